@@ -1,32 +1,31 @@
+use Rattle.vms_selfdesc.proofs.{Bounds.ready_device, Trees.devices_next, Trees.devices_end}
 use Rattle.vms_selfdesc.proofs.Facade.{◌<◌, ◌≤◌, ◌∙◌, ◌∷◌, length, map, ap, ap₂, sym, arith, codes, OnTrue_at, described, state_of, states_long, state_at}
 use Rattle.vms_selfdesc.proofs.Facade.{array, object, put, no_members, items_of, compact_text}
-use Rattle.vms_selfdesc.proofs.Bounds.{ready_device}
-use Rattle.vms_selfdesc.proofs.Trees.{devices_next, devices_end}
 use Rattle.vms_selfdesc.proofs.alike.are_alike.Goals as goal
 
 pub bounds-second-device : goal.bounds-second-device
 bounds-second-device c =
     omega (arith, c.loop-device-test.true, c.requires.first.one_each, c.requires.second.one_each, states_long c.args.first.now, states_long c.args.second.now)
 
-pub is_device_alike-requires-clause-first : goal.is_device_alike-requires-clause-first
-is_device_alike-requires-clause-first c =
-    let images = c.args.first.now in
+pub is_device_alike-requires : goal.is_device_alike-requires
+is_device_alike-requires c =
+    let set = described c.args.set.now in
+    let well = c.args.set.now.well_formed in
+    let firsts = c.args.first.now in
+    let seconds = c.args.second.now in
     let k = c.loop-device.device in
-    let image = c.index-first-device.result in
-    let lt : k < length (map state_of images) = omega (arith, states_long images) in
-    ready_device (described c.args.set.now) c.args.set.now.well_formed (map state_of images) c.requires.first k (state_of image) lt
-    (state_at images k image c.loop-device-test.true c.index-first-device.is)
-
-pub is_device_alike-requires-clause-second : goal.is_device_alike-requires-clause-second
-is_device_alike-requires-clause-second c =
-    let images = c.args.second.now in
-    let k = c.loop-device.device in
-    let image = c.index-second-device.result in
-    let one : k < length images =
-    omega (arith, c.loop-device-test.true, c.requires.first.one_each, c.requires.second.one_each, states_long c.args.first.now, states_long images) in
-    let lt : k < length (map state_of images) = omega (arith, one, states_long images) in
-    ready_device (described c.args.set.now) c.args.set.now.well_formed (map state_of images) c.requires.second k (state_of image) lt
-    (state_at images k image one c.index-second-device.is)
+    let first = c.index-first-device.result in
+    let second = c.index-second-device.result in
+    let lt : k < length (map state_of firsts) = omega (arith, states_long firsts) in
+    let one : k < length seconds =
+    omega (arith, c.loop-device-test.true, c.requires.first.one_each, c.requires.second.one_each, states_long firsts, states_long seconds) in
+    let lt' : k < length (map state_of seconds) = omega (arith, one, states_long seconds) in
+    record {
+      first = ready_device set well (map state_of firsts) c.requires.first k (state_of first) lt
+          (state_at firsts k first c.loop-device-test.true c.index-first-device.is);
+      second = ready_device set well (map state_of seconds) c.requires.second k (state_of second) lt'
+          (state_at seconds k second one c.index-second-device.is);
+    }
 
 pub loop-device-preserved : goal.loop-device-preserved
 loop-device-preserved c =
