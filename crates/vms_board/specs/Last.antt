@@ -21,7 +21,13 @@ module _ {S : Type 0} (f : Family S) where
   IsLast last = IfSome last.kept IsKept
 
   -- The images are ready under the set, which is that of the family with this number, and what is kept is of the family.
-  pub record CanDescribe (number : ℕ) (set : DescSet) (images : List Typed) (kept : Option Kept) : Type 0 where
+  pub record CanDescribe (number : ℕ) (set : DescSet) (images : List Typed) (last : Option Kept) : Type 0 where
     pub own : IsSetOf f set number
     pub ready : AreReady (described set) (map state_of images)
-    pub kept : IfSome kept IsKept
+    pub kept : IfSome last IsKept
+
+  -- These images are kept, with the text that describes them under the set.
+  pub record Describes (set : DescSet) (made : List Typed) (kept : Kept) : Type 0 where
+    pub images : kept.images.items ≡ made
+    pub text : string_bytes kept.text ≡ described_text (described set) (map state_of made)
+    pub is_kept : IsKept kept

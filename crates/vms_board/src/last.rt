@@ -1,9 +1,10 @@
 // The description of a board's last save, kept for the next one.
-ghost use Rattle.std.specs.Prelude.{◌≡◌, IfOk, map, string_bytes};
-ghost use Rattle.vms_board.specs.Last.{CanDescribe, IsKept, IsLast};
+ghost use Rattle.std.specs.Prelude.{IfOk, map};
+ghost use Rattle.vms_board.specs.Imaging.{IsSetOf};
+ghost use Rattle.vms_board.specs.Last.{CanDescribe, Describes, IsLast};
 ghost use Rattle.vms_desc.specs.Described.{described};
 ghost use Rattle.vms_image.specs.Typed.{state_of};
-ghost use Rattle.vms_selfdesc.specs.Tree.{described_text};
+ghost use Rattle.vms_spec.specs.Streams.{AreReady};
 
 use crate::machine::Machine;
 use std::alloc::Global;
@@ -60,15 +61,30 @@ pub(crate) fn describe_by<M: Machine>(
     kept: Option<Kept>,
 ) -> Result<Kept, NoMemory>
     requires { CanDescribe M.family number own.now images.items kept }
-    ensures images { IfOk result (λ new. new.images ≡ images) }
-    ensures text { let text = described_text (described own.now) (map state_of images.items) in
-        IfOk result (λ new. string_bytes new.text ≡ text) }
-    ensures kept { IfOk result (IsKept M.family) }
+    ensures { IfOk result (Describes M.family own.now images.items) }
 {
-    let text = match kept {
-        Some(last) if last.number == number && are_alike(own, &last.images, &images) => last.text,
-        _ => describe(alloc, own, &images)?,
+    let Some(mut last) = kept else {
+        return describe_anew::<M>(alloc, number, own, images);
     };
+    if last.number == number && are_alike(own, &last.images, &images) {
+        last.images = images;
+        return Ok(last);
+    }
+    describe_anew::<M>(alloc, number, own, images)
+}
+
+// Returns `images` with their description, which is made. Fails only if memory runs out.
+fn describe_anew<M: Machine>(
+    alloc: Global,
+    number: u8,
+    own: &DescSet,
+    images: Vec<Image>,
+) -> Result<Kept, NoMemory>
+    requires own { IsSetOf M.family own.now number }
+    requires ready { AreReady (described own.now) (map state_of images.items) }
+    ensures { IfOk result (Describes M.family own.now images.items) }
+{
+    let text = describe(alloc, own, &images)?;
     Ok(Kept {
         number,
         images,
