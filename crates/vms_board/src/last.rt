@@ -73,8 +73,16 @@ pub(crate) fn describe_by<M: Machine>(
     describe_anew::<M>(alloc, number, own, images)
 }
 
-// Returns `images` with their description, which is made. Fails only if memory runs out.
-fn describe_anew<M: Machine>(
+/// Returns `images` with their description, which is made.
+///
+/// # Errors
+///
+/// [`NoMemory`] if memory runs out.
+///
+/// # Requires
+///
+/// `images` are ready under `own`, which is the family's set with the number `number`.
+pub(crate) fn describe_anew<M: Machine>(
     alloc: Global,
     number: u8,
     own: &DescSet,
