@@ -26,8 +26,8 @@ bytes_are g c =
 
 pub returns-in_err-write_stream : goal.returns-in_err-write_stream
 returns-in_err-write_stream g c =
-    let p = err_from_is_err_and c.from_residual-in_err-write_stream.result c.from_residual-in_err-write_stream.ensures.1 in
-    saves_some c.from_residual-in_err-write_stream.result (bytes_are g (goal.at.returns-in_err-write_stream g c).After-deref-2) (p.1 ∙ ap Err p.2)
+    let p = err_from_is_err_and c.from_residual.result c.from_residual.ensures.1 in
+    saves_some c.from_residual.result (bytes_are g (goal.at.returns-in_err-write_stream g c).After-deref-2) (p.1 ∙ ap Err p.2)
     c.in_err-write_stream.ensures
 
 pub returns : goal.returns
