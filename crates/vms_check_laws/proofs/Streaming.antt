@@ -114,12 +114,21 @@ module _ (old new : Set) (good_old : WellFormed old) (good_new : WellFormed new)
   pub all_in : first_answer (λ i d. failing_pair ((2, is_in new d) ∷ []) (here (parts.Device i)) (here parts.Set)) 0 old.devices ≡ None
   all_in = rules.olds
 
-  -- and no rule fails of the two
-  compared_none : (i : ℕ) (d : Device) → slice_get old.devices i ≡ Some d → (p : Pair old new good_old all_in i d)
-      → compare_device old new i d (Some p.number) (Some p.device) ≡ None
-  compared_none i d e p =
-      let z : i ≡ 0 + i = omega arith in
-      rw (← p.compared_is, z) (answers_none (λ i d. compared old new i d) 0 _ rules.devices i d e)
+  module _ (i : ℕ) (d : Device) (e : slice_get old.devices i ≡ Some d) (p : Pair old new good_old all_in i d) where
+    -- and no rule fails of the two
+    compared_none : compare_device old new i d (Some p.number) (Some p.device) ≡ None
+    compared_none =
+        let z : i ≡ 0 + i = omega arith in
+        rw (← p.compared_is, z) (answers_none (λ i d. compared old new i d) 0 _ rules.devices i d e)
+
+    -- the image of new's device is old's of this name, carried
+    image_at : (images : List Image)
+        → slice_get (carried old new images) p.number ≡ Some (carried_device old new d p.device (get_or images i (no_image old new)))
+    unfolding carried
+    image_at images =
+        at_map (λ e. carried_at old new images e (find_device 0 old.devices e.desc.name e.instance)
+        (slice_get old.devices (index (find_device 0 old.devices e.desc.name e.instance)))) new.devices p.number p.device p.stands
+        ∙ rw (back old new good_old all_in i d e p, e)
 
   -- ---- each of new's devices has one section
 
@@ -159,15 +168,6 @@ module _ (old new : Set) (good_old : WellFormed old) (good_new : WellFormed new)
       (order_rises 0 _ (from_zero (slice_get old.devices))) (λ k b e h. each_new k (rw h at e))
 
   module _ (images : List Image) where
-    -- the image of new's device is old's of this name, carried
-    image_at : (i : ℕ) (d : Device) → slice_get old.devices i ≡ Some d → (p : Pair old new good_old all_in i d)
-        → slice_get (carried old new images) p.number ≡ Some (carried_device old new d p.device (get_or images i (no_image old new)))
-    unfolding carried
-    image_at i d e p =
-        at_map (λ e. carried_at old new images e (find_device 0 old.devices e.desc.name e.instance)
-        (slice_get old.devices (index (find_device 0 old.devices e.desc.name e.instance)))) new.devices p.number p.device p.stands
-        ∙ rw (back old new good_old all_in i d e p, e)
-
     -- each section of old, in old's order
     pub spell : (i : ℕ) (ds : List Device) (ims : List Image) → length ims ≡ length ds → RestAt old.devices i ds
         → ((j : ℕ) → get_or images (i + j) (no_image old new) ≡ get_or ims j (no_image old new))
@@ -180,7 +180,7 @@ module _ (old new : Set) (good_old : WellFormed old) (good_new : WellFormed new)
         let im_is : get_or images i (no_image old new) ≡ im = at_first (λ k. get_or images k (no_image old new)) i images_are in
         let p = pair old new good_old all_in i d e in
         let front = written_section old d im i in
-        let image_is : slice_get (carried old new images) p.number ≡ Some (carried_device old new d p.device im) = image_at i d e p ∙ rw im_is in
+        let image_is : slice_get (carried old new images) p.number ≡ Some (carried_device old new d p.device im) = image_at i d e p images ∙ rw im_is in
         let paired : ArePaired old new i p.number d p.device =
         record { in_old = e; in_new = p.stands; names = sym p.name_is; instances = sym p.instance_is; rules = compared_none i d e p } in
         let at_number : HasSection new true p.number (slice_get new.devices p.number) (slice_get (carried old new images) p.number) front =

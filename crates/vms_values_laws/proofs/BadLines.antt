@@ -103,15 +103,12 @@ abbrev machine_taken : Option (List ℕ) → List Taken
 machine_taken None = []
 machine_taken (Some name) = record { demand = ForMachine name; line = codes "machine " ++ name } ∷ []
 
-follows_machine : (set : Set) (machine : Option (List ℕ)) (images : List Image) (taken : List Taken) (P : List Entry → Type 0)
-    → Follows taken P (devices_entries set set.devices images) → Follows (machine_taken machine ++ taken) P (entries set machine images)
-follows_machine set None images taken P f = f
-follows_machine set (Some name) images taken P f = (refl, λ e. f)
-
-along_machine : (set : Set) (machine : Option (List ℕ)) (images : List Image) (taken : List Taken) (P : List Entry → Type 0)
-    → Along taken P (devices_entries set set.devices images) → Along (machine_taken machine ++ taken) P (entries set machine images)
-along_machine set None images taken P f = f
-along_machine set (Some name) images taken P f = (refl, f)
+-- after the line of the machine, as after none
+behind_machine : (set : Set) (machine : Option (List ℕ)) (images : List Image) (taken : List Taken) (P : List Entry → Type 0)
+    → (Follows taken P (devices_entries set set.devices images) → Follows (machine_taken machine ++ taken) P (entries set machine images))
+    × (Along taken P (devices_entries set set.devices images) → Along (machine_taken machine ++ taken) P (entries set machine images))
+behind_machine set None images taken P = (λ f. f, λ f. f)
+behind_machine set (Some name) images taken P = (λ f. (refl, λ e. f), λ f. (refl, f))
 
 -- the machine is no part
 parts_machine : (set : Set) (machine : Option (List ℕ)) (line : ℕ) (images : List Image) → line ≡ 1 + length (machine_taken machine)
@@ -129,9 +126,9 @@ module _ (set : Set) (text : List ℕ) (machine : Option (List ℕ)) (line : ℕ
       let all = machine_taken machine ++ a.taken in
       let passed : Moved 1 text all at rest = moved_then headed a.moved in
       let its : (images : List Image) → AreShaped set set.devices images → Follows all P (entries set machine images) =
-      λ images shaped. follows_machine set machine images a.taken P (follows_ends a.taken Q P _ (a.follows images shaped) bad) in
+      λ images shaped. (behind_machine set machine images a.taken P).0 (follows_ends a.taken Q P _ (a.follows images shaped) bad) in
       let s = split all P P (entries set machine images) passed.fine (its images a.shaped)
-      (along_machine set machine images a.taken P (along_ends a.taken Q P _ a.along bad)) in
+      ((behind_machine set machine images a.taken P).1 (along_ends a.taken Q P _ a.along bad)) in
       record {
         line = at;
         reason = reason;
@@ -163,14 +160,14 @@ module _ (set : Set) (text : List ℕ) (machine : Option (List ℕ)) (line : ℕ
     taken = machine_taken machine ++ a.taken;
     took = record {
       named = named;
-      follows = λ images shaped. follows_machine set machine images a.taken (λ es. Ends None [] es)
+      follows = λ images shaped. (behind_machine set machine images a.taken (λ es. Ends None [] es)).0
           (follows_ends a.taken (λ es. es ≡ []) (λ es. Ends None [] es) _ (a.follows images shaped) (λ es e. (e, refl)));
       moved = moved_then headed (rw e at a.moved);
     };
     shaped = a.shaped;
     unsaid = a.unsaid;
     judged = devices_judged set line set.devices all.devices a.lined a.shaped ∙ parts_machine set machine line (images_of all.devices) headed.further;
-    along = along_machine set machine (images_of all.devices) a.taken (λ es. es ≡ []) a.along;
+    along = (behind_machine set machine (images_of all.devices) a.taken (λ es. es ≡ [])).1 a.along;
     is = refl;
   })
   -- something comes after the last line
@@ -198,8 +195,7 @@ name_moved set text name e =
 
 by_machine : (set : Set) (text : List ℕ) → AreSound set.structs → AreGoodDevices set set.devices → (machine : Option (List ℕ))
     → machine_named set.machines (first_line text) ≡ machine → FirstPass set text (after_machine set text machine)
-by_machine set text structs good None e =
-    by_end set text None 1 text (sym e) (moved_none 1 text) _ (devices_come set structs set.devices good 1 text)
+by_machine set text structs good None e = by_end set text None 1 text (sym e) (moved_none 1 text) _ (devices_come set structs set.devices good 1 text)
 by_machine set text structs good (Some name) e =
     let after = rest_of (first_line text) in
     by_end set text (Some name) 2 after (sym e) (name_moved set text name e) _ (devices_come set structs set.devices good 2 after)

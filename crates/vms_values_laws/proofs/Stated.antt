@@ -18,33 +18,7 @@ use Rattle.vms_values_laws.proofs.Accepted.{Match, inside_of, matched, devices_s
 use Rattle.vms_values_laws.proofs.ReadyParts.{sub_cells, FirstPart, first_part, bad_part_found, good_none, text_says}
 use Rattle.vms_values_laws.proofs.Rights.{AreGood}
 
--- ---- A bad line by the relation is the one that is found.
-
--- what was taken, beside a state that has these lines and then ends like this
-beside : {set : Set} {text : List ℕ} {machine' : Option (List ℕ)} {taken : List Taken} {at : ℕ} {rest : List ℕ} {o : Option ValuesReason}
-    → TakenOf set text machine' taken at rest o → (machine : Option (List ℕ)) (images : List Image) (before after : List Entry) (rest' : List ℕ)
-    → (o' : Option ValuesReason) → machine ≡ machine_named set.machines (first_line text) → AreShaped set set.devices images
-    → entries set machine images ≡ before ++ after → AreClean (before ++ after) → AreFine before → text ≡ text_of (map entry_line before) ++ rest'
-    → Ends o' rest' after → Same taken before o o'
-beside {taken = taken} {rest = rest} {o = o} t machine images before after rest' o' named shaped state clean fine begins ends =
-    meet taken before after rest rest' o o' (rw (← state, named, ← t.named) (t.follows images shaped)) clean t.moved.fine fine (sym t.moved.texts ∙ begins) ends
-
-module _ (set : Set) (text : List ℕ) (line : ℕ) (reason : ValuesReason) (x : IsBadLine set text line reason)
-    (clean : AreClean (entries set x.machine x.images)) where
-  against : {machine : Option (List ℕ)} {taken : List Taken} {at : ℕ} {rest : List ℕ} {o : Option ValuesReason} → TakenOf set text machine taken at rest o
-      → Same taken x.before o (Some reason)
-  against t =
-      beside t x.machine x.images x.before x.after x.rest (Some reason) x.named x.shaped x.state (rw (x.state) at clean) x.fine x.begins x.bad
-
-  bad_back : (v : ValuesRead) → FirstPass set text v → v ≡ Bad line reason
-  bad_back v (inl b) =
-      let same = against b.took in
-      let reasons : b.reason ≡ reason = (let e = same.reason in cc) in
-      let lines : b.line ≡ line = omega (arith, b.took.moved.further, same.long, x.number) in
-      rw (← lines, ← reasons) b.is
-  bad_back v (inr n) = let e = (against n.took).reason in cc
-
--- ---- What a text says, if no line is bad, is what is read of it.
+-- ---- the machine that a text names
 
 -- the first line of a text that has this line first
 first_is : (text line : List ℕ) (lines : List (List ℕ)) → NoFeed line → text ≡ text_of (line ∷ lines) → first_line text ≡ Some (line, text_of lines)
@@ -66,18 +40,41 @@ named_by set well text (Some name) images named e =
     (first_is text (codes "machine " ++ name) lines (refl, (refl, (refl, (refl, (refl, (refl, (refl, (refl, clean_named set well name named)))))))) e)
     ∙ rw named refl
 
-module _ (set : Set) (well : WellFormed set) (text : List ℕ) (machine : Option (List ℕ)) (images : List Image) (says : Says set text machine images) where
-  its_machine : machine_named set.machines (first_line text) ≡ machine
-  its_machine = named_by set well text machine images says.named says.printed
+-- ---- What was taken, beside what is stated: a bad line by the relation is the one that is found, and so are the lines of a state.
 
-  -- what was taken are the lines of the state
-  its_lines : {machine' : Option (List ℕ)} {taken : List Taken} {at : ℕ} {rest : List ℕ} {o : Option ValuesReason} → TakenOf set text machine' taken at rest o
+module _ {set : Set} {text : List ℕ} {machine' : Option (List ℕ)} {taken : List Taken} {at : ℕ} {rest : List ℕ} {o : Option ValuesReason}
+    (t : TakenOf set text machine' taken at rest o) where
+  -- a state that has these lines and then ends like this
+  beside : (machine : Option (List ℕ)) (images : List Image) (before after : List Entry) (rest' : List ℕ) (o' : Option ValuesReason)
+      → machine ≡ machine_named set.machines (first_line text) → AreShaped set set.devices images → entries set machine images ≡ before ++ after
+      → AreClean (before ++ after) → AreFine before → text ≡ text_of (map entry_line before) ++ rest' → Ends o' rest' after → Same taken before o o'
+  beside machine images before after rest' o' named shaped state clean fine begins ends =
+      meet taken before after rest rest' o o' (rw (← state, named, ← t.named) (t.follows images shaped)) clean t.moved.fine fine (sym t.moved.texts ∙ begins) ends
+
+  against : {line : ℕ} {reason : ValuesReason} (x : IsBadLine set text line reason) → AreClean (entries set x.machine x.images)
+      → Same taken x.before o (Some reason)
+  against x clean = beside x.machine x.images x.before x.after x.rest _ x.named x.shaped x.state (rw (x.state) at clean) x.fine x.begins x.bad
+
+  its_lines : WellFormed set → (machine : Option (List ℕ)) (images : List Image) → Says set text machine images
       → Same taken (entries set machine images) o None
-  its_lines t =
+  its_lines well machine images says =
       let es = entries set machine images in
       let clean : AreClean (es ++ []) = subst AreClean (sym (append-nil es)) (clean_entries set well machine images says.named) in
-      beside t machine images es [] [] None (sym its_machine) says.shaped (sym (append-nil es)) clean says.fine (says.printed ∙ sym (append-nil _)) (refl, refl)
+      beside machine images es [] [] None (sym (named_by set well text machine images says.named says.printed)) says.shaped (sym (append-nil es)) clean
+      says.fine (says.printed ∙ sym (append-nil _)) (refl, refl)
 
+bad_back : (set : Set) (text : List ℕ) (line : ℕ) (reason : ValuesReason) (x : IsBadLine set text line reason) → AreClean (entries set x.machine x.images)
+    → (v : ValuesRead) → FirstPass set text v → v ≡ Bad line reason
+bad_back set text line reason x clean v (inl b) =
+    let same = against b.took x clean in
+    let reasons : b.reason ≡ reason = (let e = same.reason in cc) in
+    let lines : b.line ≡ line = omega (arith, b.took.moved.further, same.long, x.number) in
+    rw (← lines, ← reasons) b.is
+bad_back set text line reason x clean v (inr n) = let e = (against n.took x clean).reason in cc
+
+-- ---- What a text says, if no line is bad, is what is read of it.
+
+module _ (set : Set) (well : WellFormed set) (text : List ℕ) (machine : Option (List ℕ)) (images : List Image) (says : Says set text machine images) where
   same_devices : (machine : Option (List ℕ)) (i j : List Image) → Match (entries set machine i) (entries set machine j)
       → Match (devices_entries set set.devices i) (devices_entries set set.devices j)
   same_devices None i j m = m
@@ -85,18 +82,18 @@ module _ (set : Set) (well : WellFormed set) (text : List ℕ) (machine : Option
 
   module _ (v : ValuesRead) (n : NoneBad set text v) where
     same_machine : n.machine ≡ machine
-    same_machine = n.named ∙ its_machine
+    same_machine = n.named ∙ named_by set well text machine images says.named says.printed
 
     same_images : images_of n.all.devices ≡ images
     same_images =
         let read = images_of n.all.devices in
         let m : Match (entries set n.machine read) (entries set n.machine images) =
         matched n.taken (entries set n.machine read) (entries set n.machine images) (n.follows read n.shaped) n.along (n.follows images says.shaped)
-        ((its_lines n.took).lines ∙ ap (λ m. map entry_line (entries set m images)) (sym same_machine)) in
+        ((its_lines n.took well machine images says).lines ∙ ap (λ m. map entry_line (entries set m images)) (sym same_machine)) in
         devices_same set set.devices read images n.shaped says.shaped n.unsaid says.unsaid (same_devices n.machine read images m)
 
   pub says_answers : (v : ValuesRead) → FirstPass set text v → v ≡ answer_by machine images (parts_from set 1 (entries set machine images))
-  says_answers v (inl b) = let e = (its_lines b.took).reason in cc
+  says_answers v (inl b) = let e = (its_lines b.took well machine images says).reason in cc
   says_answers v (inr n) = none_answers set text v n ∙ rw (same_machine v n, same_images v n) refl
 
 -- ---- The laws of reading, as they are stated.
