@@ -1,7 +1,7 @@
 -- The cells of the timer chip are carried as its own table says.
-use Rattle.dev_images.proofs.{Facade.same_kind, ChipReady.needs, ChipReady.unneeded, Channels.behind, Channels.second_at, Channels.third_at, Channels.IsKeptAt}
-use Rattle.dev_images.proofs.Facade.{◌≡◌, ℕ, zero, suc, ◌+◌, ◌==◌, Bool, true, false, cond, List, [], ◌∷◌, ◌++◌, get_or, ℤ, pos, negsuc, ◌≤ℤ◌, refl, sym, ap}
-use Rattle.dev_images.proofs.Facade.{arith, COUNTERS, WLOW_HELD, WLOW, LATCHED, LATCH, STATUS_LATCHED, STATUS, InRange, Num, Kind, U8, U16, carriers}
+use Rattle.dev_images.proofs.{ChipReady.needs, ChipReady.unneeded, Channels.behind, Channels.second_at, Channels.third_at, Channels.IsKeptAt}
+use Rattle.dev_images.proofs.Facade.{same_kind, ◌≡◌, ℕ, zero, suc, ◌+◌, ◌==◌, Bool, true, false, cond, List, [], ◌∷◌, ◌++◌, get_or, ℤ, pos, negsuc, ◌≤ℤ◌, refl}
+use Rattle.dev_images.proofs.Facade.{sym, ap, arith, COUNTERS, WLOW_HELD, WLOW, LATCHED, LATCH, STATUS_LATCHED, STATUS, InRange, Num, Kind, U8, U16, carriers}
 use Rattle.dev_images.proofs.Facade.{carry_items, no_carrier, first, struct_cells, Set, NEWEST, shipped_set, set_1, set_2, nat_of, AreCellsOf, PitIsCarried}
 use Rattle.vms_kinds.specs.declared.Kind.TheVariants.{Bool as Truth}
 

@@ -1,9 +1,8 @@
 -- Each call keeps the chip sound.
 use Rattle.vms_rtc.proofs.Facade.{◌≡◌, ℕ, ◌<◌, ◌≤◌, ◌==◌, ◌||◌, ◌%◌, Bool, true, false, if◌then◌else◌, List, length, ◌⊎◌, inl, inr, replicate, set, get_or}
 use Rattle.vms_rtc.proofs.Facade.{eqb-true, refl, sym, subst, ◌∙◌, arith, eq-eqb, false≢true, cases_Bool, cond_both, nat_tests, get_or-replicate}
-use Rattle.vms_rtc.proofs.Facade.{get_or-set_other, get_or-set_same, length-replicate, length-set, ⊎_elim, cases_eq, either, IsUpTo, power_on, data_read}
-use Rattle.vms_rtc.proofs.Facade.{read_of, index_written, data_written, written, passed, CallsKeepSound, IsSound, NEWEST_CLOCK, INDEX_PORT, REGISTER_A}
-use Rattle.vms_rtc.proofs.Facade.{REGISTER_C, REGISTER_D, Rtc}
+use Rattle.vms_rtc.proofs.Facade.{get_or-set_other, get_or-set_same, length-replicate, length-set, ⊎_elim, cases_eq, either, power_on, data_read, read_of}
+use Rattle.vms_rtc.proofs.Facade.{index_written, data_written, written, passed, CallsKeepSound, IsSound, INDEX_PORT, REGISTER_A, REGISTER_C, REGISTER_D, Rtc}
 
 -- the flag of the periodic interrupt isn't part of soundness
 flagged : (flag : Bool) (chip : Rtc) → IsSound chip → IsSound (record chip { pf = flag })

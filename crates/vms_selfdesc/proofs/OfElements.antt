@@ -229,5 +229,4 @@ module _ (set : Set) (well : is_well_formed set ≡ true) (item : Item) (j : ℕ
 
   pub struct_list : (z : ℤ) (sent : Bool) (path whole : List ℕ) (n : List ℤ) (cell : ℕ) → whole ≡ path ++ 46 ∷ []
       → part_list set (parts.Struct j) sent n whole cell ≡ item_entries (shapes set) item z sent n path cell
-  struct_list z sent path whole n cell e =
-      rw (e, is, of_dotted, struct_elements_are set j struct_there below n cell)
+  struct_list z sent path whole n cell e = rw (e, is, of_dotted, struct_elements_are set j struct_there below n cell)

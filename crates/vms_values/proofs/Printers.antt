@@ -12,10 +12,9 @@ use Rattle.vms_values.proofs.Facade.{fields_at, IsRun, run_lines, IsOf, section_
 use Rattle.vms_values.proofs.Facade.{Err, length-drop, take, length-take, Bor, is_ok, ltb-true, joined, Outlet, Puts, Wrote, wrote_as, wrote_behind}
 use Rattle.vms_values.proofs.Facade.{devices_lines, AreOf, below, below_part, Stays, take-append-le, Part, HasPart, few_structs, field_clean, LONGEST_PATH}
 use Rattle.vms_values.proofs.Facade.{PART_ROOM}
-use Rattle.vms_parts.specs.declared.types.Desc.{Desc as CodeDesc}
-use Rattle.vms_parts.specs.declared.types.Field.{Field as CodeField}
-use Rattle.vms_spec.specs.declared.Part.TheVariants as parts
+use Rattle.vms_parts.specs.{declared.types.Desc.Desc as CodeDesc, declared.types.Field.Field as CodeField}
 use Rattle.std.proofs.Common.{take_all}
+use Rattle.vms_spec.specs.declared.Part.TheVariants as parts
 
 abbrev pub cells_of : List Printer → List (List Cell)
 cells_of ps = map (λ p. p.cells) ps

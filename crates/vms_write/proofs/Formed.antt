@@ -2,7 +2,7 @@
 use Rattle.vms_write.proofs.Facade.{AllPass-from_list_all, ◌≡◌, ℕ, zero, suc, ◌+◌, ◌<◌, ◌≤◌, List, [], ◌∷◌, length, length-drop, get_or, drop, sym, arith, true}
 use Rattle.vms_write.proofs.Facade.{◌&&◌, nat_le, map, ℤ, pos, refl, ap, ◌∙◌, list_all, and_parts, leb-true, length-map, or_else, first_answer, Set, is_name}
 use Rattle.vms_write.proofs.Facade.{is_name_byte, failing, here, set_rules, size_rules, struct_fault, device_fault, first_fault, is_well_formed, device_at}
-use Rattle.vms_write.proofs.Facade.{sub_at, AllTrue, all_true, or_else_none, none_is, device_clean, sub_clean, Kind, Cell, device_cells, form_of, CellForm}
+use Rattle.vms_write.proofs.Facade.{sub_at, AllTrue, all_true, or_else_none, none_is, device_clean, sub_clean, Kind, Cell, device_cells, form_of}
 use Rattle.vms_write.proofs.Facade.{Held, defaults_at, no_form, formed_of, formed, forms_of}
 use Rattle.vms_parts.specs.Devices.{device_at as device_in}
 use Rattle.vms_spec.specs.declared.Part.TheVariants as parts
