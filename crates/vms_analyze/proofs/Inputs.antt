@@ -123,8 +123,6 @@ is_too_much old new h = record {
 
 -- ---- From the walk to the listing, and from what was taken of a source to what it lists.
 
--- ---- a walk from the first byte on
-
 at_start : (ws : List Want) (old : Walk) (stream : List ℕ) → AtStart old stream → found (ws ++ []) old.id old.place (left old) ≡ found ws 0 0 stream
 at_start ws old stream s = rw (append-nil ws, s.0, s.1) (ap (found ws 0 0) s.2)
 
@@ -153,8 +151,6 @@ pub why_none : (ws : List Want) (old new : Walk) (stream : List ℕ) (stop : Sto
     → WhyNone (listing_of (found ws 0 0 stream)) new stop
 why_none ws old new stream whys.Differs s h = ap listing_of (sym (at_start ws old stream s) ∙ h.differs [])
 why_none ws old new stream whys.NoMemory s h = tt
-
--- ---- what an input lists
 
 -- the text after a place
 pub text_behind : (input : List ℕ) (k : ℕ) → take (length input - k) (drop k input) ≡ drop k input

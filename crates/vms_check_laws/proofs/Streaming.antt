@@ -1,17 +1,15 @@
 -- What the older set writes is a stream of the newer, with the carried images: each device's section is one of the newer set's, and the
 -- order takes each device once.
-use Rattle.vms_check_laws.proofs.Facade.{◌≡◌, ℕ, suc, ◌+◌, Bool, true, false, ◌&&◌, ◌==◌, List, ◌∷◌, Option, Some, None, refl, ◌∙◌, arith, slice_get}
-use Rattle.vms_check_laws.proofs.Facade.{bytes_eq, bytes_eq-Decides, and_parts, eqb-true, inr, ◌≤◌, length, map, get_or, list_all, IfSome, length-map, ap, []}
-use Rattle.vms_check_laws.proofs.Facade.{inl, sym, first_answer, Device, Set, find_device, index, WellFormed, here, Mismatch, failing_pair, compare_device}
-use Rattle.vms_check_laws.proofs.Facade.{paired_device, is_found, is_in, passes, device_found, Image, HasSection, SectionsSpell, IsReady, EachOnce, is_one_of}
-use Rattle.vms_check_laws.proofs.Facade.{written_section, written_sections, is_version_of, Compatible, first_mismatch, comparing, compare_subs, carried}
-use Rattle.vms_check_laws.proofs.Facade.{carried_device, carried_at, no_image, ArePaired, DeviceLaw, or_else_none, IsStream, IsConfiguration, configuration}
-use Rattle.vms_check_laws.proofs.Facade.{trailer, optional, longest_text, written, AreReady, every_one, machine_short, few_devices, UpgradeLaw, trailed}
-use Rattle.vms_check_laws.proofs.Facade.{answers_none, option_and_then}
-use Rattle.vms_spec.specs.declared.Part.TheVariants as parts
+use Rattle.vms_check_laws.proofs.{Facade.option_and_then, Segments.RestAt, Segments.at_first, Segments.one_on, Segments.from_zero, Positioned.if_is}
+use Rattle.vms_check_laws.proofs.Facade.{◌≡◌, ℕ, suc, ◌+◌, Bool, true, false, ◌&&◌, ◌==◌, List, ◌∷◌, Option, Some, None, refl, ◌∙◌, arith, slice_get, bytes_eq}
+use Rattle.vms_check_laws.proofs.Facade.{bytes_eq-Decides, and_parts, eqb-true, inr, ◌≤◌, length, map, get_or, list_all, IfSome, length-map, ap, [], inl, sym}
+use Rattle.vms_check_laws.proofs.Facade.{first_answer, Device, Set, find_device, index, WellFormed, here, Mismatch, failing_pair, compare_device, paired_device}
+use Rattle.vms_check_laws.proofs.Facade.{is_found, is_in, passes, device_found, Image, HasSection, SectionsSpell, IsReady, EachOnce, is_one_of, written_section}
+use Rattle.vms_check_laws.proofs.Facade.{written_sections, is_version_of, Compatible, first_mismatch, comparing, compare_subs, carried, carried_device}
+use Rattle.vms_check_laws.proofs.Facade.{carried_at, no_image, ArePaired, DeviceLaw, or_else_none, IsStream, IsConfiguration, configuration, trailer, optional}
+use Rattle.vms_check_laws.proofs.Facade.{longest_text, written, AreReady, every_one, machine_short, few_devices, UpgradeLaw, trailed, answers_none}
 use Rattle.vms_check_laws.proofs.Wholes.{saved, Among, section_whole, at_map, from_map, Rises, takes_each, all_came}
-use Rattle.vms_check_laws.proofs.Segments.{RestAt, at_first, one_on, from_zero}
-use Rattle.vms_check_laws.proofs.Positioned.{if_is}
+use Rattle.vms_spec.specs.declared.Part.TheVariants as parts
 
 -- ---- devices by name and instance
 
@@ -114,22 +112,6 @@ module _ (old new : Set) (good_old : WellFormed old) (good_new : WellFormed new)
   pub all_in : first_answer (λ i d. failing_pair ((2, is_in new d) ∷ []) (here (parts.Device i)) (here parts.Set)) 0 old.devices ≡ None
   all_in = rules.olds
 
-  module _ (i : ℕ) (d : Device) (e : slice_get old.devices i ≡ Some d) (p : Pair old new good_old all_in i d) where
-    -- and no rule fails of the two
-    compared_none : compare_device old new i d (Some p.number) (Some p.device) ≡ None
-    compared_none =
-        let z : i ≡ 0 + i = omega arith in
-        rw (← p.compared_is, z) (answers_none (λ i d. compared old new i d) 0 _ rules.devices i d e)
-
-    -- the image of new's device is old's of this name, carried
-    image_at : (images : List Image)
-        → slice_get (carried old new images) p.number ≡ Some (carried_device old new d p.device (get_or images i (no_image old new)))
-    unfolding carried
-    image_at images =
-        at_map (λ e. carried_at old new images e (find_device 0 old.devices e.desc.name e.instance)
-        (slice_get old.devices (index (find_device 0 old.devices e.desc.name e.instance)))) new.devices p.number p.device p.stands
-        ∙ rw (back old new good_old all_in i d e p, e)
-
   -- ---- each of new's devices has one section
 
   each_new : (k : ℕ) → slice_get (map (λ (d : Device). false) new.devices) k ≡ Some false → Among k (device_order new old.devices)
@@ -168,6 +150,15 @@ module _ (old new : Set) (good_old : WellFormed old) (good_new : WellFormed new)
       (order_rises 0 _ (from_zero (slice_get old.devices))) (λ k b e h. each_new k (rw h at e))
 
   module _ (images : List Image) where
+    -- the image of new's device is old's of this name, carried
+    image_at : (i : ℕ) (d : Device) → slice_get old.devices i ≡ Some d → (p : Pair old new good_old all_in i d)
+        → slice_get (carried old new images) p.number ≡ Some (carried_device old new d p.device (get_or images i (no_image old new)))
+    unfolding carried
+    image_at i d e p =
+        at_map (λ e. carried_at old new images e (find_device 0 old.devices e.desc.name e.instance)
+        (slice_get old.devices (index (find_device 0 old.devices e.desc.name e.instance)))) new.devices p.number p.device p.stands
+        ∙ rw (back old new good_old all_in i d e p, e)
+
     -- each section of old, in old's order
     pub spell : (i : ℕ) (ds : List Device) (ims : List Image) → length ims ≡ length ds → RestAt old.devices i ds
         → ((j : ℕ) → get_or images (i + j) (no_image old new) ≡ get_or ims j (no_image old new))
@@ -180,9 +171,12 @@ module _ (old new : Set) (good_old : WellFormed old) (good_new : WellFormed new)
         let im_is : get_or images i (no_image old new) ≡ im = at_first (λ k. get_or images k (no_image old new)) i images_are in
         let p = pair old new good_old all_in i d e in
         let front = written_section old d im i in
-        let image_is : slice_get (carried old new images) p.number ≡ Some (carried_device old new d p.device im) = image_at i d e p images ∙ rw im_is in
+        let image_is : slice_get (carried old new images) p.number ≡ Some (carried_device old new d p.device im) = image_at i d e p ∙ rw im_is in
+        let z : i ≡ 0 + i = omega arith in
+        let fine : compare_device old new i d (Some p.number) (Some p.device) ≡ None =
+        rw (← p.compared_is, z) (answers_none (λ i d. compared old new i d) 0 _ rules.devices i d e) in
         let paired : ArePaired old new i p.number d p.device =
-        record { in_old = e; in_new = p.stands; names = sym p.name_is; instances = sym p.instance_is; rules = compared_none i d e p } in
+        record { in_old = e; in_new = p.stands; names = sym p.name_is; instances = sym p.instance_is; rules = fine } in
         let at_number : HasSection new true p.number (slice_get new.devices p.number) (slice_get (carried old new images) p.number) front =
         rw (p.stands, image_is)
         (i, device_stands old new good_old good_new i p.number d p.device paired im i (saved old d im (ready 0 d im refl refl)) (omega arith)) in

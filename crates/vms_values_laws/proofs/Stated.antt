@@ -1,22 +1,18 @@
 -- The laws of values texts, as they are stated.
+use Rattle.vms_values_laws.proofs.{SaidLaws.if_holds, Meeting.clean_named, SecondPass.parts_from, AllCome.images_of, AllCome.good_devices}
+use Rattle.vms_values_laws.proofs.Accepted.{Match, inside_of, matched, devices_same, answer_by, none_answers, none_says, none_good, says_ready, named_machine}
+use Rattle.vms_values_laws.proofs.BadLines.{FirstPass, NoneBad, first_pass, TakenOf}
 use Rattle.vms_values_laws.proofs.Facade.{◌≡◌, inl, inr, ℕ, List, ◌++◌, Option, Some, None, sym, ap, ◌∙◌, subst, arith, ◌∷◌, map, refl, codes, append-nil, []}
 use Rattle.vms_values_laws.proofs.Facade.{◌+◌, length, suc, ◌≤◌, sum_by, ℤ, length-append, length-map, sum_by-cons, ValuesReason, Set, Device, Desc, Sub}
 use Rattle.vms_values_laws.proofs.Facade.{ValuesRead, Bad, machine_named, BadLine, Values, values_read, Entry, entries, devices_entries, entry_line, OfNumber}
-use Rattle.vms_values_laws.proofs.Facade.{number_entries, subs_entries, device_entries, IsBadLine, IsMachineOf, Says, IsText, IsBadPart, Refused, Reads, Taken}
+use Rattle.vms_values_laws.proofs.Facade.{number_entries, subs_entries, device_entries, IsBadLine, IsMachineOf, Says, IsText, Refused, Reads, Taken}
 use Rattle.vms_values_laws.proofs.Facade.{Image, own_cells, first_line, IsConfiguration, IsTrailer, optional, configuration, trailer, written, AreReady}
 use Rattle.vms_values_laws.proofs.Facade.{WellFormed, text_of, section_line, printed, values_text, IsFit, well_good, entry_law, text_is, ReadLaw, OnlyLaw}
 use Rattle.vms_values_laws.proofs.Facade.{AcceptedLaw, PrintedLaw, device_lines, most_lines, LineLaw, machine_short, few_devices, Takes, one_stream_holds}
 use Rattle.vms_values_laws.proofs.Facade.{written_holds, FitsText, WrittenLaw, PackedLaw, ShownLaw, desc_cells, struct_cells, Element, cells_of, elements_in}
 use Rattle.vms_values_laws.proofs.Facade.{walks, AreShaped, AreFine, is_number, cells_with, Number, What, and-true, and-false, if◌then◌else◌, ◌&&◌}
-use Rattle.vms_values_laws.proofs.SaidLaws.{if_holds}
-use Rattle.vms_values_laws.proofs.BadLines.{FirstPass, NoneBad, first_pass, TakenOf}
 use Rattle.vms_values_laws.proofs.Meeting.{AreClean, Ends, Same, meet, NoFeed, line_first, section_feed, AreCleanDevices, clean_entries, clean_devices}
-use Rattle.vms_values_laws.proofs.Meeting.{clean_named}
-use Rattle.vms_values_laws.proofs.SecondPass.{parts_from}
-use Rattle.vms_values_laws.proofs.AllCome.{images_of, good_devices}
-use Rattle.vms_values_laws.proofs.Accepted.{Match, inside_of, matched, devices_same, answer_by, none_answers, none_says, none_good, says_ready, named_machine}
-use Rattle.vms_values_laws.proofs.ReadyParts.{sub_cells, FirstPart, first_part, bad_part_found, good_none, text_says}
-use Rattle.vms_values_laws.proofs.Rights.{AreGood}
+use Rattle.vms_values_laws.proofs.ReadyParts.{sub_cells, first_part, bad_part_found, good_none, text_says}
 
 -- ---- the machine that a text names
 
@@ -49,7 +45,8 @@ module _ {set : Set} {text : List ℕ} {machine' : Option (List ℕ)} {taken : L
       → machine ≡ machine_named set.machines (first_line text) → AreShaped set set.devices images → entries set machine images ≡ before ++ after
       → AreClean (before ++ after) → AreFine before → text ≡ text_of (map entry_line before) ++ rest' → Ends o' rest' after → Same taken before o o'
   beside machine images before after rest' o' named shaped state clean fine begins ends =
-      meet taken before after rest rest' o o' (rw (← state, named, ← t.named) (t.follows images shaped)) clean t.moved.fine fine (sym t.moved.texts ∙ begins) ends
+      meet taken before after rest rest' o o' (rw (← state, named, ← t.named) (t.follows images shaped)) clean t.moved.fine fine
+      (sym t.moved.texts ∙ begins) ends
 
   against : {line : ℕ} {reason : ValuesReason} (x : IsBadLine set text line reason) → AreClean (entries set x.machine x.images)
       → Same taken x.before o (Some reason)
@@ -101,19 +98,11 @@ module _ (set : Set) (well : WellFormed set) (text : List ℕ) (machine : Option
 its_first_pass : (set : Set) (text : List ℕ) → IsFit set → FirstPass set text (values_read set text)
 its_first_pass set text fit = let good = well_good set fit.well fit.heads in first_pass set text good.structs (good_devices set good)
 
-text_of_ready : (set : Set) (text : List ℕ) (machine : Option (List ℕ)) (images : List Image) → IsFit set → Says set text machine images
-    → AreGood set (entries set machine images) → IsText set text machine images
-text_of_ready set text machine images fit says good =
-    record {
-      named = says.named;
-      ready = says_ready set fit.well (well_good set fit.well fit.heads) text machine images says good;
-      printed = says.printed ∙ ap text_of (entry_law set machine images) ∙ text_is set machine images;
-    }
-
-bad_part : (set : Set) (text : List ℕ) (machine : Option (List ℕ)) (images : List Image) (b : BadLine) → Says set text machine images
-    → FirstPart set 1 (entries set machine images) b → IsBadPart set text b.line b.reason
-bad_part set text machine images b says p =
-    record {
+by_parts : (set : Set) (text : List ℕ) (machine : Option (List ℕ)) (images : List Image) (o : Option BadLine) → IsFit set → Says set text machine images
+    → parts_from set 1 (entries set machine images) ≡ o → Reads set text (answer_by machine images o)
+by_parts set text machine images (Some b) fit says e =
+    let p = first_part set 1 (entries set machine images) b e in
+    inr (record {
       machine = machine;
       images = images;
       before = p.before;
@@ -124,12 +113,12 @@ bad_part set text machine images b says p =
       good = p.good;
       number = p.number ∙ omega arith;
       bad = p.bad;
-    }
-
-by_parts : (set : Set) (text : List ℕ) (machine : Option (List ℕ)) (images : List Image) (o : Option BadLine) → IsFit set → Says set text machine images
-    → parts_from set 1 (entries set machine images) ≡ o → Reads set text (answer_by machine images o)
-by_parts set text machine images (Some b) fit says e = inr (bad_part set text machine images b says (first_part set 1 (entries set machine images) b e))
-by_parts set text machine images None fit says e = text_of_ready set text machine images fit says (none_good set 1 (entries set machine images) e)
+    })
+by_parts set text machine images None fit says e = record {
+  named = says.named;
+  ready = says_ready set fit.well (well_good set fit.well fit.heads) text machine images says (none_good set 1 (entries set machine images) e);
+  printed = says.printed ∙ ap text_of (entry_law set machine images) ∙ text_is set machine images;
+}
 
 by_pass : (set : Set) (text : List ℕ) (v : ValuesRead) → IsFit set → FirstPass set text v → Reads set text v
 by_pass set text v fit (inl b) = rw (b.is) (inl b.is_bad)
@@ -141,16 +130,6 @@ read_holds set text fit = by_pass set text (values_read set text) fit (its_first
 pub accepted_holds : AcceptedLaw
 accepted_holds set text machine images fit e = rw e at (read_holds set text fit)
 
-line_back : (set : Set) (text : List ℕ) (line : ℕ) (reason : ValuesReason) → IsFit set → IsBadLine set text line reason → values_read set text ≡ Bad line reason
-line_back set text line reason fit x =
-    bad_back set text line reason x (clean_entries set fit.well x.machine x.images (named_machine set text x.machine x.named)) _ (its_first_pass set text fit)
-
-part_back : (set : Set) (text : List ℕ) (line : ℕ) (reason : ValuesReason) → IsFit set → IsBadPart set text line reason → values_read set text ≡ Bad line reason
-part_back set text line reason fit x =
-    let here : 1 + length x.before ≡ line = omega (arith, x.number) in
-    says_answers set fit.well text x.machine x.images x.says (values_read set text) (its_first_pass set text fit)
-    ∙ rw (x.state, bad_part_found set 1 x.before x.entry x.after reason x.good x.bad, here) refl
-
 text_back : (set : Set) (text : List ℕ) (machine : Option (List ℕ)) (images : List Image) → IsFit set → IsText set text machine images
     → values_read set text ≡ Values machine images
 text_back set text machine images fit t =
@@ -160,8 +139,12 @@ text_back set text machine images fit t =
 
 refused_back : (set : Set) (text : List ℕ) (line : ℕ) (reason : ValuesReason) → IsFit set → Refused set text line reason
     → values_read set text ≡ Bad line reason
-refused_back set text line reason fit (inl x) = line_back set text line reason fit x
-refused_back set text line reason fit (inr x) = part_back set text line reason fit x
+refused_back set text line reason fit (inl x) =
+    bad_back set text line reason x (clean_entries set fit.well x.machine x.images (named_machine set text x.machine x.named)) _ (its_first_pass set text fit)
+refused_back set text line reason fit (inr x) =
+    let here : 1 + length x.before ≡ line = omega (arith, x.number) in
+    says_answers set fit.well text x.machine x.images x.says (values_read set text) (its_first_pass set text fit)
+    ∙ rw (x.state, bad_part_found set 1 x.before x.entry x.after reason x.good x.bad, here) refl
 
 pub only_holds : OnlyLaw
 only_holds set text (Values machine images) fit r = text_back set text machine images fit r
