@@ -1,7 +1,7 @@
 -- The numbers of a description's slots are at its place or above.
-use Rattle.vms_bodies.proofs.Facade.{◌≡◌, ℕ, zero, suc, ◌+◌, ◌<◌, ◌≤◌, List, ◌∷◌, ◌++◌, length, get_or, map, ℤ, refl, arith, false, [], ne_eqb, Item, Num}
+use Rattle.vms_bodies.proofs.Facade.{◌≡◌, ℕ, zero, suc, ◌+◌, ◌<◌, ◌≤◌, List, ◌∷◌, ◌++◌, get_or, ℤ, refl, arith, false, [], ne_eqb, Item, Num}
 use Rattle.vms_bodies.proofs.Facade.{Struct, Field, Desc, is_there, Slot, Meaning, no_meaning, no_desc, item_slots, times, field_slots, slots_from, desc_slots}
-use Rattle.vms_bodies.proofs.Facade.{field_cells, elements_of, counted, no_parent, first, meaning, meanings, has_cell, one_more}
+use Rattle.vms_bodies.proofs.Facade.{elements_of, counted, no_parent, first, meaning, meanings, has_cell, one_more}
 use Rattle.vms_bodies.proofs.Names.{none_joined, if_there}
 
 -- none of the slots has a number below the cell

@@ -1,5 +1,4 @@
 -- What f makes of the first structures, one after the other.
-pub use Rattle.vms_spec.proofs.Tables.{two_more}
 use Rattle.vms_elements.proofs.Facade.{◌≡◌, ℕ, suc, List, [], ◌∷◌, ◌++◌, get_or, refl, Desc, first, desc_cells, first_cells, Shape, no_shape, shape, cells_in}
 
 pub both : {B : Type 0} (xs ys zs ws : List B) → xs ≡ ys → zs ≡ ws → xs ++ zs ≡ ys ++ ws

@@ -110,8 +110,7 @@ devices_long set [] = 0
 devices_long set (d ∷ devices) = device_long set d + devices_long set devices
 
 head-long : (id instance version : ℕ) (name : List ℕ) → length (section_head id name instance version) ≤ 14 + length name
-head-long id instance version name =
-    omega (arith, length-append (name ++ be32 instance) (be32 version), length-append name (be32 instance))
+head-long id instance version name = omega (arith, length-append (name ++ be32 instance) (be32 version), length-append name (be32 instance))
 
 sub-long : (name : List ℕ) (v : ℕ) → length (sub_head name v) ≤ 6 + length name
 sub-long name v = omega (arith, length-append name (be32 v))

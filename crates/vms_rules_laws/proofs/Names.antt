@@ -1,10 +1,9 @@
 -- The relations that the tests of names decide.
+use Rattle.vms_rules_laws.proofs.{Facade.names_of, Tests.all_decides, Tests.one_of_decides}
 use Rattle.vms_rules_laws.proofs.Facade.{◌≡◌, ◌⊎◌, ℕ, zero, suc, ◌+◌, ◌<◌, ◌&&◌, nat_le, List, [], ◌∷◌, ◌++◌, append_assoc, length, length-append, take, drop}
 use Rattle.vms_rules_laws.proofs.Facade.{le_decides, inl, inr, refl, sym, ap, ◌∙◌, subst, arith, Decides, Decides-and, Decides-at, Decides-eqb, Decides-like}
 use Rattle.vms_rules_laws.proofs.Facade.{Decides-not, Decides-or, or_assoc, drop_at, take-append-drop, take_at, bytes_eq-Decides, all_names, are_new, is_name}
 use Rattle.vms_rules_laws.proofs.Facade.{is_name_byte, is_sub_name, Field, is_one_of, are_distinct, AreNewNames, At, IsName, IsNameByte, IsSubName, IsWithin}
-use Rattle.vms_rules_laws.proofs.Facade.{names_of}
-use Rattle.vms_rules_laws.proofs.Tests.{all_decides, one_of_decides}
 
 -- ---- bytes and names
 
