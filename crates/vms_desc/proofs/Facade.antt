@@ -1,6 +1,6 @@
 -- The names of other crates, and of this crate's `specs`, that the proofs use.
 pub use Rattle.std.proofs.{Math.ListN.get_or-map, lemmas.Int.to_z-of_z, lemmas.Nat.mul-le, lemmas.Simd.map-map}
-pub use Rattle.std.proofs.Common.{Bool, List, None, Option, Some, [], ap, append-nil, append_assoc, arith, below_more, drop, get_or, inl, inr, is_none, length}
+pub use Rattle.std.proofs.Common.{Bool, List, None, Option, Some, [], ap, append-nil, append_assoc, arith, below_more, drop, get_or, inl, inr, length}
 pub use Rattle.std.proofs.Common.{length-append, length-drop, length-take-le, map, min, nat_le, pos, refl, replicate, rules, suc, sym, take, true, zero, ℕ, ℤ}
 pub use Rattle.std.proofs.Common.{◌&&◌, ◌*◌, ◌++◌, ◌+◌, ◌-◌, ◌<◌, ◌∙◌, ◌∷◌, ◌≡◌, ◌≤◌}
 pub use Rattle.std.proofs.lemmas.Bool.{and_parts, cases_lt, eqb-true, leb-true, lt-ltb, ltb-true, cases_Bool}
@@ -12,12 +12,11 @@ pub use Rattle.std.specs.List.{flat_map, list_all, slice_get}
 pub use Rattle.vms_kinds.specs.{Codes.InRange, declared.Item.Item, declared.Kind.Kind, declared.Kind.TheVariants.U8}
 pub use Rattle.vms_kinds.specs.declared.Item.TheVariants.{Equal, Num, Struct, Unused}
 pub use Rattle.vms_spec.proofs.{ListLaws.found_one, Sizes.element_room, Sizes.field_size, Tables.first_at, Tables.first_long, Tables.first_take, Tables.last_is}
-pub use Rattle.vms_spec.proofs.Faultless.{AllTrue, all_true, or_else_none}
+pub use Rattle.vms_spec.proofs.{Faultless.AllTrue, WellFormedLaws.Clean, WellFormedLaws.device_parts, WellFormedLaws.well_good}
 pub use Rattle.vms_spec.proofs.ShippedSets.{all_fit, device_fits, each, fit, heads_fit, is_fit}
-pub use Rattle.vms_spec.proofs.WellFormedLaws.{Clean, device_parts, well_good}
-pub use Rattle.vms_spec.specs.{Good.DefaultsFit, Good.IsFit, Good.IsGood, Heads.FitsHeads, Images.own_cells, Images.sub_place, Lists.first_answer}
-pub use Rattle.vms_spec.specs.{Lists.position, Lookup.find_device, Lookup.find_sub, Names.is_name, Names.is_name_byte, Streams.is_one_of, Tests.is_there}
-pub use Rattle.vms_spec.specs.{Tests.truth, declared.Count.Count, declared.Part.Part, declared.TheConstants.MOST_ITEMS}
+pub use Rattle.vms_spec.specs.{Good.DefaultsFit, Good.IsFit, Good.IsGood, Heads.FitsHeads, Images.own_cells, Images.sub_place, Lists.position}
+pub use Rattle.vms_spec.specs.{Lookup.find_device, Lookup.find_sub, Names.is_name, Names.is_name_byte, Streams.is_one_of, Tests.is_there, Tests.truth}
+pub use Rattle.vms_spec.specs.{declared.Count.Count, declared.Part.Part, declared.TheConstants.MOST_ITEMS}
 pub use Rattle.vms_spec.specs.Layout.{all_hold, capacity_of, cells_from, counted, desc_cells, device_cells, elements_of, field_cells, item_cells, item_size}
 pub use Rattle.vms_spec.specs.Layout.{kind_of, no_cell, no_desc, no_field, no_parent, numbers_of, place_of, struct_cells, times}
 pub use Rattle.vms_spec.specs.Places.{cell_in, desc_of_sub, element_at, item_at, own_cell_count, path_at}
@@ -25,8 +24,7 @@ pub use Rattle.vms_spec.specs.Rules.{count_names_well, field_rules, has_good_cou
 pub use Rattle.vms_spec.specs.Rules.{is_steady_in, names_well, nobody, test_names_well, uses_below, validation_rules}
 pub use Rattle.vms_spec.specs.Sets.{And, AtLeast, Below, Cell, Desc, Device, Field, Formula, Not, Or, Set, Sub}
 pub use Rattle.vms_spec.specs.Shipped.{set_0, set_1, set_2, set_3, set_4, shipped_sets}
-pub use Rattle.vms_spec.specs.WellFormed.{WellFormed, device_fault, device_rules, devices_items, failing, has_few, here, items_in, set_rules, size_rules}
-pub use Rattle.vms_spec.specs.WellFormed.{struct_fault, struct_items, struct_rules, sub_rules, subs_items}
+pub use Rattle.vms_spec.specs.WellFormed.{WellFormed, device_rules, devices_items, has_few, items_in, struct_items, struct_rules, sub_rules, subs_items}
 pub use Rattle.vms_spec.specs.declared.Count.TheVariants.{Counted, Fixed, One}
 pub use Rattle.vms_spec.specs.declared.Whose.TheVariants.{Own, Parent}
 unfoldable pub use Rattle.vms_spec.specs.{Layout.first, WellFormed.first_fault}
@@ -41,10 +39,9 @@ pub use Rattle.vms_desc.specs.Scopes.{IsInside, IsInsideParent, IsParent, IsScop
 pub use Rattle.vms_desc.specs.Spots.{defaults_at, form_numbers, kinds_at}
 pub use Rattle.vms_desc.specs.Tables.{AreDeviceTables, AreStarts, AreTables, IsTable, device_fields, no_table}
 pub use Rattle.vms_parts.proofs.{ItemLaws.items_are, ItemLaws.items_to, Items.drop_is, Items.get_map_at, SizeLaws.capped_fields, SizeLaws.capped_subs}
-pub use Rattle.vms_parts.specs.{Devices.device_at, declared.types.CellForm.CellForm, declared.types.Parts.Parts}
-pub use Rattle.vms_parts.specs.Sizes.{fields_size, in_u32, size_of, sizes_to, subs_size}
+pub use Rattle.vms_parts.specs.{Devices.device_at, declared.types.CellForm.CellForm, declared.types.Parts.Parts, Sizes.fields_size, Sizes.in_u32, Sizes.size_of}
+pub use Rattle.vms_parts.specs.{Sizes.sizes_to, Sizes.subs_size, declared.sizes.Measure.TheVariants.Cells, declared.sizes.Measure.TheVariants.Items}
 pub use Rattle.vms_parts.specs.Views.{desc_of, device_of, field_of, form_of, formula, formula_in, layout_of, set_of, sub_of}
-pub use Rattle.vms_parts.specs.declared.sizes.Measure.TheVariants.{Cells, Items}
 pub use Rattle.vms_shipped.specs.ClockSets.{clock_1, clock_2}
 pub use Rattle.vms_spots.proofs.{LayoutLaws.kinds_again, LayoutLaws.laid_again, SpotLaws.are_apart}
 pub use Rattle.vms_spots.specs.Spots.{Held, bytes_of, spots_of}

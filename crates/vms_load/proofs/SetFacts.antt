@@ -9,7 +9,7 @@ use Rattle.vms_load.proofs.Facade.{sub_at, kinds_at, few_cells, own_inside_devic
 use Rattle.vms_load.proofs.Facade.{part_base, bytes_of, subs_due, HasSpot, table, spot_slots, steps_of, WalkStep, IsOfKind, AreOfKinds, PartAt, is_small_item}
 use Rattle.vms_load.proofs.Facade.{is_small_optional, Item, Num, Equal, Unused, Struct, MOST_UNUSED, first_long, width_small, item_bytes, fields_bytes}
 use Rattle.vms_load.proofs.Facade.{desc_bytes, struct_bytes, section_bytes, sections_due, subs_bytes, devices_most, FOOT_LENGTH, LONGEST_HEAD, LONGEST_SUB_HEAD}
-use Rattle.vms_load.proofs.StreamLengths.{two_more}
+use Rattle.vms_spec.proofs.Tables.{two_more}
 
 pub well_of : (set : Set) → is_well_formed set ≡ true → WellFormed set
 well_of set h = none_is (first_fault set) h

@@ -1,23 +1,22 @@
 -- The names of other crates, and of this crate's `specs`, that the proofs use.
 pub use Rattle.std.proofs.{Math.Bool.and-true, Math.Bool.and_assoc, lemmas.List.Sums.AllPass-from_list_all, lemmas.Result.err_from_is_err_and}
 pub use Rattle.std.proofs.Common.{Bool, Err, IfErr, List, None, Ok, OnOk, Option, Some, [], ap, append_assoc, arith, drop, false, get_or, length, length-append}
-pub use Rattle.std.proofs.Common.{length-drop, map, nat_le, not, pos, refl, replicate, rules, subst, suc, sym, take, true, zero, ℕ, ℤ, ⊎_elim, ◌&&◌, ◌++◌, ◌+◌}
+pub use Rattle.std.proofs.Common.{length-drop, map, not, pos, refl, replicate, rules, subst, suc, sym, take, true, zero, ℕ, ℤ, ⊎_elim, ◌&&◌, ◌++◌, ◌+◌}
 pub use Rattle.std.proofs.Common.{◌-◌, ◌<◌, ◌==◌, ◌||◌, ◌∙◌, ◌∷◌, ◌≡◌, ◌≤◌}
 pub use Rattle.std.proofs.lemmas.Bool.{OnFalse_at, OnFalse_from, OnTrue_at, OnTrue_from, and_from, and_parts, cases_lt, eq-eqb, eqb-true, leb-true, ne_eqb}
 pub use Rattle.std.proofs.lemmas.List.{drop_more, get_or-map, length-map, length-replicate, replicate-append-replicate, take-replicate}
 pub use Rattle.std.proofs.lemmas.Option.{get_or_from_slice_get, slice_get-get_or, slice_get_within}
-pub use Rattle.std.specs.{Bool.OnFalse, Bool.OnTrue, List.flat_map, List.list_all, List.slice_get, Option.option_copied, Prelude.Result}
+pub use Rattle.std.specs.{Bool.OnFalse, Bool.OnTrue, List.flat_map, List.slice_get, Option.option_copied, Prelude.Result}
 pub use Rattle.vms_kinds.specs.declared.Kind.{Kind, TheVariants.U8}
-pub use Rattle.vms_spec.proofs.{Faultless.AllTrue, Faultless.all_true, Faultless.or_else_none, ListLaws.and_swap, ListLaws.both_below, ListLaws.or_second}
+pub use Rattle.vms_spec.proofs.{ListLaws.and_swap, ListLaws.both_below, ListLaws.or_second}
 pub use Rattle.vms_spec.proofs.{ListLaws.versions_long, NumberLaws.same_number_is, WellFormedLaws.ranges, WellFormedLaws.within}
-pub use Rattle.vms_spec.specs.{Good.DefaultsFit, Good.IsGood, Heads.FitsHeads, Images.zeroed, Layout.struct_cells, Lists.at_option, Lists.first_answer}
-pub use Rattle.vms_spec.specs.{Lists.or_else, Names.is_name, Names.is_name_byte, Numbers.same_number, Places.own_cell_count, Readiness.come_as_needed}
+pub use Rattle.vms_spec.specs.{Good.DefaultsFit, Good.IsGood, Heads.FitsHeads, Images.zeroed, Layout.struct_cells, Lists.at_option}
+pub use Rattle.vms_spec.specs.{Names.is_name, Numbers.same_number, Places.own_cell_count, Readiness.come_as_needed}
 pub use Rattle.vms_spec.specs.{Rules.counts_well, Rules.in_range, Rules.int_le, Sets.AtLeast, Sets.Desc, Sets.Device, Sets.Set, Sets.Sub}
 pub use Rattle.vms_spec.specs.{Streams.written_sections, Streams.written_subs, declared.TheConstants.MOST_ITEMS}
 pub use Rattle.vms_spec.specs.Images.{AreVersionsOf, FitsCell, Image, RulesHold, came_slots, has_cell, image_slots, own_cells, own_slots, sub_place, sub_slots}
 pub use Rattle.vms_spec.specs.Layout.{Cell, Constant, Filler, Meaning, Number, Rule, Slot, desc_cells, desc_slots, device_cells, meanings, no_cell, no_desc}
 pub use Rattle.vms_spec.specs.Streams.{AreReady, IsReady, configuration, end_mark, foot, is_needed, optional, section_head, sub_head, trailer, written_section}
-pub use Rattle.vms_spec.specs.WellFormed.{device_fault, failing, here, set_rules, size_rules, struct_fault}
 unfoldable pub use Rattle.vms_spec.specs.WellFormed.{first_fault}
 pub use Rattle.vms_bodies.proofs.{AgreeLaws.stands_behind, FineLaws.image_are, Names.names_append, NormalFound.named_fits, PartLaws.parts_together}
 pub use Rattle.vms_bodies.proofs.{PartLaws.sub_are, SectionLaws.AreConstants, SectionLaws.fit_slots, SectionLaws.own_are, SpellLaws.FitSlots}

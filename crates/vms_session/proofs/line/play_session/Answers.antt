@@ -1,6 +1,5 @@
-use Rattle.vms_session.proofs.{OneLaws.one_map, RefusalLaws.line_ends, RefusalLaws.loads_keep}
-use Rattle.vms_session.proofs.Facade.{List, ℕ, Some, sym, ap, subst, ◌∙◌, isa, saved_stream, Held, PutsUnder, outlet, stock, stores_told, session_view}
-use Rattle.vms_session.proofs.Facade.{SessionLine, saved_line, Does, LoadsHeld, session_of}
+use Rattle.vms_session.proofs.{OneLaws.one_map, RefusalLaws.line_ends, SoundLaws.load_keeps, Facade.session_of}
+use Rattle.vms_session.proofs.Facade.{Some, sym, ap, subst, ◌∙◌, isa, saved_stream, Held, PutsUnder, outlet, stock, stores_told, session_view, saved_line}
 use Rattle.vms_session.proofs.line.play_session.Goals as goal
 
 pub returns-in_ok-count-in-Save-clause-content : goal.returns-in_ok-count-in-Save-clause-content
@@ -13,8 +12,7 @@ returns-in_ok-count-in-Save-clause-content g c = λ held text new told does.
     let under = subst (λ name. PutsUnder held stored.after name stream) c.as_str.ensures.value stored.puts in
     line_ends (session_view c.args.line.now) text c.deref.result.now new (outlet g.K.Sink c.args.out.now) (outlet g.K.Sink c.write.new.out)
     (stock g.H.Shelf c.args.shelf.now) (stock g.H.Shelf c.save.new.shelf)
-    board c.write.result
-    (c.deref.ensures.0 ∙ c.saved_mark.ensures ∙ ap saved_line saved.0 ∙ sym done.text_is)
+    board c.write.result (c.deref.ensures.0 ∙ c.saved_mark.ensures ∙ ap saved_line saved.0 ∙ sym done.text_is)
     c.write.ensures (stored.told ∙ ap (λ (h : Held). Some h) (one_map held stored.after new.held c.in-Save.name.bytes stream under done.held))
     (sym done.board)
 
@@ -27,4 +25,4 @@ returns-in_ok-mark-in-Restore-clause-content g c = λ held text new told does.
     line_ends (session_view c.args.line.now) text c.deref-in-Restore.result.now new (outlet g.K.Sink c.args.out.now)
     (outlet g.K.Sink c.write-in-Restore.new.out) (stock g.H.Shelf c.args.shelf.now) (stock g.H.Shelf c.restore.new.shelf)
     c.restore.new.board.state c.write-in-Restore.result (c.deref-in-Restore.ensures.0 ∙ loaded.0) c.write-in-Restore.ensures
-    (restored.looks.held ∙ told ∙ ap (λ (h : Held). Some h) (sym (loads_keep (held name) (session_of c.args.board.now.state held) text new done))) loaded.1
+    (restored.looks.held ∙ told ∙ ap (λ (h : Held). Some h) (sym (load_keeps (held name) (session_of c.args.board.now.state held) text new done).held)) loaded.1
