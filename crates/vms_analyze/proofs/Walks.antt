@@ -180,10 +180,13 @@ module _ (ds : List Device) where
   stream_as = rw (sym (flat_map-map device_wants device_of ds))
 
   pub start_stops : (a b : Walk) (stop : Stop) → WhyStopped start_wants a b stop → WhyStopped whole a b stop
-  start_stops a b stop w = rw stream_as at (why_before (start_wants ++ devices_wants ds) (Bytes end_mark ∷ []) a b stop (why_before start_wants (devices_wants ds) a b stop w))
+  start_stops a b stop w =
+      rw stream_as at (why_before (start_wants ++ devices_wants ds) (Bytes end_mark ∷ []) a b stop
+      (why_before start_wants (devices_wants ds) a b stop w))
 
   pub devices_stop : {a b : Walk} (c : Walk) (stop : Stop) → Goes start_wants a b → WhyStopped (devices_wants ds) b c stop → WhyStopped whole a c stop
-  devices_stop {a = a} c stop g w = rw stream_as at (why_before (start_wants ++ devices_wants ds) (Bytes end_mark ∷ []) a c stop (why_then (devices_wants ds) c stop g w))
+  devices_stop {a = a} c stop g w =
+      rw stream_as at (why_before (start_wants ++ devices_wants ds) (Bytes end_mark ∷ []) a c stop (why_then (devices_wants ds) c stop g w))
 
   pub stream_walks : {a b c : Walk} (d : Walk) (r : Result (Unit {0}) Stop) → Goes start_wants a b → Goes (devices_wants ds) b c
       → Walks (Bytes end_mark ∷ []) c d r → Walks whole a d r
