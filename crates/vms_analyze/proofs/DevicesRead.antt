@@ -7,11 +7,20 @@ use Rattle.vms_analyze.proofs.Facade.{kind_named, word_named, tells_kind, natura
 use Rattle.vms_analyze.proofs.Facade.{told_entry, is_path, is_good, ToldSub, told_sub, ToldDevice, told_device, told_tree, fits_four, is_kept, is_good_sub}
 use Rattle.vms_analyze.proofs.Facade.{is_good_device, IsSorted, AreSorted, HoldSorted, only, text_at, path_at, natural_at, whole_at, sent_keys, kept_keys}
 use Rattle.vms_analyze.proofs.Facade.{unprinted, sent_as, sent_in, kept_as, kept_in, element_in, next, four_at, flag_at, list_at, each, sub_keys, sub_in}
-use Rattle.vms_analyze.proofs.Facade.{subs_in, device_keys, device_in, devices_in, items_of, read, value_in, Tells}
+use Rattle.vms_analyze.proofs.Facade.{subs_in, device_keys, device_in, devices_in, items_of, read, value_in, Tells, ◌⊎◌, false}
 use Rattle.vms_analyze.specs.Read.{elements_in}
 use Rattle.vms_analyze.proofs.MembersRead.{is_picked, after, first_then, only_is, only_so, text_is, path_is, natural_is, whole_is, whole_back, Says, under}
-use Rattle.vms_analyze.proofs.MembersRead.{if_gives, when_gives, IsPathAt, four_is, flag_is, list_is, each_says, each_back, read_sorted}
+use Rattle.vms_analyze.proofs.MembersRead.{IsPathAt, four_is, flag_is, list_is, each_says, each_back, read_sorted}
 use Rattle.vms_analyze.proofs.Parts.{sub_parts, sub_from, device_parts, device_from}
+
+-- what a choice gives is given by one of its sides
+if_gives : {A : Type 0} (b : Bool) (x y : Option A) (a : A) → (if b then x else y) ≡ Some a → ((b ≡ true) × (x ≡ Some a)) ⊎ ((b ≡ false) × (y ≡ Some a))
+if_gives true x y a e = inl (refl, e)
+if_gives false x y a e = inr (refl, e)
+
+when_gives : {A : Type 0} (b : Bool) (x : Option A) (a : A) → (if b then x else None) ≡ Some a → (b ≡ true) × (x ≡ Some a)
+when_gives true x a e = (refl, e)
+when_gives false x a e = cc
 
 -- ---- What is read of an element is the element whose entry the value is, and of each good element's entry that element is read.
 

@@ -1,11 +1,10 @@
 -- What was read of an object's members and of a list's items, and keys in order.
 use Rattle.vms_analyze.proofs.{Facade.natural_at, Facade.four_at, Facade.whole_of, Facade.whole_at, Facade.each, Parts.each_good}
-use Rattle.vms_analyze.proofs.Facade.{Ordering, Less, Equal, Greater, ◌≡◌, ℕ, Bool, true, false, ◌&&◌, List, [], ◌∷◌, ◌++◌, append-nil, is_some, unwrap_or, ◌⊎◌}
-use Rattle.vms_analyze.proofs.Facade.{if◌then◌else◌}
+use Rattle.vms_analyze.proofs.Facade.{Ordering, Less, Equal, Greater, ◌≡◌, ℕ, Bool, true, false, ◌&&◌, List, [], ◌∷◌, ◌++◌, append-nil, is_some, unwrap_or}
 use Rattle.vms_analyze.proofs.Facade.{Option, Some, None, refl, sym, ap, ap₂, ◌∙◌, IfSome, option_map, option_and_then, map, ℤ, pos, negsuc, arith, and_parts}
 use Rattle.vms_analyze.proofs.Facade.{le-ltb, nat_list_cmp_total, exact_bytes, is_eq-slice_cmp, nat_cmp, match_ordering, ordering_reverse, is_eq, slice_cmp}
 use Rattle.vms_analyze.proofs.Facade.{list_all, Data, null, boolean, number, string, array, object, Members, no_members, member, put, Items, item, unsigned}
-use Rattle.vms_analyze.proofs.Facade.{negative, no_items, get, get_member, as_bool, as_number, as_str, as_array, as_u64, of_integer, is_one_of, has, inl, inr}
+use Rattle.vms_analyze.proofs.Facade.{negative, no_items, get, get_member, as_bool, as_number, as_str, as_array, as_u64, of_integer, is_one_of, has}
 use Rattle.vms_analyze.proofs.Facade.{has_no_others, has_all, fits, IsLess, IsBefore, AreOrdered, keys_of, IsSorted, AreSorted, HoldSorted, tokens, number_of}
 use Rattle.vms_analyze.proofs.Facade.{of_json, of_items, of_members, max_depth, read, items_of, natural, is_path, fits_four, next, only, text_at, path_at}
 use Rattle.serde_json.specs.Data.{Num}
@@ -189,15 +188,6 @@ after (Some a) f b e = record { value = a; first = refl; then = e }
 -- and so it was read
 pub first_then : {A B : Type 0} {o : Option A} {a : A} {r : Option B} (f : A → Option B) → o ≡ Some a → f a ≡ r → next o f ≡ r
 first_then f e g = rw e (g)
-
--- what a choice gives is given by one of its sides
-pub if_gives : {A : Type 0} (b : Bool) (x y : Option A) (a : A) → (if b then x else y) ≡ Some a → ((b ≡ true) × (x ≡ Some a)) ⊎ ((b ≡ false) × (y ≡ Some a))
-if_gives true x y a e = inl (refl, e)
-if_gives false x y a e = inr (refl, e)
-
-pub when_gives : {A : Type 0} (b : Bool) (x : Option A) (a : A) → (if b then x else None) ≡ Some a → (b ≡ true) × (x ≡ Some a)
-when_gives true x a e = (refl, e)
-when_gives false x a e = cc
 
 pub record Only {A : Type 0} (b : Bool) (a c : A) : Type 0 where
   pub so : b ≡ true

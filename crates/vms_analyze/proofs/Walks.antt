@@ -135,7 +135,6 @@ all_good (x ∷ xs) = all_good xs
 pub elements_are : (es : List Element) → element_wants es ≡ map element_want (map told_of es)
 elements_are es = cc (flat_map_single (λ e. element_want (told_of e)) es, map-map element_want told_of es)
 
--- a subsection
 -- ---- a device
 
 abbrev pub head_of : Device → List Want
@@ -156,15 +155,16 @@ module _ (d : Device) where
 
   pub head_stops : (a b : Walk) (stop : Stop) → WhyStopped (head_of d) a b stop → WhyStopped all a b stop
   head_stops a b stop w =
-      rw device_as at (why_before ((head_of d ++ elements) ++ subs) _ a b stop
-      (why_before (head_of d ++ elements) _ a b stop (why_before (head_of d) _ a b stop w)))
+      rw device_as at (why_before ((head_of d ++ elements) ++ subs) (Foot ∷ []) a b stop
+      (why_before (head_of d ++ elements) subs a b stop (why_before (head_of d) elements a b stop w)))
 
   pub elements_stop : {a b : Walk} (c : Walk) (stop : Stop) → Goes (head_of d) a b → WhyStopped elements b c stop → WhyStopped all a c stop
   elements_stop {a = a} c stop g w =
-      rw device_as at (why_before ((head_of d ++ elements) ++ subs) _ a c stop (why_before (head_of d ++ elements) _ a c stop (why_then elements c stop g w)))
+      rw device_as at (why_before ((head_of d ++ elements) ++ subs) (Foot ∷ []) a c stop
+      (why_before (head_of d ++ elements) subs a c stop (why_then elements c stop g w)))
 
   pub subs_stop : {a b c : Walk} (e : Walk) (stop : Stop) → Goes (head_of d) a b → Goes elements b c → WhyStopped subs c e stop → WhyStopped all a e stop
-  subs_stop {a = a} e stop g h w = rw device_as at (why_before ((head_of d ++ elements) ++ subs) _ a e stop (why_then subs e stop (goes_then g h) w))
+  subs_stop {a = a} e stop g h w = rw device_as at (why_before ((head_of d ++ elements) ++ subs) (Foot ∷ []) a e stop (why_then subs e stop (goes_then g h) w))
 
   pub device_walks : {a b c e : Walk} (f : Walk) (r : Result (Unit {0}) Stop) → Goes (head_of d) a b → Goes elements b c → Goes subs c e
       → Walks (Foot ∷ []) e f r → Walks all a f r
@@ -180,10 +180,13 @@ module _ (ds : List Device) where
   stream_as = rw (sym (flat_map-map device_wants device_of ds))
 
   pub start_stops : (a b : Walk) (stop : Stop) → WhyStopped start_wants a b stop → WhyStopped whole a b stop
-  start_stops a b stop w = rw stream_as at (why_before (start_wants ++ devices_wants ds) _ a b stop (why_before start_wants _ a b stop w))
+  start_stops a b stop w =
+      rw stream_as at (why_before (start_wants ++ devices_wants ds) (Bytes end_mark ∷ []) a b stop
+      (why_before start_wants (devices_wants ds) a b stop w))
 
   pub devices_stop : {a b : Walk} (c : Walk) (stop : Stop) → Goes start_wants a b → WhyStopped (devices_wants ds) b c stop → WhyStopped whole a c stop
-  devices_stop {a = a} c stop g w = rw stream_as at (why_before (start_wants ++ devices_wants ds) _ a c stop (why_then (devices_wants ds) c stop g w))
+  devices_stop {a = a} c stop g w =
+      rw stream_as at (why_before (start_wants ++ devices_wants ds) (Bytes end_mark ∷ []) a c stop (why_then (devices_wants ds) c stop g w))
 
   pub stream_walks : {a b c : Walk} (d : Walk) (r : Result (Unit {0}) Stop) → Goes start_wants a b → Goes (devices_wants ds) b c
       → Walks (Bytes end_mark ∷ []) c d r → Walks whole a d r

@@ -45,7 +45,7 @@ pub use Rattle.vms_bodies.proofs.WalkLaws.{drop_next, place_first, zero_plus}
 pub use Rattle.vms_stream.proofs.Stated.{one_stream_holds, written_holds}
 pub use Rattle.vms_stream.specs.Streams.{Takes}
 pub use Rattle.vms_elements.proofs.{EntryLines.entry_law, LinesOf.printed_append, LinesOf.text_append, LinesOf.text_is}
-pub use Rattle.vms_elements.proofs.{SlotsOf.elements_slots, Tables.shapes_cells, Tables.two_more, Walk.AreCounted, Walk.walks}
+pub use Rattle.vms_elements.proofs.{SlotsOf.elements_slots, Tables.shapes_cells, Walk.AreCounted, Walk.walks}
 pub use Rattle.vms_elements.specs.Elements.{Element, Number, Rule, Shape, Stand, What, array_elements, behind, cells_in, desc_elements, dotted, elements_from}
 pub use Rattle.vms_elements.specs.Elements.{field_elements, index_text, item_elements, no_shape, shape, shapes, single, stand_of}
 pub use Rattle.vms_elements.specs.Entries.{Entry, OfMachine, OfNumber, OfSection, OfSub, came_well, device_entries, devices_entries, element_reason, entries}
@@ -59,4 +59,4 @@ pub use Rattle.vms_values_laws.specs.{Rounds.FitsText, Rounds.PackedLaw, Rounds.
 pub use Rattle.vms_values_laws.specs.Laws.{AcceptedLaw, LineLaw, OnlyLaw, PrintedLaw, ReadLaw, device_lines, most_lines}
 pub use Rattle.vms_values_laws.specs.Said.{Agrees, AreBelow, AreFrom, Meets, Said, put_all, said_line}
 pub use Rattle.vms_values_laws.specs.Taken.{Along, AreFineTaken, Begins, Demand, Follows, ForMachine, ForNumber, ForSection, ForSub, Moved, Taken, demand_of}
-pub use Rattle.vms_spec.proofs.Tables.{one_more}
+pub use Rattle.vms_spec.proofs.Tables.{one_more, two_more}
