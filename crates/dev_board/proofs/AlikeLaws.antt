@@ -107,8 +107,5 @@ pub likeness : Likeness
 likeness = record {
   itself = λ m. record { same = refl; serial = alike_itself m.serial };
   back = λ m n a. record { same = ap (λ (s : State). record s { serial = m.serial }) (sym a.same); serial = alike_back m.serial n.serial a.serial };
-  on = λ m n o a b. record {
-    same = cc;
-    serial = alike_on m.serial n.serial o.serial a.serial b.serial;
-  };
+  on = λ m n o a b. record { same = cc; serial = alike_on m.serial n.serial o.serial a.serial b.serial };
 }

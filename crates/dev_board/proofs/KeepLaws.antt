@@ -117,8 +117,7 @@ module _ (m : State) (h : HasDevices m) where
   pub after-wait : (to : ℕ) (sent : List ℕ) (port : Port) → m.moment ≤ to → to ≤ LAST_MOMENT → (sent, port) ≡ advanced to m.serial
       → HasDevices (record m { moment = to; serial = port })
   unfolding waited
-  after-wait to sent port l b e =
-      subst (λ answer. HasDevices (record m { moment = to; serial = answer.1 })) (sym e) (waited-kept m h to l b).kept
+  after-wait to sent port l b e = subst (λ answer. HasDevices (record m { moment = to; serial = answer.1 })) (sym e) (waited-kept m h to l b).kept
 
   -- No counter was loaded after the moment.
   pub loaded : IsLoadedBy m.moment m.pit

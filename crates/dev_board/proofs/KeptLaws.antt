@@ -1,13 +1,11 @@
 -- What is known of the timer between events.
-use Rattle.dev_board.proofs.Facade.{◌≡◌, ℕ, ◌/◌, ◌<◌, ◌≤◌, inl, inr, Bool, true, false, ◌&&◌, if◌then◌else◌, Option, Some, None, refl, sym, ap, ◌∙◌, subst}
-use Rattle.dev_board.proofs.Facade.{arith, ⊎_elim, cases_lt, or_parts, nat_tests, nat_lt, at_step, same, read-goes_on, edge_in_parts, period, rises, ticks}
-use Rattle.dev_board.proofs.Facade.{edge_of, edge_since, out_of, GoesOn, counter_of, pit_edge, pit_out, pit_read, AreTurns, IsTurn, Mode, TerminalCount}
-use Rattle.dev_board.proofs.Facade.{OneShot, RateGenerator, SquareWave, SoftwareStrobe, HardwareStrobe, Pit, Turns, IsCalm, calm_by, later, read_at, target_of}
-use Rattle.dev_board.proofs.Facade.{written_at, read, write, HasDevices, State, Act, waited, calm_after, is_command, write_touches, Target, Pair, Counter}
-use Rattle.dev_board.proofs.Facade.{Control, Touch, Command, Access}
-use Rattle.dev_pit.specs.Counter.{read_of}
-use Rattle.dev_pit.specs.declared.counter.Counter.{Counter as Counting}
+use Rattle.dev_board.proofs.Facade.{Access, ◌≡◌, ℕ, ◌/◌, ◌<◌, ◌≤◌, inl, inr, Bool, true, false, ◌&&◌, if◌then◌else◌, Option, Some, None, refl, sym, ap, ◌∙◌}
+use Rattle.dev_board.proofs.Facade.{subst, arith, ⊎_elim, cases_lt, or_parts, nat_tests, nat_lt, at_step, same, read-goes_on, edge_in_parts, period, rises}
+use Rattle.dev_board.proofs.Facade.{ticks, edge_of, edge_since, out_of, GoesOn, counter_of, pit_edge, pit_out, pit_read, AreTurns, IsTurn, Mode, OneShot}
+use Rattle.dev_board.proofs.Facade.{RateGenerator, SquareWave, HardwareStrobe, Pit, Turns, IsCalm, calm_by, later, read_at, target_of, written_at, read, write}
+use Rattle.dev_board.proofs.Facade.{HasDevices, State, Act, waited, calm_after, is_command, write_touches, Target, Pair, Counter, Control, Touch, Command}
 use Rattle.dev_board.proofs.KeepLaws.{loaded}
+use Rattle.dev_pit.specs.{Counter.read_of, declared.counter.Counter.Counter as Counting}
 
 -- No edge comes in no time.
 no-more : (x : Bool) (q : ℕ) → (x && nat_lt q q) ≡ false

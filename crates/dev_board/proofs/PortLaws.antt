@@ -51,8 +51,7 @@ register_of port offset low high back =
       ne_eqb port 0x43 (λ e. omega arith),
       le-leb 0x3f8 port low,
       le-leb port 0x3ff high,
-    )
-    (ap Register back)
+    ) (ap Register back)
 
 register_at : (level offset : ℕ) → offset < 8 → target_of level (0x3f8 + offset) ≡ Register offset
 register_at level offset m =
@@ -125,5 +124,4 @@ pair_port m now port target h view e is = cc (reached_as now.level port target P
 pub pit_port : (level port : ℕ) (target : Target) → target ≡ target_of level port → ((counter : ℕ) × (target ≡ Counter counter)) ⊎ (target ≡ Control)
     → IsPort port
 pit_port level port target e is =
-    ⊎_elim (λ counter. (reached_as level port target (Counter counter.0) e counter.1).1)
-    (λ control. reached_as level port target Control e control) is
+    ⊎_elim (λ counter. (reached_as level port target (Counter counter.0) e counter.1).1) (λ control. reached_as level port target Control e control) is

@@ -1,21 +1,15 @@
 -- Accesses after which no line has changed.
-use Rattle.dev_board.proofs.Facade.{◌≡◌, ℕ, ◌<◌, ◌==◌, Bool, true, false, Option, None, Some, IfSome, arith, nat_tests, refl, ap, ◌∙◌, sym, subst, has}
-use Rattle.dev_board.proofs.Facade.{lines_of, int_of, pit_out, line_of, lsr_of, is_nothing, is_command, is_untouched, leaves_port, read_touches, write_touches}
-use Rattle.dev_board.proofs.Facade.{Stays, HasTaken, Before, Touch, Untouched, Command, State, HasDevices, IsSound, target_of, Target, Pair, Register, Nothing}
+use Rattle.dev_board.proofs.{KeepLaws.read_at-kept, KeepLaws.serial-written, KeptLaws.calm-read, KeptLaws.calm-write, PortLaws.ports_are}
+use Rattle.dev_board.proofs.{QuietLaws.untouched-settled, SoundLaws.settled-sound, WireBits.wires_of-are}
+use Rattle.dev_board.proofs.Facade.{◌≡◌, ℕ, ◌<◌, Bool, true, false, Option, None, Some, IfSome, arith, nat_tests, refl, ap, ◌∙◌, sym, subst, has, lines_of}
+use Rattle.dev_board.proofs.Facade.{int_of, pit_out, line_of, lsr_of, is_nothing, is_command, is_untouched, leaves_port, read_touches, write_touches, Stays}
+use Rattle.dev_board.proofs.Facade.{HasTaken, Before, Touch, Untouched, Command, State, HasDevices, IsSound, target_of, Target, Pair, Register, Nothing}
 use Rattle.dev_board.proofs.Facade.{Counter, read, write, read_at, written_at, written, written_pair, saying, Event, Read, Write, step, acted, after_act}
 use Rattle.dev_board.proofs.Facade.{wires_after, settled, wires_of, IsCalm, Port, lsr_read, Pit, pit_read, PicPair}
-use Rattle.std.specs.Prelude.{MatchOption}
-use Rattle.dev_board.specs.Kept.{IsKept}
-use Rattle.dev_board.specs.Ports.{has_port, is_device}
-use Rattle.dev_board.specs.declared.kept.Kept.{Kept}
-use Rattle.dev_serial.specs.Access.{read_of as registers_read}
-use Rattle.dev_board.proofs.KeepLaws.{read_at-kept, serial-written}
-use Rattle.dev_board.proofs.KeptLaws.{calm-read, calm-write}
-use Rattle.dev_board.proofs.PortLaws.{ports_are}
-use Rattle.dev_board.proofs.QuietLaws.{untouched-settled}
-use Rattle.dev_board.proofs.SoundLaws.{settled-sound}
 use Rattle.dev_board.proofs.StayLaws.{IsBefore, after-read, after-write, lsr-overrun, pair-taken}
-use Rattle.dev_board.proofs.WireBits.{wires_of-are}
+use Rattle.dev_board.specs.{Kept.IsKept, Ports.has_port, Ports.is_device, declared.kept.Kept.Kept}
+use Rattle.std.specs.Prelude.{MatchOption}
+use Rattle.dev_serial.specs.Access.{read_of as registers_read}
 
 -- What is so after it.
 pub record Holds (known : Kept) (after : State) : Type 0 where
@@ -95,8 +89,7 @@ module _ (m : State) (s : IsSound m) where
     pub queue-step : (event : Event) (port : ℕ) (seen : State) (kept : Kept) → IsKept kept m → event ≡ Write port value → port ≡ 0x3f8 → m ≡ seen
         → (saying None kept.int, after) ≡ step event seen
     unfolding step acted after_act wires_after
-    queue-step event port seen kept k is at view =
-        rw (is, at, ← view, ← e, same-settled Untouched after refl queue-stays h, k.int, queue-int) refl
+    queue-step event port seen kept k is at view = rw (is, at, ← view, ← e, same-settled Untouched after refl queue-stays h, k.int, queue-int) refl
 
   -- A command to the master.
   module _ (value : ℕ) (after : State) (e : after ≡ write 0x20 value m) (even : has value 4 ≡ false) (h : HasDevices after) (int : Bool)
@@ -120,8 +113,7 @@ module _ (m : State) (s : IsSound m) where
     pub command-step : (event : Event) (port : ℕ) (seen : State) → event ≡ Write port value → port ≡ 0x20 → m ≡ seen
         → (saying None int, after) ≡ step event seen
     unfolding step acted after_act wires_after
-    command-step event port seen is at view =
-        rw (is, at, ← view, ← e, same-settled Command after refl command-stays h, out) refl
+    command-step event port seen is at view = rw (is, at, ← view, ← e, same-settled Command after refl command-stays h, out) refl
 
 -- ---- the accesses themselves
 

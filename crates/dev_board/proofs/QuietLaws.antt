@@ -48,30 +48,25 @@ and-bytes a b c d hb hd =
 driven : (s m : ℕ) → s < 256 → m < 256 → bit_and (s * 256 + m) DRIVEN ≡ s * 256 + bit_and m 0xfb
 driven s m hs hm = and-bytes s m 0xff 0xfb hm (omega arith) ∙ ap (λ n. n * 256 + bit_and m 0xfb) (and_numeral s 254 refl ∙ omega arith)
 
-cascaded-bit : (m k : ℕ) → (m / 2 ^ 2 % 2) ≡ 1 → k < 8 → bit_at (bit_or (bit_and m 0xfb) 4) k ≡ bit_at m k
-cascaded-bit m k e =
-    each_input (λ k. bit_at (bit_or (bit_and m 0xfb) 4) k ≡ bit_at m k)
-    (bit 0 (omega (arith, bit_at-lt m 0))) (bit 1 (omega (arith, bit_at-lt m 1))) (bit 2 (omega arith)) (bit 3 (omega (arith, bit_at-lt m 3)))
-    (bit 4 (omega (arith, bit_at-lt m 4))) (bit 5 (omega (arith, bit_at-lt m 5))) (bit 6 (omega (arith, bit_at-lt m 6)))
-    (bit 7 (omega (arith, bit_at-lt m 7))) k where
-      bit : (k : ℕ) → max (min (bit_at m k) (bit_at 0xfb k)) (bit_at 4 k) ≡ bit_at m k → bit_at (bit_or (bit_and m 0xfb) 4) k ≡ bit_at m k
-      bit k h = cc (bit_at_or (bit_and m 0xfb) 4 k, bit_at_and m 0xfb k)
-
-plain-bit : (m k : ℕ) → (m / 2 ^ 2 % 2) ≡ 0 → k < 8 → bit_at (bit_or (bit_and m 0xfb) 0) k ≡ bit_at m k
-plain-bit m k e =
-    each_input (λ k. bit_at (bit_or (bit_and m 0xfb) 0) k ≡ bit_at m k)
-    (bit 0 (omega (arith, bit_at-lt m 0))) (bit 1 (omega (arith, bit_at-lt m 1))) (bit 2 (omega arith)) (bit 3 (omega (arith, bit_at-lt m 3)))
-    (bit 4 (omega (arith, bit_at-lt m 4))) (bit 5 (omega (arith, bit_at-lt m 5))) (bit 6 (omega (arith, bit_at-lt m 6)))
-    (bit 7 (omega (arith, bit_at-lt m 7))) k where
-      bit : (k : ℕ) → max (min (bit_at m k) (bit_at 0xfb k)) (bit_at 0 k) ≡ bit_at m k → bit_at (bit_or (bit_and m 0xfb) 0) k ≡ bit_at m k
-      bit k h = cc (bit_at_or (bit_and m 0xfb) 0 k, bit_at_and m 0xfb k)
-
 with-again : (b : Bool) (m : ℕ) → m < 256 → has m 2 ≡ b → bit_or (bit_and m 0xfb) (cond b 4 0) ≡ m
-with-again true m h e =
-    let one : (m / 2 ^ 2 % 2) ≡ 1 = grind (arith, nat_tests) in
-    same_from_bits_below 8 _ _ (or_of_8 (bit_and m 0xfb) 4 (omega (arith, and_le_l m 0xfb)) (omega arith)) h (λ k l. cascaded-bit m k one l)
-with-again false m h e =
-    same_from_bits_below 8 _ _ (or_of_8 (bit_and m 0xfb) 0 (omega (arith, and_le_l m 0xfb)) (omega arith)) h (λ k l. plain-bit m k (grind (arith, nat_tests)) l)
+with-again b m h e = by b e where
+  -- from each bit
+  again : (n : ℕ) → n < 256 → ((k : ℕ) → k < 8 → max (min (bit_at m k) (bit_at 0xfb k)) (bit_at n k) ≡ bit_at m k) → bit_or (bit_and m 0xfb) n ≡ m
+  again n l bits =
+      same_from_bits_below 8 _ _ (or_of_8 (bit_and m 0xfb) n (omega (arith, and_le_l m 0xfb)) l) h
+      (λ k l. cc (bit_at_or (bit_and m 0xfb) n k, bit_at_and m 0xfb k, bits k l))
+
+  by : (b : Bool) → has m 2 ≡ b → bit_or (bit_and m 0xfb) (cond b 4 0) ≡ m
+  by true e =
+      let one : (m / 2 ^ 2 % 2) ≡ 1 = grind (arith, nat_tests) in
+      again 4 (omega arith) (each_input (λ k. max (min (bit_at m k) (bit_at 0xfb k)) (bit_at 4 k) ≡ bit_at m k)
+      (omega (arith, bit_at-lt m 0)) (omega (arith, bit_at-lt m 1)) (omega arith) (omega (arith, bit_at-lt m 3)) (omega (arith, bit_at-lt m 4))
+      (omega (arith, bit_at-lt m 5)) (omega (arith, bit_at-lt m 6)) (omega (arith, bit_at-lt m 7)))
+  by false e =
+      let none : (m / 2 ^ 2 % 2) ≡ 0 = grind (arith, nat_tests) in
+      again 0 (omega arith) (each_input (λ k. max (min (bit_at m k) (bit_at 0xfb k)) (bit_at 0 k) ≡ bit_at m k)
+      (omega (arith, bit_at-lt m 0)) (omega (arith, bit_at-lt m 1)) (omega arith) (omega (arith, bit_at-lt m 3)) (omega (arith, bit_at-lt m 4))
+      (omega (arith, bit_at-lt m 5)) (omega (arith, bit_at-lt m 6)) (omega (arith, bit_at-lt m 7)))
 
 cascade-again : (b : Bool) (m : ℕ) → m < 256 → has m 2 ≡ b → with_cascade b (bit_and m 0xfb) ≡ m
 unfolding without_input but_not
@@ -111,12 +106,7 @@ kept-settled chip after k h = record {
 module _ (lines : ℕ) (pair : PicPair) (h : HasTaken lines pair) where
   with-master : (chip : Chip) → IsSettled chip → chip.lines ≡ pair.master.lines → HasTaken lines (record pair { master = chip })
   unfolding lines_of slave_int_of
-  with-master chip settled e = record {
-    master = settled;
-    slave = h.slave;
-    cascade = rw e h.cascade;
-    same = cc;
-  }
+  with-master chip settled e = record { master = settled; slave = h.slave; cascade = rw e h.cascade; same = cc }
 
   kept-taken : (chip : Chip) → Keeps pair.master chip → HasTaken lines (record pair { master = chip })
   kept-taken chip k = with-master chip (kept-settled pair.master chip k h.master) k.lines
@@ -153,8 +143,7 @@ without-and r w e hr hw none =
     same_from_bits_below 8 _ _ (omega (arith, and_le_l (without_input r w) e)) (omega (arith, and_le_l r e))
     (λ k l. bit_at_and (without_input r w) e k ∙ ap (λ n. min n (bit_at e k)) (bit-without r w k hw l) ∙ ⊎_elim
     (λ (is : k ≡ w). let zero : bit_at e k ≡ 0 = subst (λ (i : ℕ). bit_at e i ≡ 0) (sym is) (no_bit e w none) in
-    rw (bit_at_and r e k, zero) (omega arith))
-    (λ (other : k ≢ w). rw (bit_at_and r e k, bit_at-pow_other w k other) (omega (arith, bit_at-lt r k)))
+    rw (bit_at_and r e k, zero) (omega arith)) (λ (other : k ≢ w). rw (bit_at_and r e k, bit_at-pow_other w k other) (omega (arith, bit_at-lt r k)))
     (cases_eq k w))
 
 without-none : (r w : ℕ) → r < 256 → w < 8 → has r w ≡ false → without_input r w ≡ r
@@ -192,8 +181,7 @@ module _ (chip : Chip) (w : ℕ) (h : IsSettled chip) (hw : w < 8) where
   unfolding taken
   taken-lines =
       let lines-same : Chip → Type 0 = λ c. c.lines ≡ chip.lines in
-      either lines-same (has (level_inputs_of chip) w) _ _
-      (either lines-same chip.auto_eoi _ _ (either lines-same chip.rotate _ _ refl refl) refl)
+      either lines-same (has (level_inputs_of chip) w) _ _ (either lines-same chip.auto_eoi _ _ (either lines-same chip.rotate _ _ refl refl) refl)
       (either lines-same chip.auto_eoi _ _ (either lines-same chip.rotate _ _ refl refl) refl)
 
   -- With its line low, the cascade is taken as any other input.
@@ -232,8 +220,7 @@ module _ (lines : ℕ) (pair : PicPair) (h : HasTaken lines pair) (none : has li
       with-master lines pair h _ (taken-settled pair.master w h.master l) (taken-lines pair.master w h.master l) in
       cond_both (w == 2) _ _ Taken
       (λ e. let two : w ≡ 2 = grind (arith, nat_tests) in
-      by_slave _ slave-low (cascaded pair.master) (rw (cascaded-is pair.master w h.master l low two) master))
-      (λ e. master)
+      by_slave _ slave-low (cascaded pair.master) (rw (cascaded-is pair.master w h.master l low two) master)) (λ e. master)
 
   pub ack-taken : HasTaken lines (acked pair).1
   ack-taken = by_winner _ (winner-lt _ pair.master)

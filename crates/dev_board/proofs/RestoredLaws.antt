@@ -158,8 +158,7 @@ module _ (level : ℕ) (cells : BoardCells) (found : ℕ) (time : timed (moment_
 
     pub found-devices : IsLevel level → AreBoardCells cells → HasDevices board
     found-devices l are =
-        rw same
-        (devices-back level cells l are (timed-ok (moment_of cells) found time).last pair pit port of_pair (pit-then _ of_pit) (port-then _ of_port))
+        rw same (devices-back level cells l are (timed-ok (moment_of cells) found time).last pair pit port of_pair (pit-then _ of_pit) (port-then _ of_port))
 
     pub found-sound : IsLevel level → AreBoardCells cells → lines_agree board ≡ true → IsSound board
     found-sound l are e = sound level cells board l are (lines-taken e)

@@ -1,19 +1,15 @@
 -- A board is sound exactly if its cells in the newest set meet the rules and the lines agree.
+use Rattle.dev_board.proofs.{Facade.BoardCells, SavedLaws.has-lines, SavedLaws.comes-back}
 use Rattle.dev_board.proofs.Facade.{◌≡◌, ℕ, ℤ, ◌/◌, List, length, take, drop, ap, ◌∙◌, arith, length-append, ◌≤◌, Result, Ok, refl, sym, subst, saved-count}
 use Rattle.dev_board.proofs.Facade.{saved_are_cells, kinds, saved_cells, pair_cells, PicPair, pit_cells, saved, carried, MaySaveUnder, AreBoardCells, timed}
 use Rattle.dev_board.proofs.Facade.{moment_of, pair_back, pit_back, serial_back, restored, State, judged-ok, has, NEWEST, LAST_MOMENT, pair-same, lines_of}
 use Rattle.dev_board.proofs.Facade.{slave_int_of, pit_of-saved, pit_out, rules, pit_of, numbers-back, steps_keep_registers, IsSoundPair, IsSoundPit}
 use Rattle.dev_board.proofs.Facade.{lines_alike, restored-saved, Port, line_of, IsTold, SoundMeetsRules, HasLines, IsSound, PIT_DEVICE, SERIAL_DEVICE}
-use Rattle.dev_board.proofs.Facade.{BoardCells}
+use Rattle.dev_board.proofs.RestoredLaws.{IsMadeOf, made_of, chip-ok, device-ok, timed-ok, pair-back, pit-back}
 use Rattle.dev_pic.proofs.SavedLaws.{carried-saved as chip-carried}
 use Rattle.dev_pit.proofs.SavedLaw.{carried-saved as pit-carried}
-use Rattle.dev_serial.proofs.CarriedCells.{carried-saved as serial-carried}
-use Rattle.dev_serial.proofs.SoundRules.{sound_meets_rules as port-meets}
-use Rattle.dev_serial.specs.PortNumbers.{saved as port-saved}
-use Rattle.dev_serial.specs.Rules.{restored as port-restored}
-use Rattle.dev_serial.specs.Sound.{IsSound as IsSoundPort}
-use Rattle.dev_board.proofs.RestoredLaws.{IsMadeOf, made_of, chip-ok, device-ok, timed-ok, pair-back, pit-back}
-use Rattle.dev_board.proofs.SavedLaws.{has-lines, comes-back}
+use Rattle.dev_serial.proofs.{CarriedCells.carried-saved as serial-carried, SoundRules.sound_meets_rules as port-meets}
+use Rattle.dev_serial.specs.{PortNumbers.saved as port-saved, Rules.restored as port-restored, Sound.IsSound as IsSoundPort}
 
 -- ---- the cells of a pair's two chips, separately and one after the other
 

@@ -1,4 +1,5 @@
 -- What is saved of a board can be restored.
+use Rattle.dev_board.proofs.AlikeLaws.{alike_stays}
 use Rattle.dev_board.proofs.Facade.{◌≡◌, ℕ, ℤ, pos, ◌≤◌, Bool, true, false, List, ◌∷◌, Result, Ok, refl, sym, ap, subst, ◌∙◌, arith, [], and_parts, and_from}
 use Rattle.dev_board.proofs.Facade.{nat_tests, nat_le, of_none, of_more, long, has, AreOf, IsLevel, MaySave, MayRestore, NEWEST, LAST_MOMENT, hook-ok}
 use Rattle.dev_board.proofs.Facade.{carried-saved, pair-restored, set-of, saved_cells, lines_of, slave_int_of, restored_pair, ChipFault, PicPair, pit_cells}
@@ -9,12 +10,8 @@ use Rattle.dev_base.specs.Bits.{same}
 use Rattle.dev_pic.specs.Cells.{kinds as pic_kinds, carried as pic_carried}
 use Rattle.dev_pit.proofs.SavedLaw.{saved_are_cells as pit-saved, saved_is_restored as pit-is-restored}
 use Rattle.dev_pit.specs.Cells.{carried as pit_carried}
-use Rattle.dev_serial.proofs.SavedCells.{saved_are_cells as serial-saved}
-use Rattle.dev_serial.proofs.CarriedCells.{saved_comes_back as serial-comes-back}
-use Rattle.dev_serial.specs.Cells.{carried as serial_carried}
-use Rattle.dev_serial.specs.Laws.{ComesBack as PortComesBack}
-use Rattle.dev_serial.specs.Sound.{Alike as AlikePorts}
-use Rattle.dev_board.proofs.AlikeLaws.{alike_stays}
+use Rattle.dev_serial.proofs.{SavedCells.saved_are_cells as serial-saved, CarriedCells.saved_comes_back as serial-comes-back}
+use Rattle.dev_serial.specs.{Cells.carried as serial_carried, Laws.ComesBack as PortComesBack, Sound.Alike as AlikePorts}
 
 -- Two truth values are the same.
 pub same-refl : (a b : Bool) → a ≡ b → same a b ≡ true

@@ -1,15 +1,14 @@
 -- A board is sound at power on, and each event keeps it sound.
-use Rattle.dev_board.proofs.Facade.{ℕ, ◌<◌, ◌^◌, Bool, List, [], ◌∷◌, arith, refl, ◌∙◌, IsLevel, lines_are_taken, steps_keep_registers, but_not, winner_at}
+use Rattle.dev_board.proofs.{Facade.wires_of, Facade.Event, KeepLaws.acted-kept}
+use Rattle.dev_board.proofs.Facade.{ℕ, ◌<◌, ◌^◌, Bool, List, [], ◌∷◌, arith, refl, IsLevel, lines_are_taken, steps_keep_registers, but_not, winner_at}
 use Rattle.dev_board.proofs.Facade.{served_of, winner_of, ready_among, chip_on, lines_of, slave_int_of, settled_pair, IsSoundPair, sound_stays, powered_on}
 use Rattle.dev_board.proofs.Facade.{out_of, new_pit, pit_out, power_on_is_sound, bits_where, interrupt, line_of, IsEvent, AreEvents, SoundStays, HasDevices}
 use Rattle.dev_board.proofs.Facade.{HasLines, IsSound, State, power_on, inputs_of, settled, after_act, step, acted, wires_after, after_all, after_by, AreWires}
-use Rattle.dev_board.proofs.Facade.{wires_of, Event}
+use Rattle.dev_board.proofs.WireBits.{names, wires_of-are, wires_after-are, one-lt, inputs-lt, inputs-out, inputs-serial}
 use Rattle.dev_pic.proofs.PairLaws.{steps_keep_level as pair_keeps_level}
 use Rattle.dev_pic.specs.Pair.{power_on as pair_on}
 use Rattle.dev_pit.proofs.SoundLaws.{steps_keep_level as pit_keeps_level}
 use Rattle.dev_serial.specs.Port.{power_on as serial_on}
-use Rattle.dev_board.proofs.KeepLaws.{acted-kept}
-use Rattle.dev_board.proofs.WireBits.{names, wires_of-are, wires_after-are, one-lt, inputs-lt, inputs-out, inputs-serial}
 
 -- The board at power on.
 pub on-devices : (level : ℕ) → IsLevel level → HasDevices (power_on level)
@@ -82,8 +81,4 @@ all-sound [] m e s = s
 all-sound (event ∷ events) m e s = all-sound events (step event m).1 e.1 (step-sound event m e.0 s.devices)
 
 pub sound_stays_on : SoundStays
-sound_stays_on = record {
-  power_on = power_on-sound;
-  event = λ event m e s. step-sound event m e s.devices;
-  events = all-sound;
-}
+sound_stays_on = record { power_on = power_on-sound; event = λ event m e s. step-sound event m e s.devices; events = all-sound }

@@ -1,13 +1,13 @@
 -- What an event leaves of the lines.
+use Rattle.dev_board.proofs.{KeptLaws.read-out, QuietLaws.command-taken, QuietLaws.ack-taken}
 use Rattle.dev_board.proofs.Facade.{◌≡◌, ℕ, Bool, true, false, ◌==◌, bit_or, arith, refl, ap, ◌∙◌, sym, not, ◌&&◌, ◌||◌, subst, if◌then◌else◌, cond_both}
 use Rattle.dev_board.proofs.Facade.{false≢true, nat_tests, and-false, and-true, or-false, has, bits_where, lines_of, written_pair, acked, int_of, PicPair}
 use Rattle.dev_board.proofs.Facade.{HasTaken, is_command, Stays, ack_touches, leaves_port, read_touches, time_touches, write_touches, has-or, either, State}
 use Rattle.dev_board.proofs.Facade.{Act, waited, Before, Touch, Untouched, Command, Access, pit_out, lsr_of, lsr_read, Port, line_of, target_of, read_at}
-use Rattle.dev_board.proofs.Facade.{written_at, read, write, IsSound, Target, Pair, Counter, Control, Register, Nothing}
-use Rattle.dev_board.specs.declared.touch.Touch.TheVariants.{Port as OfPort}
+use Rattle.dev_board.proofs.Facade.{written_at, read, write, IsSound, Target, Pair, Counter, Register, Nothing}
+use Rattle.dev_board.specs.{declared.touch.Touch.TheVariants.Port as OfPort}
+use Rattle.std.proofs.lemmas.Bool.{not-true}
 use Rattle.dev_serial.specs.Access.{read_of as registers_read}
-use Rattle.dev_board.proofs.KeptLaws.{read-out}
-use Rattle.dev_board.proofs.QuietLaws.{command-taken, ack-taken}
 
 -- The bit of an overrun in the line status.
 bit-of : (b : Bool) (bits : ℕ) → has 0 1 ≡ false → has (bits_where b bits) 1 ≡ (has bits 1 && b)
@@ -28,13 +28,9 @@ pub lsr-overrun : (port : Port) → has (lsr_of port) 1 ≡ port.receiver.overru
 unfolding lsr_of
 lsr-overrun port = or-bits _ port.receiver.overrun _ _
 
-not_true : (b : Bool) → not b ≡ true → b ≡ false
-not_true true e = sym e
-not_true false e = refl
-
 no-overrun : (port : Port) → not (has (lsr_of port) 1) ≡ true → (lsr_read port).1 ≡ port
 no-overrun port e =
-    ap (λ (b : Bool). record port { receiver = record port.receiver { overrun = b } }) (sym (cc (lsr-overrun port, not_true (has (lsr_of port) 1) e)))
+    ap (λ (b : Bool). record port { receiver = record port.receiver { overrun = b } }) (sym (cc (lsr-overrun port, not-true (has (lsr_of port) 1) e)))
 
 -- A read of a register that leaves the port unchanged.
 abbrev Leaves : ℕ → Port → ℕ × Port → Type 0
@@ -128,8 +124,7 @@ module _ (m : State) (s : IsSound m) (before : Before) (b : IsBefore before m) w
 
   pub after-write : (port value : ℕ) (after : State) (touch : Touch) → touch ≡ write_touches (target_of m.level port) port value → after ≡ write port value m
       → Stays touch before after
-  after-write port value after touch t e =
-      rw (t, e) (write-stays (target_of m.level port) port value)
+  after-write port value after touch t e = rw (t, e) (write-stays (target_of m.level port) port value)
 
   pub after-ack : (value : ℕ) (pair : PicPair) (touch : Touch) → touch ≡ ack_touches before.lines → (value, pair) ≡ acked m.pair
       → Stays touch before (record m { pair = pair })
@@ -139,5 +134,4 @@ module _ (m : State) (s : IsSound m) (before : Before) (b : IsBefore before m) w
 
   pub after-time : (to : ℕ) (act : Act) (after : State) (calm : Bool) → (act, after) ≡ waited to m
       → (calm ≡ true → pit_out 0 to m.pit ≡ pit_out 0 m.moment m.pit) → Stays (time_touches calm) before after
-  after-time to act after calm e still =
-      subst (λ (done : Act × State). Stays (time_touches calm) before done.1) (sym e) (time-stays to calm still)
+  after-time to act after calm e still = subst (λ (done : Act × State). Stays (time_touches calm) before done.1) (sym e) (time-stays to calm still)

@@ -66,18 +66,14 @@ module _ (wires : ℕ) (m : State) (w : AreWires wires) where
 
   pub inputs-lt : inputs_of wires m < 2 ^ 16
   unfolding inputs_of
-  inputs-lt =
-      or_of_16 _ _ (or_of_16 wires (bits_where out 0x01) w.bound (one-lt out 0x01 (omega arith))) (one-lt line 0x10 (omega arith))
+  inputs-lt = or_of_16 _ _ (or_of_16 wires (bits_where out 0x01) w.bound (one-lt out 0x01 (omega arith))) (one-lt line 0x10 (omega arith))
 
   pub inputs-out : has (inputs_of wires m) 0 ≡ out
   unfolding inputs_of
   inputs-out =
       has-or (bit_or wires (bits_where out 0x01)) (bits_where line 0x10) 0
-      ∙ ap (λ b. has (bit_or wires (bits_where out 0x01)) 0 || b) (where-bit line 0x10 0 refl)
-      ∙ or-false (has (bit_or wires (bits_where out 0x01)) 0)
-      ∙ has-or wires (bits_where out 0x01) 0
-      ∙ ap (λ b. b || has (bits_where out 0x01) 0) w.out
-      ∙ where-bit out 0x01 0 refl
+      ∙ ap (λ b. has (bit_or wires (bits_where out 0x01)) 0 || b) (where-bit line 0x10 0 refl) ∙ or-false (has (bit_or wires (bits_where out 0x01)) 0)
+      ∙ has-or wires (bits_where out 0x01) 0 ∙ ap (λ b. b || has (bits_where out 0x01) 0) w.out ∙ where-bit out 0x01 0 refl
 
   pub inputs-serial : has (inputs_of wires m) 4 ≡ line
   unfolding inputs_of

@@ -62,8 +62,7 @@ taken inputs edges wire m bound e =
 settled-wire : (wires wire : ℕ) (edge : Bool) (m : State) → AreWires wires → is_wire wire ≡ true
     → has (lines_of (settled wires edge m).pair) wire ≡ has wires wire
 unfolding settled
-settled-wire wires wire edge m w e =
-    taken (inputs_of wires m) (bits_where edge 0x01) wire m (inputs-lt wires m w) e ∙ inputs-wire wires wire m e
+settled-wire wires wire edge m w e = taken (inputs_of wires m) (bits_where edge 0x01) wire m (inputs-lt wires m w) e ∙ inputs-wire wires wire m e
 
 stay : (event : Event) (m : State) (wire : ℕ) → is_wire wire ≡ true → IsEvent event
     → has (lines_of (step event m).1.pair) wire ≡ wire_left wire event (has (lines_of m.pair) wire)

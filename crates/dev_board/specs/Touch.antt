@@ -25,12 +25,9 @@ is_nothing _ = false
 
 -- `asks_timer touch` tells whether OUT of counter 0 must be computed again.
 abbrev pub asks_timer : Touch → Bool
-asks_timer Untouched = false
 asks_timer Timer = true
-asks_timer Port = false
-asks_timer Command = false
-asks_timer Access = false
 asks_timer Time = true
+asks_timer _ = false
 
 -- `calm_after touch calm` is the moment before which OUT of counter 0 stays as it is, 0 if that isn't
 -- known.
@@ -39,30 +36,20 @@ calm_after touch calm = if asks_timer touch then 0 else calm
 
 -- `asks_port touch` tells whether the serial port's line must be computed again.
 abbrev pub asks_port : Touch → Bool
-asks_port Untouched = false
-asks_port Timer = false
 asks_port Port = true
-asks_port Command = false
-asks_port Access = false
 asks_port Time = true
+asks_port _ = false
 
 -- `asks_int touch` tells whether INT must be computed again.
 abbrev pub asks_int : Touch → Bool
-asks_int Untouched = false
-asks_int Timer = false
-asks_int Port = false
 asks_int Command = true
 asks_int Access = true
-asks_int Time = false
+asks_int _ = false
 
 -- `is_access touch` tells whether the pair was accessed, so that the lines must be taken again.
 abbrev pub is_access : Touch → Bool
-is_access Untouched = false
-is_access Timer = false
-is_access Port = false
-is_access Command = false
 is_access Access = true
-is_access Time = false
+is_access _ = false
 
 -- `leaves_port offset value` tells whether a read of this register that returns this value leaves
 -- the serial port unchanged. The line status does if it reports no overrun, and so does every other

@@ -7,20 +7,19 @@ pub use Rattle.vms_rtc.specs.{Cells.kinds, Saved.CanRestore, Saved.hook_restored
 pub use Rattle.vms_rtc.specs.Chip.{is_port, passed, read_of}
 unfoldable pub use Rattle.vms_rtc.specs.{Cells.saved_cells, Chip.line_of}
 pub use Rattle.dev_base.proofs.{Choices.either, RuleLaws.AllTrue, RuleLaws.hook-ok, RuleLaws.judged-ok, RuleLaws.none_failing, RuleLaws.ok-hook}
-pub use Rattle.dev_base.specs.{Bits.has, Bits.same, Cells.AreOf, Cells.number_at, declared.limits.TheConstants.LAST_MOMENT, declared.limits.TheConstants.NEWEST}
-pub use Rattle.dev_base.specs.Levels.{IsLevel, IsUpTo}
-pub use Rattle.dev_board.proofs.{AlikeLaws.stays-alike, SavedLaws.same-is, SavedLaws.same-refl, WireLaws.wires_stay}
-pub use Rattle.dev_board.proofs.RestoredLaws.{chip-ok, device-ok}
+pub use Rattle.dev_base.specs.{Bits.has, Bits.same, Cells.AreOf, Cells.number_at, Levels.IsLevel, Levels.IsUpTo}
+pub use Rattle.dev_base.specs.declared.limits.TheConstants.{LAST_MOMENT, NEWEST}
+pub use Rattle.dev_board.proofs.{AlikeLaws.stays-alike, WireLaws.wires_stay, RestoredLaws.chip-ok, RestoredLaws.device-ok}
+pub use Rattle.dev_board.proofs.SavedLaws.{same-is, same-refl}
 pub use Rattle.dev_board.specs.{Laws.AnswersAlike, Laws.AreEvents, Laws.IsEvent, Laws.moment_left, Saved.lines_agree, Saved.moment_of, State.State}
 pub use Rattle.dev_board.specs.{declared.cells.BoardCells.BoardCells, declared.event.Answer.Answer, declared.event.Event.Event, declared.misfit.Misfit.Misfit}
 pub use Rattle.dev_board.specs.declared.event.Event.TheVariants.{Ack, Byte, Read, Wait, Wire, Write}
 unfoldable pub use Rattle.dev_board.specs.{Saved.agreed, Saved.by_chip, Saved.by_device, Saved.timed, Step.after_by, Step.names_wire}
 pub use Rattle.dev_clock.specs.{SheetNumbers.NumbersAre, State.ClockState, Step.after_all, Step.clock_read, Step.clock_written, Step.on_board, View.clock_view}
-pub use Rattle.dev_clock.specs.{declared.cells.ClockCells.ClockCells, declared.devices.TheConstants.CLOCK_INPUT}
+pub use Rattle.dev_clock.specs.{declared.cells.ClockCells.ClockCells, declared.devices.TheConstants.CLOCK_INPUT, Sound.Alike, Sound.HasDevices, Sound.IsSound}
 pub use Rattle.dev_clock.specs.Laws.{AlikeStays, AnswersTellInt, ClockGoesOn, SoundStays}
 pub use Rattle.dev_clock.specs.Saved.{AreClockCells, AreSavedCells, IsPlaced, MaySaveUnder, clock_back, numbers_back, restored, slave_line}
 pub use Rattle.dev_clock.specs.SavedLaws.{ComesBack, IsTold, RestoredIsSound, SavedAreCells, SavedComesBack, SavedGoesOn, SoundMeetsRules}
-pub use Rattle.dev_clock.specs.Sound.{Alike, HasDevices, IsSound}
 pub use Rattle.dev_clock.specs.declared.saved.TheConstants.{CLOCK_DEVICE, LINES_CELL, LINE_RULE}
 unfoldable pub use Rattle.dev_clock.specs.{State.power_on, Step.acted, Step.follows_line, Step.step, Step.waited}
 unfoldable pub use Rattle.dev_clock.specs.Saved.{carried, joined, saved, with_line}

@@ -1,9 +1,9 @@
 -- What is saved of a clock board's devices can be restored.
-use Rattle.dev_clock.proofs.{Facade.IsSound, Facade.Alike, Facade.ClockState, Facade.CLOCK_DEVICE, Facade.LINES_CELL, AlikeLaws.alike_stays}
-use Rattle.dev_clock.proofs.Facade.{◌≡◌, ℕ, ◌*◌, ◌+◌, ◌<◌, ◌==◌, ap, arith, ℤ, ◌≤◌, Bool, List, Result, Ok, refl, sym, subst, ◌∙◌, has, lines_of, IsSoundPair}
-use Rattle.dev_clock.proofs.Facade.{PicPair, CLOCK_INPUT, hook-ok, number_at, NEWEST, same-refl, by_device, State, Misfit, carried-saved, Numbers}
-use Rattle.dev_clock.proofs.Facade.{saved_is_restored, saved_cells, line_of, CanRestore, hook_restored, Rtc, MaySaveUnder, saved, carried, AreSavedCells}
-use Rattle.dev_clock.proofs.Facade.{AreClockCells, numbers_back, slave_line, with_line, joined, restored, SavedAreCells, ComesBack, SavedComesBack, SavedGoesOn}
+use Rattle.dev_clock.proofs.{Facade.SavedAreCells, Facade.ComesBack, Facade.SavedComesBack, Facade.SavedGoesOn, AlikeLaws.alike_stays}
+use Rattle.dev_clock.proofs.Facade.{IsSound, Alike, ClockState, CLOCK_DEVICE, LINES_CELL, ◌≡◌, ℕ, ◌*◌, ◌+◌, ◌<◌, ◌==◌, ap, arith, ℤ, ◌≤◌, Bool, List, Result}
+use Rattle.dev_clock.proofs.Facade.{Ok, refl, sym, subst, ◌∙◌, has, lines_of, IsSoundPair, PicPair, CLOCK_INPUT, hook-ok, number_at, NEWEST, same-refl}
+use Rattle.dev_clock.proofs.Facade.{by_device, State, Misfit, carried-saved, Numbers, saved_is_restored, saved_cells, line_of, CanRestore, hook_restored, Rtc}
+use Rattle.dev_clock.proofs.Facade.{MaySaveUnder, saved, carried, AreSavedCells, AreClockCells, numbers_back, slave_line, with_line, joined, restored}
 use Rattle.dev_board.proofs.SavedLaws.{saved_are_cells as board-saved, saved_comes_back as board-comes-back}
 use Rattle.dev_board.specs.Saved.{saved as board_saved, carried as board_carried, MaySaveUnder as MaySaveBoard}
 use Rattle.dev_board.specs.SavedLaws.{ComesBack as BoardComesBack}

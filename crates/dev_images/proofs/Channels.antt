@@ -16,8 +16,7 @@ run_slots at (c ∷ cells) rest = cond c.0 (Number at c.1.kind c.1.capacities �
 -- Each is present or at its default.
 abbrev pub all_settled : List ℤ → ℕ → List (Bool × Cell) → Bool
 all_settled numbers at [] = true
-all_settled numbers at (c ∷ cells) =
-    (c.0 || same_number (get_or numbers at (pos 0)) c.1.default) && all_settled numbers (suc at) cells
+all_settled numbers at (c ∷ cells) = (c.0 || same_number (get_or numbers at (pos 0)) c.1.default) && all_settled numbers (suc at) cells
 
 -- None of them is present at a place.
 abbrev pub none_at : ℕ → List (Bool × Cell) → ℕ → Bool
@@ -52,8 +51,7 @@ run-none at [] rest k e out = out
 run-none at ((true, cell) ∷ cells) rest k e out =
     let p = and_parts (not ((at == k) && true)) (none_at (suc at) cells k) e in
     or_from _ _ (sym (and-true (at == k)) ∙ not-true _ p.0) (run-none (suc at) cells rest k p.1 out)
-run-none at ((false, cell) ∷ cells) rest k e out =
-    run-none (suc at) cells rest k (and_parts (not ((at == k) && false)) (none_at (suc at) cells k) e).1 out
+run-none at ((false, cell) ∷ cells) rest k e out = run-none (suc at) cells rest k (and_parts (not ((at == k) && false)) (none_at (suc at) cells k) e).1 out
 
 -- ---- a channel
 

@@ -1,22 +1,9 @@
 -- The image of a chip of the pair is ready.
-use Rattle.dev_images.proofs.{Facade.i8259_at_4, Facade.ReadyOf, Facade.ChipIsReady, Facade.image_of, ReadyOf.are_kept, ReadyOf.ready-plain}
-use Rattle.dev_images.proofs.Facade.{◌≡◌, ℕ, zero, suc, ◌==◌, Bool, true, false, List, get_or, ℤ, pos, negsuc, refl, arith, ints, bit_and, place_of_pic}
-use Rattle.dev_images.proofs.Facade.{residue, InRange, image_slots, IsValid, AreOf, first, device_cells, set_1, set_2, set_3, set_4, i8259_at_1, i8259_at_2}
+use Rattle.dev_images.proofs.{Facade.i8259_at_1, Facade.i8259_at_2, ReadyOf.are_kept, ReadyOf.ready-plain}
+use Rattle.dev_images.proofs.Facade.{i8259_at_4, ChipIsReady, image_of, ◌≡◌, ℕ, zero, suc, ◌==◌, Bool, true, false, List, get_or, ℤ, pos, negsuc, refl, arith}
+use Rattle.dev_images.proofs.Facade.{ints, bit_and, place_of_pic, residue, InRange, image_slots, IsValid, first, device_cells, set_1, set_2, set_3, set_4}
 use Rattle.std.proofs.Common.{codes}
 use Rattle.vms_kinds.specs.declared.Kind.TheVariants.{Bool as Truth}
-use Rattle.dev_pic.specs.Cells.{kinds as pic_kinds}
-
-first-set : (instance : ℕ) (numbers : List ℤ) → AreOf (pic_kinds 1) numbers → ReadyOf set_1 (i8259_at_1 instance) numbers
-unfolding first
-first-set instance numbers are = ready-plain set_1 (i8259_at_1 instance) numbers (omega arith) tt are refl refl (refl, tt)
-
-second-set : (instance : ℕ) (numbers : List ℤ) → AreOf (pic_kinds 2) numbers → ReadyOf set_2 (i8259_at_2 instance) numbers
-unfolding first
-second-set instance numbers are = ready-plain set_2 (i8259_at_2 instance) numbers (omega arith) tt are refl refl (refl, tt)
-
-third-set : (instance : ℕ) (numbers : List ℤ) → AreOf (pic_kinds 3) numbers → ReadyOf set_3 (i8259_at_2 instance) numbers
-unfolding first
-third-set instance numbers are = ready-plain set_3 (i8259_at_2 instance) numbers (omega arith) tt are refl refl (refl, tt)
 
 -- The place of the level mode's cell in the newest set, and the number that it holds.
 abbrev pub mode_place : ℕ
@@ -40,13 +27,15 @@ unfolding first
 kept-4 instance numbers true e off = rw e (refl, (refl, (refl, tt)))
 kept-4 instance numbers false e off = rw (e, off refl) (refl, (refl, tt))
 
-fourth-set : (instance : ℕ) (numbers : List ℤ) → AreOf (pic_kinds 4) numbers → ReadyOf set_4 (i8259_at_4 instance) numbers
-unfolding first
-fourth-set instance numbers are =
-    let both = kept-4 instance numbers (needs (mode_in numbers)) refl (unneeded (mode_in numbers) (are.in_range mode_place (omega arith))) in
-    ready-plain set_4 (i8259_at_4 instance) numbers (omega arith) (omega arith, tt) are refl both.0 both.1
-
 pub chip_is_ready : ChipIsReady
+unfolding first
 chip_is_ready = record {
-  chip = λ instance. record { first = first-set instance; second = second-set instance; third = third-set instance; fourth = fourth-set instance };
+  chip = λ instance. record {
+    first = λ numbers are. ready-plain set_1 (i8259_at_1 instance) numbers (omega arith) tt are refl refl (refl, tt);
+    second = λ numbers are. ready-plain set_2 (i8259_at_2 instance) numbers (omega arith) tt are refl refl (refl, tt);
+    third = λ numbers are. ready-plain set_3 (i8259_at_2 instance) numbers (omega arith) tt are refl refl (refl, tt);
+    fourth = λ numbers are.
+        let both = kept-4 instance numbers (needs (mode_in numbers)) refl (unneeded (mode_in numbers) (are.in_range mode_place (omega arith))) in
+        ready-plain set_4 (i8259_at_4 instance) numbers (omega arith) (omega arith, tt) are refl both.0 both.1;
+  };
 }

@@ -8,6 +8,7 @@ use Rattle.dev_images.proofs.Facade.{timer, i8259_at_4, i8254_at_2, AreOf, kind_
 use Rattle.dev_images.proofs.ReadyOf.{kind-of, count-of, has-none, before-none}
 use Rattle.vms_kinds.specs.declared.Kind.TheVariants.{Bool as Truth}
 use Rattle.dev_pic.specs.Cells.{kinds as pic_kinds}
+use Rattle.dev_pit.proofs.Chips.{each_of}
 
 -- Cells that fit have their kinds.
 pub of-kinds : (cells : List Cell) (numbers : List ℤ) → FitCells cells numbers → AreOf (map (λ cell. cell.kind) cells) numbers
@@ -69,11 +70,6 @@ module _ (image : Image) (n : IsNormal (shipped_set NEWEST) i8254_at_2 image) wh
   slots : HasSlots numbers (image_slots (shipped_set NEWEST) i8254_at_2 image)
   slots = slots-at image.version image.came numbers n.version.0 n.version.1 n.subs
 
-  truth : (place : ℕ) → place < CELLS → kind_at (map (λ cell. cell.kind) (device_cells (shipped_set NEWEST) i8254_at_2)) place ≡ Truth
-      → InRange Truth (get_or numbers place (pos 0))
-  unfolding first
-  truth place lt e = subst (λ (kind : Kind). InRange kind (get_or numbers place (pos 0))) e (kinds.in_range place (omega arith))
-
   -- A cell that no channel has is at its default, 0.
   lacks : (k : ℕ) → k < STATUS_LATCHED → (get_or (device_cells (shipped_set NEWEST) i8254_at_2) k no_cell).default ≡ pos 0
       → none_at 0 (channel numbers 0) k ≡ true → none_at second_at (channel numbers second_at) k ≡ true → none_at third_at (channel numbers third_at) k ≡ true
@@ -87,19 +83,21 @@ module _ (image : Image) (n : IsNormal (shipped_set NEWEST) i8254_at_2 image) wh
 
   off : (place : ℕ) → place < CELLS → kind_at (map (λ cell. cell.kind) (device_cells (shipped_set NEWEST) i8254_at_2)) place ≡ Truth
       → (nat_of (get_or numbers place (pos 0)) == 1) ≡ false → needs (get_or numbers place (pos 0)) ≡ false
-  off place lt kind e = flag-off _ (truth place lt kind) e
+  unfolding first
+  off place lt kind e = flag-off _ (subst (λ (kind : Kind). InRange kind (get_or numbers place (pos 0))) kind (kinds.in_range place (omega arith))) e
 
   pub pit-of : AreCellsOf NEWEST numbers
   unfolding first
-  pit-of = record { of_kinds = kinds; wlow = wlow; latch = latch } where
-    wlow : (k : ℕ) → k < 3 → flag_at numbers (channel_place k + WLOW_HELD) ≡ false → number_at numbers (channel_place k + WLOW) ≡ 0
-    wlow zero lt e = lacks WLOW (omega arith) refl (rw (off WLOW_HELD (omega arith) refl e) refl) refl refl
-    wlow (suc zero) lt e = lacks (second_at + WLOW) (omega arith) refl refl (rw (off (second_at + WLOW_HELD) (omega arith) refl e) refl) refl
-    wlow (suc (suc zero)) lt e = lacks (third_at + WLOW) (omega arith) refl refl refl (rw (off (third_at + WLOW_HELD) (omega arith) refl e) refl)
-    wlow (suc (suc (suc k))) lt e = absurd (omega arith)
-
-    latch : (k : ℕ) → k < 3 → flag_at numbers (channel_place k + LATCHED) ≡ false → number_at numbers (channel_place k + LATCH) ≡ 0
-    latch zero lt e = lacks LATCH (omega arith) refl (rw (off LATCHED (omega arith) refl e) refl) refl refl
-    latch (suc zero) lt e = lacks (second_at + LATCH) (omega arith) refl refl (rw (off (second_at + LATCHED) (omega arith) refl e) refl) refl
-    latch (suc (suc zero)) lt e = lacks (third_at + LATCH) (omega arith) refl refl refl (rw (off (third_at + LATCHED) (omega arith) refl e) refl)
-    latch (suc (suc (suc k))) lt e = absurd (omega arith)
+  pit-of =
+      let default = λ (flag number k : ℕ). flag_at numbers (channel_place k + flag) ≡ false → number_at numbers (channel_place k + number) ≡ 0 in
+      record {
+        of_kinds = kinds;
+        wlow = each_of (default WLOW_HELD WLOW)
+            (λ e. lacks WLOW (omega arith) refl (rw (off WLOW_HELD (omega arith) refl e) refl) refl refl)
+            (λ e. lacks (second_at + WLOW) (omega arith) refl refl (rw (off (second_at + WLOW_HELD) (omega arith) refl e) refl) refl)
+            (λ e. lacks (third_at + WLOW) (omega arith) refl refl refl (rw (off (third_at + WLOW_HELD) (omega arith) refl e) refl));
+        latch = each_of (default LATCHED LATCH)
+            (λ e. lacks LATCH (omega arith) refl (rw (off LATCHED (omega arith) refl e) refl) refl refl)
+            (λ e. lacks (second_at + LATCH) (omega arith) refl refl (rw (off (second_at + LATCHED) (omega arith) refl e) refl) refl)
+            (λ e. lacks (third_at + LATCH) (omega arith) refl refl refl (rw (off (third_at + LATCHED) (omega arith) refl e) refl));
+      }

@@ -16,35 +16,21 @@ within-none low high (Number k kind capacities ∷ slots) c e h =
     or_from (k == c) (has_cell slots c) (neq k c (λ same. absurd (omega (arith, ltb-true k high q.0)))) (within-none low high slots c q.1 h)
 within-none low high (slot ∷ slots) c e h = within-none low high slots c e h
 
--- The elements of an array before and after a cell.
-elements-before : (n at c : ℕ) → at + n ≤ c → has_cell (times n (element byte) at 1) c ≡ false
-elements-before zero at c h = refl
-elements-before (suc n) at c h = or_from (at == c) _ (neq at c (λ same. absurd (omega arith))) (elements-before n (at + 1) c (omega arith))
-
-elements-after : (n at c : ℕ) → c < at → has_cell (times n (element byte) at 1) c ≡ false
-elements-after zero at c h = refl
-elements-after (suc n) at c h = or_from (at == c) _ (neq at c (λ same. absurd (omega arith))) (elements-after n (at + 1) c (omega arith))
+-- The elements of an array that isn't at a cell.
+elements-none : (n at c : ℕ) → (at ≤ c → at + n ≤ c) → has_cell (times n (element byte) at 1) c ≡ false
+elements-none zero at c h = refl
+elements-none (suc n) at c h = or_from (at == c) _ (neq at c (λ same. absurd (omega arith))) (elements-none n (at + 1) c (λ l. omega arith))
 
 -- The FIFOs' slots lack the cells after the elements of each array.
-rx-lack : (n m i : ℕ) → n ≤ i → i < 16 → has_cell (fifo_slots n m) (RX + i) ≡ false
-rx-lack n m i l b =
-    has-none (inner_slots n m) (Rule true ∷ []) (RX + i)
-    (has-none (Number RX_COUNT U8 (16 ∷ []) ∷ []) (times n (element byte) RX 1 ++ second_slots m) (RX + i)
-    (or_from (RX_COUNT == RX + i) false (neq RX_COUNT (RX + i) (λ same. absurd (omega arith))) refl)
-    (has-none (times n (element byte) RX 1) (second_slots m) (RX + i) (elements-before n RX (RX + i) (omega arith))
-    (has-none (Number TX_COUNT U8 (16 ∷ []) ∷ []) (times m (element byte) TX 1 ++ []) (RX + i)
-    (or_from (TX_COUNT == RX + i) false (neq TX_COUNT (RX + i) (λ same. absurd (omega arith))) refl)
-    (has-none (times m (element byte) TX 1) [] (RX + i) (elements-after m TX (RX + i) (omega arith)) refl)))) refl
-
-tx-lack : (n m i : ℕ) → n ≤ 16 → m ≤ i → i < 16 → has_cell (fifo_slots n m) (TX + i) ≡ false
-tx-lack n m i most l b =
-    has-none (inner_slots n m) (Rule true ∷ []) (TX + i)
-    (has-none (Number RX_COUNT U8 (16 ∷ []) ∷ []) (times n (element byte) RX 1 ++ second_slots m) (TX + i)
-    (or_from (RX_COUNT == TX + i) false (neq RX_COUNT (TX + i) (λ same. absurd (omega arith))) refl)
-    (has-none (times n (element byte) RX 1) (second_slots m) (TX + i) (elements-before n RX (TX + i) (omega arith))
-    (has-none (Number TX_COUNT U8 (16 ∷ []) ∷ []) (times m (element byte) TX 1 ++ []) (TX + i)
-    (or_from (TX_COUNT == TX + i) false (neq TX_COUNT (TX + i) (λ same. absurd (omega arith))) refl)
-    (has-none (times m (element byte) TX 1) [] (TX + i) (elements-before m TX (TX + i) (omega arith)) refl)))) refl
+fifo-lack : (n m c : ℕ) → RX + n ≤ c → (TX_COUNT ≤ c → TX + m ≤ c) → has_cell (fifo_slots n m) c ≡ false
+fifo-lack n m c rx tx =
+    has-none (inner_slots n m) (Rule true ∷ []) c
+    (has-none (Number RX_COUNT U8 (16 ∷ []) ∷ []) (times n (element byte) RX 1 ++ second_slots m) c
+    (or_from (RX_COUNT == c) false (neq RX_COUNT c (λ same. absurd (omega arith))) refl)
+    (has-none (times n (element byte) RX 1) (second_slots m) c (elements-none n RX c (λ l. rx))
+    (has-none (Number TX_COUNT U8 (16 ∷ []) ∷ []) (times m (element byte) TX 1 ++ []) c
+    (or_from (TX_COUNT == c) false (neq TX_COUNT c (λ same. absurd (omega (arith, tx (omega arith))))) refl)
+    (has-none (times m (element byte) TX 1) [] c (elements-none m TX c (λ l. tx (omega arith))) refl)))) refl
 
 -- Subsections that came lack a cell that none of them has.
 abbrev SubsLack : Set → List ℤ → ℕ → ℕ → List Sub → Type 0
@@ -154,14 +140,14 @@ module _ (image : Image) (n : IsNormal (shipped_set NEWEST) serial_at_4 image) w
   unfolding first
   rx-zeros i l b =
       let is = elements (get_or numbers RX_COUNT (pos 0)) rx-range rx-fits in
-      n.absent (RX + i) (omega arith) (lack (RX + i) (omega arith) (omega arith) (rx-lack rx_elements tx_elements i (omega arith) b))
+      n.absent (RX + i) (omega arith) (lack (RX + i) (omega arith) (omega arith) (fifo-lack rx_elements tx_elements (RX + i) (omega arith) (λ l. omega arith)))
       ∙ default-in (device_cells (shipped_set NEWEST) serial_at_4) RX i 16 (RX + i) refl b refl
 
   tx-zeros : (i : ℕ) → nat_of (get_or numbers TX_COUNT (pos 0)) ≤ i → i < 16 → get_or numbers (TX + i) (pos 0) ≡ pos 0
   unfolding first
   tx-zeros i l b =
       let is = elements (get_or numbers TX_COUNT (pos 0)) tx-range tx-fits in
-      n.absent (TX + i) (omega arith) (lack (TX + i) (omega arith) (omega arith) (tx-lack rx_elements tx_elements i (omega arith) (omega arith) b))
+      n.absent (TX + i) (omega arith) (lack (TX + i) (omega arith) (omega arith) (fifo-lack rx_elements tx_elements (TX + i) (omega arith) (λ m. omega arith)))
       ∙ default-in (device_cells (shipped_set NEWEST) serial_at_4) TX i 16 (TX + i) refl b refl
 
   pub port-of : IsPortCells numbers

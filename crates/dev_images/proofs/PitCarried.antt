@@ -1,12 +1,9 @@
 -- The cells of the timer chip are carried as its own table says.
-use Rattle.dev_images.proofs.Facade.{◌≡◌, ℕ, zero, suc, ◌+◌, ◌==◌, Bool, true, false, cond, List, [], ◌∷◌, ◌++◌, get_or, ℤ, pos, negsuc, ◌≤ℤ◌, refl, sym, ap}
-use Rattle.dev_images.proofs.Facade.{◌∙◌, arith, ints, COUNTERS, WLOW_HELD, WLOW, LATCHED, LATCH, STATUS_LATCHED, STATUS, InRange, Num, Kind, U8, U16, carriers}
-use Rattle.dev_images.proofs.Facade.{carry_items, no_carrier, first, struct_cells, Set, NEWEST, shipped_set, set_1, set_2, set_3, set_4, i8254_at_1, i8254_at_2}
-use Rattle.dev_images.proofs.Facade.{nat_of, AreCellsOf, carried_numbers, PitIsCarried, same_kind}
+use Rattle.dev_images.proofs.{ChipReady.needs, ChipReady.unneeded, Channels.behind, Channels.second_at, Channels.third_at, Channels.IsKeptAt}
+use Rattle.dev_images.proofs.Facade.{same_kind, ◌≡◌, ℕ, zero, suc, ◌+◌, ◌==◌, Bool, true, false, cond, List, [], ◌∷◌, ◌++◌, get_or, ℤ, pos, negsuc, ◌≤ℤ◌, refl}
+use Rattle.dev_images.proofs.Facade.{sym, ap, arith, COUNTERS, WLOW_HELD, WLOW, LATCHED, LATCH, STATUS_LATCHED, STATUS, InRange, Num, Kind, U8, U16, carriers}
+use Rattle.dev_images.proofs.Facade.{carry_items, no_carrier, first, struct_cells, Set, NEWEST, shipped_set, set_1, set_2, nat_of, AreCellsOf, PitIsCarried}
 use Rattle.vms_kinds.specs.declared.Kind.TheVariants.{Bool as Truth}
-use Rattle.dev_pit.specs.Cells.{carried as pit_carried}
-use Rattle.dev_images.proofs.ChipReady.{needs, unneeded}
-use Rattle.dev_images.proofs.Channels.{behind, second_at, third_at, IsKeptAt}
 
 -- A channel of the newest set from one of older sets.
 abbrev channel_in : Set → List ℤ → ℕ → List ℤ
@@ -64,30 +61,6 @@ six_zeros = pos 0 ∷ pos 0 ∷ pos 0 ∷ pos 0 ∷ pos 0 ∷ pos 0 ∷ []
 abbrev statuses : List ℤ → List ℤ
 statuses numbers = run COUNTERS numbers STATUS_LATCHED ++ run COUNTERS numbers STATUS
 
-joined-1 : (numbers : List ℤ)
-    → carried_numbers set_1 i8254_at_1 i8254_at_2 numbers ≡ with_channels (channel_in set_1 numbers 0) (channel_in set_1 numbers second_at)
-    (channel_in set_1 numbers third_at) six_zeros
-unfolding first
-joined-1 numbers = refl
-
-joined-2 : (numbers : List ℤ)
-    → carried_numbers set_2 i8254_at_2 i8254_at_2 numbers ≡ with_channels (channel_in set_2 numbers 0) (channel_in set_2 numbers second_at)
-    (channel_in set_2 numbers third_at) (statuses numbers)
-unfolding first
-joined-2 numbers = refl
-
-joined-3 : (numbers : List ℤ)
-    → carried_numbers set_3 i8254_at_2 i8254_at_2 numbers ≡ with_channels (channel_in set_2 numbers 0) (channel_in set_2 numbers second_at)
-    (channel_in set_2 numbers third_at) (statuses numbers)
-unfolding first
-joined-3 numbers = refl
-
-joined-4 : (numbers : List ℤ)
-    → carried_numbers set_4 i8254_at_2 i8254_at_2 numbers ≡ with_channels (channel_in set_2 numbers 0) (channel_in set_2 numbers second_at)
-    (channel_in set_2 numbers third_at) (statuses numbers)
-unfolding first
-joined-4 numbers = refl
-
 -- `wlow` and `latch` of each channel, which are absent if their flags are clear.
 pub record IsKept (numbers : List ℤ) : Type 0 where
   pub first : IsKeptAt numbers 0
@@ -121,21 +94,11 @@ channels-carried old numbers rest k a b c =
     same-channels numbers _ _ _ rest (channel-carried old numbers 0 a k.first) (channel-carried old numbers second_at b k.second)
     (channel-carried old numbers third_at c k.third)
 
-pit-1 : (numbers : List ℤ) → AreCellsOf 1 numbers → carried_numbers set_1 i8254_at_1 i8254_at_2 numbers ≡ pit_carried 1 numbers
-unfolding first
-pit-1 numbers are = joined-1 numbers ∙ channels-carried set_1 numbers six_zeros (absent-kept 1 numbers are) refl refl refl
-
-pit-2 : (numbers : List ℤ) → AreCellsOf 2 numbers → carried_numbers set_2 i8254_at_2 i8254_at_2 numbers ≡ pit_carried 2 numbers
-unfolding first
-pit-2 numbers are = joined-2 numbers ∙ channels-carried set_2 numbers (statuses numbers) (absent-kept 2 numbers are) refl refl refl
-
-pit-3 : (numbers : List ℤ) → AreCellsOf 3 numbers → carried_numbers set_3 i8254_at_2 i8254_at_2 numbers ≡ pit_carried 3 numbers
-unfolding first
-pit-3 numbers are = joined-3 numbers ∙ channels-carried set_2 numbers (statuses numbers) (absent-kept 3 numbers are) refl refl refl
-
-pit-4 : (numbers : List ℤ) → AreCellsOf 4 numbers → carried_numbers set_4 i8254_at_2 i8254_at_2 numbers ≡ pit_carried 4 numbers
-unfolding first
-pit-4 numbers are = joined-4 numbers ∙ channels-carried set_2 numbers (statuses numbers) (absent-kept 4 numbers are) refl refl refl
-
 pub pit_is_carried : PitIsCarried
-pit_is_carried = record { first = pit-1; second = pit-2; third = pit-3; fourth = pit-4 }
+unfolding first
+pit_is_carried = record {
+  first = λ numbers are. channels-carried set_1 numbers six_zeros (absent-kept 1 numbers are) refl refl refl;
+  second = λ numbers are. channels-carried set_2 numbers (statuses numbers) (absent-kept 2 numbers are) refl refl refl;
+  third = λ numbers are. channels-carried set_2 numbers (statuses numbers) (absent-kept 3 numbers are) refl refl refl;
+  fourth = λ numbers are. channels-carried set_2 numbers (statuses numbers) (absent-kept 4 numbers are) refl refl refl;
+}

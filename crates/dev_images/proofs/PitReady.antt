@@ -103,23 +103,14 @@ module _ (numbers : List ℤ) (k : IsKept numbers) where
       (channel-fine set_2 numbers 0 no_gate refl tt k.first).rules (channel-fine set_2 numbers second_at no_gate refl tt k.second).rules
       (channel-fine set_2 numbers third_at no_gate refl tt k.third).rules tt
 
-pit-2 : (numbers : List ℤ) → AreCellsOf 2 numbers → ReadyOf set_2 i8254_at_2 numbers
-unfolding first
-pit-2 numbers are =
-    let k = absent-kept 2 numbers are in
-    ready-plain set_2 i8254_at_2 numbers (omega arith) tt are.of_kinds refl (later-kept numbers k) (later-holds numbers k)
-
-pit-3 : (numbers : List ℤ) → AreCellsOf 3 numbers → ReadyOf set_3 i8254_at_2 numbers
-unfolding first
-pit-3 numbers are =
-    let k = absent-kept 3 numbers are in
-    ready-plain set_3 i8254_at_2 numbers (omega arith) tt are.of_kinds refl (later-kept numbers k) (later-holds numbers k)
-
-pit-4 : (numbers : List ℤ) → AreCellsOf 4 numbers → ReadyOf set_4 i8254_at_2 numbers
-unfolding first
-pit-4 numbers are =
-    let k = absent-kept 4 numbers are in
-    ready-plain set_4 i8254_at_2 numbers (omega arith) tt are.of_kinds refl (later-kept numbers k) (later-holds numbers k)
-
 pub pit_is_ready : PitIsReady
-pit_is_ready = record { first = pit-1; second = pit-2; third = pit-3; fourth = pit-4 }
+unfolding first
+pit_is_ready = record {
+  first = pit-1;
+  second = λ numbers are. let k = absent-kept 2 numbers are in
+      ready-plain set_2 i8254_at_2 numbers (omega arith) tt are.of_kinds refl (later-kept numbers k) (later-holds numbers k);
+  third = λ numbers are. let k = absent-kept 3 numbers are in
+      ready-plain set_3 i8254_at_2 numbers (omega arith) tt are.of_kinds refl (later-kept numbers k) (later-holds numbers k);
+  fourth = λ numbers are. let k = absent-kept 4 numbers are in
+      ready-plain set_4 i8254_at_2 numbers (omega arith) tt are.of_kinds refl (later-kept numbers k) (later-holds numbers k);
+}

@@ -66,8 +66,7 @@ are_kept slots numbers from (cell ∷ cells) =
     (has_cell slots from || same_number (get_or numbers from (pos 0)) cell.default) && are_kept slots numbers (suc from) cells
 
 kept-first : (slots : List Slot) (numbers : List ℤ) (from : ℕ) (cell : Cell) → (has_cell slots from || same_number (get_or numbers from (pos 0)) cell.default) ≡ true → has_cell slots from ≡ false → get_or numbers from (pos 0) ≡ cell.default
-kept-first slots numbers from cell e out =
-    same_number_is (get_or numbers from (pos 0)) cell.default (or_second (has_cell slots from) _ e out)
+kept-first slots numbers from cell e out = same_number_is (get_or numbers from (pos 0)) cell.default (or_second (has_cell slots from) _ e out)
 
 kept : (slots : List Slot) (numbers : List ℤ) (from : ℕ) (cells : List Cell) → are_kept slots numbers from cells ≡ true → (c place : ℕ) → place ≡ from + c
     → c < length cells → has_cell slots place ≡ false → get_or numbers place (pos 0) ≡ (get_or cells c no_cell).default
@@ -200,13 +199,11 @@ sub_cells set s = desc_cells (struct_cells set) s.desc
 
 -- The slots of a subsection if it is needed.
 abbrev pub if_needed : Set → Device → List ℤ → Sub → ℕ → ℕ → List Slot
-if_needed set d numbers s j at =
-    cond (is_needed set d (bare d numbers) s j) (sub_slots set s s.desc.version numbers at) []
+if_needed set d numbers s j at = cond (is_needed set d (bare d numbers) s j) (sub_slots set s s.desc.version numbers at) []
 
 abbrev needed_slots : Set → Device → List ℤ → ℕ → ℕ → List Sub → List Slot
 needed_slots set d numbers j at [] = []
-needed_slots set d numbers j at (s ∷ subs) =
-    if_needed set d numbers s j at ++ needed_slots set d numbers (suc j) (at + length (sub_cells set s)) subs
+needed_slots set d numbers j at (s ∷ subs) = if_needed set d numbers s j at ++ needed_slots set d numbers (suc j) (at + length (sub_cells set s)) subs
 
 came-next : (set : Set) (d : Device) (numbers : List ℤ) (at : ℕ) (s : Sub) (subs : List Sub) (came : List (Option ℕ)) (b : Bool) → came_slots set d numbers at (s ∷ subs) (cond b (Some s.desc.version) None ∷ came) ≡ cond b (sub_slots set s s.desc.version numbers at) [] ++ came_slots set d numbers (at + length (sub_cells set s)) subs came
 came-next set d numbers at s subs came true = refl
@@ -225,39 +222,33 @@ pub record IsFineSub (set : Set) (d : Device) (numbers : List ℤ) (s : Sub) (j 
 
 abbrev pub AreFineSubs : Set → Device → List ℤ → ℕ → ℕ → List Sub → Type 0
 AreFineSubs set d numbers j at [] = Unit {0}
-AreFineSubs set d numbers j at (s ∷ subs) =
-    IsFineSub set d numbers s j at × AreFineSubs set d numbers (suc j) (at + length (sub_cells set s)) subs
+AreFineSubs set d numbers j at (s ∷ subs) = IsFineSub set d numbers s j at × AreFineSubs set d numbers (suc j) (at + length (sub_cells set s)) subs
 
-subs-kept : (set : Set) (d : Device) (numbers : List ℤ) (j at : ℕ) (subs : List Sub) → AreFineSubs set d numbers j at subs
-    → are_kept (needed_slots set d numbers j at subs) numbers at (flat_map (sub_cells set) subs) ≡ true
-subs-kept set d numbers j at [] h = refl
-subs-kept set d numbers j at (s ∷ subs) h =
-    let rest = needed_slots set d numbers (suc j) (at + length (sub_cells set s)) subs in
-    kept-both (if_needed set d numbers s j at ++ rest) numbers at (at + length (sub_cells set s)) (sub_cells set s) (flat_map (sub_cells set) subs) refl
-    (kept-left (if_needed set d numbers s j at) rest numbers at (sub_cells set s) h.0.kept)
-    (kept-right (if_needed set d numbers s j at) rest numbers (at + length (sub_cells set s)) (flat_map (sub_cells set) subs)
-    (subs-kept set d numbers (suc j) (at + length (sub_cells set s)) subs h.1))
-
-subs-rules : (set : Set) (d : Device) (numbers : List ℤ) (j at : ℕ) (subs : List Sub) → AreFineSubs set d numbers j at subs
-    → RulesHold (needed_slots set d numbers j at subs)
-subs-rules set d numbers j at [] h = tt
-subs-rules set d numbers j at (s ∷ subs) h =
-    rules_append (if_needed set d numbers s j at) (needed_slots set d numbers (suc j) (at + length (sub_cells set s)) subs) h.0.rules
-    (subs-rules set d numbers (suc j) (at + length (sub_cells set s)) subs h.1)
+subs-fine : (set : Set) (d : Device) (numbers : List ℤ) (j at : ℕ) (subs : List Sub) → AreFineSubs set d numbers j at subs
+    → (are_kept (needed_slots set d numbers j at subs) numbers at (flat_map (sub_cells set) subs) ≡ true) × RulesHold (needed_slots set d numbers j at subs)
+subs-fine set d numbers j at [] h = (refl, tt)
+subs-fine set d numbers j at (s ∷ subs) h =
+    let first = if_needed set d numbers s j at in
+    let next = at + length (sub_cells set s) in
+    let rest = needed_slots set d numbers (suc j) next subs in
+    let more = subs-fine set d numbers (suc j) next subs h.1 in (
+      kept-both (first ++ rest) numbers at next (sub_cells set s) (flat_map (sub_cells set) subs) refl
+          (kept-left first rest numbers at (sub_cells set s) h.0.kept) (kept-right first rest numbers next (flat_map (sub_cells set) subs) more.0),
+      rules_append first rest h.0.rules more.1,
+    )
 
 pub ready-parts : (set : Set) (d : Device) (numbers : List ℤ) → d.desc.minimum ≤ d.desc.version → AreSubs d.subs → AreOf (map (λ cell. cell.kind) (device_cells set d)) numbers → CountsFit (device_cells set d) numbers → are_kept (own_slots set d d.desc.version numbers) numbers 0 (desc_cells (struct_cells set) d.desc) ≡ true → RulesHold (own_slots set d d.desc.version numbers) → AreFineSubs set d numbers 0 (own_cells set d) d.subs → IsReady set d (image_of set d numbers)
 ready-parts set d numbers minimum subs are counts own rules fine =
     let slots = needed_slots set d numbers 0 (own_cells set d) d.subs in
-    let same : image_slots set d (image_of set d numbers) ≡ own_slots set d d.desc.version numbers ++ slots =
-    ap (λ (more : List Slot). own_slots set d d.desc.version numbers ++ more) (came-all set d numbers 0 (own_cells set d) d.subs) in
+    let held = own_slots set d d.desc.version numbers in
+    let more = subs-fine set d numbers 0 (own_cells set d) d.subs fine in
+    let same : image_slots set d (image_of set d numbers) ≡ held ++ slots = ap (λ (l : List Slot). held ++ l) (came-all set d numbers 0 (own_cells set d) d.subs) in
     ready-of set d numbers minimum subs are counts
     (ap (λ (all : List Slot). are_kept all numbers 0 (device_cells set d)) same
-    ∙ kept-both (own_slots set d d.desc.version numbers ++ slots) numbers 0 (own_cells set d) (desc_cells (struct_cells set) d.desc)
-    (flat_map (sub_cells set) d.subs) (omega arith)
-    (kept-left (own_slots set d d.desc.version numbers) slots numbers 0 (desc_cells (struct_cells set) d.desc) own)
-    (kept-right (own_slots set d d.desc.version numbers) slots numbers (own_cells set d) (flat_map (sub_cells set) d.subs)
-    (subs-kept set d numbers 0 (own_cells set d) d.subs fine)))
-    (subst RulesHold (sym same) (rules_append (own_slots set d d.desc.version numbers) slots rules (subs-rules set d numbers 0 (own_cells set d) d.subs fine)))
+    ∙ kept-both (held ++ slots) numbers 0 (own_cells set d) (desc_cells (struct_cells set) d.desc) (flat_map (sub_cells set) d.subs) (omega arith)
+    (kept-left held slots numbers 0 (desc_cells (struct_cells set) d.desc) own)
+    (kept-right held slots numbers (own_cells set d) (flat_map (sub_cells set) d.subs) more.0))
+    (subst RulesHold (sym same) (rules_append held slots rules more.1))
 
 -- ---- cells at 0, and arrays
 

@@ -30,8 +30,7 @@ module _ (structs : List Carrier) (x y : List (List Cell)) (numbers : List ℤ) 
       ap (λ l. get_or numbers at (pos 0) ∷ l) (ap (λ p. array n m p) next ∙ array-run n m (suc at) (λ i l b. let more : suc at + i ≡ at + suc i = omega arith in ap (λ p. get_or numbers p (pos 0)) more ∙ h (suc i) (omega arith) (omega arith)))
 
   abbrev fifos : ℕ → ℕ → List ℤ
-  fifos n m =
-      (get_or numbers RX_COUNT (pos 0) ∷ []) ++ (array n 16 RX ++ ((get_or numbers TX_COUNT (pos 0) ∷ []) ++ (array m 16 TX ++ [])))
+  fifos n m = (get_or numbers RX_COUNT (pos 0) ∷ []) ++ (array n 16 RX ++ ((get_or numbers TX_COUNT (pos 0) ∷ []) ++ (array m 16 TX ++ [])))
 
   fifo-run : (n m : ℕ) → ((i : ℕ) → n ≤ i → i < 16 → get_or numbers (RX + i) (pos 0) ≡ pos 0)
       → ((i : ℕ) → m ≤ i → i < 16 → get_or numbers (TX + i) (pos 0) ≡ pos 0) → fifos n m ≡ run numbers RX_COUNT 34
@@ -57,16 +56,14 @@ serial-1 : (numbers : List ℤ) → AreSaved 1 numbers → carried_numbers set_1
 unfolding first serial_carried
 serial-1 numbers are =
     same-parts (run numbers 0 old_latch ++ pos 0 ∷ []) (part set_1 serial_at_1 numbers thr_ipending) (replicate 34 (pos 0)) (pos never ∷ [])
-    (replicate 36 (pos 0)) _ _ _ _
-    (thr-1 numbers _ refl (no-sign _ (are.of_kinds.in_range old_latch (omega arith)))).carried refl refl refl
+    (replicate 36 (pos 0)) _ _ _ _ (thr-1 numbers _ refl (no-sign _ (are.of_kinds.in_range old_latch (omega arith)))).carried refl refl refl
 
 serial-2 : (numbers : List ℤ) → AreSaved 2 numbers → carried_numbers set_2 serial_at_2 serial_at_4 numbers ≡ serial_carried 2 numbers
 unfolding first serial_carried
 serial-2 numbers are =
     let h = has-fifo-2 numbers are in
     same-parts (run numbers 0 THR_IPENDING) (part set_2 serial_at_2 numbers thr_ipending) (part set_2 serial_at_2 numbers fifo) (pos never ∷ [])
-    (replicate 36 (pos 0)) _ _ _ _
-    (thr set_2 2 (codes "divider") [] [] numbers _ refl (no-sign _ (are.of_kinds.in_range THR_IPENDING (omega arith)))).carried
+    (replicate 36 (pos 0)) _ _ _ _ (thr set_2 2 (codes "divider") [] [] numbers _ refl (no-sign _ (are.of_kinds.in_range THR_IPENDING (omega arith)))).carried
     (fifo-part set_2 2 (codes "divider") [] [] numbers h _ refl (no-fifo numbers h)) refl refl
 
 serial-3 : (numbers : List ℤ) → AreSaved 3 numbers → carried_numbers set_3 serial_at_3 serial_at_4 numbers ≡ serial_carried 3 numbers

@@ -200,8 +200,7 @@ serial-1 : (numbers : List ℤ) → AreSaved 1 numbers → ReadyOf set_1 serial_
 unfolding first
 serial-1 numbers are =
     ready-parts set_1 serial_at_1 numbers (omega arith) (omega arith, tt) are.of_kinds (counts-none (device_cells set_1 serial_at_1) numbers refl) refl
-    (refl, tt)
-    ((thr-1 numbers _ refl (no-sign _ (are.of_kinds.in_range old_latch (omega arith)))).fine, tt)
+    (refl, tt) ((thr-1 numbers _ refl (no-sign _ (are.of_kinds.in_range old_latch (omega arith)))).fine, tt)
 
 -- The FIFOs as rings.
 abbrev pub needs_ring : List ℤ → Bool

@@ -1,13 +1,12 @@
 -- Laws of the modes in the data sheet's terms.
-use Rattle.dev_pic.proofs.Facade.{◌≡◌, ℕ, ◌+◌, ◌<◌, Bool, true, false, not, cond, ◌&&◌, Some, None, refl, arith, sym, ◌∙◌, ap, ◌||◌, false≢true}
-use Rattle.dev_pic.proofs.Facade.{bit_and, has, but_not, with_input, without_input, cascade_input, level_inputs_of, requests_of, in_service_of, served_of}
-use Rattle.dev_pic.proofs.Facade.{winner_at, taken, rising, settled, ended, ended_lowest, highest_served, commanded, written_even, vector_of, answered}
-use Rattle.dev_pic.proofs.Facade.{MaskedNeverWins, ServedBlocksLower, IsHighestServed, EndsService, EoiEndsHighest, AckWithoutWinner, TakesWinner}
-use Rattle.dev_pic.proofs.Facade.{TakesLinesOver, acked, acked_for, HasRegisters, PairHasRegisters, input_at, IsWinner, Chip, Role, Master, Slave}
-use Rattle.dev_pic.proofs.Facade.{NonSpecificEoi, RotateOnNonSpecificEoi, PicPair}
-use Rattle.std.specs.Prelude.{bit_or}
 use Rattle.dev_pic.proofs.BitLaws.{level_inputs-lt, has-and, has-or, has-but_not, has-without_same, has-without_other, has-with_same, and_not_true}
+use Rattle.dev_pic.proofs.Facade.{◌≡◌, ℕ, ◌+◌, ◌<◌, Bool, true, false, not, cond, ◌&&◌, Some, None, refl, arith, sym, ◌∙◌, ap, ◌||◌, false≢true, bit_and, has}
+use Rattle.dev_pic.proofs.Facade.{but_not, with_input, without_input, cascade_input, level_inputs_of, requests_of, in_service_of, served_of, winner_at, taken}
+use Rattle.dev_pic.proofs.Facade.{rising, settled, ended, ended_lowest, highest_served, commanded, written_even, vector_of, answered, MaskedNeverWins}
+use Rattle.dev_pic.proofs.Facade.{ServedBlocksLower, IsHighestServed, EndsService, EoiEndsHighest, AckWithoutWinner, TakesWinner, TakesLinesOver, acked}
+use Rattle.dev_pic.proofs.Facade.{acked_for, HasRegisters, PairHasRegisters, input_at, IsWinner, Chip, Role, Master, Slave, PicPair}
 use Rattle.dev_pic.proofs.WinnerLaws.{winner_of-means, highest_at, highest_none}
+use Rattle.std.specs.Prelude.{bit_or}
 
 -- The winner of a chip meets the relation.
 won : (role : Role) (chip : Chip) (input : ℕ) → winner_at role chip ≡ Some input → IsWinner chip.lowest (requests_of chip) (served_of role chip) input
@@ -42,46 +41,19 @@ ends_with chip input lowest within = record {
   rest = refl;
 }
 
-ends : (chip : Chip) (input : ℕ) → input < 8 → EndsService input chip (ended (Some input) chip)
-unfolding ended
-ends chip input within = ends_with chip input chip.lowest within
-
-ends_lowest : (chip : Chip) (input : ℕ) → input < 8 → EndsService input chip (ended_lowest (Some input) chip)
-unfolding ended_lowest
-ends_lowest chip input within = ends_with chip input input within
-
 found : (chip : Chip) (input : ℕ) → IsHighestServed chip input → highest_served chip ≡ Some input
 found chip input h =
     let e = h.in_order.1 in
     highest_at chip.lowest (in_service_of chip) h.place h.in_order.0 (rw e at h.served) h.highest ∙ ap Some (sym e)
 
-is_input : (chip : Chip) (input : ℕ) → IsHighestServed chip input → input < 8
-is_input chip input h = omega arith
-
-ends_highest : (chip : Chip) (input : ℕ) → chip.isr < 256 → IsHighestServed chip input
-    → EndsService input chip (commanded NonSpecificEoi chip) × ((commanded NonSpecificEoi chip).lowest ≡ chip.lowest)
-unfolding commanded ended
-ends_highest chip input bound h = rw (found chip input h) (ends chip input (is_input chip input h), refl)
-
-rotates_highest : (chip : Chip) (input : ℕ) → chip.isr < 256 → IsHighestServed chip input
-    → EndsService input chip (commanded RotateOnNonSpecificEoi chip) × ((commanded RotateOnNonSpecificEoi chip).lowest ≡ input)
-unfolding commanded ended_lowest
-rotates_highest chip input bound h = rw (found chip input h) (ends_lowest chip input (is_input chip input h), refl)
-
-ends_nothing : (chip : Chip) → ((input : ℕ) → input < 8 → has (in_service_of chip) input ≡ false)
-    → (commanded NonSpecificEoi chip ≡ chip) × (commanded RotateOnNonSpecificEoi chip ≡ chip)
-unfolding commanded ended ended_lowest
-ends_nothing chip none =
-    let e = highest_none chip.lowest (in_service_of chip) none in
-    (rw e, rw e)
-
-eoi_words : (level : ℕ) (chip : Chip)
-    → (written_even level 0x20 chip ≡ commanded NonSpecificEoi chip) × (written_even level 0xa0 chip ≡ commanded RotateOnNonSpecificEoi chip)
-unfolding written_even
-eoi_words level chip = (refl, refl)
-
 pub eoi_ends_highest : EoiEndsHighest
-eoi_ends_highest = record { words = eoi_words; highest = ends_highest; rotating = rotates_highest; nothing = ends_nothing }
+unfolding commanded ended ended_lowest written_even
+eoi_ends_highest = record {
+  words = λ level chip. (refl, refl);
+  highest = λ chip input bound h. rw (found chip input h) (ends_with chip input chip.lowest (omega arith), refl);
+  rotating = λ chip input bound h. rw (found chip input h) (ends_with chip input input (omega arith), refl);
+  nothing = λ chip none. let e = highest_none chip.lowest (in_service_of chip) none in (rw e, rw e);
+}
 
 -- The vector of an input is `base` plus the input if `base` has bits 2 to 0 clear.
 plain_vector : (level : ℕ) (role : Role) (chip : Chip) (input : ℕ) → input < 8 → HasRegisters level role chip → vector_of chip input ≡ chip.base + input

@@ -1,7 +1,7 @@
 -- The names of other crates, and of this crate's `specs`, that the proofs use.
 pub use Rattle.std.proofs.{Common.◌-◌, Common.◌/◌, Common.◌<◌, Common.◌==◌, Common.◌^◌, Math.ListN.get_or-append}
 pub use Rattle.std.proofs.Common.{◌||◌, ◌∙◌, ◌∷◌, ◌≡◌, ◌≤◌, ◌⊎◌, Bool, List, None, Ok, Option, Some, [], ap, arith, codes, cond, false, inl, inr, length, not}
-pub use Rattle.std.proofs.Common.{pos, refl, replicate, rules, slice_index_or, slice_set, subst, suc, sym, true, zero, ℕ, ℤ, ⊎_elim, ◌%◌, ◌&&◌, ◌*◌, ◌++◌, ◌+◌}
+pub use Rattle.std.proofs.Common.{refl, rules, slice_index_or, slice_set, subst, suc, sym, true, zero, ℕ, ℤ, ⊎_elim, ◌%◌, ◌&&◌, ◌*◌, ◌++◌, ◌+◌}
 pub use Rattle.std.proofs.Math.Nat.{div-lt_iff_lt-mul, div-mul-le_self, mul-le-mul_right}
 pub use Rattle.std.proofs.lemmas.Bool.{and_parts, cases_Bool, cases_lt, le-leb, Decides.nat_tests}
 pub use Rattle.std.proofs.lemmas.List.{get_or-append-add, get_or_default, length-set}
@@ -24,7 +24,7 @@ pub use Rattle.dev_pit.specs.{declared.counter.Counter.Counter, declared.limits.
 pub use Rattle.dev_pit.specs.{declared.mode.Mode.Mode, declared.pit.Pit.Pit, declared.turns.Marks.Marks, declared.turns.Turns.Turns, Sound.HasWidths}
 pub use Rattle.dev_pit.specs.{Sound.HeldBelow, Sound.IsSoundCounter, Sound.IsSoundPit, Turns.AreTurns, Turns.IsTurn, Turns.Turned, Turns.marks_of}
 pub use Rattle.dev_pit.specs.Calls.{Call, IsCall, completes, is_last, reads, sets_mode_of, writes}
-pub use Rattle.dev_pit.specs.Cells.{AreCellsOf, HasDefault, IsChannelAt, IsPitCells, carried, channel_in, channel_kinds, channel_place, field_place, kinds_of}
+pub use Rattle.dev_pit.specs.Cells.{AreCellsOf, IsChannelAt, IsPitCells, carried, channel_in, channel_kinds, channel_place, field_place, kinds_of}
 pub use Rattle.dev_pit.specs.Cells.{latched_place, named, named_statuses, status_place}
 pub use Rattle.dev_pit.specs.Counter.{LoadedBy, counted_by, edge_since, held_or, live_since, out_since, read_by, written_by, written_low_first}
 pub use Rattle.dev_pit.specs.Laws.{CountingGoesOn, EdgeInParts, EdgeTurnsHigh, LatchStays, ReadBackByLevel, RestoredIsSound, SavedAreCells, SavedIsRestored}

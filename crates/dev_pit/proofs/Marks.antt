@@ -88,18 +88,30 @@ module _ (count n before k tick : ℕ) (is_n : n ≡ period count) (b : before �
   positive : 0 < n
   positive = rw is_n (period-pos count)
 
-  -- the first place of the next period
-  next : (r at : ℕ) → r < n → at ≡ k / n * n + n + r → IsAt n (k / n + 1) r at
-  next r at h e = place n (k / n + 1) r at h (omega arith)
-
-  -- the same place in a later period isn't before it
-  later : (r at : ℕ) → r < n → at ≡ k / n * n + n + r → k / n < tick / n → r ≤ tick % n → at ≤ tick
-  later r at h e q f =
-      let whole : (k / n + 1) * n ≤ tick / n * n = mul-le-mul_right n (omega arith) in
-      omega (arith, div-add-mod' tick n, whole)
-
   old : before / n ≤ k / n
   old = quotient_mono n before k positive b
+
+  -- place r of the next period, if that isn't after the tick
+  record Next (r at : ℕ) : Type 0 where
+    rest : at % n ≡ r
+    grew : nat_lt (before / n) (at / n) ≡ nat_lt (before / n) (tick / n)
+    from : k ≤ at
+    not_after : at ≤ tick
+
+  next : (r at : ℕ) → r < n → at ≡ k / n * n + n + r → k / n < tick / n → r ≤ tick % n → Next r at
+  next r at h e q f =
+      let is : IsAt n (k / n + 1) r at = place n (k / n + 1) r at h (omega arith) in
+      let whole : (k / n + 1) * n ≤ tick / n * n = mul-le-mul_right n (omega arith) in
+      record {
+        rest = is.rest;
+        grew = both_grew _ _ _ (omega (arith, is.quotient, old)) (omega (arith, q, old));
+        from = omega (arith, div-add-mod' k n);
+        not_after = omega (arith, div-add-mod' tick n, whole);
+      }
+
+  on : {mode : Mode} {r at : ℕ} → Next r at → IsMark k (marks_of mode n k) at → rises mode count before at ≡ rises mode count before tick
+      → out_at mode count at ≡ out_at mode count tick → Marked mode count n before k tick
+  on here mark e o = record { at = _; is = mark; from = here.from; not_after = here.not_after; edge = e; out = o }
 
   rate-edge : (at : ℕ) → nat_lt (before / n) (at / n) ≡ nat_lt (before / n) (tick / n)
       → rises RateGenerator count before at ≡ rises RateGenerator count before tick
@@ -139,28 +151,14 @@ module _ (count n before k tick : ℕ) (is_n : n ≡ period count) (b : before �
   rate-first : 2 ≤ n → k / n < tick / n → tick % n < n - 1 → Rate
   rate-first two h f =
       let at = k / n * n + n in
-      let is : IsAt n (k / n + 1) 0 at = next 0 at (omega arith) (omega arith) in
-      record {
-        at = at;
-        is = inr (inr (inl refl));
-        from = omega (arith, div-add-mod' k n);
-        not_after = later 0 at (omega arith) (omega arith) h (omega arith);
-        edge = rate-edge at (both_grew _ _ _ (omega (arith, is.quotient, old)) (omega (arith, h, old)));
-        out = rate-out at (neither_is _ _ _ (omega arith) f);
-      }
+      let here = next 0 at (omega arith) (omega arith) h (omega arith) in
+      on here (inr (inr (inl refl))) (rate-edge at here.grew) (rate-out at (neither_is _ _ _ (omega arith) f))
 
   rate-again : 2 ≤ n → k / n < tick / n → tick % n ≡ n - 1 → Rate
   rate-again two h f =
       let at = k / n * n + n + n - 1 in
-      let is : IsAt n (k / n + 1) (n - 1) at = next (n - 1) at (omega arith) (omega arith) in
-      record {
-        at = at;
-        is = inr (inr (inr refl));
-        from = omega (arith, div-add-mod' k n);
-        not_after = later (n - 1) at (omega arith) (omega arith) h (omega arith);
-        edge = rate-edge at (both_grew _ _ _ (omega (arith, is.quotient, old)) (omega (arith, h, old)));
-        out = rate-out at (both_are _ _ _ is.rest f);
-      }
+      let here = next (n - 1) at (omega arith) (omega arith) h (omega arith) in
+      on here (inr (inr (inr refl))) (rate-edge at here.grew) (rate-out at (both_are _ _ _ here.rest f))
 
   rate : 2 ≤ n → Rate
   rate two =
@@ -191,29 +189,15 @@ module _ (count n before k tick : ℕ) (is_n : n ≡ period count) (b : before �
   square-first : 2 ≤ n → k / n < tick / n → tick % n < high_part n → Square
   square-first two h f =
       let at = k / n * n + n in
-      let is : IsAt n (k / n + 1) 0 at = next 0 at (omega arith) (omega arith) in
-      record {
-        at = at;
-        is = inr (inr (inl refl));
-        from = omega (arith, div-add-mod' k n);
-        not_after = later 0 at (omega arith) (omega arith) h (omega arith);
-        edge = square-edge at (both_grew _ _ _ (omega (arith, is.quotient, old)) (omega (arith, h, old)));
-        out = square-out at (both_below _ _ _ (omega arith) f);
-      }
+      let here = next 0 at (omega arith) (omega arith) h (omega arith) in
+      on here (inr (inr (inl refl))) (square-edge at here.grew) (square-out at (both_below _ _ _ (omega arith) f))
 
   square-again : 2 ≤ n → k / n < tick / n → high_part n ≤ tick % n → Square
   square-again two h f =
       let high : high_part n < n = omega arith in
       let at = k / n * n + n + high_part n in
-      let is : IsAt n (k / n + 1) (high_part n) at = next (high_part n) at high refl in
-      record {
-        at = at;
-        is = inr (inr (inr refl));
-        from = omega (arith, div-add-mod' k n);
-        not_after = later (high_part n) at high refl h f;
-        edge = square-edge at (both_grew _ _ _ (omega (arith, is.quotient, old)) (omega (arith, h, old)));
-        out = square-out at (none_below _ _ _ (omega arith) f);
-      }
+      let here = next (high_part n) at high refl h f in
+      on here (inr (inr (inr refl))) (square-edge at here.grew) (square-out at (none_below _ _ _ (omega arith) f))
 
   square : 2 ≤ n → Square
   square two =

@@ -63,28 +63,24 @@ pub pit-later : (now later : ℕ) (pit : Pit) → IsLoadedBy now pit → now ≤
 pit-later now later pit h l k within = loaded_by-later (counter_of k pit).loaded_at now later (h k within) l
 
 -- The chip after a step of a counter that exists, which doesn't depend on the default for one that doesn't.
-stepped : (step : Counter → Counter) (k now : ℕ) (after default : Counter) (pit : Pit) → k < length pit.counters
-    → after ≡ step (slice_index_or pit.counters k default) → ((counter : Counter) → Loaded now counter → Loaded now (step counter)) → IsLoadedBy now pit
-    → IsLoadedBy now (with_counter k after pit)
-stepped step k now after default pit within e keeps h =
-    subst (λ c. IsLoadedBy now (with_counter k c pit)) (sym (e ∙ ap step (get_or_default pit.counters k default powered_on within)))
-    (step-loaded now k step pit keeps h)
+module _ (k now : ℕ) (after default : Counter) (pit : Pit) (within : k < length pit.counters) (h : IsLoadedBy now pit) where
+  abbrev counter : Counter
+  counter = slice_index_or pit.counters k default
 
-pub read_keeps : (k now later value : ℕ) (after default : Counter) (pit : Pit) → k < length pit.counters
-    → (value, after) ≡ read_of now (slice_index_or pit.counters k default) → IsLoadedBy now pit → now ≤ later → IsLoadedBy later (with_counter k after pit)
-read_keeps k now later value after default pit within e h l =
-    pit-later now later (with_counter k after pit)
-    (stepped (λ c. (read_of now c).1) k now after default pit within (ap (λ (a : ℕ × Counter). a.1) e) (λ c. goes_on-loaded now c _ (read-goes_on now c)) h) l
+  stepped : (step : Counter → Counter) → after ≡ step counter → ((counter : Counter) → Loaded now counter → Loaded now (step counter)) → (later : ℕ)
+      → now ≤ later → IsLoadedBy later (with_counter k after pit)
+  stepped step e keeps later l =
+      subst (λ c. IsLoadedBy later (with_counter k c pit)) (sym (e ∙ ap step (get_or_default pit.counters k default powered_on within)))
+      (pit-later now later (with_counter k (step (counter_of k pit)) pit) (step-loaded now k step pit keeps h) l)
 
-pub written_keeps : (k now later value : ℕ) (after default : Counter) (pit : Pit) → k < length pit.counters
-    → after ≡ written value now (slice_index_or pit.counters k default) → IsLoadedBy now pit → now ≤ later → IsLoadedBy later (with_counter k after pit)
-written_keeps k now later value after default pit within e h l =
-    pit-later now later (with_counter k after pit) (stepped (written value now) k now after default pit within e (written-loaded value now) h) l
+  pub read_keeps : (value : ℕ) → (value, after) ≡ read_of now counter → (later : ℕ) → now ≤ later → IsLoadedBy later (with_counter k after pit)
+  read_keeps value e = stepped (λ c. (read_of now c).1) (ap (λ (a : ℕ × Counter). a.1) e) (λ c. goes_on-loaded now c _ (read-goes_on now c))
 
-pub asked_keeps : (count status : Bool) (k now : ℕ) (after default : Counter) (pit : Pit) → k < length pit.counters
-    → after ≡ read_back count status now (slice_index_or pit.counters k default) → IsLoadedBy now pit → IsLoadedBy now (with_counter k after pit)
-asked_keeps count status k now after default pit within e h =
-    stepped (read_back count status now) k now after default pit within e (λ c. goes_on-loaded now c _ (read_back-goes_on _ _ now c)) h
+  pub written_keeps : (value : ℕ) → after ≡ written value now counter → (later : ℕ) → now ≤ later → IsLoadedBy later (with_counter k after pit)
+  written_keeps value e = stepped (written value now) e (written-loaded value now)
+
+  pub asked_keeps : (count status : Bool) → after ≡ read_back count status now counter → IsLoadedBy now (with_counter k after pit)
+  asked_keeps count status e = stepped (read_back count status now) e (λ c. goes_on-loaded now c _ (read_back-goes_on _ _ now c)) now (omega arith)
 
 pub controlled_keeps : (word : ControlWord) (now later : ℕ) (after pit : Pit) → after ≡ controlled word now pit → IsLoadedBy now pit → now ≤ later
     → IsLoadedBy later after

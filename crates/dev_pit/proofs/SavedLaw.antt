@@ -1,11 +1,11 @@
 -- A saved chip is restored as it was.
 use Rattle.dev_pit.proofs.{Chips.three_counters, Chips.each_of, RestoredLaw.pit-restored}
-use Rattle.dev_pit.proofs.Facade.{Pit, ◌≡◌, ℕ, ◌^◌, ◌<◌, ◌≤◌, ◌==◌, Bool, true, false, Option, Some, None, Ok, List, [], ◌∷◌, ◌++◌, length, replicate, ℤ, pos}
+use Rattle.dev_pit.proofs.Facade.{Pit, ◌≡◌, ℕ, ◌^◌, ◌<◌, ◌≤◌, ◌==◌, Bool, true, false, Option, Some, None, Ok, List, ◌++◌, length, ℤ}
 use Rattle.dev_pit.proofs.Facade.{codes, refl, ap, sym, subst, ◌∙◌, arith, nat_tests, nat_le, is_some, kinds_under, channel_rows, status_rows, STATUS_LATCHED}
 use Rattle.dev_pit.proofs.Facade.{STATUS_SINCE, Numbers, flag_number, flag_at, number_at, AreOf, IsLevel, MayRestore, first_failing, NEWEST, LAST_MOMENT}
 use Rattle.dev_pit.proofs.Facade.{of_none, of_more, of_both, byte, word, long, flag, flag-back, AllHold, one_holds, of_rows, carried_rows, AllTrue}
 use Rattle.dev_pit.proofs.Facade.{none_failing, all_true, judged-all, ok-hook, channel_kinds, kinds_of, named, named_statuses, channel_cells, status_cells}
-use Rattle.dev_pit.proofs.Facade.{three_cells, channel_in, pit_cells, carried, field_place, channel_at, HasDefault, AreCellsOf, IsPitCells, held_if, channel_of}
+use Rattle.dev_pit.proofs.Facade.{three_cells, channel_in, pit_cells, carried, field_place, channel_at, AreCellsOf, IsPitCells, held_if, channel_of}
 use Rattle.dev_pit.proofs.Facade.{counter_from, registers_hold, moment_holds, status_holds, toggles_hold, held_or, powered_on, SoundMeetsRules, SavedAreCells}
 use Rattle.dev_pit.proofs.Facade.{SavedIsRestored, mode_number, mode_of, access_number, access_of, counter_of, CanSave, CanRestore, three_hold, pit_of}
 use Rattle.dev_pit.proofs.Facade.{restored_pit, hook_restored, HasWidths, IsSoundPit, Channel, Counter, READ_BACK_LEVEL, Access, LowByte, Mode, TerminalCount}
@@ -58,27 +58,6 @@ pit_of-saved pit three =
       counter-back (counter_of 2 pit),
     ) (ap (λ counters. record pit { counters = counters }) (three_counters pit.counters powered_on three))
 
--- All rules hold for a sound chip.
-met : (now : ℕ) (pit : Pit) → IsSoundPit now pit → AllTrue (rules pit.level now (pit_cells NEWEST pit))
-unfolding pit_cells
-met now pit s =
-    let a = s.counters 0 (omega arith) in
-    let b = s.counters 1 (omega arith) in
-    let c = s.counters 2 (omega arith) in
-    let hold : (rule : Channel → Bool) → rule (channel_in 0 pit) ≡ true → rule (channel_in 1 pit) ≡ true → rule (channel_in 2 pit) ≡ true → three_hold rule
-    (three_cells NEWEST (channel_in 0 pit) (channel_in 1 pit) (channel_in 2 pit)) ≡ true =
-    λ rule. rule-saved rule (channel_in 0 pit) (channel_in 1 pit) (channel_in 2 pit) in (
-      hold registers_hold a.registers b.registers c.registers,
-      (
-        hold (moment_holds now) a.moment b.moment c.moment,
-        (hold (status_holds pit.level) a.status b.status c.status, (hold toggles_hold a.toggles b.toggles c.toggles, tt)),
-      ),
-    )
-
-pub restored-newest : (now : ℕ) (pit : Pit) → IsSoundPit now pit → restored_pit pit.level now (pit_cells NEWEST pit) ≡ Ok pit
-restored-newest now pit s =
-    judged-all (rules pit.level now (pit_cells NEWEST pit)) (pit_of pit.level (pit_cells NEWEST pit)) (met now pit s) ∙ ap Ok (pit_of-saved pit s.count)
-
 -- The cells of a chip fit their kinds: each field has as many numbers of its kind as it counts.
 channel-holds : (counter : Counter) → HasWidths counter → AllHold (named (channel_of counter)) channel_rows
 unfolding channel_of
@@ -93,59 +72,96 @@ channel-of : (counter : Counter) → HasWidths counter → AreOf channel_kinds (
 unfolding channel_cells
 channel-of counter h = of_rows (named (channel_of counter)) NEWEST channel_rows (channel-holds counter h)
 
-statuses-hold : (first second third : Counter) → HasWidths first → HasWidths second → HasWidths third
-    → AllHold (named_statuses (channel_of first) (channel_of second) (channel_of third)) status_rows
-unfolding channel_of
-statuses-hold first second third a b c =
-    let low : (counter : Counter) → HasWidths counter → held_or counter.status 0 < 2 ^ 8 =
-    λ counter h. held-below (2 ^ 8) 0 counter.status h.status (omega arith) in (
-      of_more _ _ _ _ (flag _) (of_more _ _ _ _ (flag _) (of_more _ _ _ _ (flag _) of_none)),
-      (of_more _ _ _ _ (byte _ (low first a)) (of_more _ _ _ _ (byte _ (low second b)) (of_more _ _ _ _ (byte _ (low third c)) of_none)), tt),
-    )
-
-set-of : (set : ℕ) (first second third : Counter) → HasWidths first → HasWidths second → HasWidths third
-    → AreOf (kinds_of set) (three_cells set (channel_of first) (channel_of second) (channel_of third))
-unfolding three_cells channel_cells status_cells
-set-of set first second third a b c =
-    of_both channel_kinds (channel_kinds ++ channel_kinds ++ kinds_under status_rows set) (channel_cells (channel_of first)) _ (channel-of first a)
-    (of_both channel_kinds (channel_kinds ++ kinds_under status_rows set) (channel_cells (channel_of second)) _ (channel-of second b)
-    (of_both channel_kinds (kinds_under status_rows set) (channel_cells (channel_of third)) _ (channel-of third c)
-    (of_rows (named_statuses (channel_of first) (channel_of second) (channel_of third)) set status_rows (statuses-hold first second third a b c))))
-
 -- An absent cell is 0.
 no_held : (held : Option ℕ) → (flag_number (is_some held) == 1) ≡ false → held_or held 0 ≡ 0
 no_held None e = refl
 no_held (Some held) e = cc
 
-module _ (first second third : Counter) (late : List ℤ) where
-  abbrev with_late : List ℤ
-  with_late = channel_cells (channel_of first) ++ channel_cells (channel_of second) ++ channel_cells (channel_of third) ++ late
+-- A level without the command has no status.
+no-status : (level : ℕ) (status : Option ℕ) → level < READ_BACK_LEVEL → StatusFits level status → status ≡ None
+no-status level None h f = refl
+no-status level (Some status) h f = absurd (omega arith)
 
-  wlow-default : HasDefault (codes "wlow_held") (codes "wlow") with_late
-  unfolding channel_cells channel_of
-  wlow-default =
-      each_of (λ k. flag_at with_late (field_place k (codes "wlow_held")) ≡ false → number_at with_late (field_place k (codes "wlow")) ≡ 0)
-      (no_held first.held_low) (no_held second.held_low) (no_held third.held_low)
+-- A sound chip.
+module _ (now : ℕ) (pit : Pit) (s : IsSoundPit now pit) where
+  abbrev first : Counter
+  first = counter_of 0 pit
 
-  latch-default : HasDefault (codes "latched") (codes "latch") with_late
-  unfolding channel_cells channel_of
-  latch-default =
-      each_of (λ k. flag_at with_late (field_place k (codes "latched")) ≡ false → number_at with_late (field_place k (codes "latch")) ≡ 0)
-      (no_held first.latch) (no_held second.latch) (no_held third.latch)
+  abbrev second : Counter
+  second = counter_of 1 pit
 
-cells-of : (set now : ℕ) (pit : Pit) → IsSoundPit now pit → AreCellsOf set (pit_cells set pit)
-unfolding pit_cells three_cells
-cells-of set now pit s =
-    let late : List ℤ = status_cells set (channel_in 0 pit) (channel_in 1 pit) (channel_in 2 pit) in
-    record {
-      of_kinds = set-of set (counter_of 0 pit) (counter_of 1 pit) (counter_of 2 pit) (s.counters 0 (omega arith)).widths (s.counters 1 (omega arith)).widths
-          (s.counters 2 (omega arith)).widths;
-      wlow = wlow-default (counter_of 0 pit) (counter_of 1 pit) (counter_of 2 pit) late;
-      latch = latch-default (counter_of 0 pit) (counter_of 1 pit) (counter_of 2 pit) late;
-    }
+  abbrev third : Counter
+  third = counter_of 2 pit
+
+  widths : (k : ℕ) → k < 3 → HasWidths (counter_of k pit)
+  widths k l = (s.counters k l).widths
+
+  -- All rules hold.
+  met : AllTrue (rules pit.level now (pit_cells NEWEST pit))
+  unfolding pit_cells
+  met =
+      let a = s.counters 0 (omega arith) in
+      let b = s.counters 1 (omega arith) in
+      let c = s.counters 2 (omega arith) in
+      let hold = λ (rule : Channel → Bool). rule-saved rule (channel_in 0 pit) (channel_in 1 pit) (channel_in 2 pit) in (
+        hold registers_hold a.registers b.registers c.registers,
+        (
+          hold (moment_holds now) a.moment b.moment c.moment,
+          (hold (status_holds pit.level) a.status b.status c.status, (hold toggles_hold a.toggles b.toggles c.toggles, tt)),
+        ),
+      )
+
+  pub restored-newest : restored_pit pit.level now (pit_cells NEWEST pit) ≡ Ok pit
+  restored-newest = judged-all (rules pit.level now (pit_cells NEWEST pit)) (pit_of pit.level (pit_cells NEWEST pit)) met ∙ ap Ok (pit_of-saved pit s.count)
+
+  statuses-hold : AllHold (named_statuses (channel_of first) (channel_of second) (channel_of third)) status_rows
+  unfolding channel_of
+  statuses-hold =
+      let low : (k : ℕ) → k < 3 → held_or (counter_of k pit).status 0 < 2 ^ 8 =
+      λ k l. held-below (2 ^ 8) 0 (counter_of k pit).status (widths k l).status (omega arith) in (
+        of_more _ _ _ _ (flag _) (of_more _ _ _ _ (flag _) (of_more _ _ _ _ (flag _) of_none)),
+        (
+          of_more _ _ _ _ (byte _ (low 0 (omega arith))) (of_more _ _ _ _ (byte _ (low 1 (omega arith)))
+              (of_more _ _ _ _ (byte _ (low 2 (omega arith))) of_none)),
+          tt,
+        ),
+      )
+
+  of-kinds : (set : ℕ) → AreOf (kinds_of set) (pit_cells set pit)
+  unfolding pit_cells three_cells channel_cells status_cells
+  of-kinds set =
+      of_both channel_kinds (channel_kinds ++ channel_kinds ++ kinds_under status_rows set) (channel_cells (channel_of first)) _
+      (channel-of first (widths 0 (omega arith)))
+      (of_both channel_kinds (channel_kinds ++ kinds_under status_rows set) (channel_cells (channel_of second)) _ (channel-of second (widths 1 (omega arith)))
+      (of_both channel_kinds (kinds_under status_rows set) (channel_cells (channel_of third)) _ (channel-of third (widths 2 (omega arith)))
+      (of_rows (named_statuses (channel_of first) (channel_of second) (channel_of third)) set status_rows statuses-hold)))
+
+  cells-of : (set : ℕ) → AreCellsOf set (pit_cells set pit)
+  unfolding pit_cells three_cells channel_cells channel_of
+  cells-of set =
+      let default = λ (flag number : List ℕ) (k : ℕ). flag_at (pit_cells set pit) (field_place k flag) ≡ false
+      → number_at (pit_cells set pit) (field_place k number) ≡ 0 in
+      record {
+        of_kinds = of-kinds set;
+        wlow = each_of (default (codes "wlow_held") (codes "wlow")) (no_held first.held_low) (no_held second.held_low) (no_held third.held_low);
+        latch = each_of (default (codes "latched") (codes "latch")) (no_held first.latch) (no_held second.latch) (no_held third.latch);
+      }
+
+-- Carried cells are those of the newest set, since what a set lacks is 0.
+pub carried-saved : (set now : ℕ) (pit : Pit) → pit.level ≤ set → IsSoundPit now pit → carried set (pit_cells set pit) ≡ pit_cells NEWEST pit
+unfolding pit_cells three_cells channel_cells status_cells channel_of
+carried-saved set now pit le s =
+    let front = channel_cells (channel_in 0 pit) ++ channel_cells (channel_in 1 pit) ++ channel_cells (channel_in 2 pit) in
+    let none : nat_le STATUS_SINCE set ≡ false → (k : ℕ) → k < 3 → (counter_of k pit).status ≡ None =
+    λ e k l. no-status pit.level _ (grind (arith, nat_tests)) (plain-from_sound pit.level now _ (s.counters k l)).status in
+    ap (λ (late : List ℤ). front ++ late)
+    (carried_rows (named_statuses (channel_in 0 pit) (channel_in 1 pit) (channel_in 2 pit)) set status_rows (statuses-hold now pit s) (
+      (λ e. rw (none e 0 (omega arith), none e 1 (omega arith), none e 2 (omega arith)) refl),
+      ((λ e. rw (none e 0 (omega arith), none e 1 (omega arith), none e 2 (omega arith)) refl), tt),
+    ) front STATUS_LATCHED refl)
 
 pub saved_are_cells : SavedAreCells
-saved_are_cells = record { of_set = λ numbers pit can s. cells-of numbers.set numbers.moment pit s }
+saved_are_cells = record { of_set = λ numbers pit can s. cells-of numbers.moment pit s numbers.set }
 
 -- A chip is sound if its cells break no rule, and conversely.
 is_sound : (now : ℕ) (pit : Pit) → IsLevel pit.level → now ≤ LAST_MOMENT → length pit.counters ≡ 3
@@ -159,46 +175,10 @@ is_sound now pit l m three h =
 pub sound_meets_rules : SoundMeetsRules
 sound_meets_rules = record {
   pit = λ now pit l m three. (
-    (λ s. (cells-of NEWEST now pit s, none_failing (rules pit.level now (pit_cells NEWEST pit)) (met now pit s))),
+    (λ s. (cells-of now pit s NEWEST, none_failing (rules pit.level now (pit_cells NEWEST pit)) (met now pit s))),
     is_sound now pit l m three,
   );
 }
-
--- Carried cells are those of the newest set, since what a set lacks is 0.
-no-status : (level : ℕ) (status : Option ℕ) → level < READ_BACK_LEVEL → StatusFits level status → status ≡ None
-no-status level None h f = refl
-no-status level (Some status) h f = absurd (omega arith)
-
-no-flags : (first second third : Option ℕ) → first ≡ None → second ≡ None → third ≡ None
-    → (pos (flag_number (is_some first)) ∷ pos (flag_number (is_some second)) ∷ pos (flag_number (is_some third)) ∷ []) ≡ replicate 3 (pos 0)
-no-flags first second third a b c = rw (a, b, c) refl
-
-no-bytes : (first second third : Option ℕ) → first ≡ None → second ≡ None → third ≡ None
-    → (pos (held_or first 0) ∷ pos (held_or second 0) ∷ pos (held_or third 0) ∷ []) ≡ replicate 3 (pos 0)
-no-bytes first second third a b c = rw (a, b, c) refl
-
-three-carried : (set : ℕ) (first second third : Counter) → HasWidths first → HasWidths second → HasWidths third
-    → (nat_le STATUS_SINCE set ≡ false → (first.status ≡ None) × ((second.status ≡ None) × (third.status ≡ None)))
-    → carried set (three_cells set (channel_of first) (channel_of second) (channel_of third)) ≡ three_cells NEWEST (channel_of first) (channel_of second)
-    (channel_of third)
-unfolding three_cells channel_cells status_cells channel_of
-three-carried set first second third a b c none =
-    ap (λ (late : List ℤ). channel_cells (channel_of first) ++ channel_cells (channel_of second) ++ channel_cells (channel_of third) ++ late)
-    (carried_rows (named_statuses (channel_of first) (channel_of second) (channel_of third)) set status_rows (statuses-hold first second third a b c) (
-      (λ e. no-flags first.status second.status third.status (none e).0 (none e).1.0 (none e).1.1),
-      ((λ e. no-bytes first.status second.status third.status (none e).0 (none e).1.0 (none e).1.1), tt),
-    )
-    (channel_cells (channel_of first) ++ channel_cells (channel_of second) ++ channel_cells (channel_of third)) STATUS_LATCHED refl)
-
-pub carried-saved : (set now : ℕ) (pit : Pit) → pit.level ≤ set → IsSoundPit now pit → carried set (pit_cells set pit) ≡ pit_cells NEWEST pit
-unfolding pit_cells
-carried-saved set now pit le s =
-    let widths : (k : ℕ) → k < 3 → HasWidths (counter_of k pit) = λ k l. (s.counters k l).widths in
-    three-carried set (counter_of 0 pit) (counter_of 1 pit) (counter_of 2 pit) (widths 0 (omega arith)) (widths 1 (omega arith)) (widths 2 (omega arith))
-    (λ e. let h : pit.level < READ_BACK_LEVEL = grind (arith, nat_tests) in
-    let none : (k : ℕ) → k < 3 → (counter_of k pit).status ≡ None =
-    λ k l. no-status pit.level (counter_of k pit).status h (plain-from_sound pit.level now (counter_of k pit) (s.counters k l)).status in
-    (none 0 (omega arith), (none 1 (omega arith), none 2 (omega arith))))
 
 restored-back : (numbers back : Numbers) (pit : Pit) → CanSave numbers pit → IsSoundPit numbers.moment pit → MayRestore back → back.level ≡ pit.level
     → back.moment ≡ numbers.moment
@@ -210,7 +190,7 @@ restored-back numbers back pit can s may level moment =
     ap (λ l. restored_pit l back.moment (pit_cells NEWEST pit)) level ∙ ap (λ m. restored_pit pit.level m (pit_cells NEWEST pit)) moment
     ∙ restored-newest numbers.moment pit s
     in (
-      record { pass = may; normal = subst IsPitCells (sym same) (cells-of NEWEST numbers.moment pit s) },
+      record { pass = may; normal = subst IsPitCells (sym same) (cells-of numbers.moment pit s NEWEST) },
       subst (λ (cells : List ℤ). hook_restored back cells ≡ Ok pit) (sym same) (ok-hook _ pit newest),
     )
 

@@ -1,11 +1,8 @@
 -- A byte that is written while the shift register is busy.
-use Rattle.dev_serial.proofs.Facade.{◌≡◌, ℕ, Bool, true, false, List, [], ◌∷◌, ◌++◌, arith, nat_tests, Option, None, Some, refl, ap, ◌∙◌, not, ◌||◌}
-use Rattle.dev_serial.proofs.Facade.{is_some, length, nat_lt, TransmitterState, queued, loaded, Shift, is_empty, has, thr_written, written, Port}
-use Rattle.dev_serial.proofs.Facade.{either, queues, interrupt, line_of}
+use Rattle.dev_serial.proofs.Facade.{◌≡◌, ℕ, Bool, true, false, List, [], ◌∷◌, ◌++◌, Option, None, Some, refl, ap, ◌∙◌, not, ◌||◌, is_some, length, nat_lt}
+use Rattle.dev_serial.proofs.Facade.{TransmitterState, queued, loaded, Shift, is_empty, has, thr_written, written, Port, either, queues, interrupt, line_of}
+use Rattle.dev_serial.proofs.SoundLaws.{not_empty}
 use Rattle.dev_serial.specs.declared.fifo.TheConstants.{FIFO_BYTES}
-
-filled : (first : ℕ) (rest : List ℕ) → is_empty (first ∷ rest) ≡ false
-filled first rest = grind (arith, nat_tests)
 
 -- a byte waits then
 queued-filled : (has_fifos : Bool) (byte : ℕ) (waiting : List ℕ) → is_empty (queued has_fifos byte waiting) ≡ false
@@ -13,7 +10,7 @@ unfolding queued
 queued-filled false byte waiting = refl
 queued-filled true byte [] = refl
 queued-filled true byte (first ∷ rest) =
-    either (λ bytes. is_empty bytes ≡ false) (nat_lt (length (first ∷ rest)) FIFO_BYTES) _ _ (filled first (rest ++ byte ∷ [])) (filled first rest)
+    either (λ bytes. is_empty bytes ≡ false) (nat_lt (length (first ∷ rest)) FIFO_BYTES) _ _ (not_empty first (rest ++ byte ∷ [])) (not_empty first rest)
 
 loaded-busy : (due : ℕ) (shift : Option Shift) (waiting : List ℕ) → is_some shift ≡ true
     → loaded due shift waiting ≡ record { waiting = waiting; shift = shift }

@@ -1,9 +1,9 @@
 -- Recast cells are restored as the cells are.
-use Rattle.dev_serial.proofs.{Facade.ring_holds, Facade.ring_of, Facade.PortNumbers, Facade.Counted, Facade.Ring, RecastLaws.numbers_back}
-use Rattle.dev_serial.proofs.Facade.{◌≡◌, ℕ, ◌≤◌, ◌==◌, Bool, true, false, ◌&&◌, if◌then◌else◌, List, [], ◌∷◌, length, refl, sym, ap, ◌∙◌, arith, ℤ, ne_eqb}
-use Rattle.dev_serial.proofs.Facade.{or_right, Numbers, judged, is_empty, numbers_of, port_of, stored_bytes, is_in_ring, array_for, ring_left, recast_port}
-use Rattle.dev_serial.proofs.Facade.{recast_cells, fcr_holds, id_holds, is_stored_once, is_unused, latch_holds, once_holds, registers_hold, restored}
-use Rattle.dev_serial.proofs.Facade.{rings_hold, rules, shift_holds, status_holds, timeout_holds, unused_hold, restored_cells, counted_of, ring_bytes}
+use Rattle.dev_serial.proofs.{Facade.restored_cells, Facade.counted_of, Facade.ring_bytes, RecastLaws.numbers_back}
+use Rattle.dev_serial.proofs.Facade.{ring_holds, ring_of, PortNumbers, Counted, Ring, ◌≡◌, ℕ, ◌≤◌, ◌==◌, Bool, true, false, ◌&&◌, if◌then◌else◌, List, [], ◌∷◌}
+use Rattle.dev_serial.proofs.Facade.{length, refl, sym, ap, ◌∙◌, arith, ℤ, ne_eqb, or_right, Numbers, judged, is_empty, numbers_of, port_of, stored_bytes}
+use Rattle.dev_serial.proofs.Facade.{is_in_ring, array_for, ring_left, recast_port, recast_cells, fcr_holds, id_holds, is_stored_once, is_unused, latch_holds}
+use Rattle.dev_serial.proofs.Facade.{once_holds, registers_hold, restored, rings_hold, rules, shift_holds, status_holds, timeout_holds, unused_hold}
 use Rattle.dev_serial.proofs.StoredLaws.{counted-back, ring-back, ring_of-holds, stored-empty, stored-short}
 use Rattle.std.proofs.Common.{nat_lt}
 
@@ -33,32 +33,20 @@ module _ (array : Counted) (ring : Ring) where
     once : is_stored_once (counted_of (ring_bytes ring)) (ring_of []) ≡ is_stored_once array ring
     once = or_right (length (ring_bytes ring) == 0) true refl ∙ sym (rw empty)
 
-  abbrev array' : Bool → Counted
-  array' b = if b then counted_of (ring_bytes ring) else array
+  -- What is the same of an array and a ring in their places.
+  record Same (other : Counted) (left : Ring) : Type 0 where
+    bytes : stored_bytes other left ≡ stored_bytes array ring
+    once : is_stored_once other left ≡ is_stored_once array ring
+    ring_same : ring_holds left ≡ ring_holds ring
 
-  abbrev ring' : Bool → Ring
-  ring' b = if b then ring_of [] else ring
-
-  same_bytes : stored_bytes (array_for array ring) (ring_left array ring) ≡ stored_bytes array ring
-  same_bytes = go (is_in_ring array ring) refl where
-    go : (b : Bool) → is_in_ring array ring ≡ b → stored_bytes (array' b) (ring' b) ≡ stored_bytes array ring
-    go true e = moved e
-    go false e = refl
+  same : Same (array_for array ring) (ring_left array ring)
+  same = go (is_in_ring array ring) refl where
+    go : (b : Bool) → is_in_ring array ring ≡ b → Same (if b then counted_of (ring_bytes ring) else array) (if b then ring_of [] else ring)
+    go true e = record { bytes = moved e; once = once e; ring_same = cc (ring_of-holds [] (omega arith), holds e) }
+    go false e = record { bytes = refl; once = refl; ring_same = refl }
 
   same_unused : is_unused (array_for array ring) (ring_left array ring) ≡ is_unused array ring
-  same_unused = sym (stored-empty (array_for array ring) (ring_left array ring)) ∙ ap is_empty same_bytes ∙ stored-empty array ring
-
-  same_once : is_stored_once (array_for array ring) (ring_left array ring) ≡ is_stored_once array ring
-  same_once = go (is_in_ring array ring) refl where
-    go : (b : Bool) → is_in_ring array ring ≡ b → is_stored_once (array' b) (ring' b) ≡ is_stored_once array ring
-    go true e = once e
-    go false e = refl
-
-  same_ring : ring_holds (ring_left array ring) ≡ ring_holds ring
-  same_ring = go (is_in_ring array ring) refl where
-    go : (b : Bool) → is_in_ring array ring ≡ b → ring_holds (ring' b) ≡ ring_holds ring
-    go true e = cc (ring_of-holds [] (omega arith), holds e)
-    go false e = refl
+  same_unused = sym (stored-empty (array_for array ring) (ring_left array ring)) ∙ ap is_empty same.bytes ∙ stored-empty array ring
 
 -- ---- the port
 
@@ -66,39 +54,19 @@ module _ (level now : ℕ) (n : PortNumbers) where
   abbrev m : PortNumbers
   m = recast_port n
 
+  abbrev rx : Same n.rx n.rx_ring (array_for n.rx n.rx_ring) (ring_left n.rx n.rx_ring)
+  rx = same n.rx n.rx_ring
+
+  abbrev tx : Same n.tx n.tx_ring (array_for n.tx n.tx_ring) (ring_left n.tx n.tx_ring)
+  tx = same n.tx n.tx_ring
+
   same_port : port_of level m ≡ port_of level n
   unfolding port_of
-  same_port = rw (same_bytes n.rx n.rx_ring, same_bytes n.tx n.tx_ring) refl
-
-  -- ---- its rules
-
-  unused : unused_hold m ≡ unused_hold n
-  unfolding unused_hold
-  unused = rw (same_unused n.rx n.rx_ring, same_unused n.tx n.tx_ring) refl
-
-  status : status_holds m ≡ status_holds n
-  unfolding status_holds
-  status = rw (same_unused n.rx n.rx_ring, same_unused n.tx n.tx_ring) refl
-
-  timeout : timeout_holds level now m ≡ timeout_holds level now n
-  unfolding timeout_holds
-  timeout = rw (same_unused n.rx n.rx_ring) refl
-
-  id : id_holds level now m ≡ id_holds level now n
-  unfolding id_holds
-  id = rw same_port refl
-
-  once_each : once_holds m ≡ once_holds n
-  unfolding once_holds
-  once_each = rw (same_once n.rx n.rx_ring, same_once n.tx n.tx_ring) refl
-
-  rings : rings_hold m ≡ rings_hold n
-  unfolding rings_hold
-  rings = rw (same_ring n.rx n.rx_ring, same_ring n.tx n.tx_ring) refl
+  same_port = rw (rx.bytes, tx.bytes) refl
 
   same_rules : rules level now m ≡ rules level now n
-  unfolding registers_hold fcr_holds shift_holds latch_holds
-  same_rules = rw (unused, status, timeout, id, once_each, rings) refl
+  unfolding registers_hold fcr_holds shift_holds latch_holds unused_hold status_holds timeout_holds id_holds once_holds rings_hold
+  same_rules = rw (same_port, same_unused n.rx n.rx_ring, same_unused n.tx n.tx_ring, rx.once, tx.once, rx.ring_same, tx.ring_same) refl
 
   port_restores : restored level now m ≡ restored level now n
   unfolding restored

@@ -234,10 +234,6 @@ no-arrays : (first second : List ℕ) → length first ≡ 0 → length second �
     → (pos (length first) ∷ map pos (padded first)) ++ (pos (length second) ∷ map pos (padded second)) ≡ replicate 34 (pos 0)
 no-arrays first second a b = rw (nil_from_length first a, nil_from_length second b) refl
 
-no-rings : (first second : List ℕ) → length first ≡ 0 → length second ≡ 0
-    → map pos (padded first) ++ pos 0 ∷ pos (length first) ∷ [] ++ (map pos (padded second) ++ pos 0 ∷ pos (length second) ∷ []) ≡ replicate 36 (pos 0)
-no-rings first second a b = rw (nil_from_length first a, nil_from_length second b) refl
-
 module _ (now : ℕ) (port : Port) (early : now ≤ LAST_MOMENT) (sound : IsSound now port) where
   abbrev first : ℕ → List ℕ
   first set = in_array set port.fifos port.receiver.held
@@ -257,39 +253,6 @@ module _ (now : ℕ) (port : Port) (early : now ≤ LAST_MOMENT) (sound : IsSoun
       → number_at all TX_COUNT ≡ length (second set) → IsArray all TX_COUNT
   tx-in set all e l n = array_in all _ _ (second set) TX_COUNT e l n (array-short set port.fifos port.transmitter.waiting sound.transmitter.short)
 
-  saved-1 : AreSaved 1 (cells 1)
-  saved-1 = record { of_kinds = of_kinds 1 _ (in-ranges 1 now port early sound); rx = λ h. absurd (omega arith); tx = λ h. absurd (omega arith); no_fifo = λ h. absurd (omega arith); no_ring = λ h. absurd (omega arith) }
-
-  saved-2 : AreSaved 2 (cells 2)
-  unfolding cells_of saved
-  saved-2 = record {
-    of_kinds = of_kinds 2 _ (in-ranges 2 now port early sound);
-    rx = λ h. rx-in 2 (cells 2) refl refl refl;
-    tx = λ h. tx-in 2 (cells 2) refl refl refl;
-    no_fifo = λ h. no-arrays (first 2) (second 2);
-    no_ring = λ h. absurd (omega arith);
-  }
-
-  saved-3 : AreSaved 3 (cells 3)
-  unfolding cells_of saved
-  saved-3 = record {
-    of_kinds = of_kinds 3 _ (in-ranges 3 now port early sound);
-    rx = λ h. rx-in 3 (cells 3) refl refl refl;
-    tx = λ h. tx-in 3 (cells 3) refl refl refl;
-    no_fifo = λ h. no-arrays (first 3) (second 3);
-    no_ring = λ h. absurd (omega arith);
-  }
-
-  saved-4 : AreSaved 4 (cells 4)
-  unfolding cells_of saved
-  saved-4 = record {
-    of_kinds = of_kinds 4 _ (in-ranges 4 now port early sound);
-    rx = λ h. rx-in 4 (cells 4) refl refl refl;
-    tx = λ h. tx-in 4 (cells 4) refl refl refl;
-    no_fifo = λ h. no-arrays (first 4) (second 4);
-    no_ring = λ h. no-rings (in_ring 4 port.fifos port.receiver.held) (in_ring 4 port.fifos port.transmitter.waiting);
-  }
-
   -- the saved numbers, as the newest set's cells
   pub newest-cells : (set : ℕ) → IsPortCells (cells_of 4 (saved set now port))
   unfolding cells_of saved
@@ -298,7 +261,19 @@ module _ (now : ℕ) (port : Port) (early : now ≤ LAST_MOMENT) (sound : IsSoun
       record { of_kinds = of_kinds 4 _ (in-ranges set now port early sound); rx = rx-in set all refl refl refl; tx = tx-in set all refl refl refl }
 
   pub are-saved : (set : ℕ) → 1 ≤ set → set ≤ NEWEST → AreSaved set (cells set)
-  are-saved set low high = each_set (λ n. AreSaved n (cells n)) set low high saved-1 saved-2 saved-3 saved-4
+  unfolding cells_of saved
+  are-saved set low high = record {
+    of_kinds = of_kinds set _ (in-ranges set now port early sound);
+    rx = each_set (λ n. FIFOS_SINCE ≤ n → IsArray (cells n) RX_COUNT) set low high (λ h. absurd (omega arith)) (λ h. rx-in 2 (cells 2) refl refl refl)
+        (λ h. rx-in 3 (cells 3) refl refl refl) (λ h. rx-in 4 (cells 4) refl refl refl);
+    tx = each_set (λ n. FIFOS_SINCE ≤ n → IsArray (cells n) TX_COUNT) set low high (λ h. absurd (omega arith)) (λ h. tx-in 2 (cells 2) refl refl refl)
+        (λ h. tx-in 3 (cells 3) refl refl refl) (λ h. tx-in 4 (cells 4) refl refl refl);
+    no_fifo = each_set (λ n. FIFOS_SINCE ≤ n → number_at (cells n) RX_COUNT ≡ 0 → number_at (cells n) TX_COUNT ≡ 0
+        → take 34 (drop RX_COUNT (cells n)) ≡ replicate 34 (pos 0)) set low high
+        (λ h. absurd (omega arith)) (λ h. no-arrays (first 2) (second 2)) (λ h. no-arrays (first 3) (second 3)) (λ h. no-arrays (first 4) (second 4));
+    no_ring = λ h. let e : set ≡ 4 = omega arith in
+        rw e (λ a b. rw (nil_from_length (in_ring 4 port.fifos port.receiver.held) a, nil_from_length (in_ring 4 port.fifos port.transmitter.waiting) b) refl);
+  }
 
 pub saved_are_cells : SavedAreCells
 saved_are_cells numbers port can sound = are-saved numbers.moment port can.moment sound numbers.set (omega arith) can.set_le_newest

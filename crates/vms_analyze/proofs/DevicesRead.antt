@@ -1,17 +1,26 @@
 -- What is read of a description is exactly what it says.
-use Rattle.vms_analyze.proofs.Facade.{map-map, ◌≡◌, ℕ, Bool, true, false, ◌&&◌, ◌||◌, ◌==◌, nat_le, if◌then◌else◌, List, [], Option, Some, None, ℤ, codes, refl}
+use Rattle.vms_analyze.proofs.Facade.{map-map, ◌≡◌, ℕ, Bool, true, ◌&&◌, ◌||◌, ◌==◌, nat_le, if◌then◌else◌, List, [], Option, Some, None, ℤ, codes, refl, inl}
 use Rattle.vms_analyze.proofs.Facade.{ap, ◌∙◌, ◌∷◌, map, IfSome, Ordering, Equal, subst, ◌+◌, drop, bytes_eq, is_utf8, and_parts, eqb-true, and_from, eq-eqb}
 use Rattle.vms_analyze.proofs.Facade.{bytes_eq-Decides, list_all, nat_cmp, match_ordering, slice_cmp, Data, number, string, object, no_members, member, array}
 use Rattle.vms_analyze.proofs.Facade.{Items, Members, of_integer, get, get_member, as_array, fits, Kind, width, MOST_UNUSED, LONGEST_NAME, in_range, kind_word}
-use Rattle.vms_analyze.proofs.Facade.{kind_named, word_named, tells_kind, natural, entry_tree, list_tree, LONGEST_PATH, Told, Sent, Kept, Fixed, Skipped}
+use Rattle.vms_analyze.proofs.Facade.{kind_named, word_named, tells_kind, natural, entry_tree, list_tree, LONGEST_PATH, Told, Sent, Kept, Fixed, Skipped, inr}
 use Rattle.vms_analyze.proofs.Facade.{told_entry, is_path, is_good, ToldSub, told_sub, ToldDevice, told_device, told_tree, fits_four, is_kept, is_good_sub}
 use Rattle.vms_analyze.proofs.Facade.{is_good_device, IsSorted, AreSorted, HoldSorted, only, text_at, path_at, natural_at, whole_at, sent_keys, kept_keys}
 use Rattle.vms_analyze.proofs.Facade.{unprinted, sent_as, sent_in, kept_as, kept_in, element_in, next, four_at, flag_at, list_at, each, sub_keys, sub_in}
-use Rattle.vms_analyze.proofs.Facade.{subs_in, device_keys, device_in, devices_in, items_of, read, value_in, Tells}
+use Rattle.vms_analyze.proofs.Facade.{subs_in, device_keys, device_in, devices_in, items_of, read, value_in, Tells, ◌⊎◌, false}
 use Rattle.vms_analyze.specs.Read.{elements_in}
 use Rattle.vms_analyze.proofs.MembersRead.{is_picked, after, first_then, only_is, only_so, text_is, path_is, natural_is, whole_is, whole_back, Says, under}
 use Rattle.vms_analyze.proofs.MembersRead.{IsPathAt, four_is, flag_is, list_is, each_says, each_back, read_sorted}
 use Rattle.vms_analyze.proofs.Parts.{sub_parts, sub_from, device_parts, device_from}
+
+-- what a choice gives is given by one of its sides
+if_gives : {A : Type 0} (b : Bool) (x y : Option A) (a : A) → (if b then x else y) ≡ Some a → ((b ≡ true) × (x ≡ Some a)) ⊎ ((b ≡ false) × (y ≡ Some a))
+if_gives true x y a e = inl (refl, e)
+if_gives false x y a e = inr (refl, e)
+
+when_gives : {A : Type 0} (b : Bool) (x : Option A) (a : A) → (if b then x else None) ≡ Some a → (b ≡ true) × (x ≡ Some a)
+when_gives true x a e = (refl, e)
+when_gives false x a e = cc
 
 -- ---- What is read of an element is the element whose entry the value is, and of each good element's entry that element is read.
 
@@ -49,19 +58,15 @@ abbrev is_few : ℕ → Bool
 is_few size = nat_le 1 size && nat_le size MOST_UNUSED
 
 unprinted_is : (path : List ℕ) (size : ℕ) (word : List ℕ) (t : Told) → unprinted path size word ≡ Some t → IsUnprinted path size word t
-unprinted_is path size word t e = go (bytes_eq word (codes "equal")) (bytes_eq word (codes "unused")) refl refl e
-  where
-    same : (w : List ℕ) → bytes_eq word w ≡ true → three (string path) (natural size) (string word) ≡ three (string path) (natural size) (string w)
-    same w f = rw ((bytes_eq-Decides word w).0 f)
-
-    go : (a b : Bool) → bytes_eq word (codes "equal") ≡ a → bytes_eq word (codes "unused") ≡ b
-        → (if a then only (is_fixed size) (Fixed path size) else if b then only (is_few size) (Skipped path size) else None) ≡ Some t
-        → IsUnprinted path size word t
-    go true b f g e =
-        told_by path _ (is_fixed size) (Fixed path size) t e (λ so. same (codes "equal") f) (λ h so. and_from (is_path LONGEST_PATH path) (is_fixed size) h so)
-    go false true f g e =
-        told_by path _ (is_few size) (Skipped path size) t e (λ so. same (codes "unused") g) (λ h so. and_from (is_path LONGEST_PATH path) (is_few size) h so)
-    go false false f g e = cc
+unprinted_is path size word t e = elim (if_gives (bytes_eq word (codes "equal")) _ _ t e) [
+  | inl p ↦
+      told_by path _ (is_fixed size) (Fixed path size) t p.1 (λ so. rw ((bytes_eq-Decides word (codes "equal")).0 p.0))
+      (λ h so. and_from (is_path LONGEST_PATH path) (is_fixed size) h so)
+  | inr q ↦
+      let k = when_gives (bytes_eq word (codes "unused")) _ t q.1 in
+      told_by path _ (is_few size) (Skipped path size) t k.1 (λ so. rw ((bytes_eq-Decides word (codes "unused")).0 k.0))
+      (λ h so. and_from (is_path LONGEST_PATH path) (is_few size) h so)
+]
 
 sent_is : (path : List ℕ) (size : ℕ) (word : List ℕ) (named : Option Kind) (t : Told) → kind_named word ≡ named → sent_as path size word named ≡ Some t
     → IsUnprinted path size word t
@@ -116,16 +121,12 @@ kept_says d sorted h t e =
     }
 
 pub element_says : (d : Data) → IsSorted d → (t : Told) → element_in d ≡ Some t → Says element_tree is_good d t
-element_says d sorted t e = go (fits sent_keys [] d) (fits kept_keys [] d) refl refl e
-  where
-    go : (a b : Bool) → fits sent_keys [] d ≡ a → fits kept_keys [] d ≡ b → (if a then sent_in d else if b then kept_in d else None) ≡ Some t
-        → Says element_tree is_good d t
-    go true b f g e = sent_says d sorted f t e
-    go false true f g e = kept_says d sorted g t e
-    go false false f g e = cc
+element_says d sorted t e = elim (if_gives (fits sent_keys [] d) _ _ t e) [
+  | inl p ↦ sent_says d sorted p.0 t p.1
+  | inr q ↦ let k = when_gives (fits kept_keys [] d) _ t q.1 in kept_says d sorted k.0 t k.1
+]
 
--- ---- back
-
+-- back
 pub element_back : (t : Told) → is_good t ≡ true → element_in (element_tree t) ≡ Some t
 element_back (Sent path kind) e =
     first_then _ (only_so (is_path LONGEST_PATH path) path e)
@@ -145,8 +146,6 @@ element_back (Skipped path n) e =
     first_then _ (only_so (is_path LONGEST_PATH path) path p.0) (only_so few (Skipped path n) p.1)
 
 -- ---- What is read of a description's devices is exactly what it says.
-
--- ---- what a member holds is sorted
 
 held : (key : List ℕ) (ms : Members) → HoldSorted ms → IfSome (get_member key ms) IsSorted
 held key no_members h = tt
@@ -197,13 +196,10 @@ a_sub name sent version elements = record { name = name; sent = sent; version = 
 by_keys : {A : Type 0} (tree : A → Data) (good : A → Bool) (keys : List (List ℕ)) (rest : List ℕ → Option A) (d : Data) (a : A)
     → (if fits keys [] d then next (path_at LONGEST_NAME (codes "name") d) rest else None) ≡ Some a
     → (fits keys [] d ≡ true → (name : List ℕ) → IsPathAt LONGEST_NAME (codes "name") d name → rest name ≡ Some a → Says tree good d a) → Says tree good d a
-by_keys tree good keys rest d a e says = go (fits keys [] d) refl e
-  where
-    go : (b : Bool) → fits keys [] d ≡ b → (if b then next (path_at LONGEST_NAME (codes "name") d) rest else None) ≡ Some a → Says tree good d a
-    go true f e =
-        let n = after (path_at LONGEST_NAME (codes "name") d) rest a e in
-        says f n.value (path_is LONGEST_NAME (codes "name") d n.value n.first) n.then
-    go false f e = cc
+by_keys tree good keys rest d a e says =
+    let k = when_gives (fits keys [] d) _ a e in
+    let n = after (path_at LONGEST_NAME (codes "name") d) rest a k.1 in
+    says k.0 n.value (path_is LONGEST_NAME (codes "name") d n.value n.first) n.then
 
 pub sub_says : (d : Data) → IsSorted d → (s : ToldSub) → sub_in d ≡ Some s → Says told_sub is_good_sub d s
 sub_says d sorted s e = by_keys told_sub is_good_sub sub_keys _ d s e (λ h name named rest.
@@ -262,29 +258,20 @@ device_back t e =
     (first_then _ (entries_back t.elements p.elements)
     (first_then _ (each_back told_sub is_good_sub sub_in sub_back t.subs p.subs) refl))))
 
--- ---- the whole
-
+-- the whole
 pub devices_say : (d : Data) → IsSorted d → (ts : List ToldDevice) → devices_in d ≡ Some ts → Says told_tree (list_all is_good_device) d ts
-devices_say d sorted ts e = go (fits (codes "devices" ∷ []) [] d) refl e
-  where
-    go : (a : Bool) → fits (codes "devices" ∷ []) [] d ≡ a → (if a then next (list_at (codes "devices") d) (each device_in) else None) ≡ Some ts
-        → Says told_tree (list_all is_good_device) d ts
-    go true f e =
-        let l = list_says told_device is_good_device device_in device_says (codes "devices") d sorted ts e in
-        record {
-          tree_is = is_picked (codes "devices" ∷ []) (tt, tt) d sorted f ∙ ap (λ (x : Data). object (member (codes "devices") x no_members)) l.is;
-          good_is = l.fine;
-        }
-    go false f e = cc
+devices_say d sorted ts e =
+    let k = when_gives (fits (codes "devices" ∷ []) [] d) _ ts e in
+    let l = list_says told_device is_good_device device_in device_says (codes "devices") d sorted ts k.1 in
+    record {
+      tree_is = is_picked (codes "devices" ∷ []) (tt, tt) d sorted k.0 ∙ ap (λ (x : Data). object (member (codes "devices") x no_members)) l.is;
+      good_is = l.fine;
+    }
 
 -- ---- What is read of a description's text is what it says.
 
 value_sorted : (text : List ℕ) (d : Data) → value_in text ≡ Some d → IsSorted d
-value_sorted text d e = go (is_utf8 text) (read text) (read_sorted text) e
-  where
-    go : (b : Bool) (o : Option Data) → IfSome o IsSorted → (if b then o else None) ≡ Some d → IsSorted d
-    go true (Some other) h e = let same : other ≡ d = cc in subst IsSorted same h
-    go _ _ h e = cc
+value_sorted text d e = rw (when_gives (is_utf8 text) (read text) d e).1 at (read_sorted text)
 
 pub tells_if : (input : List ℕ) (p : ℕ) (devices : List ToldDevice) → next (value_in (drop (p + 5) input)) devices_in ≡ Some devices → Tells input p devices
 tells_if input p devices e =

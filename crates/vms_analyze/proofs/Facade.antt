@@ -3,9 +3,9 @@ pub use Rattle.std.proofs.{Math.Bool.and-false, Math.Bool.and-true, Math.ListN.g
 pub use Rattle.std.proofs.{lemmas.Bool.Decides.nat_tests, lemmas.Cmp.nat_list_cmp_total, lemmas.Grind.flat_map-append, lemmas.Int.to_z-of_z}
 pub use Rattle.std.proofs.{lemmas.List.Sums.AllPass-from_list_all, lemmas.Map.Lookups.exact_bytes, lemmas.Map.Text.is_eq-slice_cmp, lemmas.Option.same_Some}
 pub use Rattle.std.proofs.{lemmas.Option.slice_get-get_or, lemmas.Result.err_from_is_err_and, lemmas.Simd.map-map, lemmas.Slice.Eq.bytes_eq-Decides}
-pub use Rattle.std.proofs.Common.{Bool, Equal, Err, Global, Greater, IfErr, IfSome, Less, List, None, Ok, OnOk, Option, Ordering, Result, SFits, Some, Vec, []}
-pub use Rattle.std.proofs.Common.{ap, append-nil, append_assoc, ap₂, arith, codes, decimal, drop, false, get_or, if◌then◌else◌, int_le, is_none, is_some}
-pub use Rattle.std.proofs.Common.{length, length-append, length-drop, length-take, map, nat_le, nat_lt, negsuc, not, option_and_then, option_map, pos, refl}
+pub use Rattle.std.proofs.Common.{◌⊎◌, inl, inr, Bool, Equal, Err, Global, Greater, IfErr, IfSome, Less, List, None, Ok, OnOk, Option, Ordering, Result, SFits}
+pub use Rattle.std.proofs.Common.{ap, append-nil, append_assoc, ap₂, arith, codes, decimal, drop, false, get_or, if◌then◌else◌, int_le, is_none, is_some, Some}
+pub use Rattle.std.proofs.Common.{length, length-append, length-drop, length-take, map, nat_le, negsuc, not, option_and_then, option_map, pos, refl, Vec, []}
 pub use Rattle.std.proofs.Common.{replicate, rules, slice_index, subst, suc, sym, take, true, unwrap_or, zero, ℕ, ℤ, ⊎_elim, ◌%◌, ◌&&◌, ◌*◌, ◌++◌, ◌+◌, ◌-◌}
 pub use Rattle.std.proofs.Common.{◌/◌, ◌<◌, ◌==◌, ◌^◌, ◌||◌, ◌∙◌, ◌∷◌, ◌≡◌, ◌≢◌, ◌≤◌}
 pub use Rattle.std.proofs.lemmas.Bool.{and_from, and_parts, cases_lt, eq-eqb, eqb-true, le-leb, le-ltb, leb-true, lt-ltb, ltb-false, ltb-true}
@@ -17,29 +17,29 @@ pub use Rattle.std.specs.Fmt.{digit_glyph, digits_onto, signed_decimal}
 pub use Rattle.std.specs.Ordering.{is_eq, match_ordering, nat_cmp, ordering_reverse}
 unfoldable pub use Rattle.std.specs.{Fmt.digits, Str.chars, Str.is_utf8}
 pub use Rattle.vms_kinds.specs.{Codes.InRange, Codes.highest, Codes.lowest, Codes.width, declared.Item.Item, declared.Kind.Kind, declared.Kind.TheVariants.U64}
-pub use Rattle.vms_kinds.specs.declared.Item.TheVariants.{Num, Struct, Unused}
+pub use Rattle.vms_kinds.specs.declared.Item.TheVariants.{Num, Unused}
 unfoldable pub use Rattle.vms_kinds.specs.Codes.{code}
-pub use Rattle.vms_spec.proofs.{NameBytes.name_byte_low, NumberLaws.same_number_is, Tables.one_more}
+pub use Rattle.vms_spec.proofs.{NameBytes.name_byte_low, NumberLaws.same_number_is, ListLaws.either_of}
 pub use Rattle.vms_spec.proofs.Faultless.{all_true, every_one, few_devices, machine_short, or_else_none}
 pub use Rattle.vms_spec.proofs.KindLaws.{be32_read, length-code, value_code, width_small}
-pub use Rattle.vms_spec.specs.{Heads.FitsHeads, Layout.numbers_of, Layout.struct_cells, Lookup.bytes_at, Lookup.number_at, Names.is_name, Names.is_name_byte}
+pub use Rattle.vms_spec.specs.{Heads.FitsHeads, Layout.struct_cells, Lookup.bytes_at, Lookup.number_at, Names.is_name, Names.is_name_byte}
 pub use Rattle.vms_spec.specs.{Names.is_sub_name, Sets.AtLeast, Sets.Desc, Sets.Device, Sets.Field, Sets.Set, Sets.Sub, Spelling.begins_with}
 pub use Rattle.vms_spec.specs.{Values.values_text, declared.Count.Count, declared.Count.TheVariants.One, declared.Part.Part}
 pub use Rattle.vms_spec.specs.Images.{Image, own_cells, sub_slots, zeroed}
-pub use Rattle.vms_spec.specs.Layout.{Cell, Slot, all_hold, capacity_of, counted, desc_cells, desc_slots, field_cells, item_size, meanings, no_desc, no_field}
+pub use Rattle.vms_spec.specs.Layout.{Cell, Slot, counted, desc_cells, desc_slots, meanings, no_desc, no_field}
 pub use Rattle.vms_spec.specs.Rules.{counts_well, defaults_well, in_range, is_small_item, is_small_optional}
 pub use Rattle.vms_spec.specs.Streams.{AreReady, be32, configuration, end_mark, foot, is_needed, is_one_of, magic, optional, section_head, stream_head}
 pub use Rattle.vms_spec.specs.Streams.{sub_head, trailer, written, written_section, written_sections, written_subs}
 pub use Rattle.vms_spec.specs.WellFormed.{WellFormed, deepest, devices_items, failing, here, items_in, set_rules, struct_depths, struct_items, subs_items}
 pub use Rattle.vms_spec.specs.declared.TheConstants.{LONGEST_NAME, MOST_UNUSED}
-unfoldable pub use Rattle.vms_spec.specs.{Layout.first, WellFormed.first_fault}
+unfoldable pub use Rattle.vms_spec.specs.{WellFormed.first_fault}
 pub use Rattle.vms_words.proofs.{Lines.begun, WordLaws.tells_kind, WordLaws.word_named}
 pub use Rattle.vms_words.specs.Words.{kind_named, kind_word}
 pub use Rattle.vms_bodies.proofs.{BodyOnly.front_drop, BodyOnly.front_take, ReadyLaws.ranged}
 pub use Rattle.vms_elements.proofs.{LinesOf.text_append, SlotsOf.elements_slots, Stated.text_law, Walk.AreCounted, Walk.IsCounted, Walk.walks}
-pub use Rattle.vms_elements.proofs.Members.{Each, each_append, each_map}
-pub use Rattle.vms_elements.specs.Elements.{Constant, Filler, Rule, Shape, Stand, What, array_elements, cells_in, desc_elements, dotted, elements_from}
-pub use Rattle.vms_elements.specs.Elements.{field_elements, index_text, item_elements, no_shape, shape, shapes, single, stand_of}
+pub use Rattle.vms_elements.proofs.Members.{Each}
+pub use Rattle.vms_elements.specs.Elements.{Constant, Filler, Rule, What}
+pub use Rattle.vms_elements.specs.Elements.{index_text, shapes}
 pub use Rattle.vms_elements.specs.Entries.{OfNumber, came_well, device_entries, devices_entries, entries, has_default, have_defaults, if_not, line_reason}
 pub use Rattle.vms_elements.specs.Entries.{number_entries, subs_entries}
 pub use Rattle.vms_elements.specs.Lines.{device_lines, devices_lines, machine_lines, number_lines, printed, sub_line, subs_lines, text_of, values_lines}
@@ -61,7 +61,7 @@ pub use Rattle.vms_analyze.specs.Typed.{ReadsAs, device_of, devices_wants, eleme
 pub use Rattle.vms_analyze.specs.Walking.{AtStart, Goes, IsInside, Prints, Stops, Walks, WhyNone, WhyStopped, left}
 pub use Rattle.vms_analyze.specs.Wanted.{Any, Bytes, Differs, Foot, Found, Head, Line, Lines, Machine, Number, Took, Want, behind, device_wants, element_want}
 pub use Rattle.vms_analyze.specs.Wanted.{found, found_after, is_machine, kept_line, machine_line, number_line, only_if, section_line, sent_line, start_wants}
-pub use Rattle.vms_analyze.specs.Wanted.{sub_head_wants, sub_wants, take_machine, take_number, taken, took, wants}
+pub use Rattle.vms_analyze.specs.Wanted.{sub_wants, take_machine, take_number, taken, took, wants}
 pub use Rattle.vms_desc.proofs.{Bounds.few_items, Clean.device_clean, Clean.few_subs, Clean.field_sound, Clean.sub_clean}
 pub use Rattle.vms_desc.specs.{Described.device_at, Formed.is_well_formed, Parts.HasPart, Parts.desc_at, Parts.sub_at}
 pub use Rattle.vms_io.proofs.ReadingLemmas.{breaks_more, nothing_follows, takes_as, takes_both, takes_none}
@@ -76,8 +76,10 @@ pub use Rattle.vms_selfdesc.proofs.ReadBack.{absent_sound, array_sound, device_s
 pub use Rattle.vms_selfdesc.proofs.Soundness.{fields_flat, natural_fits, negative_fits, part_sound}
 pub use Rattle.vms_selfdesc.specs.{Drafts.AreSound, Drafts.IsSound, Entries.entries_of, Entries.entry_of, Entries.part_entries}
 pub use Rattle.vms_selfdesc.specs.Tree.{described_text, described_tree, device_trees, entry_tree, list_tree, natural, sub_trees}
-pub use Rattle.vms_values_laws.proofs.{AllCome.short_are, ReadyParts.text_says, SaidLaws.all_both, SecondPass.AreShort, SecondPass.of_numbers}
-pub use Rattle.vms_values_laws.proofs.Rights.{AreGood, IsFitting, begins_itself, fine_both, fine_rest, good_both, line_number, reason_fits}
+pub use Rattle.vms_values_laws.proofs.{AllCome.short_are, ReadyParts.text_says, SaidLaws.all_both, SaidLaws.all_parts, SecondPass.AreShort}
+pub use Rattle.vms_values_laws.proofs.{SecondPass.of_numbers}
+pub use Rattle.vms_values_laws.proofs.EachElement.{elements_each, what_of}
+pub use Rattle.vms_values_laws.proofs.Rights.{AreGood, IsFitting, begins_itself, fine_both, fine_rest, line_number, reason_fits}
 pub use Rattle.byteorder.specs.Endian.{big_number}
 pub use Rattle.json.specs.{Lex.tokens, Print.escape}
 unfoldable pub use Rattle.json.specs.Print.{escape_byte}

@@ -29,27 +29,25 @@ long input end le = omega (arith, length-take end input)
 none_at : (input : List ℕ) (end q : ℕ) → NoneFrom input end → (q < end → ⊥) → IsPlace input q → ⊥
 none_at input end q none not_below place = ⊎_elim (λ (lt : q < end). not_below lt) (λ (ge : end ≤ q). none q ge place) (cases_lt q end)
 
-pub none_after : (input : List ℕ) (end at : ℕ) → end ≤ length input → NoneFrom input end
-    → NoneAfter (Passes (is_byte 6) (take end input)) 0 (length (take end input)) at → NoneFrom input (at + 1)
-none_after input end at le none h q low place =
-    none_at input end q none (λ lt. h.after q low (omega (arith, long input end le)) (marked input end q lt place)) place
+module _ (input : List ℕ) (end at : ℕ) (le : end ≤ length input) (none : NoneFrom input end)
+    (h : NoneAfter (Passes (is_byte 6) (take end input)) 0 (length (take end input)) at) where
+  pub none_after : NoneFrom input (at + 1)
+  none_after q low place = none_at input end q none (λ lt. h.after q low (omega (arith, long input end le)) (marked input end q lt place)) place
+
+  -- the place that was found
+  pub last_found : IsPlace input at → IsLastPlace input at
+  last_found place = record { is = place; last = λ q lt p. none_after q (omega arith) p }
+
+  -- or wasn't one
+  pub found_none : (IsPlace input at → ⊥) → NoneFrom input at
+  found_none other q low place =
+      ⊎_elim (λ (lt : at < q). none_after q (omega arith) place)
+      (λ (ge : q ≤ at). let same : q ≡ at = omega arith in other (rw same at place)) (cases_lt at q)
 
 pub none_before : (input : List ℕ) (end : ℕ) → end ≤ length input → NoneFrom input end
     → Nowhere (Passes (is_byte 6) (take end input)) 0 (length (take end input)) → (q : ℕ) → IsPlace input q → ⊥
 none_before input end le none h q place =
     none_at input end q none (λ lt. h q (omega arith) (omega (arith, long input end le)) (marked input end q lt place)) place
-
--- the place that was found
-pub last_found : (input : List ℕ) (end at : ℕ) → end ≤ length input → NoneFrom input end
-    → NoneAfter (Passes (is_byte 6) (take end input)) 0 (length (take end input)) at → IsPlace input at → IsLastPlace input at
-last_found input end at le none h place = record { is = place; last = λ q lt p. none_after input end at le none h q (omega arith) p }
-
--- or wasn't one
-pub found_none : (input : List ℕ) (end at : ℕ) → end ≤ length input → NoneFrom input end
-    → NoneAfter (Passes (is_byte 6) (take end input)) 0 (length (take end input)) at → (IsPlace input at → ⊥) → NoneFrom input at
-found_none input end at le none h other q low place =
-    ⊎_elim (λ (lt : at < q). none_after input end at le none h q (omega arith) place)
-    (λ (ge : q ≤ at). let same : q ≡ at = omega arith in other (rw same at place)) (cases_lt at q)
 
 -- ---- An input that is taken piece by piece.
 
@@ -125,8 +123,6 @@ is_too_much old new h = record {
 
 -- ---- From the walk to the listing, and from what was taken of a source to what it lists.
 
--- ---- a walk from the first byte on
-
 at_start : (ws : List Want) (old : Walk) (stream : List ℕ) → AtStart old stream → found (ws ++ []) old.id old.place (left old) ≡ found ws 0 0 stream
 at_start ws old stream s = rw (append-nil ws, s.0, s.1) (ap (found ws 0 0) s.2)
 
@@ -155,8 +151,6 @@ pub why_none : (ws : List Want) (old new : Walk) (stream : List ℕ) (stop : Sto
     → WhyNone (listing_of (found ws 0 0 stream)) new stop
 why_none ws old new stream whys.Differs s h = ap listing_of (sym (at_start ws old stream s) ∙ h.differs [])
 why_none ws old new stream whys.NoMemory s h = tt
-
--- ---- what an input lists
 
 -- the text after a place
 pub text_behind : (input : List ℕ) (k : ℕ) → take (length input - k) (drop k input) ≡ drop k input

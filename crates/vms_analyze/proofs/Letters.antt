@@ -1,15 +1,11 @@
 -- Names of a well-formed set and paths are of the bytes that a description may have.
 use Rattle.vms_analyze.proofs.Facade.{◌≡◌, ℕ, zero, suc, ◌+◌, ◌<◌, ◌≤◌, ◌%◌, ◌/◌, Bool, true, false, ◌&&◌, ◌==◌, nat_le, if◌then◌else◌, List, [], ◌∷◌, ◌++◌}
-use Rattle.vms_analyze.proofs.Facade.{length, length-append, refl, ap, ◌∙◌, arith, nat_lt, get_or, map, ℤ, list_all, AllByRecursion, mod-lt, and_parts}
-use Rattle.vms_analyze.proofs.Facade.{leb-true, le-leb, lt-ltb, and_from, digits, digits_onto, digit_glyph, list_all-append, Count, One, is_name_byte, is_name}
-use Rattle.vms_analyze.proofs.Facade.{is_sub_name, index_text, What, Constant, Filler, Rule, Shape, no_shape, shape, shapes, cells_in, dotted, single}
-use Rattle.vms_analyze.proofs.Facade.{item_elements, Stand, stand_of, array_elements, field_elements, elements_from, desc_elements, is_path_byte, is_path}
-use Rattle.vms_analyze.proofs.Facade.{sub_name_is, Item, Num, Unused, Struct, MOST_UNUSED, in_range, defaults_well, is_small_item, Field, Desc, Set, no_desc}
-use Rattle.vms_analyze.proofs.Facade.{first, counted, capacity_of, item_size, field_cells, desc_cells, numbers_of, all_hold, one_more, elements_in, Each}
-use Rattle.vms_analyze.proofs.Facade.{each_append, each_map}
+use Rattle.vms_analyze.proofs.Facade.{elements_each, what_of, length, length-append, refl, ap, ◌∙◌, arith, get_or, ℤ, list_all, AllByRecursion, mod-lt}
+use Rattle.vms_analyze.proofs.Facade.{and_parts, leb-true, le-leb, lt-ltb, and_from, digits, digits_onto, digit_glyph, list_all-append, Count, One}
+use Rattle.vms_analyze.proofs.Facade.{is_name_byte, is_name, is_sub_name, index_text, What, Constant, Filler, Rule, is_path_byte, is_path, sub_name_is, Item}
+use Rattle.vms_analyze.proofs.Facade.{Num, Unused, MOST_UNUSED, in_range, defaults_well, is_small_item, Field, Desc, Set, no_desc, elements_in}
 use Rattle.std.specs.Fmt.{decimal}
 use Rattle.vms_elements.specs.Elements.{Number, Element, behind}
-use Rattle.vms_kinds.specs.declared.Item.TheVariants.{Equal}
 
 -- ---- Names of a well-formed set and paths are of the bytes that a description may have.
 
@@ -83,8 +79,6 @@ index_bytes _ e = every_both (91 ∷ decimal e) (93 ∷ []) (decimal_bytes e) re
 
 -- ---- Each element of a part of a well-formed set has a path of the right bytes, and may be described.
 
--- ---- what is required
-
 abbrev pub IsGoodWhat : What → Type 0
 IsGoodWhat (Number cell) = in_range cell.kind cell.default ≡ true
 IsGoodWhat (Constant kind z) = Unit {0}
@@ -130,60 +124,14 @@ behind_good f name e step c p x h =
       path = has_path x.what (front ++ x.name) (omega (arith, length-append front x.name, length-append f.name (index_text f.count e)));
     }
 
-module _ (ss : List Shape) (good : (j : ℕ) (n : List ℤ) (at : ℕ) → Each IsPart ((get_or ss j no_shape).elements n at)) where
-  item_good : (item : Item) (caps : List ℕ) (z : ℤ) → defaults_well item z ≡ true → is_small_item item ≡ true → (n : List ℤ) (at : ℕ)
-      → Each IsPart (item_elements ss item caps z n at)
-  item_good (Num kind) caps z default small n at = (record { bytes = refl; what = default }, tt)
-  item_good (Equal kind y) caps z default small n at = (record { bytes = refl; what = tt }, tt)
-  item_good (Unused k) caps z default small n at = (record { bytes = refl; what = small }, tt)
-  item_good (Struct j) caps z default small n at =
-      each_map IsPart IsPart dotted (λ x h. record { bytes = h.bytes; what = h.what }) ((get_or ss j no_shape).elements n at) (good j n at)
-
-  array_good : (f : Field) → is_name 32 f.name ≡ true → (stand : Stand) (part : ℕ → List Element) → ((at : ℕ) → Each IsPart (part at)) → (step e n at : ℕ)
-      → Each IsGoodElement (array_elements f stand part step e n at)
-  array_good f name stand part h step e zero at = tt
-  array_good f name stand part h step e (suc n) at =
-      let text = f.name ++ index_text f.count e in
-      let below = nat_lt e stand.count in
-      each_append IsGoodElement (map (behind (stand.number, e) text below (stand.there && below)) (part at))
-      (array_elements f stand part step (suc e) n (at + step))
-      (each_map IsPart IsGoodElement (behind (stand.number, e) text below (stand.there && below))
-      (λ x g. behind_good f name e (stand.number, e) below (stand.there && below) x g) (part at) (h at))
-      (array_good f name stand part h step (suc e) n (at + step))
-
-  fields_good : (fields : List Field) (v : ℕ) (own : ℕ → ℕ) (n : List ℤ) (i at : ℕ) (fs : List Field) → AreGoodFields fs
-      → Each IsGoodElement (elements_from ss fields v own n i at fs)
-  fields_good fields v own n i at [] h = tt
-  fields_good fields v own n i at (f ∷ fs) h =
-      let next = at + length (field_cells (cells_in ss) fields i f) in
-      each_append IsGoodElement (field_elements ss fields v own n i at f) (elements_from ss fields v own n (suc i) next fs)
-      (array_good f h.0.name (stand_of i f v own) (item_elements ss f.item (counted i fields) f.default n)
-      (λ at. item_good f.item (counted i fields) f.default h.0.default h.0.small n at) (item_size (cells_in ss) f.item) 0 (capacity_of f.count) at)
-      (fields_good fields v own n (suc i) next fs h.1)
-
-  desc_good : (d : Desc) → AreGoodFields d.fields → (v : ℕ) (n : List ℤ) (at : ℕ) → Each IsGoodElement (desc_elements ss d v n at)
-  desc_good d h v n at =
-      let own = numbers_of (cells_in ss) d n at in
-      each_append IsGoodElement (elements_from ss d.fields v own n 0 at d.fields)
-      (single (at + length (desc_cells (cells_in ss) d)) (Rule (all_hold d.validate v own)) ∷ [])
-      (fields_good d.fields v own n 0 at d.fields h) (record { part = record { bytes = refl; what = tt }; path = tt }, tt)
-
-parts_of : (xs : List Element) → Each IsGoodElement xs → Each IsPart xs
-parts_of [] h = tt
-parts_of (x ∷ xs) h = (h.0.part, parts_of xs h.1)
-
--- ---- structures
-
-shapes_good : (ds : List Desc) → ((j : ℕ) → AreGoodFields (get_or ds j no_desc).fields) → (k : ℕ) → (j : ℕ) (n : List ℤ) (at : ℕ)
-    → Each IsPart ((get_or (first shape ds k) j no_shape).elements n at)
-unfolding first
-shapes_good ds h zero j n at = tt
-shapes_good ds h (suc k) j n at =
-    let earlier = first shape ds k in
-    one_more (λ (s : Shape). (n : List ℤ) (at : ℕ) → Each IsPart (s.elements n at)) no_shape (λ n at. tt) earlier (shapes_good ds h k)
-    (shape earlier (get_or ds k no_desc))
-    (λ n at. parts_of _ (desc_good earlier (shapes_good ds h k) (get_or ds k no_desc) (h k) (get_or ds k no_desc).version n at)) j n at
+what_good : (i : Item) (caps : List ℕ) (z : ℤ) → defaults_well i z ≡ true → is_small_item i ≡ true → IsGoodWhat (what_of i caps z)
+what_good (Num kind) caps z default small = default
+what_good (Unused k) caps z default small = small
+what_good _ caps z default small = tt
 
 pub elements_good : (set : Set) → ((j : ℕ) → AreGoodFields (get_or set.structs j no_desc).fields) → (d : Desc) → AreGoodFields d.fields
-    → (v : ℕ) (n : List ℤ) (at : ℕ) → Each IsGoodElement (elements_in set d v n at)
-elements_good set h d fields v n at = desc_good (shapes set) (shapes_good set.structs h (length set.structs)) d fields v n at
+    → (v : ℕ) (n : List ℤ) (at : ℕ) → AllByRecursion IsGoodElement (elements_in set d v n at)
+elements_good set h d fields v n at =
+    elements_each IsGoodField IsPart IsGoodElement (λ f good caps at. record { bytes = refl; what = what_good f.item caps f.default good.default good.small })
+    (λ x h. record { bytes = h.bytes; what = h.what }) (λ f good number e c p x h. behind_good f good.name e (number, e) c p x h)
+    (λ at b. record { part = record { bytes = refl; what = tt }; path = tt }) (λ x h. h.part) set h d v fields n at

@@ -12,8 +12,6 @@ use Rattle.json.specs.Json as json
 
 -- ---- An object whose keys are in order and are exactly these has them one after the other.
 
--- ---- the order of keys
-
 less_turned : (k l : List ℕ) → slice_cmp nat_cmp k l ≡ Greater → IsLess l k
 less_turned k l e = cc (nat_list_cmp_total.antisymm l k)
 
@@ -176,8 +174,6 @@ pub read_sorted : (text : List ℕ) → IfSome (read text) IsSorted
 read_sorted text = if_parsed (option_and_then (λ p. json.if_last p.0 p.1) (json.value max_depth (tokens text)))
 
 -- ---- What was read of the members of an object, and of a list's items.
-
--- ---- one after the other
 
 -- something was read, and then this of it
 pub record After {A B : Type 0} (o : Option A) (f : A → Option B) (b : B) : Type 0 where

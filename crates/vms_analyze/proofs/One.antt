@@ -3,8 +3,7 @@ use Rattle.vms_analyze.proofs.Facade.{same_Some, ◌≡◌, ℕ, List, take, ref
 use Rattle.vms_analyze.proofs.Facade.{IsLastPlace, listing_of, IsTooLong, HasNone, HasNoShape, IsRead, OneLaw, LongestLaw}
 use Rattle.vms_analyze.proofs.DevicesRead.{told_back}
 
--- ---- one place, and one listing
-
+-- one place, and one listing
 last_same : (input : List ℕ) (p q : ℕ) → IsLastPlace input p → IsLastPlace input q → p ≡ q
 last_same input p q a b =
     ⊎_elim (λ (lt : p < q). absurd (a.last q lt b.is))
@@ -31,7 +30,6 @@ one_holds input _ _ (IsRead p ds le last tells) (IsRead q es le' last' tells') =
     ap₂ (λ (k : ℕ) (l : List ToldDevice). listing_of (found (wants l) 0 0 (take k input))) at same
 one_holds input _ _ _ _ = refl
 
--- ---- greatest lengths
-
+-- greatest lengths
 pub longest_are : LongestLaw
 longest_are = record { input = refl; path = refl }

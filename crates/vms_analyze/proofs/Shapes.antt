@@ -9,7 +9,7 @@ use Rattle.vms_analyze.proofs.Facade.{device_trees, described_tree, natural, ent
 use Rattle.vms_analyze.proofs.Facade.{Skipped, is_path_byte, is_good, is_kept, fits_four, is_good_sub, is_good_device, told_what, tolds, told_part, told_subs}
 use Rattle.vms_analyze.proofs.Facade.{told_devices, told, told_sub_of, told_device_of, escape, escape_byte, compact_text, members_text, Kind, width, kind_word}
 use Rattle.vms_analyze.proofs.Facade.{of_integer, Part, MOST_UNUSED, LONGEST_NAME, is_name, in_range, defaults_well, counts_well, is_small_item}
-use Rattle.vms_analyze.proofs.Facade.{is_small_optional, WellFormed, struct_items, struct_depths, items_in, deepest, subs_items, devices_items, Each, HasPart}
+use Rattle.vms_analyze.proofs.Facade.{is_small_optional, WellFormed, struct_items, struct_depths, items_in, deepest, subs_items, devices_items, HasPart}
 use Rattle.vms_analyze.proofs.Facade.{desc_at, sub_at, field_sound, few_subs, device_clean, sub_clean, member_long, AreLong, longer, entries_few, entries_long}
 use Rattle.vms_analyze.proofs.Facade.{fit, part_sound, fields_flat, LONGEST_PATH, FitsHeads, device_at, is_well_formed, few_items, all_both}
 use Rattle.vms_analyze.proofs.Letters.{elements_good, named_path, IsNamed, named_within, name_named, sub_named, IsGoodWhat, HasPath, IsGoodElement, IsGoodField}
@@ -18,8 +18,6 @@ use Rattle.vms_kinds.specs.declared.Kind.TheVariants as kinds
 use Rattle.vms_spec.specs.declared.Part.TheVariants as parts
 
 -- ---- The tree of a self-description is that of what it says.
-
--- ---- entries
 
 one_entry : (w : What) (counted present : Bool) (path : List ℕ) → map told_entry (told_what w counted present path) ≡ entry_of w counted present path
 one_entry w counted present path = grind arith
@@ -112,7 +110,7 @@ what_fine (Constant kind z) counted true path bytes good some = (record { some =
 what_fine (Filler n) counted true path bytes good some = (record { some = some; bytes = bytes; shape = good }, tt)
 what_fine _ _ _ path bytes good some = tt
 
-all_fine : (sent : Bool) (xs : List Element) → Each IsGoodElement xs → AreFine (tolds sent xs)
+all_fine : (sent : Bool) (xs : List Element) → AllByRecursion IsGoodElement xs → AreFine (tolds sent xs)
 all_fine sent [] h = tt
 all_fine sent (x ∷ xs) h =
     all_both _ (told_what x.what x.counted (sent && x.present) x.name) (tolds sent xs)
@@ -187,8 +185,6 @@ module _ (set : Set) (well : WellFormed set) where
       (rw (part_same set d sent n at) (part_long part has few sent n at))
 
 -- ---- The description of a well-formed set has the right shape.
-
--- ---- what is described has the shape
 
 abbrev no_device : Device
 no_device = record { instance = 0; desc = no_desc; subs = [] }

@@ -1,37 +1,30 @@
 -- A walk over what is required, part after part.
-use Rattle.vms_analyze.proofs.{Facade.section_line, Parts.device_parts, Streams.takes_machine, Streams.no_machine}
-use Rattle.vms_analyze.proofs.Facade.{map-map, ◌≡◌, ℕ, ◌+◌, List, [], ◌∷◌, ◌++◌, length, append_assoc, append-nil, take, drop, ℤ, refl, sym, ap, ◌∙◌, arith}
-use Rattle.vms_analyze.proofs.Facade.{◌<◌, get_or, ◌≤◌, true, ◌&&◌, nat_le, map, take-append-drop, drop-drop, take_more, flat_map, list_all, flat_map-append}
-use Rattle.vms_analyze.proofs.Facade.{and_parts, leb-true, flat_map_single, flat_map-map, Result, Ok, Err, OnOk, IfErr, ◌^◌, false, ◌==◌, length-append}
-use Rattle.vms_analyze.proofs.Facade.{length-drop, ◌-◌, le-leb, take_all, Kind, code, InRange, text_of, Want, Number, Line, number_line, behind, found, Bytes}
-use Rattle.vms_analyze.proofs.Facade.{Machine, Head, Foot, element_want, sub_head_wants, sub_wants, device_wants, start_wants, wants, left, IsInside, Goes}
-use Rattle.vms_analyze.proofs.Facade.{Stops, Prints, WhyStopped, Walks, Walk, text_append, Stop, LONGEST_NAME, magic, be32, end_mark, ToldDevice, is_path}
-use Rattle.vms_analyze.proofs.Facade.{is_path_byte, is_good_device, told_of, sub_of, device_of, element_wants, subs_wants, devices_wants, Element, number_at}
-use Rattle.vms_analyze.proofs.Facade.{bytes_at, is_name_byte, begins_with, configuration, section_head, is_machine, machine_line, taken, found_after, begun}
+use Rattle.vms_analyze.proofs.Facade.{section_line, map-map, ◌≡◌, ℕ, ◌+◌, List, [], ◌∷◌, ◌++◌, length, append_assoc, append-nil, take, drop, ℤ, refl, sym, ap}
+use Rattle.vms_analyze.proofs.Facade.{◌∙◌, arith, ◌<◌, get_or, ◌≤◌, true, ◌&&◌, nat_le, map, take-append-drop, drop-drop, take_more, flat_map, list_all}
+use Rattle.vms_analyze.proofs.Facade.{flat_map-append, and_parts, leb-true, flat_map_single, flat_map-map, Result, Ok, Err, OnOk, IfErr, ◌^◌, false, ◌==◌}
+use Rattle.vms_analyze.proofs.Facade.{length-append, length-drop, ◌-◌, take_all, Kind, code, InRange, text_of, Want, Number, Line, number_line, behind, found}
+use Rattle.vms_analyze.proofs.Facade.{Bytes, Machine, Head, Foot, element_want, sub_wants, device_wants, start_wants, wants, left, IsInside, Goes, Stops}
+use Rattle.vms_analyze.proofs.Facade.{Prints, WhyStopped, Walks, Walk, text_append, Stop, LONGEST_NAME, end_mark, is_path, is_path_byte, told_of, sub_of}
+use Rattle.vms_analyze.proofs.Facade.{device_of, element_wants, subs_wants, devices_wants, Element, number_at, bytes_at, is_name_byte, begins_with}
+use Rattle.vms_analyze.proofs.Facade.{configuration, section_head, is_machine, machine_line, taken, found_after, begun}
 use Rattle.vms_analyze.proofs.Following.{Takes, one_follows, takes_line, takes_number, behind_both, takes_head}
-use Rattle.vms_analyze.specs.{declared.told.Sub.Sub, declared.told.Device.Device}
+use Rattle.vms_analyze.proofs.Streams.{takes_machine, no_machine}
+use Rattle.vms_analyze.specs.declared.told.Device.{Device}
 use Rattle.vms_analyze.specs.declared.walk.Stop.TheVariants as stops
 
 -- ---- One step of a walk, by what is taken.
 
--- what a step moves
-pub record Moves (old new : Walk) (bytes : List ℕ) (lines : List (List ℕ)) : Type 0 where
-  pub there : left old ≡ bytes ++ left new
-  pub place : new.place ≡ old.place + length bytes
-  pub printed : new.text.items ≡ old.text.items ++ text_of lines
-  pub inside : IsInside new
-  pub input : new.input.now ≡ old.input.now
-
-pub goes : (w : Want) (old new : Walk) (bytes : List ℕ) (lines : List (List ℕ)) → Takes w old.id bytes new.id lines → Moves old new bytes lines
+pub goes : (w : Want) (old new : Walk) (bytes : List ℕ) (lines : List (List ℕ)) → Takes w old.id bytes new.id lines → left old ≡ bytes ++ left new
+    → new.place ≡ old.place + length bytes → new.text.items ≡ old.text.items ++ text_of lines → IsInside new → new.input.now ≡ old.input.now
     → Goes (w ∷ []) old new
-goes w old new bytes lines t m = record {
+goes w old new bytes lines t there place printed inside input = record {
   lines = lines;
   taken = λ more.
-      ap (found (w ∷ more) old.id old.place) m.there ∙ (one_follows t).goes more old.place (left new)
-      ∙ ap (λ (k : ℕ). behind lines (found more new.id k (left new))) (sym m.place);
-  printed = m.printed;
-  inside = m.inside;
-  input = m.input;
+      ap (found (w ∷ more) old.id old.place) there ∙ (one_follows t).goes more old.place (left new)
+      ∙ ap (λ (k : ℕ). behind lines (found more new.id k (left new))) (sym place);
+  printed = printed;
+  inside = inside;
+  input = input;
 }
 
 -- a piece of an input, and the rest after it
@@ -50,14 +43,7 @@ pub record Passed (old mid : Walk) (bytes : List ℕ) : Type 0 where
 pub printed_goes : {w : Want} {old mid new : Walk} {bytes line : List ℕ} → Takes w old.id bytes mid.id (line ∷ []) → Passed old mid bytes → Prints mid new line
     → Goes (w ∷ []) old new
 printed_goes {w = w} {old = old} {mid = mid} {new = new} {bytes = bytes} {line = line} takes p prints =
-    goes w old new bytes (line ∷ []) (rw prints.id takes)
-    (record {
-      there = cc;
-      place = cc;
-      printed = cc;
-      inside = omega (arith, ap length prints.input);
-      input = cc;
-    })
+    goes w old new bytes (line ∷ []) (rw prints.id takes) (cc) (cc) (cc) (omega (arith, ap length prints.input)) cc
 
 pub number_goes : {old mid new : Walk} (path : List ℕ) (kind : Kind) (z : ℤ) → InRange kind z → Passed old mid (code kind z) → mid.id ≡ old.id
     → Prints mid new (number_line path z) → Goes (Number path kind ∷ []) old new
@@ -102,12 +88,8 @@ line_goes line old new inside p = record {
 -- ---- A walk over what is required, one thing after the other.
 
 module _ {X : Type 0} (one : X → List Want) where
-  more_of : (xs : List X) (i : ℕ) (d : X) → i < length xs → flat_map one (take (i + 1) xs) ≡ flat_map one (take i xs) ++ one (get_or xs i d)
+  pub more_of : (xs : List X) (i : ℕ) (d : X) → i < length xs → flat_map one (take (i + 1) xs) ≡ flat_map one (take i xs) ++ one (get_or xs i d)
   more_of xs i d lt = cc (take_more xs i d lt, flat_map-append one (take i xs) (get_or xs i d ∷ []), append-nil (one (get_or xs i d)))
-
-  pub more_goes : (xs : List X) (i : ℕ) (d : X) (a b c : Walk) → i < length xs → Goes (flat_map one (take i xs)) a b → Goes (one (get_or xs i d)) b c
-      → Goes (flat_map one (take (i + 1) xs)) a c
-  more_goes xs i d a b c lt g h = rw (more_of xs i d lt) (goes_then g h)
 
   pub one_stops : (xs : List X) (i : ℕ) (d : X) (a b c : Walk) (stop : Stop) → i < length xs → Goes (flat_map one (take i xs)) a b
       → WhyStopped (one (get_or xs i d)) b c stop → WhyStopped (flat_map one xs) a c stop
@@ -118,8 +100,7 @@ module _ {X : Type 0} (one : X → List Want) where
       rw whole at (stops_before front (flat_map one (drop (i + 1) xs)) a c (rw (more_of xs i d lt) (stops_then g s)))
   one_stops xs i d a b c stops.NoMemory lt g s = tt
 
--- ---- one after the other, whatever the stop
-
+-- one after the other, whatever the stop
 pub why_before : (ws vs : List Want) (a c : Walk) (stop : Stop) → WhyStopped ws a c stop → WhyStopped (ws ++ vs) a c stop
 why_before ws vs a c stops.Differs s = stops_before ws vs a c s
 why_before ws vs a c stops.NoMemory s = tt
@@ -128,8 +109,7 @@ pub why_then : {ws : List Want} {a b : Walk} (vs : List Want) (c : Walk) (stop :
 why_then vs c stops.Differs g s = stops_then g s
 why_then vs c stops.NoMemory g s = tt
 
--- ---- whatever the result
-
+-- whatever the result
 pub walks_then : {ws : List Want} {a b : Walk} (vs : List Want) (c : Walk) (r : Result (Unit {0}) Stop) → Goes ws a b → Walks vs b c r → Walks (ws ++ vs) a c r
 walks_then vs c (Ok u) g h = goes_then g h
 walks_then vs c (Err stop) g h = why_then vs c stop g h
@@ -142,30 +122,18 @@ prints_walk (Err stop) f h k = rw k tt
 
 -- ---- A walk over a subsection, a device and a stream, part after part.
 
--- ---- what is good
-
-path_short : (most : ℕ) (text : List ℕ) → is_path most text ≡ true → length text ≤ most
+pub path_short : (most : ℕ) (text : List ℕ) → is_path most text ≡ true → length text ≤ most
 path_short most text e =
     let p = and_parts (nat_le 1 (length text) && nat_le (length text) most) (list_all is_path_byte text) e in
     leb-true (length text) most (and_parts (nat_le 1 (length text)) (nat_le (length text) most) p.0).1
-
-pub device_short : (d : ToldDevice) → is_good_device d ≡ true → length d.name ≤ LONGEST_NAME
-device_short d e = path_short LONGEST_NAME d.name (device_parts d e).name
 
 pub all_good : {X : Type 0} (xs : List X) → list_all (λ _. true) xs ≡ true
 all_good [] = refl
 all_good (x ∷ xs) = all_good xs
 
--- ---- what is required
-
-elements_are : (es : List Element) → element_wants es ≡ map element_want (map told_of es)
+-- what is required
+pub elements_are : (es : List Element) → element_wants es ≡ map element_want (map told_of es)
 elements_are es = cc (flat_map_single (λ e. element_want (told_of e)) es, map-map element_want told_of es)
-
--- ---- a subsection
-
-pub sub_walks : {a b : Walk} (s : Sub) (c : Walk) (r : Result (Unit {0}) Stop) → Goes (sub_head_wants (sub_of s) s.sent) a b
-    → Walks (element_wants s.elements.items) b c r → Walks (sub_wants (sub_of s)) a c r
-sub_walks {a = a} s c r g h = rw (← elements_are s.elements.items) (walks_then _ c r g h)
 
 -- ---- a device
 
@@ -185,34 +153,24 @@ module _ (d : Device) where
   device_as : ((head_of d ++ elements) ++ subs) ++ (Foot ∷ []) ≡ all
   device_as = rw (elements_are d.elements.items, sym (flat_map-map sub_wants sub_of d.subs.items))
 
-  as_why : (a c : Walk) (stop : Stop) → WhyStopped (((head_of d ++ elements) ++ subs) ++ (Foot ∷ [])) a c stop → WhyStopped all a c stop
-  as_why a c stop w = rw device_as at w
-
   pub head_stops : (a b : Walk) (stop : Stop) → WhyStopped (head_of d) a b stop → WhyStopped all a b stop
   head_stops a b stop w =
-      as_why a b stop (why_before ((head_of d ++ elements) ++ subs) _ a b stop
-      (why_before (head_of d ++ elements) _ a b stop (why_before (head_of d) _ a b stop w)))
+      rw device_as at (why_before ((head_of d ++ elements) ++ subs) (Foot ∷ []) a b stop
+      (why_before (head_of d ++ elements) subs a b stop (why_before (head_of d) elements a b stop w)))
 
   pub elements_stop : {a b : Walk} (c : Walk) (stop : Stop) → Goes (head_of d) a b → WhyStopped elements b c stop → WhyStopped all a c stop
   elements_stop {a = a} c stop g w =
-      as_why a c stop (why_before ((head_of d ++ elements) ++ subs) _ a c stop (why_before (head_of d ++ elements) _ a c stop (why_then elements c stop g w)))
+      rw device_as at (why_before ((head_of d ++ elements) ++ subs) (Foot ∷ []) a c stop
+      (why_before (head_of d ++ elements) subs a c stop (why_then elements c stop g w)))
 
   pub subs_stop : {a b c : Walk} (e : Walk) (stop : Stop) → Goes (head_of d) a b → Goes elements b c → WhyStopped subs c e stop → WhyStopped all a e stop
-  subs_stop {a = a} e stop g h w = as_why a e stop (why_before ((head_of d ++ elements) ++ subs) _ a e stop (why_then subs e stop (goes_then g h) w))
+  subs_stop {a = a} e stop g h w = rw device_as at (why_before ((head_of d ++ elements) ++ subs) (Foot ∷ []) a e stop (why_then subs e stop (goes_then g h) w))
 
   pub device_walks : {a b c e : Walk} (f : Walk) (r : Result (Unit {0}) Stop) → Goes (head_of d) a b → Goes elements b c → Goes subs c e
       → Walks (Foot ∷ []) e f r → Walks all a f r
   device_walks {a = a} f r g h i w = rw device_as at (walks_then (Foot ∷ []) f r (goes_then (goes_then g h) i) w)
 
 -- ---- a stream
-
-pub version_stops : {a b : Walk} (c : Walk) (stop : Stop) → Goes (Bytes magic ∷ []) a b → WhyStopped (Bytes (be32 3) ∷ []) b c stop
-    → WhyStopped start_wants a c stop
-version_stops {a = a} c stop g w = why_before (Bytes magic ∷ Bytes (be32 3) ∷ []) (Machine ∷ []) a c stop (why_then (Bytes (be32 3) ∷ []) c stop g w)
-
-pub start_walks : {a b c : Walk} (d : Walk) (r : Result (Unit {0}) Stop) → Goes (Bytes magic ∷ []) a b → Goes (Bytes (be32 3) ∷ []) b c
-    → Walks (Machine ∷ []) c d r → Walks start_wants a d r
-start_walks d r g h w = walks_then (Machine ∷ []) d r (goes_then g h) w
 
 module _ (ds : List Device) where
   abbrev whole : List Want
@@ -221,20 +179,18 @@ module _ (ds : List Device) where
   stream_as : (start_wants ++ devices_wants ds) ++ (Bytes end_mark ∷ []) ≡ whole
   stream_as = rw (sym (flat_map-map device_wants device_of ds))
 
-  stream_why : (a c : Walk) (stop : Stop) → WhyStopped ((start_wants ++ devices_wants ds) ++ (Bytes end_mark ∷ [])) a c stop → WhyStopped whole a c stop
-  stream_why a c stop w = rw stream_as at w
-
   pub start_stops : (a b : Walk) (stop : Stop) → WhyStopped start_wants a b stop → WhyStopped whole a b stop
-  start_stops a b stop w = stream_why a b stop (why_before (start_wants ++ devices_wants ds) _ a b stop (why_before start_wants _ a b stop w))
+  start_stops a b stop w =
+      rw stream_as at (why_before (start_wants ++ devices_wants ds) (Bytes end_mark ∷ []) a b stop
+      (why_before start_wants (devices_wants ds) a b stop w))
 
   pub devices_stop : {a b : Walk} (c : Walk) (stop : Stop) → Goes start_wants a b → WhyStopped (devices_wants ds) b c stop → WhyStopped whole a c stop
-  devices_stop {a = a} c stop g w = stream_why a c stop (why_before (start_wants ++ devices_wants ds) _ a c stop (why_then (devices_wants ds) c stop g w))
+  devices_stop {a = a} c stop g w =
+      rw stream_as at (why_before (start_wants ++ devices_wants ds) (Bytes end_mark ∷ []) a c stop (why_then (devices_wants ds) c stop g w))
 
   pub stream_walks : {a b c : Walk} (d : Walk) (r : Result (Unit {0}) Stop) → Goes start_wants a b → Goes (devices_wants ds) b c
       → Walks (Bytes end_mark ∷ []) c d r → Walks whole a d r
   stream_walks {a = a} d r g h w = rw stream_as at (walks_then (Bytes end_mark ∷ []) d r (goes_then g h) w)
-
--- ---- what is at the front
 
 -- past it
 passed : (front : List ℕ) (old mid : Walk) → IsInside old → begins_with front (left old) ≡ true → mid.place ≡ old.place + length front → mid.text ≡ old.text
@@ -254,8 +210,7 @@ passed front old mid inside e place text input =
       input = input;
     }
 
--- ---- heads
-
+-- heads
 pub head_goes : (old mid new : Walk) (name : List ℕ) (instance version : ℕ) → begins_with (section_head mid.id name instance version) (left old) ≡ true
     → mid.id < 2 ^ 32
     → IsInside old → mid.place ≡ old.place + length (section_head mid.id name instance version) → mid.text ≡ old.text → mid.input.now ≡ old.input.now
@@ -264,8 +219,7 @@ head_goes old mid new name instance version e small inside place text input prin
     printed_goes (takes_head name instance version old.id mid.id small)
     (passed (section_head mid.id name instance version) old mid inside e place text input) prints
 
--- ---- the machine
-
+-- the machine
 pub machine_passes : (old : Walk) → IsInside old → (get_or (left old) 0 0 == 7) ≡ false → Goes (Machine ∷ []) old old
 machine_passes old inside e = record {
   lines = [];
@@ -285,8 +239,6 @@ machine_goes old mid new name good e id inside place text input prints =
     let short = leb-true (length name) LONGEST_NAME (and_parts (nat_le (length name) LONGEST_NAME) (list_all is_name_byte name) good).0 in
     printed_goes (rw id (takes_machine name old.id good (omega arith))) (passed (configuration name) old mid inside e place text input) prints
 
--- ---- the name of a machine
-
 -- the name that is there
 pub name_there : (w : Walk) (n : ℕ) → n ≡ number_at 4 1 (left w)
     → take n (take (length w.input.now - (w.place + 5)) (drop (w.place + 5) w.input.now)) ≡ bytes_at (number_at 4 1 (left w)) 5 (left w)
@@ -295,6 +247,3 @@ name_there w n is =
       take_all (length w.input.now - (w.place + 5)) (drop (w.place + 5) w.input.now) (omega (arith, length-drop (w.place + 5) w.input.now)),
       drop-drop 5 w.place w.input.now,
     )
-
-pub is_name_of : (name : List ℕ) → length name ≤ LONGEST_NAME → list_all is_name_byte name ≡ true → is_machine name ≡ true
-is_name_of name few plain = rw (le-leb (length name) LONGEST_NAME few) (plain)

@@ -1,6 +1,6 @@
 -- Images of numbers, made cell by cell and subsection by subsection, and the bytes that a save writes for them.
 use Rattle.vms_board.proofs.Facade.{map, Some, subst, ◌≡◌, ℕ, zero, suc, ◌+◌, ◌<◌, ◌≤◌, List, [], ◌∷◌, length, get_or, None, ℤ, pos, refl, sym, ap, ◌∙◌, arith}
-use Rattle.vms_board.proofs.Facade.{◌-◌, Option, Result, Err, slice_get, ext_get_or, length-map, get_or-map, slice_get-get_or, same_at, kinds_at, InRange, Kind}
+use Rattle.vms_board.proofs.Facade.{◌-◌, Result, Err, slice_get, ext_get_or, length-map, get_or-map, slice_get-get_or, same_at, kinds_at, InRange, Kind}
 use Rattle.vms_board.proofs.Facade.{U8, device_at, same_image, Typed, state_of, IsImageOf, AreImagesOf, Image, FitCells, no_desc, no_cell, device_cells}
 use Rattle.vms_board.proofs.Facade.{AtLeast, Sub, Device, Set, bare, image_of, images_of, needed_from, AreReady, written, FitDevice, typed_of, needed_at}
 use Rattle.vms_board.proofs.Facade.{version_needed, stops_as, Outlet, Stops, described_text, Family, MaySaveIn, Stands, images_saved, saved_stream, stream_with}
@@ -205,5 +205,4 @@ module _ {S : Type 0} (f : Family S) where
 
 pub saves_some : {bytes found : List ℕ} {old new : Outlet} (r : Result (Unit {0}) SaveFault) → found ≡ bytes → r ≡ Err faults.WriteFault
     → Stops old new found → Saves bytes old new r
-saves_some {bytes} {found} {old} {new} r e f h =
-    subst (λ (x : Result (Unit {0}) SaveFault). Saves bytes old new x) (sym f) (stops_as e h)
+saves_some {bytes} {found} {old} {new} r e f h = subst (λ (x : Result (Unit {0}) SaveFault). Saves bytes old new x) (sym f) (stops_as e h)

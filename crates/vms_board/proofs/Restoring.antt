@@ -1,10 +1,9 @@
 -- The effect of a load on a board.
-use Rattle.vms_board.proofs.Facade.{◌≡◌, inl, inr, ℕ, zero, suc, ◌-◌, ◌<◌, ◌≤◌, List, [], ◌∷◌, length, get_or, Option, Some, None, IfSome, Ok, Err, Result}
-use Rattle.vms_board.proofs.Facade.{refl, sym, ap, ◌∙◌, subst, arith, slice_get, reads_as, Intake, Refusal, LoadReads, Loads, accepted_of, most_given, name_of}
-use Rattle.vms_board.proofs.Facade.{Image, Set, Fault, Takes, ComesTo, RestoreReads, Takings, TakingsRead, IsUnfit, refusal_of, Family, lists_in, Standing}
-use Rattle.vms_board.proofs.Facade.{RestoreFault}
-use Rattle.vms_load.specs.declared.fault.LoadFault.TheVariants as loads
+use Rattle.vms_board.proofs.Facade.{◌≡◌, inl, inr, ℕ, suc, ◌-◌, ◌<◌, ◌≤◌, List, [], ◌∷◌, length, get_or, Option, Some, None, IfSome, Ok, Err, Result, refl, sym}
+use Rattle.vms_board.proofs.Facade.{ap, ◌∙◌, subst, arith, slice_get, reads_as, Intake, Refusal, LoadReads, Loads, accepted_of, most_given, name_of, Image, Set}
+use Rattle.vms_board.proofs.Facade.{Fault, Takes, ComesTo, RestoreReads, Takings, TakingsRead, IsUnfit, refusal_of, Family, lists_in, Standing, RestoreFault}
 use Rattle.vms_board.proofs.Imaging.{at_below}
+use Rattle.vms_load.specs.declared.fault.LoadFault.TheVariants as loads
 use Rattle.vms_board.specs.declared.restore.RestoreFault.TheVariants as faults
 
 get-at : (xs : List (List ℕ)) (k : ℕ) (x : List ℕ) → slice_get xs k ≡ Some x → get_or xs k [] ≡ x

@@ -2,6 +2,7 @@
 use Rattle.std.specs.Prelude.{◌≡◌}
 use Rattle.std.specs.List.{All}
 use Rattle.vms_board.specs.Family.{Family}
+use Rattle.vms_board.specs.Last.{IsLast}
 use Rattle.vms_desc.specs.Described.{described}
 use Rattle.vms_board_streams.specs.declared.sets.KeptSet.{KeptSet}
 use Rattle.vms_board_streams.specs.declared.sets.KeptSets.{KeptSets}
@@ -10,6 +11,7 @@ use Rattle.vms_board_streams.specs.declared.sets.KeptSets.{KeptSets}
 abbrev pub IsOf : {S : Type 0} → Family S → KeptSet → Type 0
 IsOf f kept = described kept.set ≡ f.set kept.number
 
--- All kept sets are those with their numbers in the family `f`.
-abbrev pub AreOf : {S : Type 0} → Family S → KeptSets → Type 0
-AreOf f kept = All (IsOf f) kept.sets.items
+-- All kept sets are those with their numbers in the family `f`, and the last description is of the family.
+pub record AreOf {S : Type 0} (f : Family S) (kept : KeptSets) : Type 0 where
+  pub sets : All (IsOf f) kept.sets.items
+  pub last : IsLast f kept.last

@@ -1,13 +1,14 @@
 // The sets of a family that saves have used, kept for later saves.
+ghost use Rattle.std.specs.List.{All};
 ghost use Rattle.std.specs.Prelude.{◌≡◌, ◌≤◌, None, IfOk, IfSome};
 ghost use Rattle.vms_board.specs.Family.{MaySaveIn};
 ghost use Rattle.vms_board.specs.Saving.{saved_stream, stream_with};
 ghost use Rattle.vms_board_streams.specs.Sets.{AreOf, IsOf};
 ghost use Rattle.vms_desc.specs.Described.{described};
 
-use crate::memory::{bare_of, bare_under, stream_of, stream_under};
+use crate::memory::{bare_of, bare_under, stream_again};
 use std::alloc::Global;
-use vms_board::{Machine, MachineBoard, NoMemory};
+use vms_board::{LastDescription, Machine, MachineBoard, NoMemory};
 use vms_desc::DescSet;
 
 /// A set and its number.
@@ -17,10 +18,12 @@ struct KeptSet {
     set: DescSet,
 }
 
-/// The sets that saves of one family's boards have used. Each is made once.
+/// The sets that saves of one family's boards have used, each made once, and the description of the
+/// last save.
 #[derive(Drop)]
 pub struct KeptSets {
     sets: Vec<KeptSet>,
+    last: LastDescription,
 }
 
 impl KeptSets {
@@ -30,25 +33,13 @@ impl KeptSets {
     {
         KeptSets {
             sets: Vec::new(alloc),
+            last: LastDescription::new::<M>(alloc),
         }
     }
 
     /// Returns the allocator of the sets.
     pub fn alloc(&self) -> Global {
         *self.sets.allocator()
-    }
-
-    // Returns the set with the number `number`, if it is kept.
-    fn find<M: Machine>(&self, number: u8) -> Option<&DescSet>
-        requires { AreOf M.family self.now }
-        ensures { IfSome result (λ set. described set.now ≡ M.family.set number) }
-    {
-        for kept in &self.sets {
-            if kept.number == number {
-                return Some(&kept.set);
-            }
-        }
-        None
     }
 
     // Keeps a set under its number. Fails only if memory runs out.
@@ -62,9 +53,23 @@ impl KeptSets {
     }
 }
 
+// Returns the set with the number `number`, if it is kept.
+fn find<M: Machine>(sets: &[KeptSet], number: u8) -> Option<&DescSet>
+    requires { All (IsOf M.family) sets.now }
+    ensures { IfSome result (λ set. described set.now ≡ M.family.set number) }
+{
+    for kept in sets {
+        if kept.number == number {
+            return Some(&kept.set);
+        }
+    }
+    None
+}
+
 /// Returns the stream of `board` as `stream_of` does, and keeps the set for later saves.
 ///
-/// If the set is in `sets`, it isn't made again.
+/// If the set is in `sets`, it isn't made again, and neither is the description of the last save if
+/// it is the same.
 ///
 /// # Errors
 ///
@@ -86,13 +91,13 @@ pub fn stream_by<M: Machine>(
     ensures sets { AreOf M.family sets.new }
 {
     if set == M::newest() {
-        return stream_of(alloc, board, set);
+        return stream_again(board, set, board.set(), &mut sets.last);
     }
-    if let Some(own) = sets.find::<M>(set) {
-        return stream_under(alloc, board, set, own);
+    if let Some(own) = find::<M>(&sets.sets, set) {
+        return stream_again(board, set, own, &mut sets.last);
     }
     let own = M::set(alloc, set)?;
-    let stream = stream_under(alloc, board, set, &own)?;
+    let stream = stream_again(board, set, &own, &mut sets.last)?;
     sets.keep::<M>(set, own)?;
     Ok(stream)
 }
@@ -123,7 +128,7 @@ pub fn bare_by<M: Machine>(
     if set == M::newest() {
         return bare_of(alloc, board, set);
     }
-    if let Some(own) = sets.find::<M>(set) {
+    if let Some(own) = find::<M>(&sets.sets, set) {
         return bare_under(alloc, board, set, own);
     }
     let own = M::set(alloc, set)?;

@@ -1,7 +1,7 @@
 -- The numbers of a description's slots are at its place or above.
-use Rattle.vms_bodies.proofs.Facade.{◌≡◌, ℕ, zero, suc, ◌+◌, ◌<◌, ◌≤◌, List, ◌∷◌, ◌++◌, length, get_or, map, ℤ, refl, arith, false, [], ne_eqb, Item, Num}
+use Rattle.vms_bodies.proofs.Facade.{◌≡◌, ℕ, zero, suc, ◌+◌, ◌<◌, ◌≤◌, List, ◌∷◌, ◌++◌, get_or, ℤ, refl, arith, false, [], ne_eqb, Item, Num}
 use Rattle.vms_bodies.proofs.Facade.{Struct, Field, Desc, is_there, Slot, Meaning, no_meaning, no_desc, item_slots, times, field_slots, slots_from, desc_slots}
-use Rattle.vms_bodies.proofs.Facade.{field_cells, elements_of, counted, no_parent, first, meaning, meanings, has_cell, one_more}
+use Rattle.vms_bodies.proofs.Facade.{elements_of, counted, no_parent, first, meaning, meanings, has_cell, one_more}
 use Rattle.vms_bodies.proofs.Names.{none_joined, if_there}
 
 -- none of the slots has a number below the cell
@@ -34,18 +34,15 @@ module _ (ms : List Meaning) (h : MeanAbove ms) where
   items_above item caps numbers (suc n) at step =
       above_append at _ _ (item_above item caps numbers at) (above_less at (at + step) _ (omega arith) (items_above item caps numbers n (at + step) step))
 
-  pub field_above : (fields : List Field) (v : ℕ) (own : ℕ → ℕ) (numbers : List ℤ) (i at : ℕ) (f : Field)
-      → IsAbove at (field_slots ms fields v own numbers i at f)
-  field_above fields v own numbers i at f =
-      if_there (IsAbove at) (above_none at) (is_there f.test f.since v own no_parent) _
-      (items_above f.item (counted i fields) numbers (elements_of f.count own) at _)
+  module _ (fields : List Field) (v : ℕ) (own : ℕ → ℕ) (numbers : List ℤ) where
+    pub field_above : (i at : ℕ) (f : Field) → IsAbove at (field_slots ms fields v own numbers i at f)
+    field_above i at f =
+        if_there (IsAbove at) (above_none at) (is_there f.test f.since v own no_parent) _
+        (items_above f.item (counted i fields) numbers (elements_of f.count own) at _)
 
-  pub fields_above : (fields : List Field) (v : ℕ) (own : ℕ → ℕ) (numbers : List ℤ) (i at : ℕ) (fs : List Field)
-      → IsAbove at (slots_from ms fields v own numbers i at fs)
-  fields_above fields v own numbers i at [] = above_none at
-  fields_above fields v own numbers i at (f ∷ fs) =
-      let next = at + length (field_cells (map (λ (m : Meaning). m.cells) ms) fields i f) in
-      above_append at _ _ (field_above fields v own numbers i at f) (above_less at next _ (omega arith) (fields_above fields v own numbers (suc i) next fs))
+    pub fields_above : (i at : ℕ) (fs : List Field) → IsAbove at (slots_from ms fields v own numbers i at fs)
+    fields_above i at [] = above_none at
+    fields_above i at (f ∷ fs) = above_append at _ _ (field_above i at f) (above_less at _ _ (omega arith) (fields_above (suc i) _ fs))
 
   pub desc_above : (d : Desc) (v : ℕ) (numbers : List ℤ) (at : ℕ) → IsAbove at (desc_slots ms d v numbers at)
   desc_above d v numbers at = above_append at _ _ (fields_above d.fields v _ numbers 0 at d.fields) (record { below = λ c lt. refl })

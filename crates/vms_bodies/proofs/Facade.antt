@@ -42,4 +42,4 @@ pub use Rattle.vms_spec.specs.Taking.{Progress, Refusal, Taken, Taker, cells_of,
 pub use Rattle.vms_spec.specs.Taking.{take_item, take_items, take_slot, take_value, taker_of, takers, ◌>>=◌}
 unfoldable pub use Rattle.vms_spec.specs.{Layout.first, Taking.take_desc}
 pub use Rattle.vms_bodies.specs.{Cells.AreCells, Cells.IsCell, Laws.CellLaw, Laws.ReadyLaw, Laws.ZeroedLaw, Whole.Advances, Whole.reading_on}
-pub use Rattle.byteorder.specs.Endian.{big_bytes, big_from, big_number}
+pub use Rattle.byteorder.specs.Endian.{big_from, big_number}

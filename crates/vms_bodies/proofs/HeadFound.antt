@@ -1,7 +1,7 @@
 -- A section head that is read is spelled so.
 use Rattle.vms_bodies.proofs.Facade.{⊎_elim, cases_Bool, ◌≡◌, ℕ, zero, suc, ◌+◌, ◌<◌, ◌≤◌, List, ◌∷◌, ◌++◌, length, get_or, take, drop, Some, refl, sym, ap}
 use Rattle.vms_bodies.proofs.Facade.{◌∙◌, arith, append_assoc, length-drop, true, false, ◌==◌, ◌&&◌, [], slice_get, bytes_eq, drop-drop, take-append-drop}
-use Rattle.vms_bodies.proofs.Facade.{length-take-le, get_or-take, drop-cons, eqb-true, and_parts, big_number, big_from, big_bytes, U32, again, bytes_first}
+use Rattle.vms_bodies.proofs.Facade.{length-take-le, get_or-take, drop-cons, eqb-true, and_parts, big_number, big_from, U32, again, bytes_first}
 use Rattle.vms_bodies.proofs.Facade.{bytes_rest, IsBytes, Device, be32, section_head, number_at, bytes_at, find_device}
 
 -- ---- bytes

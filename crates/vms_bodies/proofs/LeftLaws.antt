@@ -45,8 +45,8 @@ module _ (at : ℕ) (input : List ℕ) where
     leaves cell left (Err e) c = c
 
 -- from the front of the input on
-pub desc_leaves : (structs : List Desc) → AreSound structs → (d : Desc) (v base : ℕ) (p : Progress) → IsSound d
-    → Leaves p.place p.rest (take_desc (takers structs (length structs)) d v base p)
+pub desc_leaves : (structs : List Desc) (sound : AreSound structs) (d : Desc) (v base : ℕ) (p : Progress)
+    → IsSound d → Leaves p.place p.rest (take_desc (takers structs (length structs)) d v base p)
 desc_leaves structs sound d v base p good =
     let total : List ℤ → List Slot = λ m. desc_slots (meanings structs (length structs)) d v m base in
     let none : p.place - p.place ≡ 0 = omega arith in

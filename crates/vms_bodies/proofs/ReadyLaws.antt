@@ -30,7 +30,7 @@ same_decides z u = (same_number_is z u, is_same z u)
 
 -- ---- versions
 
-le_decides : (a b : ℕ) → Decides (nat_le a b) (a ≤ b)
+pub le_decides : (a b : ℕ) → Decides (nat_le a b) (a ≤ b)
 le_decides a b = (leb-true a b, le-leb a b)
 
 pub version_decides : (d : Desc) (v : ℕ) → Decides (is_version_of d v) (IsVersionOf d v)

@@ -1,7 +1,7 @@
 -- What was taken of a body is spelled by its slots, as they are at last.
-use Rattle.vms_bodies.proofs.{Facade.IsCell, Facade.AreCells, Places.SameBelow, Places.same_refl, Places.same_less, Names.none_in_both}
-use Rattle.vms_bodies.proofs.Facade.{◌≡◌, ◌≢◌, ℕ, ◌+◌, ◌≤◌, ◌≤ℤ◌, List, ◌∷◌, ◌++◌, length, get_or, take, slice_set, ℤ, pos, refl, sym, ap, ◌∙◌, arith}
-use Rattle.vms_bodies.proofs.Facade.{append_assoc, append-nil, length-append, true, false, not, nat_lt, ◌==◌, get_or-set_other, [], AllByRecursion}
+use Rattle.vms_bodies.proofs.{Places.SameBelow, Places.same_refl, Places.same_less, Names.none_in_both}
+use Rattle.vms_bodies.proofs.Facade.{IsCell, AreCells, ◌≡◌, ◌≢◌, ℕ, ◌+◌, ◌≤◌, ◌≤ℤ◌, List, ◌∷◌, ◌++◌, length, get_or, take, slice_set, ℤ, pos, refl, sym, ap}
+use Rattle.vms_bodies.proofs.Facade.{◌∙◌, arith, append_assoc, append-nil, length-append, true, false, not, nat_lt, ◌==◌, get_or-set_other, [], AllByRecursion}
 use Rattle.vms_bodies.proofs.Facade.{take-append-drop, length-take-le, length-set, not-not, ltb-false, eq-eqb, or_parts, big_number, Kind, width, value_of}
 use Rattle.vms_bodies.proofs.Facade.{code, InRange, IsBadBool, value_taken, bytes_first, bytes_rest, IsBytes, is_bad_bool, exceeds, same_number, Slot, Number}
 use Rattle.vms_bodies.proofs.Facade.{Constant, Filler, Rule, Cell, Spells, RulesHold, has_cell, Progress, Refusal, on, take_slot, same_number_is, within_all}

@@ -1,6 +1,6 @@
 -- A reading slot by slot, with the slots computed anew after each number, does what the structural reader does.
 use Rattle.vms_bodies.proofs.{Places.same_refl, WalkLaws.Left, WalkLaws.Gives, WalkLaws.Keeping}
-use Rattle.vms_bodies.proofs.Facade.{◌≡◌, ℕ, suc, ◌+◌, List, [], ◌∷◌, ◌++◌, length, drop, Ok, Err, ℤ, ap, ◌∙◌, arith, length-append, drop-append_seam, Slot}
+use Rattle.vms_bodies.proofs.Facade.{◌≡◌, ℕ, suc, ◌+◌, List, [], ◌∷◌, ◌++◌, length, drop, Ok, Err, ℤ, arith, length-append, drop-append_seam, Slot}
 use Rattle.vms_bodies.proofs.Facade.{Number, Taken, Progress, Refusal, take_slot}
 
 module _ {X : Type 0} (total : List ℤ → List Slot) (R : ℕ → Progress → X) (finish : ℕ → Progress → X) (refused : Refusal → X) where

@@ -1,5 +1,5 @@
 -- Tests over lists and numbered rules, and what they say of each place.
-use Rattle.vms_check.proofs.Facade.{◌≡◌, ℕ, zero, suc, ◌+◌, List, ◌∷◌, Bool, true, false, Option, Some, None, refl, arith, [], slice_get, list_all}
+use Rattle.vms_check.proofs.Facade.{◌≡◌, ℕ, suc, ◌+◌, List, ◌∷◌, Bool, true, false, Option, Some, None, refl, arith, [], slice_get, list_all}
 use Rattle.vms_check.proofs.Facade.{Place, first_answer, both_none, failing_pair}
 
 pub passes : (rule : ℕ) (b : Bool) (rules : List (ℕ × Bool)) (p q : Place) → failing_pair ((rule, b) ∷ rules) p q ≡ None

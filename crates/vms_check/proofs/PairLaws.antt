@@ -1,11 +1,10 @@
 -- Two fields of the same position.
+use Rattle.vms_check.proofs.{Facade.in_new, Facade.each, ListLaws.passes, ListLaws.pass, ListLaws.at_every}
 use Rattle.vms_check.proofs.Facade.{◌≡◌, ℕ, Bool, true, false, Option, Some, None, refl, ◌≤◌, List, [], ◌∷◌, ◌&&◌, ◌==◌, if◌then◌else◌, and_parts, eq-eqb}
 use Rattle.vms_check.proofs.Facade.{eqb-true, leb-true, le-leb, Formula, Field, Desc, is_nothing, same_rest, same_reduced, Comparer, Entry, absent_hold, bound}
 use Rattle.vms_check.proofs.Facade.{failing_pair, has_room, holds_as_much, is_absent, is_covered, pair_rules, uncovered_rules, Reduced, Known, Open, left_of}
 use Rattle.vms_check.proofs.Facade.{presence, tree_of, field_reduced, Struct, Count, One, Fixed, Counted, Part, Place, counted, AreAlike, ArePaired, in_old}
-use Rattle.vms_check.proofs.Facade.{in_new, each}
 use Rattle.std.specs.Prelude.{nat_le}
-use Rattle.vms_check.proofs.ListLaws.{passes, pass, at_every}
 
 -- ---- The rests of the tests of two present fields.
 

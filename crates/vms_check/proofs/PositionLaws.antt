@@ -1,11 +1,10 @@
 -- The position of a field among the present ones is how many are present before it.
+use Rattle.vms_check.proofs.{Facade.IsFirst, Facade.Present, Facade.Side, PairLaws.presence_is}
 use Rattle.vms_check.proofs.Facade.{◌≡◌, ℕ, zero, suc, ◌+◌, ◌<◌, ◌≤◌, List, ◌∷◌, ◌++◌, length, get_or, take, map, replicate, Bool, true, false, Option, Some}
 use Rattle.vms_check.proofs.Facade.{None, refl, sym, ap, ◌∙◌, arith, [], drop, add-one, not, ◌==◌, if◌then◌else◌, eq-eqb, ne_eqb, length-map, map-append}
 use Rattle.vms_check.proofs.Facade.{take-map, take_more, drop_more, no_field, Formula, Field, field_of, get_map_at, Entry, entry_of, position_from, is_absent}
 use Rattle.vms_check.proofs.Facade.{is_nothing, presence, Reduced, Known, left_of, fields_from, count_present, position_in, field_reduced, desc_on, tree_of}
-use Rattle.vms_check.proofs.Facade.{IsFirst, Present, Side}
 use Rattle.vms_parts.specs.declared.types.Field.{Field as CodeField}
-use Rattle.vms_check.proofs.PairLaws.{presence_is}
 
 by_presence : (p i : ℕ) (f : Field) (es : List Entry) (k : ℕ) (o : Option (Option Formula))
     → position_from p (entry_of i 0 f o ++ es) k ≡ (if is_nothing o then position_from p es k else (if i == k then Some p else position_from (suc p) es k))
@@ -23,8 +22,7 @@ either false x y z left right = right
 none_before : (v p i : ℕ) (fs : List Field) (k : ℕ) → k < i → position_from p (fields_from v i fs) k ≡ None
 none_before v p i [] k lt = refl
 none_before v p i (f ∷ fs) k lt =
-    next_is v p i f fs k
-    ∙ either (is_absent v f) _ _ None (none_before v p (suc i) fs k (omega arith))
+    next_is v p i f fs k ∙ either (is_absent v f) _ _ None (none_before v p (suc i) fs k (omega arith))
     (rw (ne_eqb i k (λ e. omega (arith, e))) (none_before v (suc p) (suc i) fs k (omega arith)))
 
 abbrev next_position : ℕ → ℕ → Field → ℕ
@@ -32,8 +30,7 @@ next_position v p f = (if is_absent v f then 0 else 1) + p
 
 found_from : (v p i : ℕ) (f : Field) (fs : List Field) (k : ℕ)
     → position_from p (fields_from v i (f ∷ fs)) (i + suc k) ≡ position_from (next_position v p f) (fields_from v (suc i) fs) (suc i + k)
-found_from v p i f fs k =
-    next_is v p i f fs (i + suc k) ∙ rw (ne_eqb i (i + suc k) (λ e. omega (arith, e)), plus) (by_case (is_absent v f))
+found_from v p i f fs k = next_is v p i f fs (i + suc k) ∙ rw (ne_eqb i (i + suc k) (λ e. omega (arith, e)), plus) (by_case (is_absent v f))
   where
     plus : i + suc k ≡ suc i + k
     plus = omega arith
@@ -115,8 +112,7 @@ module _ (v : ℕ) (fields : List CodeField) (k : ℕ) (f : CodeField) (is_there
 
   -- how many are there with it
   pub counted_is : (if is_there then suc count else count) ≡ count_present v (map field_of (take (k + 1) fields))
-  counted_is =
-      rw (take_more fields k f lt, map-append field_of (take k fields) (get_or fields k f ∷ []), count-append, ← is) (by is_there e)
+  counted_is = rw (take_more fields k f lt, map-append field_of (take k fields) (get_or fields k f ∷ []), count-append, ← is) (by is_there e)
     where
       by : (b : Bool) → b ≡ not (is_absent v (field_of f))
           → (if b then suc count else count) ≡ count_present v (map field_of (take k fields)) + count_present v (field_of f ∷ [])
@@ -185,11 +181,7 @@ module _ (side : Side) (fields : List CodeField) (same : map field_of fields ≡
       let there' : is_absent v (field_of f) ≡ false = flipped (is_absent v (field_of f)) true (sym is_present ∙ holds) in
       let here = rw (← field_is) at (finds v (desc_on side).fields i inside (rw (← field_is) there')) in
       record {
-        on = record {
-          inside = rw number inside;
-          is = rw (field, number) field_is;
-          there = rw field there';
-        };
+        on = record { inside = rw number inside; is = rw (field, number) field_is; there = rw field there' };
         later = rw number le;
         entries = sym e ∙ rw (number, field) here;
       }

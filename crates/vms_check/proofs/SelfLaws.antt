@@ -1,4 +1,5 @@
 -- A well-formed set is compatible to itself.
+use Rattle.vms_check.proofs.{PairLaws.presence_is, PositionLaws.there_is, ListLaws.same_at, SetsFit.so_fits}
 use Rattle.vms_check.proofs.Facade.{◌≡◌, ℕ, zero, suc, ◌≤◌, min, List, ◌∷◌, ◌++◌, Bool, true, false, Some, refl, sym, ap, ◌∙◌, arith, [], Option, None, inr}
 use Rattle.vms_check.proofs.Facade.{◌+◌, ◌<◌, length, get_or, ◌==◌, ◌&&◌, nat_lt, slice_get, eq-eqb, and_parts, le-leb, leb-true, and_from, eqb-true, or_left}
 use Rattle.vms_check.proofs.Facade.{or_right, get_or_from_slice_get, slice_get_within, bytes_eq, bytes_eq-Decides, any_passes_from_place, Item, Count, One}
@@ -7,15 +8,11 @@ use Rattle.vms_check.proofs.Facade.{kind_number, rel_number, same_constant, same
 use Rattle.vms_check.proofs.Facade.{Entry, entry_of, is_found, Num, Equal, Unused, Struct, Own, has_no_test, is_num, is_one, is_steady, is_steady_in}
 use Rattle.vms_check.proofs.Facade.{names_well, nobody, count_names_well, is_counting, is_earlier_in, test_names_well, same_number_itself, untested, Clean}
 use Rattle.vms_check.proofs.Facade.{struct_clean, device_parts, sub_clean, device_found, sub_found, beyond, Reduced, Known, Open, left_of, presence, reduced}
-use Rattle.vms_check.proofs.Facade.{field_reduced, position_in, fields_from, Rel, find_device, is_version_of, is_one_of, WellFormed, struct_rules}
-use Rattle.vms_check.proofs.Facade.{device_rules, sub_rules, ArePaired, DescsFit, DevicesFit, IsSubFor, fields_at, AllByRecursion, all_right}
-use Rattle.std.specs.Prelude.{nat_le}
-use Rattle.vms_check.specs.Comparing.{least_of}
-use Rattle.vms_check.proofs.PairLaws.{presence_is}
-use Rattle.vms_check.proofs.PositionLaws.{there_is}
+use Rattle.vms_check.proofs.Facade.{field_reduced, position_in, fields_from, Rel, find_device, is_version_of, is_one_of, WellFormed, struct_rules, device_rules}
+use Rattle.vms_check.proofs.Facade.{sub_rules, ArePaired, DescsFit, DevicesFit, IsSubFor, fields_at, AllByRecursion, all_right}
 use Rattle.vms_check.proofs.ReducedLaws.{IfOpen, IsByParts, open_reduced}
-use Rattle.vms_check.proofs.ListLaws.{same_at}
-use Rattle.vms_check.proofs.SetsFit.{so_fits}
+use Rattle.vms_check.specs.{Comparing.least_of}
+use Rattle.std.specs.Prelude.{nat_le}
 
 -- ---- What a number can be is at most each capacity that it counts.
 
@@ -41,8 +38,7 @@ counted_at P i (f ∷ fs) (suc k) g most there is h = counted_at P i fs k g most
 
 pub bound_counts : (item : Item) (i : ℕ) (fs : List Field) (k : ℕ) (g : Field) (most : ℕ) → slice_get fs k ≡ Some g → g.count ≡ Counted i most
     → bound item (counted i fs) ≤ most
-bound_counts item i fs k g most there is =
-    counted_at (λ m. bound item (counted i fs) ≤ m) i fs k g most there is (all_bound item (counted i fs))
+bound_counts item i fs k g most there is = counted_at (λ m. bound item (counted i fs) ≤ m) i fs k g most there is (all_bound item (counted i fs))
 
 -- ---- The rest of a test is the same as itself, if each number that it names has a position.
 
@@ -244,8 +240,7 @@ module _ (set : Set) (well : WellFormed set) where
   struct_at j None e lt = absurd (beyond set.structs j lt e)
   struct_at j (Some d) e lt =
       let c = struct_clean set well j d e in
-      rw (get_or_from_slice_get set.structs j d no_desc e)
-      (clean_self j d (struct_rules set.structs j d) c (leb-true d.minimum d.version c.own.1.1.0))
+      rw (get_or_from_slice_get set.structs j d no_desc e) (clean_self j d (struct_rules set.structs j d) c (leb-true d.minimum d.version c.own.1.1.0))
 
   structs_self : (i j : ℕ) → j < length set.structs → same i j ≡ true
       → DescsFit same (get_or set.structs i no_desc) (get_or set.structs j no_desc) (get_or set.structs i no_desc).version

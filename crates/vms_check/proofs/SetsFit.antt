@@ -211,8 +211,7 @@ module _ (old new : Set) (well : WellFormed new) where
   found_fits : (i k : ℕ) (d e : Device) → slice_get old.devices i ≡ Some d → find_device 0 new.devices d.desc.name d.instance ≡ Some k
       → slice_get new.devices k ≡ Some e
       → device_mismatch old new (0 + i) d ≡ None → DevicesFit same d e
-  found_fits i k d e inside found there none =
-      device_fits (0 + i) k d e there (rw (found, there) at none)
+  found_fits i k d e inside found there none = device_fits (0 + i) k d e there (rw (found, there) at none)
 
   pub fits_so : Compatible old new → Fits old new
   fits_so none =
@@ -275,8 +274,7 @@ module _ (old new : Set) (well : WellFormed new) where
 
     so_compatible : Compatible old new
     so_compatible =
-        whole_is old new
-        ∙ both_none _ _ (pass 1 _ [] _ _ (at_every (is_one_of new.machines) old.machines fit.machines) refl)
+        whole_is old new ∙ both_none _ _ (pass 1 _ [] _ _ (at_every (is_one_of new.machines) old.machines fit.machines) refl)
         (both_none _ _ (both_none _ _
         (none_answers (λ i d. failing_pair ((2, is_in new d) ∷ []) (here (parts.Device i)) (here parts.Set)) 0 old.devices
         (λ i d e. pass 2 _ [] _ _ (fit.kept i d e) refl))

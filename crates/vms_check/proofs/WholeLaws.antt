@@ -57,8 +57,7 @@ position_unplaced p [] k = refl
 position_unplaced p (e ∷ es) k = rw (position_unplaced (suc p) es k)
 
 pub positions_are : (structs : List (List Cell)) (d : Desc) (v : ℕ) → position_from 0 (present structs d v) ≡ position_in v d.fields
-positions_are structs d v =
-    fun_ext (λ (k : ℕ). rw (← (position_unplaced 0 (present structs d v) k), present_unplaced structs d.fields v 0 0 d.fields))
+positions_are structs d v = fun_ext (λ (k : ℕ). rw (← (position_unplaced 0 (present structs d v) k), present_unplaced structs d.fields v 0 0 d.fields))
 
 module _ (structs : List Comparer) (a b : Desc) (v w : ℕ) (in_a in_b : Part) (o n : ℕ → Option ℕ) where
   abbrev compares : List Entry → List Entry → Option Mismatch
@@ -108,8 +107,7 @@ module _ (s t : Side) where
       rw (in_a, in_b, failing_some (rules_on s t p q) (in_field s.part p.number) (in_field t.part q.number) r (sym is ∙ some))
 
   pub rules_pass : (p q : Present) (o : Option ℕ) → o ≡ failing_number (rules_on s t p q) → o ≡ None → structs_on s t p q ≡ pair_mismatch s t p q
-  rules_pass p q o is none =
-      rw (failing_none (rules_on s t p q) (in_field s.part p.number) (in_field t.part q.number) (sym is ∙ none))
+  rules_pass p q o is none = rw (failing_none (rules_on s t p q) (in_field s.part p.number) (in_field t.part q.number) (sym is ∙ none))
 
   abbrev items_on : Item → Item → Option Mismatch
   items_on a b = pair_structs (table_on s t) (desc_on s) (desc_on t) s.version t.version s.part t.part (position_on s) (position_on t) a b

@@ -2,20 +2,18 @@
 -- newer set reads the same number of bytes for its field as the older set wrote for its own. A number that tests
 -- and counts may name is the same then. This is repeated position by position. Also a position at which two
 -- constants differ, which the newer set can't read.
+use Rattle.vms_check_laws.proofs.{Presence.filler_length, Segments.aligns_filler, Segments.spells_split, Segments.behind_first, PairLists.if_least}
 use Rattle.vms_check_laws.proofs.Facade.{◌≡◌, inl, inr, ℕ, zero, suc, ◌+◌, ◌<◌, ◌≤◌, Bool, true, List, ◌∷◌, ◌++◌, length, get_or, Some, None, sym, ap, ◌∙◌}
-use Rattle.vms_check_laws.proofs.Facade.{arith, ℤ, pos, if◌then◌else◌, ◌⊎◌, nat_lt, take, refl, slice_get, eqb-true, and_parts, ltb-true, eq-or-lt_of_le, []}
-use Rattle.vms_check_laws.proofs.Facade.{cells_in, Kind, Item, Num, Equal, Unused, Struct, width, residue, code, Count, One, is_steady_in, is_num, is_one}
-use Rattle.vms_check_laws.proofs.Facade.{is_earlier_in, Slot, Number, times, counted, item_cells, elements_of, item_slots, numbers_of, kind_of, Spells}
-use Rattle.vms_check_laws.proofs.Facade.{zeroed, length-code, size_same, elements_fit, Entry, same_count, same_item, FitsAt, Aligns, Cell, desc_cells, AllZip}
-use Rattle.vms_check_laws.proofs.Facade.{cases_lt, eq-eqb, position_from, same_place}
-use Rattle.vms_check_laws.proofs.Presence.{filler_length}
-use Rattle.vms_check_laws.proofs.Segments.{fits_left, fits_right, fits_at, apart, same_bytes, aligns_nil, aligns_append, aligns_number, aligns_constant}
-use Rattle.vms_check_laws.proofs.Segments.{aligns_filler, spells_split, behind_first, same_code}
-use Rattle.vms_check_laws.proofs.Premises.{kinds_same, slots_at, IsKnown, entries_slots, AreKnown, known_there, Two, PairGood, Pairs, Sides, IsSingle}
-use Rattle.vms_check_laws.proofs.Premises.{NamesEarlier, OldFields, covered_slots, Met}
+use Rattle.vms_check_laws.proofs.Facade.{code_read, big_number, arith, ℤ, pos, if◌then◌else◌, ◌⊎◌, nat_lt, take, refl, slice_get, eqb-true, and_parts, ltb-true}
+use Rattle.vms_check_laws.proofs.Facade.{eq-or-lt_of_le, [], cells_in, Kind, Item, Num, Equal, Unused, Struct, width, residue, code, Count, One, is_steady_in}
+use Rattle.vms_check_laws.proofs.Facade.{is_num, is_one, is_earlier_in, Slot, Number, times, counted, item_cells, elements_of, item_slots, numbers_of, kind_of}
+use Rattle.vms_check_laws.proofs.Facade.{Spells, zeroed, length-code, size_same, elements_fit, Entry, same_count, same_item, FitsAt, Aligns, Cell, desc_cells}
+use Rattle.vms_check_laws.proofs.Facade.{AllZip, cases_lt, eq-eqb, position_from, same_place}
 use Rattle.vms_check_laws.proofs.FieldsRead.{pair_by, Opposite, named_pair}
 use Rattle.vms_check_laws.proofs.Positioned.{same_some, at_or_later, Above, none_before}
-use Rattle.vms_check_laws.proofs.PairLists.{if_least}
+use Rattle.vms_check_laws.proofs.Premises.{kinds_same, slots_at, IsKnown, entries_slots, AreKnown, known_there, Two, PairGood, Pairs, Sides, IsSingle}
+use Rattle.vms_check_laws.proofs.Premises.{NamesEarlier, OldFields, covered_slots, Met}
+use Rattle.vms_check_laws.proofs.Segments.{fits_left, fits_right, fits_at, apart, same_bytes, aligns_nil, aligns_append, aligns_number, aligns_constant}
 
 -- two constants of one kind that have other bytes
 pub record Differ (i j : Item) : Type 0 where
@@ -100,7 +98,8 @@ module _ (sides : Sides) where
       let z = get_or numbers x (pos 0) in
       let u = get_or numbers' y (pos 0) in
       let same = same_bytes numbers _ numbers' _ (aligns_number _ _ x y k l caps caps' e) body r r' s h in
-      rw (← e) (same_code k z u (rw (← ((apart (code l u) (code k z) [] s.0 (rw (length-code, length-code, e)) (sym s.1 ∙ same)).0), e)))
+      let codes = (apart (code l u) (code k z) [] s.0 (rw (length-code, length-code, e)) (sym s.1 ∙ same)).0 in
+      rw (← e) (sym (code_read k z) ∙ ap (big_number (width k)) (rw (← codes, e)) ∙ code_read k u)
 
   number_same : (j i : Item) (d c : Count) (t t' : Bool) (caps caps' : List ℕ) (x y step step' : ℕ) → is_num j ≡ true → is_one d ≡ true → same_item i j ≡ true
       → same_count o n c d ≡ true → t ≡ true → t' ≡ true

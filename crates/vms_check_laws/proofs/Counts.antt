@@ -1,27 +1,22 @@
 -- A number that fits its cell is at most every capacity that it counts, and one that fits the older capacities fits the newer.
-use Rattle.vms_check_laws.proofs.Facade.{◌≤ℤ◌, ◌≡◌, inl, inr, ℕ, zero, suc, ◌+◌, ◌*◌, ◌^◌, ◌≤◌, true, ◌==◌, List, ◌∷◌, ◌++◌, length, get_or, Some, refl}
-use Rattle.vms_check_laws.proofs.Facade.{arith, ℤ, pos, negsuc, if◌then◌else◌, AllByRecursion, slice_get, mod-le, eq-eqb, ints, ◌<◌, [], min, Bool, false}
-use Rattle.vms_check_laws.proofs.Facade.{Option, None, sym, nat_le, and_parts, eqb-true, leb-true, Kind, U8, U16, U32, Item, Num, width, residue, Count, One}
-use Rattle.vms_check_laws.proofs.Facade.{Counted, Field, Cell, times, counted, capacity_of, item_cells, field_cells, cells_from, place_of, no_field, kind_of}
-use Rattle.vms_check_laws.proofs.Facade.{FitsCell, is_num, is_one, ItemBelow, FitsAt, all_right, Desc, is_steady_in, no_desc, Struct, highest, Formula}
-use Rattle.vms_check_laws.proofs.Facade.{presence, Entry, entry_of, present_from, position_from, same_place, same_count, is_covered, holds_as_much}
-use Rattle.vms_check_laws.proofs.Facade.{absent_hold, bound, least_of, greatest, has_room, cells_in, AllZip}
-use Rattle.vms_check_laws.proofs.Segments.{fits_right}
-use Rattle.vms_check_laws.proofs.Presence.{Steady, covers_unused}
-use Rattle.vms_check_laws.proofs.Premises.{IsSingle, CountFits, OldFields, DefaultsGood, NamesEarlier, NewFields, RulesNamed, Sides, Matched, decoded, Met}
+use Rattle.vms_check_laws.proofs.{Facade.cells_in, Facade.AllZip, Segments.fits_right, Presence.Steady, Presence.covers_unused}
+use Rattle.vms_check_laws.proofs.Facade.{◌≤ℤ◌, ◌≡◌, inl, inr, ℕ, zero, suc, ◌+◌, ◌*◌, ◌^◌, ◌≤◌, true, List, ◌∷◌, ◌++◌, length, get_or, Some, refl, arith, ℤ}
+use Rattle.vms_check_laws.proofs.Facade.{pos, negsuc, if◌then◌else◌, AllByRecursion, slice_get, mod-le, eq-eqb, ints, ◌<◌, [], min, Bool, false, Option, None}
+use Rattle.vms_check_laws.proofs.Facade.{sym, nat_le, and_parts, eqb-true, leb-true, Kind, U8, U16, U32, Item, Num, width, residue, Count, One, Counted, Field}
+use Rattle.vms_check_laws.proofs.Facade.{Cell, times, counted, capacity_of, item_cells, field_cells, cells_from, place_of, no_field, kind_of, FitsCell, is_num}
+use Rattle.vms_check_laws.proofs.Facade.{is_one, ItemBelow, FitsAt, all_right, Desc, is_steady_in, no_desc, Struct, highest, Formula, presence, Entry, entry_of}
+use Rattle.vms_check_laws.proofs.Facade.{present_from, position_from, same_place, same_count, holds_as_much, absent_hold, bound, least_of, greatest, has_room}
 use Rattle.vms_check_laws.proofs.Positioned.{at_or_later, Above}
+use Rattle.vms_check_laws.proofs.Premises.{IsSingle, CountFits, OldFields, DefaultsGood, NamesEarlier, NewFields, RulesNamed, Sides, Matched, decoded, Met}
 
 -- the number of field k of these, the first of which has the number i and begins at a place
 abbrev pub field_number : List (List Cell) → List Field → List Field → ℕ → List ℤ → ℕ → ℕ → ℕ
 field_number cs all fs i numbers at k = residue (width (kind_of (get_or fs k no_field).item)) (get_or numbers (place_of cs all i at fs k) (pos 0))
 
-counted_head : (P : ℕ → Type 0) (by most : ℕ) (f : Field) (fs : List Field) → f.count ≡ Counted by most → AllByRecursion P (counted by (f ∷ fs)) → P most
-counted_head P by most f fs e h = (rw (e, eq-eqb by by refl) at h).0
-
 counted_at : (P : ℕ → Type 0) (by most i : ℕ) (fs : List Field) (f : Field) → slice_get fs i ≡ Some f → f.count ≡ Counted by most
     → AllByRecursion P (counted by fs) → P most
 counted_at P by most i [] f is e h = absurd (cc)
-counted_at P by most zero (g ∷ fs) f is e h = let same : g ≡ f = cc in counted_head P by most g fs (rw same e) h
+counted_at P by most zero (g ∷ fs) f is e h = let c : g.count ≡ Counted by most = cc in (rw (c, eq-eqb by by refl) at h).0
 counted_at P by most (suc i) (g ∷ fs) f is e h = counted_at P by most i fs f is e (all_right P _ _ h)
 
 first_fits : (cs : List (List Cell)) (item : Item) (count : Count) (caps : List ℕ) (d : ℤ) (more : List Cell) (numbers : List ℤ) (at : ℕ) → is_num item ≡ true
@@ -75,14 +70,6 @@ pub record Counter (all : List Field) (by : ℕ) : Type 0 where
   pub steady : Steady field
   pub kind : IsCounting field.item
 
-pub count_fits : (cs : List (List Cell)) (all : List Field) (numbers : List ℤ) (at by most : ℕ) → Counter all by → (i : ℕ) (f : Field)
-    → slice_get all i ≡ Some f → f.count ≡ Counted by most → FitsAt (cells_from cs all 0 all) numbers at → field_number cs all all 0 numbers at by ≤ most
-count_fits cs all numbers at by most c i f is e fits =
-    let s = single_at cs all all 0 by numbers at c.field c.stands c.steady fits in
-    let z : 0 + by ≡ by = omega arith in
-    let high = counted_at (λ m. s.number ≤ℤ pos m) by most i all f is e (rw (z) at s.fits.1) in
-    rw s.is (counting_below c.field.item _ c.field.default s.number most c.kind s.fits high)
-
 -- ---- what old's fields need, without numbers
 
 abbrev pub CountKnown : List Field → Count → Type 0
@@ -99,7 +86,11 @@ OldPlains below all = (j : ℕ) (f : Field) → slice_get all j ≡ Some f → O
 
 fits_count : (cs : List (List Cell)) (all : List Field) (numbers : List ℤ) (at i : ℕ) (f : Field) (c : Count) → slice_get all i ≡ Some f → f.count ≡ c
     → FitsAt (cells_from cs all 0 all) numbers at → CountKnown all c → CountFits (λ k. field_number cs all all 0 numbers at k) c
-fits_count cs all numbers at i f (Counted by most) is e fits known = count_fits cs all _ at by most known i f is e fits
+fits_count cs all numbers at i f (Counted by most) is e fits c =
+    let s = single_at cs all all 0 by numbers at c.field c.stands c.steady fits in
+    let z : 0 + by ≡ by = omega arith in
+    let high = counted_at (λ m. s.number ≤ℤ pos m) by most i all f is e (rw z at s.fits.1) in
+    rw s.is (counting_below c.field.item _ c.field.default s.number most c.kind s.fits high)
 fits_count cs all numbers at i f _ is e fits known = tt
 
 pub old_fields : (cs : List (List Cell)) (below : ℕ) (all : List Field) (numbers : List ℤ) (at : ℕ) → FitsAt (cells_from cs all 0 all) numbers at
@@ -175,9 +166,6 @@ all_counted P by (g ∷ gs) h = head _ refl (all_counted P by gs h.1) where
   head (Counted by' most) e rest = caps _ most (λ is. h.0 most (rw (← (eqb-true by' by is)) e)) rest
   head _ e rest = rest
 
-pub covered_one : (i : Item) (c : Count) (j : Item) (d : Count) → is_covered i c j ≡ true → IsSingle j d → is_one d ≡ true
-covered_one i c j d is_so single = rw ((covers_unused i c j is_so).1) at single
-
 paired : (o n : ℕ → Option ℕ) (c d : Count) (i most : ℕ) → d ≡ Counted i most → same_count o n c d ≡ true → holds_as_much c d ≡ true
     → (by most' : ℕ) × (c ≡ Counted by most') × (same_place (o by) (n i) ≡ true) × (most' ≤ most)
 paired o n (Counted by most') (Counted j m) i most e same room =
@@ -201,7 +189,7 @@ module _ (sides : Sides) where
       → Met sides e f → IsSingle f.field.item f.field.count → (most : ℕ) → f.field.count ≡ Counted j most → z ≤ℤ pos most
   fits_array z i j e f at_i all met single most is =
       elim (decoded two e f met.good) [
-        | inl c ↦ let one = covered_one _ _ _ _ c.covers single in let bad = rw is at one in absurd (cc)
+        | inl c ↦ let one = rw (covers_unused e.field.item e.field.count f.field.item c.covers).1 at single in let bad = rw is at one in absurd (cc)
         | inr m ↦
             let p = paired o n _ _ j most is m.count m.room in
             let counts : e.field.count ≡ Counted i p.1 = rw (at_i p.0 p.3) at p.2 in
@@ -215,27 +203,20 @@ module _ (sides : Sides) where
       (fits_array z i j e f at_i all met.0 (new f.index f.field met.0.known'.field).single, fits_arrays new z i j es fs at_i all met.1)
   fits_arrays new z i j _ _ at_i all met = absurd met
 
-  absent_array : (z : ℤ) (j n most : ℕ) (g : Field) (gs : List Field) → g.count ≡ Counted j most → presence w g.test g.since ≡ None → z ≤ℤ pos n
-      → absent_hold w j n (g ∷ gs) ≡ true → z ≤ℤ pos most
-  absent_array z j n most g gs is none le h =
-      at_most_more z n most le (leb-true n most (and_parts (nat_le n most) (absent_hold w j n gs) (rw (is, eq-eqb j j refl, none) at h)).0)
-
-  arrays_rest : (z : ℤ) (j i q : ℕ) (g : Field) (pr : Option (Option Formula)) (fs : List Entry) → FitsArrays z j (entry_of i q g pr ++ fs) → FitsArrays z j fs
-  arrays_rest z j i q g None fs h = h
-  arrays_rest z j i q g (Some rest) fs h = h.1
-
-  array_here : (z : ℤ) (j n most i q : ℕ) (g : Field) (gs : List Field) (pr : Option (Option Formula)) (fs : List Entry) → presence w g.test g.since ≡ pr
-      → g.count ≡ Counted j most → z ≤ℤ pos n → absent_hold w j n (g ∷ gs) ≡ true → FitsArrays z j (entry_of i q g pr ++ fs) → z ≤ℤ pos most
-  array_here z j n most i q g gs None fs e is le absent h = absent_array z j n most g gs is e le absent
-  array_here z j n most i q g gs (Some rest) fs e is le absent h = h.0 most is
-
   each_array : (z : ℤ) (j n i q : ℕ) (gs : List Field) → z ≤ℤ pos n → absent_hold w j n gs ≡ true → FitsArrays z j (present_from news b.fields w i q gs)
       → AllByRecursion (λ g. (most : ℕ) → g.count ≡ Counted j most → z ≤ℤ pos most) gs
   each_array z j n i q [] le absent h = tt
   each_array z j n i q (g ∷ gs) le absent h =
-      let after = present_from news b.fields w (suc i) (q + length (field_cells news b.fields i g)) gs in
-      let absent_rest = (and_parts (has_room w j n g g.count) (absent_hold w j n gs) absent).1 in
-      (λ most is. array_here z j n most i q g gs _ after refl is le absent h, each_array z j n (suc i) _ gs le absent_rest (arrays_rest z j i q g _ after h))
+      by _ refl _ h (λ rest. each_array z j n (suc i) _ gs le (and_parts (has_room w j n g g.count) (absent_hold w j n gs) absent).1 rest)
+    where
+      by : (pr : Option (Option Formula)) → presence w g.test g.since ≡ pr → (fs : List Entry) → FitsArrays z j (entry_of i q g pr ++ fs)
+          → (FitsArrays z j fs → AllByRecursion (λ g. (most : ℕ) → g.count ≡ Counted j most → z ≤ℤ pos most) gs)
+          → AllByRecursion (λ g. (most : ℕ) → g.count ≡ Counted j most → z ≤ℤ pos most) (g ∷ gs)
+      by None e fs h more = (
+        λ most is. at_most_more z n most le (leb-true n most (and_parts (nat_le n most) (absent_hold w j n gs) (rw (is, eq-eqb j j refl, e) at absent)).0),
+        more h,
+      )
+      by (Some rest) e fs h more = (h.0, more h.1)
 
   -- a number of old that fits, at a pair of numbers, fits all of new's capacities
   pub caps_follow : (kind : Kind) (es : List Entry) (e f : Entry) (z : ℤ) → e.field.item ≡ Num kind

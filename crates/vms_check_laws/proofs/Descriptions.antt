@@ -1,25 +1,23 @@
 -- A description on each side: its bytes carry, what isn't in them is at its default, and at one front the newer set
 -- takes exactly the bytes that the older one wrote. Validations that hold in the older set hold in the newer. The carried numbers
 -- fit the cells of the newer set.
-use Rattle.vms_check_laws.proofs.Facade.{◌≤ℤ◌, ◌≡◌, inl, inr, ℕ, zero, suc, ◌+◌, ◌<◌, ◌≤◌, Bool, true, false, List, ◌∷◌, ◌++◌, length, get_or, Option, None}
-use Rattle.vms_check_laws.proofs.Facade.{refl, arith, ℤ, pos, if◌then◌else◌, AllByRecursion, [], cells_in, Kind, Item, Num, Struct, Formula, Field, Cell}
-use Rattle.vms_check_laws.proofs.Facade.{times, counted, item_cells, field_cells, cells_from, Entry, same_kind, pair_structs, defaults, carry_item}
-use Rattle.vms_check_laws.proofs.Facade.{carry_items, carry_from, FitsAt, size_same, elements_fit, highest, InRange, is_num, FitsCell, ItemBelow, FieldsBelow}
-use Rattle.vms_check_laws.proofs.Facade.{desc_cells, numbers_of, is_steady_in, present, AllZip, sym, ◌∙◌, and_from, and_parts, list_all, list_any, Desc, Rule}
-use Rattle.vms_check_laws.proofs.Facade.{Meaning, slots_from, desc_slots, all_hold, Part, position_from, Comparer, compare_desc, Carrier, carry_desc, Holds}
-use Rattle.vms_check_laws.proofs.Facade.{Aligns, or_else_none, Spells, zeroed, Carries, Known, Reduced, compare_validations, here, is_kept, no_parent, passes}
-use Rattle.vms_check_laws.proofs.Facade.{reduced, reduced_holds, same_reduced, truth, truth_of, either_of}
-use Rattle.vms_check_laws.proofs.Segments.{fits_left, fits_right, fits_at, holds_at, carries_append, spells_split, behind_first, aligns_append, aligns_rule}
-use Rattle.vms_check_laws.proofs.Segments.{carries_rule}
-use Rattle.vms_check_laws.proofs.Premises.{kinds_same, Matched, decoded, OldFields, NewFields, DefaultsGood, ItemDefault, Sides, fields_below, FitCells}
-use Rattle.vms_check_laws.proofs.Premises.{GoodCells, fit_append, fit_defaults, good_append, good_times, Met, entries_slots, slots_entries, all_known}
-use Rattle.vms_check_laws.proofs.Premises.{AreKnown, Two, Table, Meets, Reads, RulesNamed, all_met}
-use Rattle.vms_check_laws.proofs.Presence.{not_covered, Agree, Named, named_left, same_reduced_truth}
-use Rattle.vms_check_laws.proofs.Counts.{caps_follow, IsIndexed, DescGood, indexed}
-use Rattle.vms_check_laws.proofs.PairLists.{if_least, one_cell, settled_more}
-use Rattle.vms_check_laws.proofs.FieldsRead.{linked, agree_from, fields_settle, fields_carry, by_fields}
+use Rattle.vms_check_laws.proofs.{Facade.reduced_holds, Facade.same_reduced, Facade.truth, Facade.truth_of, Facade.either_of, Positioned.present_above}
 use Rattle.vms_check_laws.proofs.AlignedDescs.{Clashes, entries_align, entries_clash, State}
-use Rattle.vms_check_laws.proofs.Positioned.{present_above}
+use Rattle.vms_check_laws.proofs.Counts.{caps_follow, IsIndexed, DescGood, indexed}
+use Rattle.vms_check_laws.proofs.Facade.{◌≤ℤ◌, ◌≡◌, inl, inr, ℕ, zero, suc, ◌+◌, ◌<◌, ◌≤◌, Bool, true, false, List, ◌∷◌, ◌++◌, length, get_or, Option, None}
+use Rattle.vms_check_laws.proofs.Facade.{refl, arith, ℤ, pos, if◌then◌else◌, AllByRecursion, [], cells_in, Kind, Item, Num, Struct, Formula, Field, Cell, times}
+use Rattle.vms_check_laws.proofs.Facade.{counted, item_cells, field_cells, cells_from, Entry, same_kind, pair_structs, defaults, carry_item, carry_items}
+use Rattle.vms_check_laws.proofs.Facade.{carry_from, FitsAt, size_same, elements_fit, highest, InRange, is_num, FitsCell, ItemBelow, FieldsBelow, desc_cells}
+use Rattle.vms_check_laws.proofs.Facade.{numbers_of, is_steady_in, present, AllZip, sym, ◌∙◌, and_from, and_parts, list_all, list_any, Desc, Rule, Meaning}
+use Rattle.vms_check_laws.proofs.Facade.{slots_from, desc_slots, all_hold, Part, position_from, Comparer, compare_desc, Carrier, carry_desc, Holds, Aligns}
+use Rattle.vms_check_laws.proofs.Facade.{or_else_none, Spells, zeroed, Carries, Known, Reduced, compare_validations, here, is_kept, no_parent, passes, reduced}
+use Rattle.vms_check_laws.proofs.FieldsRead.{linked, agree_from, fields_settle, fields_carry, by_fields}
+use Rattle.vms_check_laws.proofs.PairLists.{if_least, one_cell, settled_more}
+use Rattle.vms_check_laws.proofs.Premises.{kinds_same, Matched, decoded, OldFields, NewFields, DefaultsGood, ItemDefault, Sides, fields_below, FitCells}
+use Rattle.vms_check_laws.proofs.Premises.{GoodCells, fit_append, fit_defaults, good_append, good_times, Met, entries_slots, slots_entries, all_known, AreKnown}
+use Rattle.vms_check_laws.proofs.Premises.{Two, Table, Meets, Reads, RulesNamed, all_met}
+use Rattle.vms_check_laws.proofs.Presence.{not_covered, Agree, Named, named_left, same_reduced_truth}
+use Rattle.vms_check_laws.proofs.Segments.{fits_left, fits_right, fits_at, holds_at, carries_append, spells_split, behind_first, aligns_append, aligns_rule}
 
 -- ---- the carried numbers fit new's cells
 
@@ -167,7 +165,7 @@ module _ (sides : Sides) (ok : ℕ → Bool) where
       → Carries numbers (Rule (all_hold a.validate v old_number) ∷ []) numbers' (Rule (all_hold b.validate w new_number) ∷ [])
   rule_carries h named agree =
       let every_is = (passes 15 (list_all (λ t. is_kept ks a b v w part part' o n (reduced w t)) b.validate) [] (here part) (here part') h).0 in
-      carries_rule _ _ _ _ (λ r. rules_hold _ named agree r every_is)
+      record { spells = refl; rules = λ h. (rules_hold _ named agree h.0 every_is, tt) }
 
 -- ---- whole descriptions
 

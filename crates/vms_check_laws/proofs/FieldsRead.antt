@@ -1,22 +1,19 @@
 -- Fields of both sides at one position: the newer set reads what the older one writes with the carried numbers, and what isn't in the
 -- bytes is at its default.
+use Rattle.vms_check_laws.proofs.{Presence.covers_unused, Presence.filler_length, PairLists.when_there, Positioned.at_or_later}
 use Rattle.vms_check_laws.proofs.Facade.{◌≡◌, inl, inr, ℕ, zero, suc, ◌+◌, ◌*◌, ◌≤◌, Bool, true, false, List, ◌∷◌, length, get_or, Option, None, refl, sym}
-use Rattle.vms_check_laws.proofs.Facade.{◌∙◌, arith, ℤ, pos, if◌then◌else◌, ◌++◌, Some, eqb-true, leb-true, slice_get, ap, [], length-append, cells_in, Kind}
-use Rattle.vms_check_laws.proofs.Facade.{Item, Num, Equal, Unused, Struct, width, Count, One, Fixed, Counted, Formula, Field, is_there, Slot, Number, Filler}
-use Rattle.vms_check_laws.proofs.Facade.{no_parent, times, counted, capacity_of, item_cells, field_cells, elements_of, item_slots, numbers_of, Entry}
+use Rattle.vms_check_laws.proofs.Facade.{eq-eqb, ◌∙◌, arith, ℤ, pos, if◌then◌else◌, ◌++◌, Some, eqb-true, leb-true, slice_get, ap, [], length-append, cells_in}
+use Rattle.vms_check_laws.proofs.Facade.{Kind, Item, Num, Equal, Unused, Struct, width, Count, One, Fixed, Counted, Formula, Field, is_there, Slot, Number}
+use Rattle.vms_check_laws.proofs.Facade.{Filler, no_parent, times, counted, capacity_of, item_cells, field_cells, elements_of, item_slots, numbers_of, Entry}
 use Rattle.vms_check_laws.proofs.Facade.{same_rest, same_count, same_kind, same_constant, holds_as_much, entry_of, present_from, defaults, carry_item}
 use Rattle.vms_check_laws.proofs.Facade.{carry_items, carry_field, Holds, FitsAt, Carries, size_same, elements_fit, ItemBelow, same_number_is, here, presence}
-use Rattle.vms_check_laws.proofs.Facade.{Cell, cells_from, slots_from, kind_of, is_steady_in, is_num, is_one, same_item, position_from, same_place}
-use Rattle.vms_check_laws.proofs.Facade.{carry_next, carry_from, entries_left, field_size, FieldsBelow, residue, desc_cells, AllZip}
-use Rattle.vms_check_laws.proofs.Presence.{Agree, same_there, presence_named, there_here, not_covered, steady, steady_rest, rest_none, one_number, Steady}
-use Rattle.vms_check_laws.proofs.Presence.{filler_length}
-use Rattle.vms_check_laws.proofs.Segments.{holds_left, holds_right, holds_at, fits_left, fits_right, fits_at, carries_nil, carries_append, carries_number}
-use Rattle.vms_check_laws.proofs.Segments.{carries_constant, carries_filler}
+use Rattle.vms_check_laws.proofs.Facade.{Cell, cells_from, slots_from, kind_of, is_steady_in, is_num, is_one, same_item, position_from, same_place, carry_next}
+use Rattle.vms_check_laws.proofs.Facade.{carry_from, entries_left, field_size, FieldsBelow, residue, desc_cells, AllZip}
+use Rattle.vms_check_laws.proofs.PairLists.{defaults_size, Settled, settled_defaults, settled_empty, settled_append, same_defaults, if_least, one_cell}
 use Rattle.vms_check_laws.proofs.Premises.{kinds_same, slots_at, entries_slots, known_there, Pairs, decoded, CoveredBy, Matched, Sides, CountFits, CountNamed}
-use Rattle.vms_check_laws.proofs.Premises.{OldGood, NewGood, OldFields, NewFields, covered_empty, Reads, covered_slots, Met}
-use Rattle.vms_check_laws.proofs.PairLists.{defaults_size, Settled, settled_defaults, settled_empty, settled_append, same_defaults, has_itself, if_least}
-use Rattle.vms_check_laws.proofs.PairLists.{one_cell, when_there}
-use Rattle.vms_check_laws.proofs.Positioned.{at_or_later}
+use Rattle.vms_check_laws.proofs.Premises.{OldGood, NewGood, OldFields, NewFields, Reads, covered_slots, Met}
+use Rattle.vms_check_laws.proofs.Presence.{Agree, same_there, presence_named, there_here, not_covered, steady, steady_rest, rest_none, one_number, Steady}
+use Rattle.vms_check_laws.proofs.Segments.{holds_left, holds_right, holds_at, fits_left, fits_right, fits_at, carries_nil, carries_append, carries_filler}
 
 module _ (sides : Sides) where
   open sides use {two, cs, ms, ns, numbers, numbers', at, at', below, below', table}
@@ -185,9 +182,10 @@ module _ (sides : Sides) where
       → Reads numbers numbers' (Number x k caps ∷ []) (Number y l caps' ∷ []) y (one_cell l caps' d) (if t then get_or numbers x (pos 0) ∷ [] else d ∷ [])
   number_reads true k l caps caps' d x y same is held =
       let e : y + 0 ≡ y = omega arith in
+      let f : get_or numbers x (pos 0) ≡ get_or numbers' y (pos 0) = sym (rw e at (held.each 0 (omega arith))) in
       record {
-        carries = carries_number _ _ x y k l caps caps' (kinds_same k l same) (sym (rw e at (held.each 0 (omega arith))));
-        settled = record { each = λ c lt. let z : y ≡ y + c = omega arith in inl (rw (← z) (has_itself y l caps')) };
+        carries = record { spells = ([], rw (f, kinds_same k l same), refl); rules = λ h. h };
+        settled = record { each = λ c lt. let z : y ≡ y + c = omega arith in inl (rw (← z, eq-eqb y y refl)) };
       }
   number_reads false k l caps caps' d x y same is held = absurd (cc)
 
@@ -196,7 +194,7 @@ module _ (sides : Sides) where
       → Reads numbers numbers' (item_slots ms i caps numbers x) (item_slots ns j caps' numbers' y) y (item_cells news j caps' d') (one_item i j d' x)
   item_reads (Num k) (Num l) caps caps' d d' x y pair constant fits held = number_reads _ k l caps caps' d' x y pair.same pair.same held
   item_reads (Equal k z) (Equal l u) caps caps' d d' x y pair constant fits held = record {
-    carries = carries_constant _ _ k l z u (kinds_same k l pair.same) (same_number_is z u constant);
+    carries = record { spells = ([], rw (same_number_is z u constant, kinds_same k l pair.same), refl); rules = λ h. h };
     settled = settled_empty _ y [] [] refl;
   }
   item_reads (Unused m) (Unused r) caps caps' d d' x y pair constant fits held = record {
@@ -295,7 +293,7 @@ module _ (sides : Sides) where
         → ReadsHere e f [] [] × Both (ReadsHere e f) e f (elements_of e.field.count own) (elements_of f.field.count own')
     covers e f p c =
         let empty : length (one_field e f.field) ≡ 0 =
-        field_sized e f.index f.field p.new.item ∙ rw (field_size news, covered_empty news e.field.item e.field.count f.field.item c.covers) (omega arith) in
+        field_sized e f.index f.field p.new.item ∙ rw (field_size news, (covers_unused e.field.item e.field.count f.field.item c.covers).1) (omega arith) in
         let s =
         covered_slots ms ns numbers numbers' own own' e.field.item e.field.count f.field.item f.field.count (counted e.index a.fields)
         (counted f.index b.fields) (at + e.place) (at' + f.place) (old_size e.field.item) (new_size f.field.item) c.covers p.old.single p.new.single in

@@ -1,16 +1,14 @@
 -- What is carried of a device, cell by cell.
-use Rattle.vms_check_laws.proofs.Facade.{◌≡◌, ◌⊎◌, inl, inr, ℕ, ◌+◌, ◌-◌, ◌<◌, ◌≤◌, Bool, true, false, ◌||◌, List, ◌++◌, length, get_or, Option, Some, None}
-use Rattle.vms_check_laws.proofs.Facade.{ℤ, pos, refl, sym, ◌∙◌, arith, flat_map, slice_get, get_or_append_left, get_or-append-add, or_parts}
-use Rattle.vms_check_laws.proofs.Facade.{slice_get_within, length-append, ap, or-false, zero, suc, ◌∷◌, cases_eq, ext_get_or, [], Sub, Device, Set, Cell}
-use Rattle.vms_check_laws.proofs.Facade.{no_cell, desc_cells, device_cells, struct_cells, Image, has_cell, image_slots, own_slots, own_cells, came_slots}
-use Rattle.vms_check_laws.proofs.Facade.{sub_slots, sub_place, find_sub, WellFormed, names_append, none_in_both, its_below, its_in, sub_size, sub_place_up}
-use Rattle.vms_check_laws.proofs.Facade.{part_apart, defaults_at, defaults_long, device_parts, sub_clean, sub_found, defaults, carrying, carried_sub}
-use Rattle.vms_check_laws.proofs.Facade.{carried_device, IsCellOf, IsCarried, IsAtVersions, part_partners, named_partners, device_partners, parts_together}
-use Rattle.vms_check_laws.proofs.Facade.{CarriedLaw}
+use Rattle.vms_check_laws.proofs.{GoesFields.part_goes, GoesFields.below_of, PairDevices.device_paired, PairDevices.one_sub}
+use Rattle.vms_check_laws.proofs.Facade.{◌≡◌, ◌⊎◌, inl, inr, ℕ, ◌+◌, ◌-◌, ◌<◌, Bool, true, false, ◌||◌, List, ◌++◌, length, get_or, Option, Some, None, ℤ, pos}
+use Rattle.vms_check_laws.proofs.Facade.{refl, sym, ◌∙◌, arith, flat_map, slice_get, get_or_append_left, get_or-append-add, or_parts, slice_get_within}
+use Rattle.vms_check_laws.proofs.Facade.{length-append, ap, or-false, zero, suc, ◌∷◌, cases_eq, ext_get_or, [], Sub, Device, Set, Cell, no_cell, desc_cells}
+use Rattle.vms_check_laws.proofs.Facade.{device_cells, struct_cells, Image, has_cell, image_slots, own_slots, own_cells, came_slots, sub_slots, sub_place}
+use Rattle.vms_check_laws.proofs.Facade.{find_sub, WellFormed, names_append, none_in_both, its_below, its_in, sub_size, sub_place_up, part_apart, defaults_at}
+use Rattle.vms_check_laws.proofs.Facade.{defaults_long, device_parts, sub_clean, sub_found, defaults, carrying, carried_sub, carried_device, IsCellOf}
+use Rattle.vms_check_laws.proofs.Facade.{IsCarried, IsAtVersions, part_partners, named_partners, device_partners, parts_together, CarriedLaw}
 use Rattle.vms_check_laws.proofs.PairLists.{Goes, IsBehind, at_left, at_right, at_none, before_or_behind, behind_at}
-use Rattle.vms_check_laws.proofs.GoesFields.{part_goes, below_of}
 use Rattle.vms_check_laws.proofs.SubParts.{own_or_sub, StandsIn, all_long, part_in, part_number, stands_in, has_part, one_part, or_split, Found, look_up}
-use Rattle.vms_check_laws.proofs.PairDevices.{device_paired, one_sub}
 
 module _ (old new : Set) (good_old : WellFormed old) (good_new : WellFormed new) (i i' : ℕ) (d e : Device) (at_i : slice_get old.devices i ≡ Some d)
     (at_k : slice_get new.devices i' ≡ Some e) (image : Image) (versions : IsAtVersions d image) where
@@ -90,8 +88,7 @@ module _ (old new : Set) (good_old : WellFormed old) (good_new : WellFormed new)
 
   named_is : (s t : Sub) (l : ℕ) → slice_get e.subs l ≡ Some t → s.desc.name ≡ t.desc.name
       → named_partners old new e s ≡ part_partners old new s.desc.version s.desc t.desc (place' l)
-  named_is s t l at_l names =
-      rw (names, sub_found new good_new i' l e t at_k at_l, at_l)
+  named_is s t l at_l names = rw (names, sub_found new good_new i' l e t at_k at_l, at_l)
 
   abbrev ps : List (Option ℕ)
   ps = part_partners old new d.desc.version d.desc e.desc 0
@@ -107,12 +104,6 @@ module _ (old new : Set) (good_old : WellFormed old) (good_new : WellFormed new)
         parts_together old d _ (λ xs. has_cell xs c ≡ false) refl (λ xs ys p q. names_append xs ys c ∙ ap (λ b. b || has_cell ys c) p ∙ q)
         (own_cells old d) d.subs image.came
         (λ j s v at_j came. its_below old s.desc v (place j) numbers c (omega (arith, sub_place_up old (own_cells old d) d.subs j)))
-
-    own_has : (c : ℕ) → has c ≡ true → c < own_cells old d → has_own c ≡ true
-    own_has c e lt = sym (or-false (has_own c)) ∙ ap (λ b. has_own c || b) (sym (came_none c lt)) ∙ sym (has_both c) ∙ e
-
-    came_has : (c : ℕ) → has c ≡ true → own_cells old d ≤ c → has_come c ≡ true
-    came_has c e le = elim (or_split _ _ (sym (has_both c) ∙ e)) [ inl f ↦ let h = own_goes.within.in_range c f in absurd (omega arith) | inr f ↦ f.1 ]
 
     taken_own : (c k : ℕ) → slice_get ps c ≡ Some (Some k) → has_own c ≡ true → get_or whole k (pos 0) ≡ get_or numbers c (pos 0)
     taken_own c k e f =
@@ -140,7 +131,11 @@ module _ (old new : Set) (good_old : WellFormed old) (good_new : WellFormed new)
         → get_or whole k (pos 0) ≡ get_or numbers (own_cells old d + c) (pos 0)
     taken_sub c k w is_in =
         let x = own_cells old d + c in
-        let h = has_part old d numbers _ d.subs image.came x (came_has x is_in (omega arith)) in
+        let come : has_come x ≡ true = elim (or_split _ _ (sym (has_both x) ∙ is_in)) [
+          | inl f ↦ let h = own_goes.within.in_range x f in absurd (omega arith)
+          | inr f ↦ f.1
+        ] in
+        let h = has_part old d numbers _ d.subs image.came x come in
         let range = its_in old h.sub.desc h.version _ _ x h.has in
         let same : h.j ≡ w.m = one_part old _ d.subs h.j w.m x h.sub w.sub h.there w.there range.0 range.1 (omega arith) (omega arith) in
         let sub_same : h.sub ≡ w.sub = cc in
@@ -156,7 +151,9 @@ module _ (old new : Set) (good_old : WellFormed old) (good_new : WellFormed new)
 
     taken : (c k : ℕ) → slice_get (ps ++ qs) c ≡ Some (Some k) → has c ≡ true → (c < length ps) ⊎ IsBehind (length ps) c
         → get_or whole k (pos 0) ≡ get_or numbers c (pos 0)
-    taken c k f is_in (inl lt) = taken_own c k (sym (at_left ps qs c lt) ∙ f) (own_has c is_in (omega (arith, own_goes.paired.long)))
+    taken c k f is_in (inl lt) =
+        let own : has_own c ≡ true = cc (or-false (has_own c), has_both c, came_none c (omega (arith, own_goes.paired.long))) in
+        taken_own c k (sym (at_left ps qs c lt) ∙ f) own
     taken c k f is_in (inr b) =
         let c_is : c ≡ own_cells old d + b.more = omega (arith, own_goes.paired.long) in
         rw c_is (taken_sub b.more k (stands_in old _ _ d.subs b.more _ sized (behind_at ps qs c b f)) (rw c_is at is_in))

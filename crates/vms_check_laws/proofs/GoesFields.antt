@@ -1,22 +1,19 @@
 -- What is carried of a description, cell by cell, and of structures, each by the earlier ones.
-use Rattle.vms_check_laws.proofs.Facade.{◌≡◌, inl, inr, ℕ, zero, suc, ◌+◌, ◌*◌, ◌<◌, ◌≤◌, Bool, true, false, List, ◌∷◌, ◌++◌, length, get_or, replicate}
-use Rattle.vms_check_laws.proofs.Facade.{Option, Some, None, ℤ, pos, refl, sym, ap, ◌∙◌, arith, if◌then◌else◌, slice_get, cases_lt, eq-eqb, or-false, []}
-use Rattle.vms_check_laws.proofs.Facade.{Kind, Item, Num, Struct, Formula, Field, Desc, is_there, Cell, no_cell, Slot, Number, Rule, Meaning, no_meaning}
-use Rattle.vms_check_laws.proofs.Facade.{no_parent, times, counted, capacity_of, item_cells, item_size, field_cells, cells_from, desc_cells, elements_of}
-use Rattle.vms_check_laws.proofs.Facade.{item_slots, field_slots, slots_from, desc_slots, numbers_of, has_cell, size_same, field_size, elements_fit}
-use Rattle.vms_check_laws.proofs.Facade.{ItemBelow, FieldsBelow, AreCells, MeanAbove, IsAbove, item_above, field_above, MeanCells, item_are, field_are}
-use Rattle.vms_check_laws.proofs.Facade.{named_inside, skip_long, stands_behind, names_append, cells_in, presence, Entry, entry_of, present_from, same_kind}
-use Rattle.vms_check_laws.proofs.Facade.{Carrier, no_carrier, defaults, carry_item, carry_items, carry_next, carry_from, carry_desc, default_field}
-use Rattle.vms_check_laws.proofs.Facade.{entries_left, Pairer, no_pairer, unpaired, item_partners, array_partners, field_partners, fields_left, partners_from}
-use Rattle.vms_check_laws.proofs.Facade.{desc_partners, Set, no_desc, meanings, struct_cells, WellFormed, first_at, struct_slots, struct_cells_at}
-use Rattle.vms_check_laws.proofs.Facade.{meanings_above, meanings_are, cells_first, carriers, carrying, pairer_of, pairers, part_partners, within}
-use Rattle.vms_check_laws.proofs.Facade.{get_or_past, slice_get-get_or, desc_cells_same, first_same, item_below, first_long, Clean, struct_clean, first}
-use Rattle.vms_check_laws.proofs.Facade.{carrier_of}
-use Rattle.vms_check_laws.proofs.PairLists.{same_defaults, defaults_append, paired_none, one_cell, Goes, IsWithin, goes_absent, goes_alone, goes_append}
-use Rattle.vms_check_laws.proofs.PairLists.{IsOnce, IsPair, paired_skip, paired_append}
+use Rattle.vms_check_laws.proofs.{PairLists.IsPair, PairLists.paired_append, Parts.carrier_at, Counts.item_further}
+use Rattle.vms_check_laws.proofs.Facade.{◌≡◌, inl, inr, ℕ, zero, suc, ◌+◌, ◌*◌, ◌<◌, ◌≤◌, Bool, true, false, List, ◌∷◌, ◌++◌, length, get_or, replicate, Option}
+use Rattle.vms_check_laws.proofs.Facade.{Some, None, ℤ, pos, refl, sym, ap, ◌∙◌, arith, if◌then◌else◌, slice_get, cases_lt, eq-eqb, or-false, [], Kind, Item}
+use Rattle.vms_check_laws.proofs.Facade.{Num, Struct, Formula, Field, Desc, is_there, Cell, no_cell, Slot, Number, Rule, Meaning, no_meaning, no_parent, times}
+use Rattle.vms_check_laws.proofs.Facade.{counted, capacity_of, item_cells, item_size, field_cells, cells_from, desc_cells, elements_of, item_slots, field_slots}
+use Rattle.vms_check_laws.proofs.Facade.{slots_from, desc_slots, numbers_of, has_cell, size_same, field_size, elements_fit, ItemBelow, FieldsBelow, AreCells}
+use Rattle.vms_check_laws.proofs.Facade.{MeanAbove, IsAbove, item_above, field_above, MeanCells, item_are, field_are, named_inside, skip_long, stands_behind}
+use Rattle.vms_check_laws.proofs.Facade.{names_append, cells_in, presence, Entry, entry_of, present_from, same_kind, Carrier, no_carrier, defaults, carry_item}
+use Rattle.vms_check_laws.proofs.Facade.{carry_items, carry_next, carry_from, carry_desc, default_field, entries_left, Pairer, no_pairer, unpaired}
+use Rattle.vms_check_laws.proofs.Facade.{item_partners, array_partners, field_partners, fields_left, partners_from, desc_partners, Set, no_desc, meanings}
+use Rattle.vms_check_laws.proofs.Facade.{struct_cells, WellFormed, first_at, struct_slots, struct_cells_at, meanings_above, meanings_are, cells_first, carriers}
+use Rattle.vms_check_laws.proofs.Facade.{carrying, pairer_of, pairers, part_partners, within, get_or_past, slice_get-get_or, desc_cells_same, first_same}
+use Rattle.vms_check_laws.proofs.Facade.{item_below, first_long, Clean, struct_clean, first, carrier_of}
+use Rattle.vms_check_laws.proofs.PairLists.{same_defaults, defaults_append, paired_none, one_cell, Goes, IsWithin, goes_absent, goes_alone, goes_append, IsOnce}
 use Rattle.vms_check_laws.proofs.Premises.{by_less, kinds_same, fields_below}
-use Rattle.vms_check_laws.proofs.Parts.{carrier_at}
-use Rattle.vms_check_laws.proofs.Counts.{item_further}
 
 -- ---- slots are within their cells
 
@@ -85,8 +82,7 @@ module _ (structs : List Pairer) (cs : List Carrier) (ms : List Meaning) (y : Li
     item_goes (Struct i) (Struct j) caps caps' d d' at at' lt lt' = go i j at at' lt lt'
     item_goes a b caps caps' d d' at at' lt lt' = goes_alone _ refl (item_within a caps d at) (same_defaults y b [] caps' d')
 
-    -- ---- a number of elements, of which the first n are in the bytes
-
+    -- a number of elements, of which the first n are in the bytes
     carry_none : (a b : Item) (caps' : List ℕ) (d' : ℤ) (step m at q t : ℕ)
         → carry_items cs x y numbers a b (defaults (item_cells y b [] d')) step 0 m at ≡ defaults (times m (λ _. item_cells y b caps' d') q t)
     carry_none a b caps' d' step zero at q t = refl
@@ -98,7 +94,7 @@ module _ (structs : List Pairer) (cs : List Carrier) (ms : List Meaning) (y : Li
         (array_partners structs x y a b most m at') (carry_items cs x y numbers a b (defaults (item_cells y b [] d')) (item_size x a) n m at)
     array_goes a b caps caps' d d' zero zero m at at' p s q t le lt lt' = rw (carry_none a b caps' d' _ m at q t) (goes_absent (paired_none [] _ at' 0 refl))
     array_goes a b caps caps' d d' (suc most) zero zero at at' p s q t le lt lt' =
-        goes_absent (paired_skip _ _ (sym (size_same x a caps d))
+        goes_absent (paired_append (paired_none _ [] _ _ (sym (size_same x a caps d))) (omega arith)
         (array_goes a b caps caps' d d' most zero zero at at' (p + s) s q t (omega arith) lt lt').paired)
     array_goes a b caps caps' d d' (suc most) zero (suc m) at at' p s q t le lt lt' =
         rw (carry_none a b caps' d' _ _ at q t)
@@ -113,12 +109,7 @@ module _ (structs : List Pairer) (cs : List Carrier) (ms : List Meaning) (y : Li
         goes_append (item_goes a b caps caps' d d' at at' lt lt') (omega (arith, sym (size_same x a caps d))) (omega (arith, sym (size_same y b caps' d')))
         (array_goes a b caps caps' d d' most n m (at + item_size x a) (at' + item_size y b) (p + s) s (q + t) t (omega arith) lt lt')
 
-    -- ---- fields
-
     module _ (all all' : List Field) (v w : ℕ) (own : ℕ → ℕ) (at at' : ℕ) where
-      field_within : (i p : ℕ) (f : Field) → IsWithin (at + p) (length (field_cells x all i f)) (field_slots ms all v own numbers i (at + p) f)
-      field_within i p f = within_of _ _ _ (field_above ms above all v own _ i _ f) (field_are ms means all v own _ i _ f _ (stands_behind _ _))
-
       -- two present fields of one position, of the older of which so many elements are in the bytes
       abbrev PairGoes : (i i' p p' : ℕ) → (f g : Field) → List Slot → ℕ → Type 0
       PairGoes i i' p p' f g slots n =
@@ -187,7 +178,8 @@ module _ (structs : List Pairer) (cs : List Carrier) (ms : List Meaning) (y : Li
           (unpaired (capacity_of f.count * item_size x f.item) ++ partners) segment
       old_alone i p p' f fs h =
           let u : at + (p + size_at i f) ≡ (at + p) + size_at i f = omega arith in
-          goes_append (goes_alone {others = []} (capacity_of f.count * item_size x f.item) (sym (field_size x all i f)) (field_within i p f) refl) refl
+          let within = within_of _ _ _ (field_above ms above all v own _ i _ f) (field_are ms means all v own _ i _ f _ (stands_behind _ _)) in
+          goes_append (goes_alone {others = []} (capacity_of f.count * item_size x f.item) (sym (field_size x all i f)) within refl) refl
           (omega arith) (rw u at h)
 
       -- a present field of the older side, before more
@@ -228,8 +220,7 @@ module _ (structs : List Pairer) (cs : List Carrier) (ms : List Meaning) (y : Li
       fields_go i p [] lt = λ i' p' gs below. no_olds i i' p p' gs
       fields_go i p (f ∷ fs) lt = with_field i p f fs lt.0 (fields_go (suc i) (p + size_at i f) fs lt.1)
 
-    -- ---- a description: its fields, and its validations, which have no cell
-
+    -- a description: its fields, and its validations, which have no cell
     pub desc_goes : (v w : ℕ) (a b : Desc) (at at' : ℕ) → FieldsBelow k a.fields → FieldsBelow k' b.fields
         → Goes (desc_cells x a) (desc_cells y b) numbers (desc_slots ms a v numbers at) at at' (desc_partners structs x y v w a b at')
         (carry_desc cs x y numbers v w a b at)

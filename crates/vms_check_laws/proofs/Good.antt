@@ -1,25 +1,23 @@
 -- What well-formedness gives to the laws on pairs of sets.
-use Rattle.vms_check_laws.proofs.Facade.{◌≡◌, ℕ, suc, ◌+◌, Bool, true, List, ◌∷◌, length, Option, Some, None, refl, arith, ℤ, nat_lt, slice_get, and_parts}
-use Rattle.vms_check_laws.proofs.Facade.{and_from, slice_get-get_or, [], U8, U16, U32, Item, Num, Equal, Unused, Count, Counted, Own, Parent, Formula, AtLeast}
-use Rattle.vms_check_laws.proofs.Facade.{Below, Not, And, Or, Field, Desc, Sub, Device, Set, no_desc, counted, names_well, nobody, is_steady, is_steady_in}
-use Rattle.vms_check_laws.proofs.Facade.{is_earlier_in, test_names_well, count_names_well, is_counting, defaults_well, counts_well, has_good_count, field_rules}
-use Rattle.vms_check_laws.proofs.Facade.{validation_rules, WellFormed, AllTrue, item_below, Clean, ranges, within, struct_clean, device_parts, sub_clean}
-use Rattle.vms_check_laws.proofs.Facade.{ItemBelow, defaults}
-use Rattle.vms_spec.specs.Sets.{Cell}
-use Rattle.vms_check_laws.proofs.Presence.{NamedRest, steady}
-use Rattle.vms_check_laws.proofs.Premises.{IsSingle, CountNamed, RulesNamed, ItemDefault, DefaultsGood}
+use Rattle.vms_check_laws.proofs.{Facade.ItemBelow, Facade.defaults, Presence.NamedRest, Presence.steady}
 use Rattle.vms_check_laws.proofs.Counts.{IsCounting, Counter, CountKnown, DescGood, StructsGood}
+use Rattle.vms_check_laws.proofs.Facade.{◌≡◌, ℕ, suc, ◌+◌, Bool, true, List, ◌∷◌, length, Option, Some, None, refl, arith, ℤ, nat_lt, slice_get, and_parts}
+use Rattle.vms_check_laws.proofs.Facade.{and_from, slice_get-get_or, [], U8, U16, U32, Item, Num, Equal, Unused, Count, Counted, Own, Parent, Formula, Not, And}
+use Rattle.vms_check_laws.proofs.Facade.{Or, Field, Desc, Sub, Device, Set, counted, names_well, nobody, is_steady, is_steady_in, is_earlier_in, ◌&&◌}
+use Rattle.vms_check_laws.proofs.Facade.{test_names_well, count_names_well, is_counting, defaults_well, counts_well, has_good_count}
+use Rattle.vms_check_laws.proofs.Facade.{validation_rules, WellFormed, AllTrue, item_below, Clean, ranges, within, struct_clean, device_parts, sub_clean}
+use Rattle.vms_check_laws.proofs.Premises.{IsSingle, CountNamed, RulesNamed, ItemDefault, DefaultsGood}
+use Rattle.vms_spec.specs.Sets.{Cell}
+
+both_true : (a b c d : Bool) → (a ≡ true → c ≡ true) → (b ≡ true → d ≡ true) → (a && b) ≡ true → (c && d) ≡ true
+both_true a b c d f g h = let p = and_parts a b h in and_from c d (f p.0) (g p.1)
 
 names_more : (ok ok' : ℕ → Bool) (t : Formula) → ((i : ℕ) → ok i ≡ true → ok' i ≡ true) → names_well ok nobody t ≡ true → names_well ok' nobody t ≡ true
 names_more ok ok' (Cell Own i mask rel value) more h = more i h
 names_more ok ok' (Cell Parent i mask rel value) more h = h
 names_more ok ok' (Not t) more h = names_more ok ok' t more h
-names_more ok ok' (And s t) more h =
-    let p = and_parts (names_well ok nobody s) (names_well ok nobody t) h in
-    and_from _ _ (names_more ok ok' s more p.0) (names_more ok ok' t more p.1)
-names_more ok ok' (Or s t) more h =
-    let p = and_parts (names_well ok nobody s) (names_well ok nobody t) h in
-    and_from _ _ (names_more ok ok' s more p.0) (names_more ok ok' t more p.1)
+names_more ok ok' (And s t) more h = both_true _ _ _ _ (names_more ok ok' s more) (names_more ok ok' t more) h
+names_more ok ok' (Or s t) more h = both_true _ _ _ _ (names_more ok ok' s more) (names_more ok ok' t more) h
 names_more ok ok' _ more h = refl
 
 earlier_steady : (d : Desc) (k i : ℕ) → is_earlier_in d k i ≡ true → is_steady_in d i ≡ true
@@ -74,18 +72,6 @@ pub record FieldFacts (k : ℕ) (d : Desc) (i : ℕ) (f : Field) : Type 0 where
   pub single : IsSingle f.item f.count
   pub default : ItemDefault f.item (counted i d.fields) f.default
 
-field_facts : (k : ℕ) (d : Desc) (i : ℕ) (f : Field) → AllTrue (field_rules k d i f) → FieldFacts k d i f
-field_facts k d i f g =
-    let a4 = and_parts (test_names_well d i f.test) (count_names_well d i f.count) g.1.1.1.0 in
-    let a6 = and_parts (defaults_well f.item f.default) (counts_well (counted i d.fields) f.default) g.1.1.1.1.1.0 in
-    record {
-      test = a4.0;
-      count = a4.1;
-      item = item_below k f.item g.1.1.1.1.0;
-      single = single f.item f.count g.1.1.1.1.1.1.1.0;
-      default = default_good f.item _ _ a6.0 a6.1;
-    }
-
 module _ (k : ℕ) (d : Desc) where
   defaults_good : (i : ℕ) (fs : List Field) → ((j : ℕ) (f : Field) → slice_get fs j ≡ Some f → FieldFacts k d (i + j) f) → DefaultsGood d.fields i fs
   defaults_good i [] h = tt
@@ -110,7 +96,17 @@ module _ (k : ℕ) (d : Desc) where
     rules = rules_named _ c.validations;
   } where
     facts : (i : ℕ) (f : Field) → slice_get d.fields i ≡ Some f → FieldFacts k d i f
-    facts i f e = field_facts k d i f (c.fields i f e)
+    facts i f e =
+        let g = c.fields i f e in
+        let a4 = and_parts (test_names_well d i f.test) (count_names_well d i f.count) g.1.1.1.0 in
+        let a6 = and_parts (defaults_well f.item f.default) (counts_well (counted i d.fields) f.default) g.1.1.1.1.1.0 in
+        record {
+          test = a4.0;
+          count = a4.1;
+          item = item_below k f.item g.1.1.1.1.0;
+          single = single f.item f.count g.1.1.1.1.1.1.1.0;
+          default = default_good f.item _ _ a6.0 a6.1;
+        }
 
 module _ (set : Set) (well : WellFormed set) where
   pub structs_good : StructsGood set.structs

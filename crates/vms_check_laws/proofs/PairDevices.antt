@@ -1,13 +1,11 @@
 -- The partners of a device's cells: each is a cell of the newer device, of the same kind, and no cell is the partner of two.
 use Rattle.vms_check_laws.proofs.Facade.{◌≡◌, ℕ, ◌+◌, ◌*◌, ◌<◌, List, ◌++◌, length, get_or, Option, Some, None, refl, sym, arith, slice_get, ap, ◌∙◌}
-use Rattle.vms_check_laws.proofs.Facade.{length-append, [], ◌⊎◌, inl, inr, flat_map, get_or_append_left, get_or-append-add, length-replicate, Cell}
-use Rattle.vms_check_laws.proofs.Facade.{desc_cells, Set, struct_cells, WellFormed, part_partners, Sub, Device, no_cell, device_cells, own_cells, sub_place}
-use Rattle.vms_check_laws.proofs.Facade.{sub_size, sub_place_up, device_parts, sub_clean, sub_found, PartnersLaw, ArePartners, sub_partners, named_partners}
-use Rattle.vms_check_laws.proofs.Facade.{device_partners}
-use Rattle.vms_check_laws.proofs.PairLists.{AreFrom, IsBehind, at_left, at_none, before_or_behind, behind_at, Apart, once_append, IsOnce, IsPair}
-use Rattle.vms_check_laws.proofs.SubParts.{part_in, part_number, one_part, StandsIn, all_long, stands_in, look_up, Found}
+use Rattle.vms_check_laws.proofs.Facade.{length-append, [], ◌⊎◌, inl, inr, flat_map, get_or_append_left, get_or-append-add, length-replicate, Cell, desc_cells}
+use Rattle.vms_check_laws.proofs.Facade.{Set, struct_cells, WellFormed, part_partners, Sub, Device, no_cell, device_cells, own_cells, sub_place, sub_size}
+use Rattle.vms_check_laws.proofs.Facade.{sub_place_up, device_parts, sub_clean, sub_found, ArePartners, named_partners, device_partners}
 use Rattle.vms_check_laws.proofs.GoesFields.{part_goes, below_of}
-pub use Rattle.vms_check_laws.proofs.GoesFields.{struct_is}
+use Rattle.vms_check_laws.proofs.PairLists.{AreFrom, IsBehind, at_left, at_none, before_or_behind, behind_at, once_append, IsOnce, IsPair}
+use Rattle.vms_check_laws.proofs.SubParts.{part_in, part_number, one_part, StandsIn, all_long, stands_in, look_up, Found}
 
 module _ (old new : Set) (good_old : WellFormed old) (good_new : WellFormed new) (i : ℕ) (d e : Device) (at_i : slice_get old.devices i ≡ Some d) where
   abbrev old_cells : Sub → List Cell
@@ -27,14 +25,11 @@ module _ (old new : Set) (good_old : WellFormed old) (good_new : WellFormed new)
     pub pairs : (c k : ℕ) → slice_get partners c ≡ Some (Some k) → IsSubPair s c k
     pub once : IsOnce partners
 
-  no_sub : (s : Sub) → OneSub s (sub_partners old new e s None None)
-  no_sub s =
-      let none = at_none (length (old_cells s)) in
-      record { long = length-replicate _ None; pairs = λ c k h. absurd (none c k h); once = λ b c k h g. absurd (none b k h) }
-
   pub one_sub : (j : ℕ) (s : Sub) → slice_get d.subs j ≡ Some s → OneSub s (named_partners old new e s)
   one_sub j s at_j = elim (look_up e.subs s.desc.name) [
-    | inl none ↦ rw none (no_sub s)
+    | inl h ↦
+        let none = at_none (length (old_cells s)) in
+        rw h (record { long = length-replicate _ None; pairs = λ c k f. absurd (none c k f); once = λ b c k f g. absurd (none b k f) })
     | inr f ↦
         let below = below_of _ s.desc _ (sub_clean old good_old i j d s at_i at_j) in
         let p = (part_goes old new good_old good_new [] s.desc.version s.desc f.sub.desc 0 _ below).paired in
@@ -48,10 +43,6 @@ module _ (old new : Set) (good_old : WellFormed old) (good_new : WellFormed new)
       one_part new (own_cells new e) e.subs _ _ k _ _ p.f.there q.f.there (omega arith) (omega arith) (omega arith) (omega arith) in
       let one : p.f.sub ≡ q.f.sub = cc in
       cc
-
-  distinct : (m m' : ℕ) (s s' : Sub) → slice_get d.subs m ≡ Some s → slice_get d.subs m' ≡ Some s' → s.desc.name ≡ s'.desc.name → m ≡ m'
-  distinct m m' s s' f f' n =
-      cc (sub_found old good_old i m d s at_i f, sub_found old good_old i m' d s' at_i f')
 
   -- ---- the device
 
@@ -95,7 +86,8 @@ module _ (old new : Set) (good_old : WellFormed old) (good_new : WellFormed new)
       let y = in_sub c k g in
       let v = x.stands in
       let w = y.stands in
-      let same : v.m ≡ w.m = distinct v.m w.m v.sub w.sub v.there w.there (names_of v.sub w.sub v.c w.c k x.pair y.pair) in
+      let names = names_of v.sub w.sub v.c w.c k x.pair y.pair in
+      let same : v.m ≡ w.m = cc (sub_found old good_old i v.m d v.sub at_i v.there, sub_found old good_old i w.m d w.sub at_i w.there) in
       let one : v.sub ≡ w.sub = cc in
       omega (arith, (one_sub w.m w.sub w.there).once v.c w.c k (rw one at v.here) w.here, ap (sub_place old (own_cells old d) d.subs) same)
 
@@ -125,19 +117,12 @@ module _ (old new : Set) (good_old : WellFormed old) (good_new : WellFormed new)
       rw (before, after) p.kind in
       (omega (arith, length-append us (flat_map new_cells e.subs)), rw (← c_is, ← k_is) at kind)
 
-  apart_own : Apart ps qs
-  apart_own b c k lt behind f g =
-      let z = sub_pair c k behind g in
-      omega (arith, own_pair b k lt f, sub_place_up new (own_cells new e) e.subs z.pair.f.number)
-
   pub device_paired : ArePartners (device_cells old d) (device_cells new e) (device_partners old new d e)
   unfolding device_partners
   device_paired =
       record {
         long = omega (arith, own.long, all_long old (named_partners old new e) d.subs sized, length-append ps qs, length-append xs (flat_map old_cells d.subs));
         kinds = λ c k f. kinds c k f (before_or_behind _ c);
-        once = once_append ps qs own.once once_in apart_own;
+        once = once_append ps qs own.once once_in (λ b c k lt behind f g.
+            let z = sub_pair c k behind g in omega (arith, own_pair b k lt f, sub_place_up new (own_cells new e) e.subs z.pair.f.number));
       }
-
-pub partners_stand : PartnersLaw
-partners_stand old new good_old good_new i d e there = device_paired old new good_old good_new i d e there

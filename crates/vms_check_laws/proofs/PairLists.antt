@@ -1,8 +1,8 @@
 -- Partners of cells among the cells from a place on; numbers that are in the bytes, or at their defaults.
 use Rattle.vms_check_laws.proofs.Facade.{◌≡◌, ◌⊎◌, inl, inr, ℕ, zero, suc, ◌+◌, ◌-◌, ◌<◌, ◌≤◌, List, ◌∷◌, ◌++◌, length, get_or, replicate, Option, Some, None}
 use Rattle.vms_check_laws.proofs.Facade.{refl, sym, ap, ◌∙◌, arith, slice_get, get_or_append_left, get_or-append-add, length-replicate, cases_lt, ℤ, pos}
-use Rattle.vms_check_laws.proofs.Facade.{true, length-append, length-map, eq-eqb, Bool, if◌then◌else◌, [], false, ◌||◌, or-false, or_parts}
-use Rattle.vms_check_laws.proofs.Facade.{false_from_ne_true, slice_get_within, Cell, no_cell, Kind, Item, Num, Slot, Number, item_cells, has_cell, has_left}
+use Rattle.vms_check_laws.proofs.Facade.{true, length-append, length-map, Bool, if◌then◌else◌, [], false, or-false, or_parts}
+use Rattle.vms_check_laws.proofs.Facade.{false_from_ne_true, slice_get_within, Cell, no_cell, Kind, Item, Num, Slot, item_cells, has_cell, has_left}
 use Rattle.vms_check_laws.proofs.Facade.{has_right, defaults, names_append, defaults_at, defaults_long, either_of}
 
 abbrev pub one_cell : Kind → List ℕ → ℤ → List Cell
@@ -25,8 +25,7 @@ pub record AreFrom (cells others : List Cell) (at : ℕ) (partners : List (Optio
   pub once : IsOnce partners
 
 pub if_least : (c : Bool) (m most : ℕ) → m ≤ most → (if c then m else 0) ≤ most
-if_least true m most h = h
-if_least false m most h = omega arith
+if_least c m most h = grind arith
 
 -- what holds of none and of these holds of what is there on both sides, if it is
 pub when_there : (P : List Slot → List Slot → Type 0) (s t : Bool) (xs ys : List Slot) → s ≡ t → (s ≡ false → P [] []) → (s ≡ true → P xs ys)
@@ -80,11 +79,12 @@ once_append p q first second apart b c k e f = either (before_or_behind _ b) (be
   either (inr db) (inl lc) = absurd (apart c b k lc db f e)
   either (inr db) (inr dc) = omega (arith, second db.more dc.more k (behind_at p q b db e) (behind_at p q c dc f))
 
-module _ (xs ys us vs : List Cell) (at : ℕ) (p q : List (Option ℕ)) (h : AreFrom xs us at p) (g : AreFrom ys vs (at + length us) q) where
+module _ {xs ys us vs : List Cell} {at next : ℕ} {p q : List (Option ℕ)} (h : AreFrom xs us at p) (seam : next ≡ at + length us)
+    (g : AreFrom ys vs next q) where
   pair_left : (c k : ℕ) → c < length p → slice_get (p ++ q) c ≡ Some (Some k) → IsPair xs us at c k
   pair_left c k lt e = h.pairs c k (sym (at_left p q c lt) ∙ e)
 
-  pair_right : (c k : ℕ) (b : IsBehind (length p) c) → slice_get (p ++ q) c ≡ Some (Some k) → IsPair ys vs (at + length us) b.more k
+  pair_right : (c k : ℕ) (b : IsBehind (length p) c) → slice_get (p ++ q) c ≡ Some (Some k) → IsPair ys vs next b.more k
   pair_right c k b e = g.pairs b.more k (behind_at p q c b e)
 
   pair_either : (c k : ℕ) → slice_get (p ++ q) c ≡ Some (Some k) → (c < length p) ⊎ IsBehind (length p) c → IsPair (xs ++ ys) (us ++ vs) at c k
@@ -98,23 +98,12 @@ module _ (xs ys us vs : List Cell) (at : ℕ) (p q : List (Option ℕ)) (h : Are
       let kind = rw (← (get_or-append-add xs ys b.more no_cell), ← (get_or-append-add us vs i.r no_cell), place) at i.kind in
       record { r = length us + i.r; is = omega arith; inside = omega (arith, length-append us vs); kind = kind }
 
-  apart : Apart p q
-  apart b c k lt d e f = omega (arith, pair_left b k lt e, pair_right c k d f)
-
-  joined : AreFrom (xs ++ ys) (us ++ vs) at (p ++ q)
-  joined = record {
+  pub paired_append : AreFrom (xs ++ ys) (us ++ vs) at (p ++ q)
+  paired_append = record {
     long = omega (arith, length-append p q, length-append xs ys);
     pairs = λ c k e. pair_either c k e (before_or_behind _ c);
-    once = once_append p q h.once g.once apart;
+    once = once_append p q h.once g.once (λ b c k lt d e f. omega (arith, pair_left b k lt e, pair_right c k d f));
   }
-
-pub paired_append : {xs ys us vs : List Cell} {at next : ℕ} {p q : List (Option ℕ)} → AreFrom xs us at p → next ≡ at + length us → AreFrom ys vs next q
-    → AreFrom (xs ++ ys) (us ++ vs) at (p ++ q)
-paired_append h e g = joined _ _ _ _ _ _ _ h (rw e at g)
-
-pub paired_skip : {ys others : List Cell} {at : ℕ} {p : List (Option ℕ)} (xs : List Cell) (n : ℕ) → n ≡ length xs → AreFrom ys others at p
-    → AreFrom (xs ++ ys) others at (replicate n None ++ p)
-paired_skip {at = at} xs n e h = paired_append (paired_none xs [] at n e) (omega arith) h
 
 pub record Settled (slots : List Slot) (at : ℕ) (cells : List Cell) (segment : List ℤ) : Type 0 where
   pub each : (c : ℕ) → c < length segment → (has_cell slots (at + c) ≡ true) ⊎ (get_or segment c (pos 0) ≡ get_or (defaults cells) c (pos 0))
@@ -131,9 +120,6 @@ settled_empty slots at cells segment e = record { each = λ c lt. absurd (omega 
 pub defaults_append : (xs ys : List Cell) → defaults (xs ++ ys) ≡ defaults xs ++ defaults ys
 defaults_append [] ys = refl
 defaults_append (x ∷ xs) ys = rw (defaults_append xs ys)
-
-pub has_itself : (y : ℕ) (k : Kind) (caps : List ℕ) → has_cell (Number y k caps ∷ []) y ≡ true
-has_itself y k caps = rw (eq-eqb y y refl)
 
 pub settled_append : {s t : List Slot} {at next : ℕ} {xs ys : List Cell} {zs us : List ℤ} → length zs ≡ length xs → Settled s at xs zs → next ≡ at + length zs
     → Settled t next ys us → Settled (s ++ t) at (xs ++ ys) (zs ++ us)
@@ -174,14 +160,16 @@ pub record Goes (cells others : List Cell) (numbers : List ℤ) (slots : List Sl
   pub other : (r : ℕ) → r < length others → ((c : ℕ) → slice_get partners c ≡ Some (Some (at' + r)) → has_cell slots (at + c) ≡ false)
       → get_or segment r (pos 0) ≡ (get_or others r no_cell).default
 
-pub none_within : (at size : ℕ) → IsWithin at size []
-none_within at size = record { in_range = λ c h. absurd (cc) }
-
 -- if none of the cells is in the bytes, all is default
 pub goes_absent : {cells others : List Cell} {numbers : List ℤ} {at at' : ℕ} {partners : List (Option ℕ)} → AreFrom cells others at' partners
     → Goes cells others numbers [] at at' partners (defaults others)
-goes_absent {cells} {others} {numbers} {at} {at'} h =
-    record { paired = h; within = none_within at _; long = defaults_long others; taken = λ c r e f. absurd (cc); other = λ r lt f. defaults_at others r }
+goes_absent {others} h = record {
+  paired = h;
+  within = record { in_range = λ c h. absurd (cc) };
+  long = defaults_long others;
+  taken = λ c r e f. absurd (cc);
+  other = λ r lt f. defaults_at others r;
+}
 
 -- and where none has a partner
 pub goes_alone : {cells others : List Cell} {numbers : List ℤ} {slots : List Slot} {at at' : ℕ} {segment : List ℤ} (n : ℕ) → n ≡ length cells
@@ -194,33 +182,19 @@ goes_alone {cells} {others} {numbers} {slots} {at} {at'} n e w is = record {
   other = λ r lt f. rw is (defaults_at others r);
 }
 
-within_append : (at m n : ℕ) (xs ys : List Slot) → IsWithin at m xs → IsWithin (at + m) n ys → IsWithin at (m + n) (xs ++ ys)
-within_append at m n xs ys p q = record {
-  in_range = λ c h.
-      either_of (has_cell xs c) (has_cell ys c) (sym (names_append xs ys c) ∙ h) (λ e. (let r = p.in_range c e in (r.0, omega arith)))
-      (λ e. (let r = q.in_range c e in (omega arith, omega arith)));
-}
-
-module _ (cells_a cells_b others_a others_b : List Cell) (numbers : List ℤ) (xs ys : List Slot) (at at' : ℕ) (p q : List (Option ℕ)) (s t : List ℤ)
-    (h : Goes cells_a others_a numbers xs at at' p s) (g : Goes cells_b others_b numbers ys (at + length cells_a) (at' + length others_a) q t) where
-  abbrev next : ℕ
-  next = at + length cells_a
-
+-- one run after the other
+module _ {cells_a cells_b others_a others_b : List Cell} {numbers : List ℤ} {xs ys : List Slot} {at at' next next' : ℕ} {p q : List (Option ℕ)} {s t : List ℤ}
+    (h : Goes cells_a others_a numbers xs at at' p s) (seam : next ≡ at + length cells_a) (seam' : next' ≡ at' + length others_a)
+    (g : Goes cells_b others_b numbers ys next next' q t) where
   -- before the seam the second slots have none, and after it the first
-  second_none : (c : ℕ) → c < next → has_cell ys c ≡ false
-  second_none c lt = false_from_ne_true _ (λ e. omega (arith, (g.within.in_range c e).0))
-
-  first_none : (c : ℕ) → next ≤ c → has_cell xs c ≡ false
-  first_none c le = false_from_ne_true _ (λ e. omega (arith, (h.within.in_range c e).1))
-
   has_first : (c : ℕ) → c < next → has_cell (xs ++ ys) c ≡ has_cell xs c
-  has_first c lt = names_append xs ys c ∙ ap (λ b. has_cell xs c || b) (second_none c lt) ∙ or-false (has_cell xs c)
+  has_first c lt = rw (names_append xs ys c, false_from_ne_true (has_cell ys c) (λ e. omega (arith, (g.within.in_range c e).0)), or-false (has_cell xs c))
 
   has_second : (c : ℕ) → next ≤ c → has_cell (xs ++ ys) c ≡ has_cell ys c
-  has_second c le = names_append xs ys c ∙ ap (λ b. b || has_cell ys c) (first_none c le)
+  has_second c le = rw (names_append xs ys c, false_from_ne_true (has_cell xs c) (λ e. omega (arith, (h.within.in_range c e).1)))
 
   paired : AreFrom (cells_a ++ cells_b) (others_a ++ others_b) at' (p ++ q)
-  paired = paired_append h.paired refl g.paired
+  paired = paired_append h.paired seam' g.paired
 
   abbrev HasIt : ℕ → ℕ → Type 0
   HasIt c r = slice_get (p ++ q) c ≡ Some (Some (at' + r))
@@ -246,25 +220,22 @@ module _ (cells_a cells_b others_a others_b : List Cell) (numbers : List ℤ) (x
       (or_parts _ _ (sym (names_append xs ys (at + c)) ∙ f c (at_left p q c (slice_get_within p c (Some (at' + r)) e) ∙ e))).0))
   other_at r lt f (inr b) =
       let s_is : length s ≡ length others_a = omega arith in
-      let k_is : (at' + length others_a) + b.more ≡ at' + r = omega arith in
-      let none : (c : ℕ) → slice_get q c ≡ Some (Some ((at' + length others_a) + b.more)) → has_cell ys (next + c) ≡ false = λ c e.
+      let k_is : next' + b.more ≡ at' + r = omega arith in
+      let none : (c : ℕ) → slice_get q c ≡ Some (Some (next' + b.more)) → has_cell ys (next + c) ≡ false = λ c e.
       let c_is : at + (length p + c) ≡ next + c = omega arith in
       rw (has_second (at + (length p + c)) (omega arith), c_is) at (f (length p + c) (at_right p q c ∙ rw k_is at e)) in
       rw (b.is, get_or-append-add others_a others_b b.more no_cell, ← s_is, get_or-append-add s t b.more (pos 0))
       (g.other b.more (omega (arith, length-append others_a others_b)) none)
 
-  runs_joined : Goes (cells_a ++ cells_b) (others_a ++ others_b) numbers (xs ++ ys) at at' (p ++ q) (s ++ t)
-  runs_joined = record {
+  pub goes_append : Goes (cells_a ++ cells_b) (others_a ++ others_b) numbers (xs ++ ys) at at' (p ++ q) (s ++ t)
+  goes_append = record {
     paired = paired;
-    within = rw length-append (within_append at _ _ xs ys h.within g.within);
+    within = rw length-append (record {
+      in_range = λ c e.
+          either_of (has_cell xs c) (has_cell ys c) (sym (names_append xs ys c) ∙ e) (λ f. (let r = h.within.in_range c f in (r.0, omega arith)))
+          (λ f. (let r = g.within.in_range c f in (omega arith, omega arith)));
+    });
     long = omega (arith, length-append s t, length-append others_a others_b);
     taken = λ c r e f. taken_at c r e f (before_or_behind _ c);
     other = λ r lt f. other_at r lt f (before_or_behind _ r);
   }
-
--- one run after the other
-pub goes_append : {cells_a cells_b others_a others_b : List Cell} {numbers : List ℤ} {xs ys : List Slot} {at at' next next' : ℕ} {p q : List (Option ℕ)}
-    {s t : List ℤ} → Goes cells_a others_a numbers xs at at' p s
-    → next ≡ at + length cells_a → next' ≡ at' + length others_a → Goes cells_b others_b numbers ys next next' q t
-    → Goes (cells_a ++ cells_b) (others_a ++ others_b) numbers (xs ++ ys) at at' (p ++ q) (s ++ t)
-goes_append h e e' g = runs_joined _ _ _ _ _ _ _ _ _ _ _ _ _ h (rw (e, e') at g)

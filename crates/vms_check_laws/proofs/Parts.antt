@@ -1,21 +1,18 @@
 -- Structures on both sides, by induction on the number of the newer one, and parts of devices.
+use Rattle.vms_check_laws.proofs.{Counts.old_fields, Counts.StructsGood, Counts.plains_further, Counts.DescGood, FieldsRead.fields_sized, FieldsRead.pair_reads}
+use Rattle.vms_check_laws.proofs.{PairLists.Settled, PairLists.settled_defaults, PairLists.settled_append, PairLists.settled_empty, Segments.holds_left}
+use Rattle.vms_check_laws.proofs.{Segments.holds_right, Good.structs_good, Good.device_good, Good.sub_good, AlignedDescs.Clashes, AlignedDescs.front_aligns}
+use Rattle.vms_check_laws.proofs.Descriptions.{desc_meets, sides, desc_clashes, first_state, good_fields}
 use Rattle.vms_check_laws.proofs.Facade.{◌≡◌, ℕ, ◌<◌, ◌≤◌, List, length, get_or, None, sym, ap, ◌∙◌, arith, ℤ, [], ◌⊎◌, inl, inr, zero, suc, ◌+◌, ◌∷◌, map}
 use Rattle.vms_check_laws.proofs.Facade.{Option, Some, refl, flat_map, slice_get, cells_in, Desc, no_desc, Cell, Meaning, meanings, desc_cells, first_long}
 use Rattle.vms_check_laws.proofs.Facade.{struct_slots, struct_cells_at, Comparer, no_comparer, comparer_of, comparers, Carrier, no_carrier, carrier_of}
 use Rattle.vms_check_laws.proofs.Facade.{carriers, FitsAt, first_at, Part, Set, struct_cells, desc_slots, WellFormed, compare_desc, comparing, carry_desc}
 use Rattle.vms_check_laws.proofs.Facade.{carrying, cells_first, Holds, Sub, Device, Image, IsVersionOf, AreVersionsOf, RulesHold, sub_slots, sub_place}
 use Rattle.vms_check_laws.proofs.Facade.{came_slots, carried_sub, defaults, rules_append, ◌++◌, Spells, zeroed, own_slots, present, position_from}
-use Rattle.vms_check_laws.proofs.Facade.{is_earlier_in, Field, numbers_of, Entry, IsPartOf, IsRead, PositionLaw, AlignedLaw, FrontAligns}
-use Rattle.vms_spec.specs.declared.Part.TheVariants as parts
+use Rattle.vms_check_laws.proofs.Facade.{is_earlier_in, Field, numbers_of, Entry, IsPartOf, IsRead, FrontAligns}
 use Rattle.vms_check_laws.proofs.Premises.{Table, by_less, Meets, fields_below, Reads, GoodCells, FitCells, fit_append, fit_defaults, fit_length, IsKnown}
 use Rattle.vms_check_laws.proofs.Premises.{AreKnown, all_known, PairGood, Two, Sides, OldFields, Met, Row}
-use Rattle.vms_check_laws.proofs.Counts.{old_fields, StructsGood, plains_further, DescGood}
-use Rattle.vms_check_laws.proofs.Descriptions.{desc_meets, sides, desc_clashes, first_state, good_fields}
-use Rattle.vms_check_laws.proofs.FieldsRead.{fields_sized, pair_reads}
-use Rattle.vms_check_laws.proofs.PairLists.{Settled, settled_defaults, settled_append, settled_empty}
-use Rattle.vms_check_laws.proofs.Segments.{holds_left, holds_right}
-use Rattle.vms_check_laws.proofs.Good.{structs_good, device_good, sub_good}
-use Rattle.vms_check_laws.proofs.AlignedDescs.{Clashes, front_aligns}
+use Rattle.vms_spec.specs.declared.Part.TheVariants as parts
 
 abbrev pub meanings_of : List Desc → List Meaning
 meanings_of ds = meanings ds (length ds)
@@ -174,31 +171,21 @@ module _ (old new : Set) (good_old : WellFormed old) (good_new : WellFormed new)
     plain : FitsAt (desc_cells (cells_in ms) a) numbers at → OldFields (length old.structs) (λ k. numbers_of (cells_in ms) a numbers at k) a.fields
     plain fits = old_fields _ _ _ _ at fits (part_good old good_old a of_old).old
 
-    read_in : IsRead old new a b v part part' numbers numbers' at at' (cells_in ms) (cells_in ns)
-    read_in p e f h =
+    pub position_stands : IsRead old new a b v part part' numbers numbers' at at' (struct_cells old) (struct_cells new)
+    position_stands = to_cells (λ x y. IsRead old new a b v part part' numbers numbers' at at' x y) (λ p e f h.
         let k = known_at ms a.fields v numbers at es p e h.on_old (all_known ms a.fields v numbers at) in
         let k' = known_at ns b.fields v numbers' at' fs p f h.on_new (all_known ns b.fields v numbers' at') in
         let met : Met here e f = record { good = record { rules = h.rules; structs = h.structs }; known = k; known' = k' } in
         let old_f = plain h.fits e.index e.field k.field in
         let new_f = good.earlier f.index f.field k'.field in
-        (pair_reads here (is_earlier_in b f.index) e f (record { met = met; old = old_f; new = new_f; fits = k.fits h.fits; agree = h.agree }) h.held).carries
+        (pair_reads here (is_earlier_in b f.index) e f (record { met = met; old = old_f; new = new_f; fits = k.fits h.fits; agree = h.agree }) h.held).carries)
 
-    front_in : FrontAligns old new a b v part part' numbers numbers' at at' (cells_in ms) (cells_in ns)
-    front_in p h =
+    pub aligned_stands : FrontAligns old new a b v part part' numbers numbers' at at' (struct_cells old) (struct_cells new)
+    aligned_stands = to_cells (λ x y. FrontAligns old new a b v part part' numbers numbers' at at' x y) (λ p h.
         let first : (q : ℕ) (e f : Entry) → q < p → slice_get es q ≡ Some e → slice_get fs q ≡ Some f → PairGood here.two e f = λ q e f lt x y.
         let d = h.paired q e f lt x y in
         record { rules = d.rules; structs = d.structs } in
-        front_aligns here good.earlier (plain h.fits) h.fits p es fs 0 0 h.on_old h.on_new first (first_state (all_tables _ _) a b v v part part' at at')
-
-pub position_stands : PositionLaw
-position_stands old new good_old good_new a b of_old of_new v part part' numbers numbers' at at' =
-    to_cells old new good_old good_new (λ x y. IsRead old new a b v part part' numbers numbers' at at' x y)
-    (read_in old new good_old good_new a b of_old of_new v part part' _ _ at at')
-
-pub aligned_stands : AlignedLaw
-aligned_stands old new good_old good_new a b of_old of_new v part part' numbers numbers' at at' =
-    to_cells old new good_old good_new (λ x y. FrontAligns old new a b v part part' numbers numbers' at at' x y)
-    (front_in old new good_old good_new a b of_old of_new v part part' _ _ at at')
+        front_aligns here good.earlier (plain h.fits) h.fits p es fs 0 0 h.on_old h.on_new first (first_state (all_tables _ _) a b v v part part' at at'))
 
 module _ (old new : Set) (good_old : WellFormed old) (good_new : WellFormed new) (d e : Device) (image : Image) (numbers' : List ℤ)
     (came_of : Sub → Option ℕ) where

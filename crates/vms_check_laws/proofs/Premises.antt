@@ -1,20 +1,18 @@
 -- What is known of fields and structures on both sides: present fields paired by position, numbers that fit cells, and premises.
+use Rattle.vms_check_laws.proofs.{Facade.AllZip-long, Positioned.if_is, PairLists.Settled}
 use Rattle.vms_check_laws.proofs.Facade.{◌≡◌, ◌⊎◌, inl, inr, ℕ, Bool, true, List, ◌∷◌, Option, None, and_parts, [], ◌&&◌, zero, suc, ◌+◌, ◌<◌, ◌++◌, length}
 use Rattle.vms_check_laws.proofs.Facade.{get_or, refl, arith, ℤ, pos, ◌≤◌, Some, slice_get, eqb-true, if◌then◌else◌, ◌*◌, ◌∙◌, ◌==◌, get_or_from_slice_get}
-use Rattle.vms_check_laws.proofs.Facade.{Item, Desc, counted, in_field, Part, Entry, same_rest, same_count, same_item, same_constant, is_covered}
-use Rattle.vms_check_laws.proofs.Facade.{holds_as_much, absent_hold, bound, Comparer, failing_pair, pair_rules, pair_structs, compare_fields, passes}
-use Rattle.vms_check_laws.proofs.Facade.{ItemBelow, or_else_none, names_match, Cell, no_cell, times, defaults, FitsCell, cells_in, Equal, Unused, Count}
-use Rattle.vms_check_laws.proofs.Facade.{Counted, Formula, Field, Meaning, no_meaning, item_cells, names_well, nobody, is_one, no_comparer, Carrier}
-use Rattle.vms_check_laws.proofs.Facade.{no_carrier, Holds, FitsAt, Carries, Aligns, FieldsBelow, Slot, is_earlier_in, Num, Filler, Fixed, Kind, One}
-use Rattle.vms_check_laws.proofs.Facade.{cells_from, elements_of, entry_of, field_cells, here, is_there, item_slots, kind_of, no_parent, presence}
-use Rattle.vms_check_laws.proofs.Facade.{present_from, residue, same_kind, slots_from, width, zeroed, U8, U16, U32, U64, I8, I16, I32, I64, Timer, no_field}
-use Rattle.vms_check_laws.proofs.Facade.{field_slots, place_of, kind_number, AllByRecursion, AllZip, flat_map, AllZip-long}
+use Rattle.vms_check_laws.proofs.Facade.{Item, Desc, counted, in_field, Part, Entry, same_rest, same_count, same_item, same_constant, is_covered, holds_as_much}
+use Rattle.vms_check_laws.proofs.Facade.{absent_hold, bound, Comparer, failing_pair, pair_rules, pair_structs, compare_fields, passes, ItemBelow, or_else_none}
+use Rattle.vms_check_laws.proofs.Facade.{names_match, Cell, no_cell, times, defaults, FitsCell, cells_in, Equal, Unused, Count, Counted, Formula, Field}
+use Rattle.vms_check_laws.proofs.Facade.{Meaning, no_meaning, names_well, nobody, is_one, no_comparer, Carrier, no_carrier, Holds, FitsAt, Carries, Aligns}
+use Rattle.vms_check_laws.proofs.Facade.{FieldsBelow, Slot, is_earlier_in, Num, Filler, Fixed, Kind, One, cells_from, elements_of, entry_of, field_cells, here}
+use Rattle.vms_check_laws.proofs.Facade.{is_there, item_slots, kind_of, presence, present_from, residue, same_kind, slots_from, width, zeroed, U8, U16, U32}
+use Rattle.vms_check_laws.proofs.Facade.{U64, I8, I16, I32, I64, Timer, no_field, field_slots, place_of, kind_number, AllByRecursion, AllZip, flat_map}
+use Rattle.vms_check_laws.proofs.Presence.{NamedRest, constant_length, numbers_length, presence_there}
+use Rattle.vms_check_laws.proofs.Segments.{fits_at, fits_left, fits_right, one_on, at_first, from_zero}
 use Rattle.vms_spec.specs.Images.{FitCells as AreFit}
 use Rattle.vms_kinds.specs.declared.Kind.TheVariants.{Bool as Truth}
-use Rattle.vms_check_laws.proofs.Positioned.{if_is}
-use Rattle.vms_check_laws.proofs.Presence.{NamedRest, covers_unused, constant_length, numbers_length, presence_there}
-use Rattle.vms_check_laws.proofs.PairLists.{Settled}
-use Rattle.vms_check_laws.proofs.Segments.{fits_at, fits_left, fits_right, one_on, at_first, from_zero}
 
 -- two descriptions at their versions, by the rules of their structures: which parts they are, and where their numbers are among the fields
 pub record Two : Type 0 where
@@ -112,9 +110,6 @@ good_times zero xs at step h = tt
 good_times (suc n) xs at step h = good_append xs _ h (good_times n xs (at + step) step h)
 
 -- ---- what fields and structures on both sides need
-
-pub covered_empty : (y : List (List Cell)) (i : Item) (c : Count) (j : Item) → is_covered i c j ≡ true → length (item_cells y j [] (pos 0)) ≡ 0
-covered_empty y i c j covers = rw (covers_unused i c j covers).1
 
 -- what follows of a number from all below it holds of each
 pub by_less : (P : ℕ → Type 0) → ((k : ℕ) → ((j : ℕ) → j < k → P j) → P k) → (k j : ℕ) → j < k → P j
@@ -288,14 +283,11 @@ module _ (structs : List Meaning) (all : List Field) (v : ℕ) (numbers : List �
   abbrev pub AreKnown : List Entry → Type 0
   AreKnown es = AllByRecursion IsKnown es
 
-  own_is : (i p : ℕ) (f : Field) → slice_get all i ≡ Some f → place i ≡ base + p
-      → own_of i ≡ residue (width (kind_of f.item)) (get_or numbers (base + p) (pos 0))
-  own_is i p f h e = rw (get_or_from_slice_get all i f _ h, e)
-
   entry_known : (i p : ℕ) (f : Field) (pr : Option (Option Formula)) (es : List Entry) → presence v f.test f.since ≡ pr → slice_get all i ≡ Some f
       → place i ≡ base + p → (Whole → FitsAt (field_cells (cells_in structs) all i f) numbers (base + p)) → AreKnown es → AreKnown (entry_of i p f pr ++ es)
   entry_known i p f None es h field here fits known = known
-  entry_known i p f (Some rest) es h field here fits known = (record { field = field; number = own_is i p f field here; left = h; fits = fits }, known)
+  entry_known i p f (Some rest) es h field here fits known =
+      (record { field = field; number = rw (get_or_from_slice_get all i f _ field, here); left = h; fits = fits }, known)
 
   pub entries_known : (i p : ℕ) (fs : List Field) → ((k : ℕ) → slice_get all (i + k) ≡ slice_get fs k)
       → ((k : ℕ) → place (i + k) ≡ place_of (cells_in structs) all i (base + p) fs k)
@@ -305,8 +297,7 @@ module _ (structs : List Meaning) (all : List Field) (v : ℕ) (numbers : List �
       let len = length (field_cells (cells_in structs) all i f) in
       let e : (base + p) + len ≡ base + (p + len) = omega arith in
       entry_known i p f _ _ refl (at_first (slice_get all) i items) (at_first place i places) (λ whole. fits_left _ (fits whole))
-      (entries_known (suc i) (p + len) fs (one_on (slice_get all) i items)
-      (λ k. one_on place i places k ∙ rw e)
+      (entries_known (suc i) (p + len) fs (one_on (slice_get all) i items) (λ k. one_on place i places k ∙ rw e)
       (λ whole. fits_at (omega arith) (fits_right (field_cells (cells_in structs) all i f) (fits whole))))
 
   pub all_known : AreKnown (present_from (cells_in structs) all v 0 0 all)

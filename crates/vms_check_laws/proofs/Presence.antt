@@ -4,7 +4,7 @@ use Rattle.vms_check_laws.proofs.Facade.{◌≡◌, ℕ, Bool, true, false, Opti
 use Rattle.vms_check_laws.proofs.Facade.{and_from, zero, suc, ◌+◌, ◌*◌, List, ◌∷◌, ◌++◌, length, get_or, arith, ℤ, pos, length-append, length-replicate, []}
 use Rattle.vms_check_laws.proofs.Facade.{Formula, truth, is_there, Reduced, Known, Open, reduced, left_of, presence, truth_of, reduced_holds, Rel, Eq, Ne, Lt}
 use Rattle.vms_check_laws.proofs.Facade.{Ge, Own, Not, And, Or, names_well, nobody, same_place, same_test, same_rest, same_reduced, rel_number, IfOpen}
-use Rattle.vms_check_laws.proofs.Facade.{IsByParts, open_reduced, Kind, Item, Num, Equal, Unused, width, Count, One, Fixed, Field, Number, Constant, times}
+use Rattle.vms_check_laws.proofs.Facade.{open_reduced, Kind, Item, Num, Equal, Unused, width, Count, One, Fixed, Field, Number, Constant, times}
 use Rattle.vms_check_laws.proofs.Facade.{zeroed, is_steady, is_num, is_one, has_no_test, length-code, is_covered, Holds, Filler}
 use Rattle.vms_spec.specs.Sets.{Cell}
 
@@ -19,8 +19,7 @@ left_there (Known true) v own parent = refl
 left_there _ v own parent = refl
 
 pub presence_there : (test : Option Formula) (since v : ℕ) (own parent : ℕ → ℕ) → is_there test since v own parent ≡ there (presence v test since) v own parent
-presence_there None since v own parent =
-    elim (nat_le since v) as (λ b. b ≡ there (if b then Some None else None) v own parent) [ true ↦ refl | false ↦ refl ]
+presence_there None since v own parent = elim (nat_le since v) as (λ b. b ≡ there (if b then Some None else None) v own parent) [ true ↦ refl | false ↦ refl ]
 presence_there (Some t) since v own parent = sym (left_there (reduced v t) v own parent ∙ reduced_holds t v own parent)
 
 -- a number's relation
@@ -30,9 +29,6 @@ rel_of k = if k == 0 then Eq else if k == 1 then Ne else if k == 2 then Lt else 
 rel_back : (r : Rel) → rel_of (rel_number r) ≡ r
 rel_back Eq = refl
 rel_back _ = refl
-
-same_rel : (r s : Rel) → (rel_number r == rel_number s) ≡ true → r ≡ s
-same_rel r s h = cc (rel_back r, eqb-true (rel_number r) (rel_number s) h, rel_back s)
 
 -- numbers that may be named are the same where their positions are
 abbrev pub Agree : (o n : ℕ → Option ℕ) → (ok : ℕ → Bool) → (own own' : ℕ → ℕ) → Type 0
@@ -45,12 +41,11 @@ module _ (ok : ℕ → Bool) where
   abbrev pub Named : Reduced → Type 0
   Named r = IfOpen IsNamed r
 
-  named_by_parts : IsByParts IsNamed
-  named_by_parts = record { of_not = λ t h. h; of_and = λ s t h g. and_from _ _ h g; of_or = λ s t h g. and_from _ _ h g }
-
   -- the rest of a test names what the test names
   pub named_left : (u : ℕ) (t : Formula) → names_well ok nobody t ≡ true → Named (reduced u t)
-  named_left u t h = open_reduced _ named_by_parts ok (λ field mask rel value e. e) u t h
+  named_left u t h =
+      open_reduced IsNamed (record { of_not = λ t h. h; of_and = λ s t h g. and_from _ _ h g; of_or = λ s t h g. and_from _ _ h g }) ok
+      (λ field mask rel value e. e) u t h
 
   abbrev pub NamedRest : Option Formula → Type 0
   NamedRest None = Unit {0}
@@ -77,7 +72,8 @@ module _ (o n : ℕ → Option ℕ) (ok : ℕ → Bool) (own own' parent parent'
       let r = and_parts (same_place (o i) (n j) && mask == mask' && rel_number rel == rel_number rel') (value == value') h in
       let q = and_parts (same_place (o i) (n j) && mask == mask') (rel_number rel == rel_number rel') r.0 in
       let p = and_parts (same_place (o i) (n j)) (mask == mask') q.0 in
-      rw (agree i j good p.0, eqb-true mask mask' p.1, same_rel rel rel' q.1, eqb-true value value' r.1)
+      let rels : rel ≡ rel' = cc (rel_back rel, eqb-true (rel_number rel) (rel_number rel') q.1, rel_back rel') in
+      rw (agree i j good p.0, eqb-true mask mask' p.1, rels, eqb-true value value' r.1)
   same_truth (Not s) (Not t) good h = rw (same_truth s t good h)
   same_truth (And s s') (And t t') good h =
       let p = and_parts (same_test o n s t) (same_test o n s' t') h in
@@ -109,8 +105,7 @@ covers_unused (Num k) (Fixed p) (Unused r) covers = (r, refl)
 covers_unused _ _ _ covers = absurd (cc)
 
 pub not_covered : (i : Item) (c : Count) (j : Item) → is_covered i c j ≡ true → is_num j ≡ true → ⊥
-not_covered i c j covers number =
-    let unused = rw ((covers_unused i c j covers).1) at number in absurd (cc)
+not_covered i c j covers number = let unused = rw ((covers_unused i c j covers).1) at number in absurd (cc)
 
 -- the bytes of n numbers
 pub numbers_length : (numbers : List ℤ) (kind : Kind) (caps : List ℕ) (n at step : ℕ)

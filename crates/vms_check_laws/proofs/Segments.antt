@@ -1,9 +1,9 @@
 -- Segments of numbers, and slots of one side whose bytes are those of the other's. Bytes of both sides at one front: if slots of the
 -- newer set are at the front of what the older set wrote, they take exactly the bytes that it wrote for its own slots.
-use Rattle.vms_check_laws.proofs.Facade.{◌≡◌, ℕ, suc, ◌+◌, List, ◌∷◌, ◌++◌, length, get_or, Bool, IsTrue, refl, ◌∙◌, arith, append_assoc, ℤ, pos}
+use Rattle.vms_check_laws.proofs.Facade.{◌≡◌, ℕ, suc, ◌+◌, List, ◌∷◌, ◌++◌, length, get_or, refl, ◌∙◌, arith, append_assoc, ℤ, pos, Bool}
 use Rattle.vms_check_laws.proofs.Facade.{length-append, get_or_append_left, get_or-append-add, append-nil, ap, sym, [], slice_get, Kind, Cell, no_cell, Slot}
-use Rattle.vms_check_laws.proofs.Facade.{Number, Constant, Filler, Rule, zeroed, Holds, FitsAt, Carries, rules_append, spells_append, width, residue, code}
-use Rattle.vms_check_laws.proofs.Facade.{Spells, length-code, code_read, Aligns, rules_split, big_number, drop-append_seam, take-append_seam}
+use Rattle.vms_check_laws.proofs.Facade.{Number, Constant, Filler, Rule, zeroed, Holds, FitsAt, Carries, rules_append, spells_append, width, code}
+use Rattle.vms_check_laws.proofs.Facade.{Spells, length-code, Aligns, rules_split, drop-append_seam, take-append_seam}
 
 -- the elements from a place on
 abbrev pub RestAt : {A : Type 0} → List A → ℕ → List A → Type 0
@@ -61,19 +61,9 @@ carries_append {x = x} {y = y} {a = a} {b = b} {c = c} {d = d} h k = record {
   rules = λ r. let s = rules_split a c r in rules_append b d (h.rules s.0) (k.rules s.1);
 }
 
-pub carries_number : (x y : List ℤ) (c d : ℕ) (k l : Kind) (p q : List ℕ) → k ≡ l → get_or x c (pos 0) ≡ get_or y d (pos 0)
-    → Carries x (Number c k p ∷ []) y (Number d l q ∷ [])
-carries_number x y c d k l p q e f = record { spells = ([], rw (f, e), refl); rules = λ h. h }
-
-pub carries_constant : (x y : List ℤ) (k l : Kind) (z u : ℤ) → k ≡ l → z ≡ u → Carries x (Constant k z ∷ []) y (Constant l u ∷ [])
-carries_constant x y k l z u e f = record { spells = ([], rw (f, e), refl); rules = λ h. h }
-
 -- unused bytes cover anything of their length
 pub carries_filler : (x y : List ℤ) (a : List Slot) (n : ℕ) → length (zeroed x a) ≡ n → Carries x a y (Filler n ∷ [])
 carries_filler x y a n e = record { spells = (zeroed x a, [], e, sym (append-nil (zeroed x a)), refl); rules = λ h. tt }
-
-pub carries_rule : (x y : List ℤ) (r s : Bool) → (IsTrue r → IsTrue s) → Carries x (Rule r ∷ []) y (Rule s ∷ [])
-carries_rule x y r s f = record { spells = refl; rules = λ h. (f h.0, tt) }
 
 -- ---- lists
 
@@ -103,8 +93,7 @@ spells_split y (Rule r ∷ b) c body s = spells_split y b c body s
 -- the rest after the first of two parts
 pub behind_first : (x : List ℤ) (a c : List Slot) (front rest r r' : List ℕ) → (front ++ rest) ++ r' ≡ zeroed x (a ++ c) ++ r
     → front ++ (rest ++ r') ≡ zeroed x a ++ (zeroed x c ++ r)
-behind_first x a c front rest r r' h =
-    rw (append_assoc front rest r', zeroed_append, append_assoc (zeroed x a) (zeroed x c) r) at h
+behind_first x a c front rest r r' h = rw (append_assoc front rest r', zeroed_append, append_assoc (zeroed x a) (zeroed x c) r) at h
 
 -- ---- slots
 
@@ -136,9 +125,3 @@ aligns_filler x y a n e = aligns_sized x a y _ (λ body s. omega (arith, ap leng
 
 pub aligns_rule : (x y : List ℤ) (r s : Bool) → Aligns x (Rule r ∷ []) y (Rule s ∷ [])
 aligns_rule x y r s = aligns_sized x _ y _ (λ body t. ap length t)
-
--- ---- numbers by their bytes
-
--- numbers of the same bytes are the same modulo 2 ^ (8 w)
-pub same_code : (kind : Kind) (z u : ℤ) → code kind z ≡ code kind u → residue (width kind) z ≡ residue (width kind) u
-same_code kind z u h = sym (code_read kind z) ∙ ap (big_number (width kind)) h ∙ code_read kind u

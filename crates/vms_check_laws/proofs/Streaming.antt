@@ -1,17 +1,15 @@
 -- What the older set writes is a stream of the newer, with the carried images: each device's section is one of the newer set's, and the
 -- order takes each device once.
-use Rattle.vms_check_laws.proofs.Facade.{◌≡◌, ℕ, suc, ◌+◌, Bool, true, false, ◌&&◌, ◌==◌, List, ◌∷◌, Option, Some, None, refl, ◌∙◌, arith, slice_get}
-use Rattle.vms_check_laws.proofs.Facade.{bytes_eq, bytes_eq-Decides, and_parts, eqb-true, inr, ◌≤◌, length, map, get_or, list_all, IfSome, length-map, ap, []}
-use Rattle.vms_check_laws.proofs.Facade.{inl, sym, first_answer, Device, Set, find_device, index, WellFormed, here, Mismatch, failing_pair, compare_device}
-use Rattle.vms_check_laws.proofs.Facade.{paired_device, is_found, is_in, passes, device_found, Image, HasSection, SectionsSpell, IsReady, EachOnce, is_one_of}
-use Rattle.vms_check_laws.proofs.Facade.{written_section, written_sections, is_version_of, Compatible, first_mismatch, comparing, compare_subs, carried}
-use Rattle.vms_check_laws.proofs.Facade.{carried_device, carried_at, no_image, ArePaired, DeviceLaw, or_else_none, IsStream, IsConfiguration, configuration}
-use Rattle.vms_check_laws.proofs.Facade.{trailer, optional, longest_text, written, AreReady, every_one, machine_short, few_devices, UpgradeLaw, trailed}
-use Rattle.vms_check_laws.proofs.Facade.{answers_none, option_and_then}
-use Rattle.vms_spec.specs.declared.Part.TheVariants as parts
+use Rattle.vms_check_laws.proofs.{Facade.option_and_then, Segments.RestAt, Segments.at_first, Segments.one_on, Segments.from_zero, Positioned.if_is}
+use Rattle.vms_check_laws.proofs.Facade.{◌≡◌, ℕ, suc, ◌+◌, Bool, true, false, ◌&&◌, ◌==◌, List, ◌∷◌, Option, Some, None, refl, ◌∙◌, arith, slice_get, bytes_eq}
+use Rattle.vms_check_laws.proofs.Facade.{bytes_eq-Decides, and_parts, eqb-true, inr, ◌≤◌, length, map, get_or, list_all, IfSome, length-map, ap, [], inl, sym}
+use Rattle.vms_check_laws.proofs.Facade.{first_answer, Device, Set, find_device, index, WellFormed, here, Mismatch, failing_pair, compare_device, paired_device}
+use Rattle.vms_check_laws.proofs.Facade.{is_found, is_in, passes, device_found, Image, HasSection, SectionsSpell, IsReady, EachOnce, is_one_of, written_section}
+use Rattle.vms_check_laws.proofs.Facade.{written_sections, is_version_of, Compatible, first_mismatch, comparing, compare_subs, carried, carried_device}
+use Rattle.vms_check_laws.proofs.Facade.{carried_at, no_image, ArePaired, DeviceLaw, or_else_none, IsStream, IsConfiguration, configuration, trailer, optional}
+use Rattle.vms_check_laws.proofs.Facade.{longest_text, written, AreReady, every_one, machine_short, few_devices, UpgradeLaw, trailed, answers_none}
 use Rattle.vms_check_laws.proofs.Wholes.{saved, Among, section_whole, at_map, from_map, Rises, takes_each, all_came}
-use Rattle.vms_check_laws.proofs.Segments.{RestAt, at_first, one_on, from_zero}
-use Rattle.vms_check_laws.proofs.Positioned.{if_is}
+use Rattle.vms_spec.specs.declared.Part.TheVariants as parts
 
 -- ---- devices by name and instance
 
@@ -114,13 +112,6 @@ module _ (old new : Set) (good_old : WellFormed old) (good_new : WellFormed new)
   pub all_in : first_answer (λ i d. failing_pair ((2, is_in new d) ∷ []) (here (parts.Device i)) (here parts.Set)) 0 old.devices ≡ None
   all_in = rules.olds
 
-  -- and no rule fails of the two
-  compared_none : (i : ℕ) (d : Device) → slice_get old.devices i ≡ Some d → (p : Pair old new good_old all_in i d)
-      → compare_device old new i d (Some p.number) (Some p.device) ≡ None
-  compared_none i d e p =
-      let z : i ≡ 0 + i = omega arith in
-      rw (← p.compared_is, z) (answers_none (λ i d. compared old new i d) 0 _ rules.devices i d e)
-
   -- ---- each of new's devices has one section
 
   each_new : (k : ℕ) → slice_get (map (λ (d : Device). false) new.devices) k ≡ Some false → Among k (device_order new old.devices)
@@ -181,8 +172,11 @@ module _ (old new : Set) (good_old : WellFormed old) (good_new : WellFormed new)
         let p = pair old new good_old all_in i d e in
         let front = written_section old d im i in
         let image_is : slice_get (carried old new images) p.number ≡ Some (carried_device old new d p.device im) = image_at i d e p ∙ rw im_is in
+        let z : i ≡ 0 + i = omega arith in
+        let fine : compare_device old new i d (Some p.number) (Some p.device) ≡ None =
+        rw (← p.compared_is, z) (answers_none (λ i d. compared old new i d) 0 _ rules.devices i d e) in
         let paired : ArePaired old new i p.number d p.device =
-        record { in_old = e; in_new = p.stands; names = sym p.name_is; instances = sym p.instance_is; rules = compared_none i d e p } in
+        record { in_old = e; in_new = p.stands; names = sym p.name_is; instances = sym p.instance_is; rules = fine } in
         let at_number : HasSection new true p.number (slice_get new.devices p.number) (slice_get (carried old new images) p.number) front =
         rw (p.stands, image_is)
         (i, device_stands old new good_old good_new i p.number d p.device paired im i (saved old d im (ready 0 d im refl refl)) (omega arith)) in

@@ -1,12 +1,11 @@
 -- The subsections of a device: by name, the part that each has of a list, and the cells that are in the bytes. Each cell of a device
 -- after its own fields is one of a subsection.
+use Rattle.vms_check_laws.proofs.{Segments.RestAt, Segments.at_first, Segments.one_on, Segments.from_zero, Positioned.if_is}
 use Rattle.vms_check_laws.proofs.Facade.{◌≡◌, ◌⊎◌, inl, inr, ℕ, zero, suc, ◌+◌, ◌<◌, ◌≤◌, Bool, true, false, ◌||◌, List, ◌∷◌, ◌++◌, length, get_or, Option}
 use Rattle.vms_check_laws.proofs.Facade.{Some, None, ℤ, refl, sym, ◌∙◌, arith, flat_map, slice_get, length-append, bytes_eq, bytes_eq-Decides, cases_lt, []}
 use Rattle.vms_check_laws.proofs.Facade.{slice_get-get_or, Sub, Device, Set, Cell, desc_cells, device_cells, struct_cells, has_cell, own_cells, came_slots}
 use Rattle.vms_check_laws.proofs.Facade.{sub_slots, sub_place, find_sub, names_append, sub_size, places_apart, IsCellOf}
 use Rattle.vms_check_laws.proofs.PairLists.{IsBehind, at_left, at_right, before_or_behind, behind_at}
-use Rattle.vms_check_laws.proofs.Segments.{RestAt, at_first, one_on, from_zero}
-use Rattle.vms_check_laws.proofs.Positioned.{if_is}
 
 -- ---- what has a name, and where it is
 
@@ -53,8 +52,7 @@ module _ {A : Type 0} (set : Set) (f : Sub → List A) where
 
   pub stands_in : (from : ℕ) (subs : List Sub) (b : ℕ) (o : A) → Sized subs → slice_get (flat_map f subs) b ≡ Some o → StandsIn from subs b o
   stands_in from [] b o size e = absurd (cc)
-  stands_in from (s ∷ subs) b o size e =
-      go (before_or_behind _ b) (λ b' e'. stands_in (from + sub_size set s) subs b' o (λ m t h. size (suc m) t h) e')
+  stands_in from (s ∷ subs) b o size e = go (before_or_behind _ b) (λ b' e'. stands_in (from + sub_size set s) subs b' o (λ m t h. size (suc m) t h) e')
     where
       go : (b < length (f s)) ⊎ IsBehind (length (f s)) b → ((b' : ℕ) → slice_get (flat_map f subs) b' ≡ Some o → StandsIn (from + sub_size set s) subs b' o)
           → StandsIn from (s ∷ subs) b o
@@ -93,8 +91,7 @@ module _ {A : Type 0} (set : Set) (f : Sub → List A) where
 
   pub part_number : (from : ℕ) (subs : List Sub) (m : ℕ) (s : Sub) (h : PartIn from subs m s) (z : A) (c : ℕ) → c < sub_size set s
       → get_or (flat_map f subs) (h.q + c) z ≡ get_or (f s) c z
-  part_number from subs m s h z c lt =
-      cc (slice_get-get_or (flat_map f subs) (h.q + c) z (omega arith), slice_get-get_or (f s) c z (omega arith), h.at c lt)
+  part_number from subs m s h z c lt = cc (slice_get-get_or (flat_map f subs) (h.q + c) z (omega arith), slice_get-get_or (f s) c z (omega arith), h.at c lt)
 
   pub all_long : (subs : List Sub) → Sized subs → length (flat_map f subs) ≡ length (flat_map (λ s. desc_cells (struct_cells set) s.desc) subs)
   all_long [] size = refl

@@ -1,20 +1,18 @@
 -- A device with subsections: what the older set writes is a section of the newer with the carried image. An order that names each remaining
 -- one, and none twice, takes each once.
-use Rattle.vms_check_laws.proofs.Facade.{◌≡◌, ◌⊎◌, inl, inr, ℕ, zero, suc, Bool, true, false, cases_eq, slice_get-map, List, ◌∷◌, slice_set, Option, Some}
-use Rattle.vms_check_laws.proofs.Facade.{None, refl, sym, ap, ◌∙◌, slice_get, [], ◌+◌, ◌<◌, ◌++◌, length, map, arith, ℤ, flat_map, slice_get_within, AreAll}
+use Rattle.vms_check_laws.proofs.{SubParts.Found, SubParts.look_up, PairLists.Settled, PairLists.settled_append, Good.device_good, Good.sub_good}
+use Rattle.vms_check_laws.proofs.Facade.{◌≡◌, ◌⊎◌, inl, inr, ℕ, zero, suc, Bool, true, false, cases_eq, slice_get-map, List, ◌∷◌, slice_set, Option, Some, None}
+use Rattle.vms_check_laws.proofs.Facade.{refl, sym, ap, ◌∙◌, slice_get, [], ◌+◌, ◌<◌, ◌++◌, length, map, arith, ℤ, flat_map, slice_get_within, AreAll}
 use Rattle.vms_check_laws.proofs.Facade.{ComesOnce, AllCame, at_other, Part, first_answer, Sub, Device, Set, struct_cells, desc_cells, device_cells, Image}
 use Rattle.vms_check_laws.proofs.Facade.{zeroed, own_slots, own_cells, sub_slots, sub_place, came_slots, IsSection, SubSpells, SubsSpell, sub_head}
 use Rattle.vms_check_laws.proofs.Facade.{written_subs, written_section, find_sub, index, is_version_of, WellFormed, comparing, compare_sub, compare_subs}
 use Rattle.vms_check_laws.proofs.Facade.{carrying, carried_sub, carried_device, defaults, sub_came, sub_found, defaults_at, version_decides, rules_append}
 use Rattle.vms_check_laws.proofs.Facade.{IsSaved, Holds, FitsAt, answers_none, at_set, rules_split, sub_size, ◌≤◌, option_and_then, Cell, FitCells, RulesHold}
 use Rattle.vms_check_laws.proofs.Facade.{IsReady, ComeAsNeeded, here, failing_pair, passes, or_else_none, part_apart, cells_of_sub}
-use Rattle.vms_spec.specs.declared.Part.TheVariants as parts
-use Rattle.vms_check_laws.proofs.SubParts.{Found, look_up}
-use Rattle.vms_check_laws.proofs.Segments.{holds_left, holds_right, holds_at, fits_left, RestAt, at_first, one_on, from_zero, fits_right, fits_at}
-use Rattle.vms_check_laws.proofs.PairLists.{Settled, settled_append}
-use Rattle.vms_check_laws.proofs.Premises.{fit_append, fit_length, are_fit}
-use Rattle.vms_check_laws.proofs.Good.{device_good, sub_good}
 use Rattle.vms_check_laws.proofs.Parts.{Came, Facts, subs_fit, subs_read, sub_held, part_meets, sub_reads, good_cells, Stayed}
+use Rattle.vms_check_laws.proofs.Premises.{fit_append, fit_length, are_fit}
+use Rattle.vms_check_laws.proofs.Segments.{holds_left, holds_right, holds_at, fits_left, RestAt, at_first, one_on, from_zero, fits_right, fits_at}
+use Rattle.vms_spec.specs.declared.Part.TheVariants as parts
 
 abbrev pub Among : ℕ → List ℕ → Type 0
 Among a order = (i : ℕ) × (slice_get order i ≡ Some a)
@@ -195,8 +193,7 @@ module _ (old new : Set) (good_old : WellFormed old) (good_new : WellFormed new)
 
   abbrev came_here : (j : ℕ) (s : Sub) (v : ℕ) (at_j : slice_get d.subs j ≡ Some s) → slice_get image.came j ≡ Some (Some v) → (p : Found e.subs s.desc.name)
       → Came old new good_old good_new d e image numbers' came p.sub
-  came_here j s v at_j at_came p =
-      came_is j p.number s p.sub v at_j p.there (sym p.name_is) at_came (back j s at_j p)
+  came_here j s v at_j at_came p = came_is j p.number s p.sub v at_j p.there (sym p.name_is) at_came (back j s at_j p)
 
   -- ---- each subsection that is present is there once, and spelled
 
@@ -273,11 +270,9 @@ module _ (old new : Set) (good_old : WellFormed old) (good_new : WellFormed new)
     each_once : ComesOnce image'.came (sub_order e d.subs image.came)
     each_once =
         takes_each _ None _ (λ h. (let e = h.1 in cc)) ComesOnce (λ xs f. none_left xs (λ j v e. f j (Some v) e (v, refl)))
-        (λ xs k o order e h more. ((h.0, e ∙ ap Some h.1), more)) image'.came 0 _ (walked.rises 0 (omega arith))
-        (λ l o e h. each_come l h.0 (rw h.1 at e))
+        (λ xs k o order e h more. ((h.0, e ∙ ap Some h.1), more)) image'.came 0 _ (walked.rises 0 (omega arith)) (λ l o e h. each_come l h.0 (rw h.1 at e))
 
-  -- ---- the section
-
+  -- the section
   pub section_whole : (part part' : Part) → comparing old new d.desc e.desc d.desc.version part part' ≡ None → is_version_of e.desc d.desc.version ≡ true
       → d.desc.name ≡ e.desc.name → d.instance ≡ e.instance → (id : ℕ) → id < 4294967296 → IsSection new e image' id true (written_section old d image id)
   section_whole part part' same version names instances id lt =

@@ -1,6 +1,6 @@
 -- From what the listing of an input says to how `analyze` ends.
 use Rattle.vms_cli.proofs.Facade.{◌≡◌, ℕ, ◌+◌, ◌≤◌, true, false, List, ◌++◌, length, length-append, Option, Some, Result, Ok, Err, IfSome, IsSomeAnd, IsErrAnd}
-use Rattle.vms_cli.proofs.Facade.{refl, sym, subst, ap, ◌∙◌, arith, None, drop_at, Keeps, MatchResult, reaches_none, Reads, Course, Last, MayFollow, Held}
+use Rattle.vms_cli.proofs.Facade.{refl, sym, ap, ◌∙◌, arith, None, drop_at, Keeps, MatchResult, reaches_none, Reads, Course, Last, MayFollow, Held}
 use Rattle.vms_cli.proofs.Facade.{Intake, Outlet, Stock, nothing_follows, reads_as, ArrayVec, IsBytes, Analyzes, IsListed, IsTooMuch, ListsTaken, HasListing}
 use Rattle.vms_cli.proofs.Facade.{Listing, Text, Lists, longest_input, AnalyzeFault, AnalyzeReason, one_holds, total_holds, Ending, wrong, EndsSo, Risen}
 use Rattle.vms_cli.proofs.Facade.{is_among, EndsAs, WritesAs, ending_of, status_of, Outcome, done, ended, comes_to_nothing, same_keeps, Seen, SeenAs, Sees}
@@ -13,16 +13,14 @@ use Rattle.vms_analyze.specs.declared.fault.AnalyzeReason.TheVariants as reasons
 use Rattle.vms_commands.specs.declared.ending.Ending.TheVariants as endings
 use Rattle.vms_cli.specs.Commands.AnalyzeCommand.{IsDone, LacksMemory}
 
--- ---- how it ends, by the result of the call
-
+-- how it ends, by the result of the call
 pub listed_like : (listed : Result (Unit {0}) AnalyzeFault) (work : Result (Unit {0}) Ending)
     → MatchResult listed (λ u. work ≡ Ok u) (λ fault. IsErrAnd work (λ e. EndsLike (Err fault) (Some e))) → EndsLike listed (ending_of work)
 listed_like (Ok u) work is = rw is (IsDone u)
 listed_like (Err fault) (Ok u) is = absurd is
 listed_like (Err fault) (Err e) is = is
 
--- ---- an input has one outcome
-
+-- an input has one outcome
 pub has_listing : (input : List ℕ) (held : Option Held) → (o : Outcome) × IsListing held input o
 has_listing input held =
     let has : HasListing input = total_holds input in
@@ -139,26 +137,19 @@ module _ (i i' : Intake) (o o' : Outlet) where
     pub input_promise : i'.promise ≡ i.promise
     pub out_promise : o'.promise ≡ o.promise
 
-  stands_same : (bytes : List ℕ) → Takes i i' bytes → o' ≡ o → Stands
-  stands_same bytes t e = record {
-    input_count = t.later;
-    out_count = omega (arith, ap (λ x. x.faults) e);
-    input_promise = t.promise;
-    out_promise = rw e;
-  }
+  pub stands_same : i.faults ≤ i'.faults → i'.promise ≡ i.promise → o' ≡ o → Stands
+  stands_same later promise e = record { input_count = later; out_count = omega (arith, ap (λ x. x.faults) e); input_promise = promise; out_promise = rw e }
 
   pub list_stands : (r : Result (Unit {0}) AnalyzeFault) → Analyzes i i' o o' r → Stands
   list_stands (Ok u) a =
       let t = (listed_took a.listed).takes in
       record { input_count = t.later; out_count = a.written.later; input_promise = t.promise; out_promise = a.written.promise }
-  list_stands (Err (faults.Refused at reason)) a = let t = refused_took at reason a.0 in stands_same t.bytes t.takes a.1
+  list_stands (Err (faults.Refused at reason)) a = let t = (refused_took at reason a.0).takes in stands_same t.later t.promise a.1
   list_stands (Err faults.WriteFault) a =
       let t = (listed_took a.listed).takes in
       let p = a.written.puts in
       record { input_count = t.later; out_count = p.later; input_promise = t.promise; out_promise = p.promise }
-  list_stands _ a = stands_same a.0.bytes a.0.takes a.1
-
-  -- ---- what it touches
+  list_stands _ a = stands_same a.0.takes.later a.0.takes.promise a.1
 
   -- nothing of the shelf
   so_by : (s : Stock) (e : Option Ending) → is_among analyze_course.statuses (status_of e) ≡ true → is_among analyze_course.takes (status_of e) ≡ true

@@ -1,9 +1,7 @@
 -- Of `check`: its steps are known, and where it is done the two sets are compatible.
-use Rattle.vms_cli.proofs.Facade.{Option, Some, None, arith, ◌≡◌, ◌⊎◌, ℕ, ◌<◌, List, refl, inl, inr, Held, Mismatch, named_sets, SetWord, IsSound, sound_next}
+use Rattle.vms_cli.proofs.Facade.{Option, Some, None, arith, ◌≡◌, ℕ, ◌<◌, List, refl, inl, inr, Held, Mismatch, named_sets, SetWord, IsSound, sound_next}
 use Rattle.vms_cli.proofs.Facade.{sound_sets, checked, compared, verdict, AreCompatible, Verdict, Set, first_mismatch, HasOutcome, Asked, Check, Outcome}
-use Rattle.vms_cli.proofs.Facade.{Outside, DoesOrStops, ended, HasPart, OutFault, NotesFault, ShelfFault, WantsMemory, mismatch_line, Step, Untold, Gives, Ends}
-use Rattle.vms_cli.proofs.Facade.{Both, HasText, next}
-use Rattle.vms_commands.specs.Outcomes.{ReadFault}
+use Rattle.vms_cli.proofs.Facade.{Outside, DoesOrStops, ended, mismatch_line, Step, Untold, Gives, Ends, Both, HasText, next}
 
 -- ---- The steps of `check` are known where the shelf is.
 
@@ -16,24 +14,11 @@ sound_check held old new = sound_next held (named_sets held old new) compared (s
 
 -- ---- Where `check` is done the two sets are compatible.
 
--- why a call stops on its way
-abbrev pub StopsAt : ℕ → Outside → Outside → Outcome → Type 0
-StopsAt status old new o =
-    ReadFault status old new ⊎ OutFault status old new ⊎ (NotesFault status old new × HasPart o.note old.notes.written new.notes.written)
-    ⊎ ShelfFault status old new ⊎ WantsMemory status old new
-
 module _ (status : ℕ) (old new : Outside) (zero : status ≡ 0) where
   -- an outcome that is done or stopped at has the status 0 where the answer has
   none_else : (o : Outcome) → 0 < o.status → DoesOrStops status old new o → ⊥
   none_else o some (inl does) = omega arith
-  none_else o some (inr stops) = by stops.why
-    where
-      by : StopsAt status old new o → ⊥
-      by (inl read) = omega arith
-      by (inr (inl write)) = omega arith
-      by (inr (inr (inl notes))) = omega arith
-      by (inr (inr (inr (inl shelf)))) = omega arith
-      by (inr (inr (inr (inr memory)))) = omega arith
+  none_else o some (inr stops) = omega (arith, stops.why)
 
   none_fails : (held : Option Held) (m : Option Mismatch) → ((o : Outcome) → HasText held (verdict m) o → DoesOrStops status old new o) → m ≡ None
   none_fails held None all = refl
@@ -47,6 +32,5 @@ module _ (status : ℕ) (old new : Outside) (zero : status ≡ 0) where
 
 pub verdict_so : (asked : Option Asked) (left : Option (List ℕ)) (held : Option Held) (status : ℕ) (old new : Outside)
     → ((o : Outcome) → HasOutcome asked left held o → DoesOrStops status old new o) → Verdict asked held status
-verdict_so (Some (Check a b)) left held status old new all =
-    λ zero. are_compatible status old new zero held (named_sets held a b) (sound_sets held a b) all
+verdict_so (Some (Check a b)) left held status old new all = λ zero. are_compatible status old new zero held (named_sets held a b) (sound_sets held a b) all
 verdict_so asked left held status old new all = tt

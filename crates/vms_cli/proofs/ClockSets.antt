@@ -1,7 +1,7 @@
 -- `check @c1 @c2` accepts.
-use Rattle.vms_cli.proofs.Facade.{◌≡◌, ℕ, zero, suc, ◌+◌, ◌≤◌, ◌++◌, if◌then◌else◌, List, [], ◌∷◌, Option, Some, None, codes, ap, ◌∙◌, sym, subst, refl, arith}
+use Rattle.vms_cli.proofs.Facade.{◌≡◌, ℕ, zero, suc, ◌+◌, ◌≤◌, ◌++◌, if◌then◌else◌, List, [], ◌∷◌, Option, Some, None, codes, ap, sym, subst, refl, arith}
 use Rattle.vms_cli.proofs.Facade.{option_map, bytes_eq, decimal_digit, or_else, NEWEST, NEWEST_CLOCK, sets_are_compatible, Mismatch, done, Isa, Clock, Shipped}
-use Rattle.vms_cli.proofs.Facade.{SetWord, named_set, number_after, set_word, shipped_word, HasText, HasOutcome, compatible_text, verdict, ClockSetsLaw, Asked}
+use Rattle.vms_cli.proofs.Facade.{named_set, number_after, set_word, shipped_word, HasText, compatible_text, verdict, ClockSetsLaw}
 use Rattle.vms_cli.proofs.Facade.{Check, asked_of, of_both, pair_of}
 
 -- ---- numbers of one digit, whose words are computed

@@ -1,13 +1,12 @@
 -- What follows of a stream that `convert` writes.
-use Rattle.vms_cli.proofs.{Entries.ConvertCommand.target_gives, ConvertLemmas.newest_fit}
+use Rattle.vms_cli.proofs.{Entries.ConvertCommand.target_gives, ConvertLemmas.newest_fit, Facade.scripted, Facade.ScriptLine}
 use Rattle.vms_cli.proofs.Facade.{◌≡◌, ℕ, List, Option, Some, None, refl, sym, ap, ◌∙◌, subst, arith, [], append-nil, length, ◌-◌, Bool, true, false, ◌||◌, ◌∷◌}
 use Rattle.vms_cli.proofs.Facade.{IfSome, ℤ, if◌then◌else◌, length-map, bytes_eq-Decides, bytes_eq, Held, IsFit, Image, Set, Takes, one_stream_holds}
 use Rattle.vms_cli.proofs.Facade.{taken_kept, Compatible, first_mismatch, Mismatch, IsStreamFor, word_set, Outcome, done, SetWord, Step, Untold, Gives, Ends}
 use Rattle.vms_cli.proofs.Facade.{next, FitStep, fit_word, ConvertsBy, Rewrites, WouldLose, agreed, agrees, newest, Converts, described_text, AreRecastOf}
 use Rattle.vms_cli.proofs.Facade.{converts_stand, ready, newest_kinds, PrintsAlike, ConvertAgainLaw, ConvertThenAnalyzeLaw, StandsFor, ConvertThenLoadLaw}
-use Rattle.vms_cli.proofs.Facade.{IsLevel, NEWEST, by_device, joined, moment_of, numbers_back, pair_back, pit_back, timed, State, recast_restores, recast_cells}
-use Rattle.vms_cli.proofs.Facade.{IsConfiguration, is_one_of, recast_each, numbers_in, wants_arrays, lists_in, takes_under, cells_of, isa, isa_stands, Back}
-use Rattle.vms_cli.proofs.Facade.{Restores, Loads, LoadsBy, Traces, Unfit, scripted, ScriptLine}
+use Rattle.vms_cli.proofs.Facade.{IsLevel, NEWEST, moment_of, numbers_back, State, recast_restores, recast_cells, IsConfiguration, is_one_of, recast_each}
+use Rattle.vms_cli.proofs.Facade.{numbers_in, wants_arrays, lists_in, takes_under, cells_of, isa, isa_stands, Back, Restores, Loads, LoadsBy, Traces, Unfit}
 use Rattle.vms_cli.proofs.RoundTrips.{done_apart, fits_text, machine_of_set, same_text, written_prints}
 use Rattle.vms_cli.specs.{Commands.ConvertCommand.Refuses, Commands.ShowCommand.Values as Printed}
 use Rattle.vms_convert.specs.Laws.{Converts as StaysSo}
@@ -94,8 +93,6 @@ convert_again word input stream held n has =
 
 -- ---- Boards go on from what `convert` writes as from its input.
 
--- ---- recast cells restore the same board
-
 module _ (to : Set) (level : ℕ) where
   of_five : (a b c d e : List ℤ) → isa.restored level (recast_each to newest.devices (a ∷ b ∷ c ∷ d ∷ e ∷ [])) ≡ isa.restored level (a ∷ b ∷ c ∷ d ∷ e ∷ [])
   of_five a b c d e = go (wants_arrays to) where
@@ -105,12 +102,7 @@ module _ (to : Set) (level : ℕ) where
 
   same_board : (lists : List (List ℤ)) → length lists ≡ 5 → isa.restored level (recast_each to newest.devices lists) ≡ isa.restored level lists
   same_board (a ∷ b ∷ c ∷ d ∷ e ∷ []) five = of_five a b c d e
-  same_board [] five = absurd (omega arith)
-  same_board (a ∷ []) five = absurd (omega arith)
-  same_board (a ∷ b ∷ []) five = absurd (omega arith)
-  same_board (a ∷ b ∷ c ∷ []) five = absurd (omega arith)
-  same_board (a ∷ b ∷ c ∷ d ∷ []) five = absurd (omega arith)
-  same_board (a ∷ b ∷ c ∷ d ∷ e ∷ f ∷ lists) five = absurd (omega arith)
+  same_board _ five = absurd (omega arith)
 
 -- ---- a stream whose machine is one of some names
 
@@ -121,8 +113,7 @@ named_in names None bytes c = tt
 named_in names (Some name) bytes c = c.0
 
 of_level : (level : ℕ) → IsLevel level → is_one_of newest.machines (machine_of level) ≡ true
-of_level level is =
-    is_among newest.machines (level - 1) (machine_of level) (isa_stands.named level NEWEST is.first is.last (omega arith))
+of_level level is = is_among newest.machines (level - 1) (machine_of level) (isa_stands.named level NEWEST is.first is.last (omega arith))
 
 known : (level : ℕ) → IsLevel level → (machine : Option (List ℕ)) → IfSome machine (λ name. is_one_of (machine_of level ∷ []) name ≡ true)
     → IfSome machine (λ name. is_one_of newest.machines name ≡ true)

@@ -1,12 +1,12 @@
 -- What `convert` answers, and how it ends.
-use Rattle.vms_cli.proofs.AnalyzeLemmas.{Stands}
-use Rattle.vms_cli.proofs.Facade.{◌≡◌, ◌⊎◌, ℕ, zero, suc, ◌<◌, List, [], ◌∷◌, length, get_or, Option, Some, None, ℤ, inl, inr, refl, sym, ap, ◌∙◌, subst, arith}
-use Rattle.vms_cli.proofs.Facade.{◌+◌, ◌≤◌, ◌^◌, Bool, false, true, Result, Ok, Err, IfSome, length-map, slice_get-get_or, Keeps, string_bytes, IsFit, Image}
+use Rattle.vms_cli.proofs.AnalyzeLemmas.{Stands, stands_same}
+use Rattle.vms_cli.proofs.Facade.{◌≡◌, ◌⊎◌, ℕ, zero, suc, ◌<◌, List, [], ◌∷◌, length, get_or, Option, Some, None, ℤ, inl, inr, refl, sym, ap, ◌∙◌, arith}
+use Rattle.vms_cli.proofs.Facade.{◌+◌, ◌^◌, Bool, false, true, Result, Ok, Err, IfSome, length-map, slice_get-get_or, Keeps, string_bytes, IsFit, Image}
 use Rattle.vms_cli.proofs.Facade.{device_cells, Set, written, device_at, AreKept, described_text, carried, Compatible, first_mismatch, IsStreamFor, LosesFirst}
-use Rattle.vms_cli.proofs.Facade.{RefusesFirst, TakesFirst, AreBack, recast_each, KeepsAll, Loses, OfCell, OfDevice, OfMachine, first_cell, numbers_in}
+use Rattle.vms_cli.proofs.Facade.{AreBack, recast_each, KeepsAll, Loses, OfCell, OfDevice, OfMachine, first_cell, numbers_in}
 use Rattle.vms_cli.proofs.Facade.{answered, same_backs, one_lost, newest_kinds, recast_long, fit_word, Isa, Shipped, IsInNewest, newest, Converts, ConvertGives}
 use Rattle.vms_cli.proofs.Facade.{ConvertsBy, ConvertsStream, ConvertsWith, IsDone, IsLost, IsMismatch, LacksLine, LacksMemory, NamesCell, Rewrites, WouldLose}
-use Rattle.vms_cli.proofs.Facade.{agreed, agrees, lost_line, ArrayVec, Held, Intake, Outlet, Stock, reads_as, IsBytes, Refusal, LoadReads, most_given, name_of}
+use Rattle.vms_cli.proofs.Facade.{agreed, agrees, lost_line, ArrayVec, Held, Intake, Outlet, Stock, reads_as, IsBytes, Refusal, LoadReads, name_of}
 use Rattle.vms_cli.proofs.Facade.{loads_kept, Mismatch, ConvertFault, Ending, EndsSo, Risen, is_among, EndsAs, WritesAs, status_of, refused_line, Outcome, done}
 use Rattle.vms_cli.proofs.Facade.{ended, mismatch_line, Step, Gives, Ends, unshelved_so, wrong, comes_to_nothing, ends_with, same_keeps, Seen, SeenAs}
 use Rattle.vms_cli.proofs.Facade.{content_seen, load_seen, other_seen, seen_lost, seen_written, sees_as, convert_course}
@@ -79,8 +79,7 @@ module _ (to : Set) (fit : IsFit to) (compatible : Compatible to newest) (machin
     long = recast_long to newest.devices (numbers_in images) (length-map images (λ (image : Image). image.numbers) ∙ kept.one_each)
 
     cells_long : (k : ℕ) → k < length newest.devices → length (get_or wanted k []) ≡ length (device_cells newest (device_at newest k))
-    cells_long k lt =
-        (newest_kinds to newest refl images kept k (device_at newest k) (slice_get-get_or newest.devices k _ lt)).long
+    cells_long k lt = (newest_kinds to newest refl images kept k (device_at newest k) (slice_get-get_or newest.devices k _ lt)).long
 
     device_inside : (k : ℕ) (numbers : List ℤ) → k < length newest.devices → length numbers ≡ length (device_cells newest (device_at newest k))
         → IsInNewest (Some k) (first_cell numbers)
@@ -98,8 +97,6 @@ module _ (to : Set) (fit : IsFit to) (compatible : Compatible to newest) (machin
         by section cell (OfMachine name all valid is not) = tt
 
 -- ---- From what the call answers to how `convert` ends.
-
--- ---- an input has one outcome
 
 module _ (to : Set) (fit : IsFit to) (compatible : Compatible to newest) (bytes : List ℕ) (held : Option Held) (ok : IsBytes bytes) where
   -- what the front of an input becomes
@@ -129,8 +126,7 @@ module _ (to : Set) (fit : IsFit to) (compatible : Compatible to newest) (bytes 
       let b = front_of y q in
       becomes_one a.0 x y a.2 (rw (one_front newest newest_fit bytes ok a.0 b.0 a.1 b.1) at b.2)
 
--- ---- the step that compares
-
+-- the step that compares
 pub agreed_gives : (to : Set) → Compatible to newest → agrees to ≡ Gives to
 agreed_gives to compatible = ap (agreed to) compatible
 
@@ -162,8 +158,7 @@ module _ (to : Set) {i i' : Intake} {o o' : Outlet} {s s' : Stock} where
       → LoadReads i i' newest newest.machines images taken (Err (loads.Refused r)) → line.items ≡ refused_line newest r.at r.section r.reason
       → Seen (OfSet to s) i i' o o' s s' (Some (endings.Refused line))
   refusal_seen images taken {r} {line} reads said =
-      load_seen {P = OfSet to s} newest newest.machines images taken r line reads
-      (λ input size fault. rw said (Refuses r.at r.section r.reason size fault))
+      load_seen {P = OfSet to s} newest newest.machines images taken r line reads (λ input size fault. rw said (Refuses r.at r.section r.reason size fault))
 
 -- ---- the outcome
 
@@ -198,57 +193,40 @@ module _ (to : Set) (fit : IsFit to) (i i' : Intake) (o o' : Outlet) where
   -- what is seen, under a set that is well formed and that the newest reads
   seen_by : (s s' : Stock) (e : Option Ending) → Left s s' e → SeenAs (ConvertsWith (agrees to) s.held) i i' o o' s s' e
   seen_by s s' e (Saw compatible v) = λ among.
-      rw (agreed_gives to compatible) (sees_as {P = λ bytes y. Converts to bytes s.held y} {Q = ConvertsWith (Gives to) s.held} (λ bytes y p. (to, refl, (fit, compatible, p))) v)
+      rw (agreed_gives to compatible)
+      (sees_as {P = λ bytes y. Converts to bytes s.held y} {Q = ConvertsWith (Gives to) s.held} (λ bytes y p. (to, refl, (fit, compatible, p))) v)
   seen_by s s' e (Unlike said first none) = other_seen e refl
   seen_by s s' e (Nothing other h) = other_seen e other
 
   -- ---- known or unknown
 
-  within : Compatible to newest → i'.given ≤ i.given + most_given newest → ConvertGives (agrees to) i i'
-  within compatible few = rw (agreed_gives to compatible) few
-
-  few_before : (fault : _) (f : RefusesFirst to newest i i' o o' fault) → length f.reads.bytes ≤ most_given newest → i'.given ≤ i.given + most_given newest
-  few_before fault f long = omega arith
-
-  taken_few : (r : Result (Unit {0}) ConvertFault) (t : TakesFirst to newest i i' o o' r) → i'.given ≤ i.given + most_given newest
-  taken_few r t = omega arith
-
   convert_given : (r : Result (Unit {0}) ConvertFault) → Calls to newest i i' o o' r → ConvertGives (agrees to) i i'
-  convert_given (Ok u) c = within c.0 (taken_few (Ok u) c.1)
+  convert_given (Ok u) c = let t = c.1 in rw (agreed_gives to c.0) (omega arith)
   convert_given (Err (faults.NotCompatible m)) c = rw (ap (agreed to) c.0) c.1
-  convert_given (Err (faults.Refused r)) c = within c.0 (few_before (loads.Refused r) c.1 c.1.reads.long)
-  convert_given (Err (faults.WouldLose section cell)) c = within c.0 (taken_few (Err (faults.WouldLose section cell)) c.1)
-  convert_given (Err faults.ReadFault) c = within c.0 (few_before loads.ReadFault c.1 c.1.reads.long)
-  convert_given (Err faults.WriteFault) c = within c.0 (taken_few (Err faults.WriteFault) c.1)
+  convert_given (Err (faults.Refused r)) c = let t = c.1 in rw (agreed_gives to c.0) (omega (arith, t.reads.long))
+  convert_given (Err (faults.WouldLose section cell)) c = let t = c.1 in rw (agreed_gives to c.0) (omega arith)
+  convert_given (Err faults.ReadFault) c = let t = c.1 in rw (agreed_gives to c.0) (omega (arith, t.reads.long))
+  convert_given (Err faults.WriteFault) c = let t = c.1 in rw (agreed_gives to c.0) (omega arith)
   convert_given (Err faults.NoMemory) c = nothing (agrees to) c.0
     where
       nothing : (step : Step Set) → i' ≡ i → ConvertGives step i i'
       nothing (Ends status line) e = e
       nothing step e = omega (arith, ap (λ x. x.given) e)
 
-  -- ---- counts and promises
-
-  stands_same : (later : i.faults ≤ i'.faults) (promise : i'.promise ≡ i.promise) → o' ≡ o → Stands i i' o o'
-  stands_same later promise e = record {
-    input_count = later;
-    out_count = omega (arith, ap (λ x. x.faults) e);
-    input_promise = promise;
-    out_promise = rw e;
-  }
-
+  -- counts and promises
   pub convert_stands : (r : Result (Unit {0}) ConvertFault) → Calls to newest i i' o o' r → Stands i i' o o'
   convert_stands (Ok u) c =
       let t = c.1.reads.takes in
       let p = c.1.converts.puts in
       record { input_count = t.later; out_count = p.later; input_promise = t.promise; out_promise = p.promise }
-  convert_stands (Err (faults.NotCompatible m)) c = stands_same (omega (arith, ap (λ x. x.faults) c.1)) (rw (c.1)) c.2
-  convert_stands (Err (faults.WouldLose section cell)) c = stands_same c.1.reads.takes.later c.1.reads.takes.promise c.1.converts.1
+  convert_stands (Err (faults.NotCompatible m)) c = stands_same i i' o o' (omega (arith, ap (λ x. x.faults) c.1)) (rw (c.1)) c.2
+  convert_stands (Err (faults.WouldLose section cell)) c = stands_same i i' o o' c.1.reads.takes.later c.1.reads.takes.promise c.1.converts.1
   convert_stands (Err faults.WriteFault) c =
       let t = c.1.reads.takes in
       let p = c.1.converts.puts.puts in
       record { input_count = t.later; out_count = p.later; input_promise = t.promise; out_promise = p.promise }
-  convert_stands (Err faults.NoMemory) c = stands_same (omega (arith, ap (λ x. x.faults) c.0)) (rw (c.0)) c.1
-  convert_stands _ c = stands_same c.1.reads.takes.later c.1.reads.takes.promise c.1.none
+  convert_stands (Err faults.NoMemory) c = stands_same i i' o o' (omega (arith, ap (λ x. x.faults) c.0)) (rw (c.0)) c.1
+  convert_stands _ c = stands_same i i' o o' c.1.reads.takes.later c.1.reads.takes.promise c.1.none
 
   -- ---- what it touches
 

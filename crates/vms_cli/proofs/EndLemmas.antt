@@ -1,12 +1,11 @@
 -- From how a call ends and why to what it answers.
 use Rattle.vms_cli.proofs.{Entries.fits_of, RowLemmas.caused_so, RowLemmas.row_so, CheckLemmas.verdict_so}
-use Rattle.vms_cli.proofs.Facade.{ℕ, List, length, Option, None, Some, sym, subst, ◌≡◌, [], append-nil, IsSomeAnd, refl, ap, ◌∙◌, IfSome, ReachesSet, Alike}
-use Rattle.vms_cli.proofs.Facade.{clock, Family, isa, Back, Restores, Loads, LoadsBy, Traces, scripted, boards_go_on, stream_with, BoardsGoOn, Outcome, Outside}
-use Rattle.vms_cli.proofs.Facade.{DoesOrStops, done, Step, Untold, Gives, Ends, Both, both, next, ScriptLine, events_of, HasOutcome, Asked, IsaBoard}
-use Rattle.vms_cli.proofs.Facade.{ClockBoard, Load, Show, Check, asked_of, Continuation, ContinuesBy, goes_on, Held, HoldsAll, Image, Set, written, WellFormed}
-use Rattle.vms_cli.proofs.Facade.{IsFit, Compatible, carried, Takes, upgrade_stands, SetText, fetched_set, named_sets, set_in, sets_in, word_set, SetWord}
-use Rattle.vms_cli.proofs.Facade.{FitStep, fit_word, AreCompatible, Verdict, CheckThenShowLaw, Shows, ShowsBy, IsWritten, Upgrade, UpgradesTo, shown_newer}
-use Rattle.vms_cli.proofs.Facade.{Intake, Outlet, Stock, Serves, Ending, Tells, around, outcome_so, Runs, moment, task_of}
+use Rattle.vms_cli.proofs.Facade.{ℕ, List, length, Option, None, Some, subst, ◌≡◌, [], append-nil, refl, ap, ◌∙◌, IfSome, Alike, clock, Family, isa, LoadsBy}
+use Rattle.vms_cli.proofs.Facade.{Traces, scripted, boards_go_on, stream_with, BoardsGoOn, Outcome, Outside, DoesOrStops, Step, Gives, Both, both, next}
+use Rattle.vms_cli.proofs.Facade.{ScriptLine, events_of, HasOutcome, Asked, IsaBoard, ClockBoard, Load, Show, asked_of, Continuation, ContinuesBy, goes_on}
+use Rattle.vms_cli.proofs.Facade.{Held, HoldsAll, Image, Set, written, WellFormed, Compatible, carried, Takes, upgrade_stands, SetText, fetched_set, named_sets}
+use Rattle.vms_cli.proofs.Facade.{set_in, sets_in, word_set, SetWord, FitStep, fit_word, AreCompatible, CheckThenShowLaw, ShowsBy, IsWritten, Upgrade}
+use Rattle.vms_cli.proofs.Facade.{UpgradesTo, shown_newer, Intake, Outlet, Stock, Serves, Ending, Tells, around, outcome_so, Runs, moment, task_of, IsFit}
 use Rattle.vms_cli.specs.{Answers.Answers, Commands.ShowCommand.Values as Printed}
 use Rattle.dev_board.specs.Sound.{IsSound}
 use Rattle.dev_clock.specs.Sound.{Alike as AlikeClocks, IsSound as IsSoundClock}
@@ -52,8 +51,7 @@ upgrades_by _ fit status old new all = tt
 
 pub upgrade_so : (asked : Option Asked) (status : ℕ) (old new : Outside)
     → ((o : Outcome) → HasOutcome asked old.input.left old.shelf.held o → DoesOrStops status old new o) → Upgrade asked status old new
-upgrade_so (Some (Show word)) status old new all =
-    upgrades_by (word_set old.shelf.held word) (fit_word old.shelf.held word) status old new all
+upgrade_so (Some (Show word)) status old new all = upgrades_by (word_set old.shelf.held word) (fit_word old.shelf.held word) status old new all
 upgrade_so asked status old new all = tt
 
 -- ---- check, and then show
@@ -75,20 +73,15 @@ pub named_both : (sets : Both Set) (held : Option Held) (old new : SetWord) → 
     → (word_set held old ≡ Gives sets.old) × (word_set held new ≡ Gives sets.new)
 named_both sets held old new gives = fetched_both sets (fetched_set held old) (fetched_set held new) gives
 
-are_so : (s : Step (Both Set)) (sets : Both Set) → s ≡ Gives sets → AreCompatible s → Compatible sets.old sets.new
-are_so s sets e h = subst AreCompatible e h
-
-fit_so : (s : Step Set) (set : Set) → s ≡ Gives set → FitStep s → IsFit set
-fit_so s set e h = subst FitStep e h
-
 pub check_then_show : CheckThenShowLaw
 check_then_show one other old new sets a b c d status checks shows gives checked held shown machine text images w left =
     let words = named_both sets a.shelf.held old new gives in
-    let compatible : Compatible sets.old sets.new = are_so (named_sets a.shelf.held old new) sets gives ((rw checks at checked.verdict) refl) in
+    let compatible : Compatible sets.old sets.new = subst AreCompatible gives ((rw checks at checked.verdict) refl) in
     let upgrade : Upgrade (Some (Show new)) status c d = subst (λ x. Upgrade x status c d) shows shown.upgrade in
     let newer : word_set c.shelf.held new ≡ Gives sets.new = ap (λ h. word_set h new) held ∙ words.1 in
     let clause : UpgradesTo (Gives sets.new) status c d = subst (λ s. UpgradesTo s status c d) newer upgrade in
-    clause sets.old machine text images (fit_so (word_set a.shelf.held old) sets.old words.0 (fit_word a.shelf.held old)).well compatible w left
+    let fit : IsFit sets.old = subst FitStep words.0 (fit_word a.shelf.held old) in
+    clause sets.old machine text images fit.well compatible w left
 
 -- ---- From how a call ends and why to what it answers.
 

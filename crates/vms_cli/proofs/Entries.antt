@@ -18,8 +18,7 @@ use Rattle.vms_cli.proofs.Facade.{drill_of, pair_of, save_of, single_of, triple_
 use Rattle.vms_cli.proofs.RowFacts.{Fits, IsRow, spares_none}
 use Rattle.vms_cli.proofs.WordLaws.{all-some, both-asked, drill-asked, either-asked, file-asked, mapped-asked, save-asked, word-board, word-level}
 
--- ---- the commands
-
+-- the commands
 pub row_of : (asked : Asked) → IsRow (entry_of asked)
 row_of (Show set) = show_row set
 row_of (Convert set) = convert_row set

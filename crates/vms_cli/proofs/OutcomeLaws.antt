@@ -1,11 +1,11 @@
 -- Each call has one outcome, and what can be done is done.
-use Rattle.vms_cli.proofs.{CheckLemmas.StopsAt, Entries.row_of, Entries.words_ask, RowFacts.IsDone}
+use Rattle.vms_cli.proofs.{Entries.row_of, Entries.words_ask, RowFacts.IsDone, Facade.CompleteLaw, Facade.AmpleLaw}
 use Rattle.vms_cli.proofs.Facade.{◌≡◌, ℕ, zero, suc, ◌+◌, ◌<◌, ◌≤◌, max, ◌⊎◌, List, ◌∷◌, length, length-append, take, Option, Some, None, IfSome, IsSomeAnd}
-use Rattle.vms_cli.proofs.Facade.{refl, ap, ◌∙◌, subst, arith, inl, inr, [], le-max_left, le-max_right, length-take, Appends, Rose, AppendsPrefix, KeepsPromise}
-use Rattle.vms_cli.proofs.Facade.{Held, HoldsAll, Outlet, IsBytes, bad_words, read_fault, write_fault, shelf_fault, out_of_memory, Stands, Part, Outcome}
-use Rattle.vms_cli.proofs.Facade.{ComesTo, FailsToStore, TellsShelfFault, DoesOrStops, ended, text_begun, Outside, HasPart, Asked, asked_of, task_of}
-use Rattle.vms_cli.proofs.Facade.{CanBeAsked, CanBeDone, HasOneOutcome, OutcomeLaw, HasRoom, IsAmple, NoneRises, PromisesKept, CompleteLaw, AmpleLaw}
-use Rattle.vms_commands.specs.Outcomes.{text_of}
+use Rattle.vms_cli.proofs.Facade.{refl, ap, ◌∙◌, arith, inl, inr, [], le-max_left, le-max_right, length-take, Appends, Rose, AppendsPrefix, KeepsPromise, Held}
+use Rattle.vms_cli.proofs.Facade.{HoldsAll, Outlet, IsBytes, bad_words, read_fault, write_fault, shelf_fault, out_of_memory, Stands, Part, Outcome, OutFault}
+use Rattle.vms_cli.proofs.Facade.{NotesFault, ShelfFault, WantsMemory, ComesTo, FailsToStore, TellsShelfFault, DoesOrStops, ended, text_begun, Outside, HasPart}
+use Rattle.vms_cli.proofs.Facade.{Asked, asked_of, task_of, CanBeAsked, CanBeDone, HasOneOutcome, OutcomeLaw, HasRoom, IsAmple, NoneRises, PromisesKept}
+use Rattle.vms_commands.specs.Outcomes.{text_of, ReadFault}
 
 one_of_all : (asked : Option Asked) (input : List ℕ) (held : Held) → IsBytes input → HoldsAll held → CanBeAsked asked → HasOneOutcome asked input held
 one_of_all None input held ok holds can = record { outcome = ended 2 bad_words 0; is = refl; only = λ other e. e }
@@ -13,6 +13,12 @@ one_of_all (Some asked) input held ok holds can = (row_of asked).one input held 
 
 pub outcome_holds : OutcomeLaw
 outcome_holds words input held ok holds = one_of_all (asked_of words) input held ok holds (words_ask words)
+
+-- why a call stops on its way
+abbrev StopsAt : ℕ → Outside → Outside → Outcome → Type 0
+StopsAt status old new o =
+    ReadFault status old new ⊎ OutFault status old new ⊎ (NotesFault status old new × HasPart o.note old.notes.written new.notes.written)
+    ⊎ ShelfFault status old new ⊎ WantsMemory status old new
 
 -- ---- completeness
 

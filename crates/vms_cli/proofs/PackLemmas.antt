@@ -1,8 +1,8 @@
 -- From what a reading and a write say to how `pack` ends.
-use Rattle.vms_cli.proofs.Facade.{◌≡◌, ℕ, ◌<◌, List, length, map, Option, Some, None, Ok, refl, sym, ap, ◌∙◌, subst, arith, [], ForSome, slice_get-get_or, Held}
-use Rattle.vms_cli.proofs.Facade.{Outlet, at_option, Set, Image, AreReady, IsFit, ValuesRead, Values, Bad, values_read, state_of, machine_of, ReadsAs}
+use Rattle.vms_cli.proofs.Facade.{◌≡◌, ℕ, ◌<◌, List, length, map, Option, Some, None, Ok, refl, subst, arith, [], ForSome, slice_get-get_or, Held}
+use Rattle.vms_cli.proofs.Facade.{Outlet, at_option, Set, AreReady, IsFit, ValuesRead, Values, Bad, values_read, state_of, machine_of, ReadsAs}
 use Rattle.vms_cli.proofs.Facade.{accepted_holds, Ending, SetText, fetched, fetched_set, longest_file, set_in, word_set, SetWord, TextEnds, WrittenAs, Step}
-use Rattle.vms_cli.proofs.Facade.{Untold, Gives, Ends, next, IsSound, sound_fetch, sound_next, sound_set, sound_word, described_stream, named_parts, packed}
+use Rattle.vms_cli.proofs.Facade.{Gives, next, IsSound, sound_fetch, sound_next, sound_set, sound_word, described_stream, named_parts, packed}
 use Rattle.vms_cli.proofs.Facade.{packed_by, packed_parts, packs, with_values}
 use Rattle.vms_values.specs.declared.fault.Values.{Values as Given}
 
@@ -52,5 +52,4 @@ sound_pack held word name =
     sound_next held (named_parts held word name) packed_parts
     (sound_next held (fetched_set held word) (with_values held name) (sound_word held word)
     (λ t. sound_next held (fetched longest_file held name) _ (sound_fetch held longest_file name)
-    (λ values. sound_next held (set_in t) _ (sound_set held t) (λ set. tt))))
-    (λ parts. sound_read held parts.set (values_read parts.set parts.values))
+    (λ values. sound_next held (set_in t) _ (sound_set held t) (λ set. tt)))) (λ parts. sound_read held parts.set (values_read parts.set parts.values))

@@ -1,17 +1,17 @@
 -- One command after the other: what was written is read again.
-use Rattle.vms_cli.proofs.{Facade.RefusesSo, Facade.StateLaw, PackLemmas.pack_gives, Entries.words_ask, EndLemmas.named_both}
-use Rattle.vms_cli.proofs.Facade.{◌≡◌, ℕ, ◌<◌, ◌≤◌, Bool, true, false, nat_le, if◌then◌else◌, List, [], ◌∷◌, length, Option, Some, None, IfSome, refl, sym, ap}
-use Rattle.vms_cli.proofs.Facade.{subst, arith, ◌∙◌, ◌-◌, ℤ, ◌+◌, ◌++◌, append-nil, LONGEST_TEXT, Held, Image, Set, AreReady, is_one_of, configuration}
-use Rattle.vms_cli.proofs.Facade.{end_mark, optional, stream_head, trailer, written, written_sections, values_text, ValuesRead, Values, Bad, values_read, IsFit}
-use Rattle.vms_cli.proofs.Facade.{Takes, IsMachineOf, ShowsAs, accepted_holds, packed_holds, shown_holds, written_only, printed_holds, described_text}
-use Rattle.vms_cli.proofs.Facade.{short_holds, Listing, Text, Lists, IsTooLong, HasNone, HasNoShape, IsRead, longest_input, SetText, fetched_set, longest_file}
-use Rattle.vms_cli.proofs.Facade.{set_in, text_under, word_set, named_sets, too_large_line, refused_line, Part, Outcome, done, ended, Step, Untold, Gives, Ends}
-use Rattle.vms_cli.proofs.Facade.{HasText, next, Both, FitStep, fit_word, fetched_gives, IsListing, PackThenAnalyzeLaw, ShowThenAnalyzeLaw, PrintsAlike}
+use Rattle.vms_cli.proofs.{PackLemmas.pack_gives, Entries.words_ask, EndLemmas.named_both}
+use Rattle.vms_cli.proofs.Facade.{RefusesSo, StateLaw, ◌≡◌, ℕ, ◌≤◌, Bool, true, false, nat_le, if◌then◌else◌, List, [], ◌∷◌, length, Option, Some, None, IfSome}
+use Rattle.vms_cli.proofs.Facade.{refl, sym, ap, subst, arith, ◌∙◌, ◌-◌, ℤ, ◌++◌, append-nil, LONGEST_TEXT, Held, Image, Set, AreReady, is_one_of}
+use Rattle.vms_cli.proofs.Facade.{configuration, end_mark, optional, stream_head, trailer, written, written_sections, values_text, ValuesRead, Values, Bad}
+use Rattle.vms_cli.proofs.Facade.{values_read, IsFit, IsMachineOf, ShowsAs, accepted_holds, packed_holds, shown_holds, written_only, printed_holds}
+use Rattle.vms_cli.proofs.Facade.{described_text, short_holds, Listing, Text, Lists, IsTooLong, HasNone, HasNoShape, IsRead, longest_input, SetText}
+use Rattle.vms_cli.proofs.Facade.{fetched_set, longest_file, set_in, word_set, named_sets, too_large_line, Part, Outcome, done, ended, Step, Untold, Gives}
+use Rattle.vms_cli.proofs.Facade.{Ends, HasText, next, Both, FitStep, fit_word, fetched_gives, IsListing, PackThenAnalyzeLaw, ShowThenAnalyzeLaw, PrintsAlike}
 use Rattle.vms_cli.proofs.Facade.{SaveThenAnalyzeLaw, PackThenShowLaw, ShowThenPackLaw, CanBeAsked, described_stream, packed_by, packed_parts, packs}
 use Rattle.vms_cli.proofs.Facade.{with_values, Shows, ShowsBy, Refuses, ReachesSet, sound_stays_on, AreEvents, Event, clock, clock_stands, Family, IsNumber}
 use Rattle.vms_cli.proofs.Facade.{images_saved, isa, isa_stands, saved_stream, AreStepLines, scripted_lines, saved_after, scripted, after_events, Isa, Clock}
 use Rattle.vms_cli.proofs.Facade.{SetWord, Shipped, ScriptLine, after_number, lines_are_events, events_of, IsaBoard, ClockBoard, Fault, further_holds, Mismatch}
-use Rattle.vms_cli.proofs.Facade.{Counters, Finds, always_holds, named_holds, machine_known, Answers, CountersBy, counter_text, AlwaysNamedLaw, Prints}
+use Rattle.vms_cli.proofs.Facade.{Counters, Finds, always_holds, named_holds, machine_known, Answers, AlwaysNamedLaw, Prints}
 use Rattle.vms_cli.specs.{Commands.ShowCommand.Values as Printed}
 use Rattle.vms_analyze.proofs.Shown.{shown_holds as shown_listing}
 use Rattle.dev_clock.proofs.SoundLaws.{sound_stays_on as clock_stays_sound}
@@ -129,8 +129,7 @@ module _ (set : Set) (fit : IsFit set) (machine : Option (List ℕ)) (images : L
       ap (λ o. values_text set o images) (sym all.1) ∙ ap (values_text set other) (sym all.2) in
       rw all.0 (lists_all bytes (values_text set other others) held
       (subst (λ t. Lists bytes (Text t)) printed (shown_listed set fit machine images named ready)))
-  listed_too x same (Refuses place section reason size fault) =
-      absurd (done_apart 1 _ text held _ n (sym same))
+  listed_too x same (Refuses place section reason size fault) = absurd (done_apart 1 _ text held _ n (sym same))
 
   -- the text that is shown of a stream that was written is read as what was written
   reads_back : (x : Outcome) → x ≡ done text held n → Shows set (described_stream set machine images) held x → values_read set text ≡ Values machine images
@@ -144,8 +143,7 @@ module _ (set : Set) (fit : IsFit set) (machine : Option (List ℕ)) (images : L
         printed = same_text _ _ same;
       } in
       shown_holds set machine described images fit named fits ready text said
-  reads_back x same (Refuses place section reason size fault) =
-      absurd (done_apart 1 _ text held _ n (sym same))
+  reads_back x same (Refuses place section reason size fault) = absurd (done_apart 1 _ text held _ n (sym same))
 
 pub show_then_analyze : ShowThenAnalyzeLaw
 show_then_analyze word set machine images text held there ready named n shows =
@@ -153,8 +151,7 @@ show_then_analyze word set machine images text held there ready named n shows =
     let shown : Shows set (described_stream set machine images) held outcome = rw there at shows in
     listed_too set (subst FitStep there (fit_word held word)) machine images (machine_of_set set machine named) ready text held n outcome refl shown
 
--- ---- showing and then packing
-
+-- showing and then packing
 pub show_then_pack : ShowThenPackLaw
 show_then_pack word set machine images name text input map there ready named under short n shows =
     let fit : IsFit set = subst FitStep there (fit_word (Some map) word) in
@@ -198,7 +195,8 @@ module _ {S : Type 0} (f : Family S) {IsSound : S → Type 0} {AreTold : List (L
       let named : is_one_of (f.set set).machines (f.machine (f.number m)) ≡ true =
       is_among (f.set set).machines (f.number m - 1) (f.machine (f.number m))
       (stands.named (f.number m) set (stands.numbered m sound).first reaches.level_le_set reaches.set_le_newest) in
-      rw (own_stream m) (written_prints held word (f.set set) there (Some (f.machine (f.number m))) (images_saved f set m) named (stands.ready set m sound reaches))
+      rw (own_stream m)
+      (written_prints held word (f.set set) there (Some (f.machine (f.number m))) (images_saved f set m) named (stands.ready set m sound reaches))
 
   lines_print : (lines : List ScriptLine) → AreEvents (events_of lines)
       → PrintsAlike word (saved_stream f set (after_events f (events_of lines) (f.power_on number))) held
@@ -227,8 +225,6 @@ save_then_analyze words (ClockBoard version) set script stream input held asked 
     (Shipped (Clock set)) version set refl can.0 can.1 script stream has
 
 -- ---- What follows where `counter` names a state.
-
--- ---- what words give
 
 prints_so : (old new : SetWord) (sets : Both Set) (held : Option Held) (m : Mismatch) (machine : Option (List ℕ)) (images : List Image) (r : Refusal)
     → named_sets held old new ≡ Gives sets → Counters sets.old sets.new (State m machine images r) → Prints old new sets held m machine images r

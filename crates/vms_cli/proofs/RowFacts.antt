@@ -35,8 +35,6 @@ pub record Fits (course : Course) : Type 0 where
   pub unwritten : Spares course.writes
   pub unstored : Spares course.stores
 
--- ---- a command
-
 -- what can be done has an outcome of status 0
 pub record IsDone (task : Task) (input : Option (List ℕ)) (held : Option Held) : Type 0 where
   pub outcome : Outcome

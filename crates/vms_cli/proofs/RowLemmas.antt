@@ -1,5 +1,4 @@
 -- From how a command ends, and why, to its row.
-use Rattle.vms_cli.proofs.{RowFacts.Fits, RowFacts.HasSix, CheckLemmas.StopsAt}
 use Rattle.vms_cli.proofs.Facade.{◌≡◌, ◌⊎◌, ℕ, true, false, List, [], ◌∷◌, Option, Some, None, inl, inr, refl, sym, ◌∙◌, subst, Err, Bool, ◌++◌, ap, arith}
 use Rattle.vms_cli.proofs.Facade.{Keeps, Appends, is_among, EndsSo, Risen, of_shelf, text_course, wrong, draws_none, so_since, writes_serve, Asked, statuses_of}
 use Rattle.vms_cli.proofs.Facade.{stores_at, takes_at, writes_at, check_course, counter_course, course_of, Looks, looks_reaches, Intake, Outlet, Stock, Serves}
@@ -7,6 +6,7 @@ use Rattle.vms_cli.proofs.Facade.{save_course, Ending, BadText, NotCompatible, R
 use Rattle.vms_cli.proofs.Facade.{Tells, line_of, AsksIf, HadCause, among_left, shelf_has, text_asks, unset_so, WriteCause, WritesBy, Rose, SeenAs, Does}
 use Rattle.vms_cli.proofs.Facade.{DoesOrStops, Outcome, Outside, around, kept_none, outcome_so, same_keeps, Runs, moment, task_of, CanAnswer, ComesSeen}
 use Rattle.vms_cli.proofs.Facade.{DoesSeen, HasCause, OutcomeWith, bad_words, out_of_memory, read_fault, shelf_fault, write_fault, NotThere, Refused, TooLarge}
+use Rattle.vms_cli.proofs.RowFacts.{Fits, HasSix}
 use Rattle.vms_commands.specs.{Courses.Course, declared.ending.Ending.TheVariants.ShelfFault, declared.ending.Ending.TheVariants.WouldLose}
 
 -- what holds but at the statuses of such a list holds too where notes failed
@@ -15,8 +15,6 @@ at_six l (inl has) k status six P h none = absurd (wrong (sym (rw six has) ∙ n
 at_six l (inr is) k status six P h none = h (rw is refl)
 
 -- ---- Each ending of a command, by what it touches.
-
--- ---- the cause of a command that writes one text
 
 pub write_quiet : (asks compares : Bool) (o o' : Outlet) (e : Option Ending) → WriteCause asks compares o o' e → Quiet o o' e
 write_quiet asks compares o o' None c = tt
@@ -31,8 +29,6 @@ pub written_by : (asks compares : Bool) (text : List ℕ) (o o' : Outlet) (e : O
 written_by asks compares text o o' None w = record { cause = tt; serves = writes_serve text o o' None w }
 written_by asks compares text o o' (Some WriteFault) w = record { cause = w.rose; serves = writes_serve text o o' (Some WriteFault) w }
 written_by asks compares text o o' e w = absurd w
-
--- ---- a set that a word names
 
 -- where it isn't had, input and out aren't touched
 pub lacks_so : {T : Type 0} (own takes : List ℕ) → is_among own 10 ≡ true → {b : Bool} (i : Intake) (o : Outlet) {s s' : Stock} {e : Ending}
@@ -169,8 +165,6 @@ module _ (i i' : Intake) (o o' n n' : Outlet) (s s' : Stock) where
   abbrev new : Outside
   new = around i' o' n' s'
 
-  -- ---- how the line of an ending is written
-
   -- its status and its line, or 6 where notes failed
   abbrev Told : Option Ending → ℕ → Type 0
   Told e status = ((status ≡ status_of e) × Appends n.written n'.written (line_of e)) ⊎ ((status ≡ 6) × Rose n.faults n'.faults)
@@ -233,8 +227,6 @@ module _ (i i' : Intake) (o o' n n' : Outlet) (s s' : Stock) where
   has_cause course e status h (inl t) = own_cause (status_of e) status t.0 refl
   has_cause course e status h (inr t) = why_cause Sink status t.0 (inr t.1)
 
-  -- ---- what is touched
-
   -- what holds at the status of an ending, but at those of a list, holds at the status that was answered
   but_at : (l : List ℕ) → HasSix l → (e : Option Ending) (status : ℕ) → Told e status → (P : Type 0) → (is_among l (status_of e) ≡ false → P)
       → is_among l status ≡ false → P
@@ -257,25 +249,13 @@ module _ (i i' : Intake) (o o' n n' : Outlet) (s s' : Stock) where
   seen_among status (inr (inl e)) l none one eleven = ap (is_among l) e ∙ one
   seen_among status (inr (inr e)) l none one eleven = ap (is_among l) e ∙ eleven
 
-  -- another status
-  beyond : {X : Type 0} (k status : ℕ) → status ≡ k → is_among (0 ∷ 1 ∷ 11 ∷ []) k ≡ false → IsSeen status → X
-  beyond k status is other which =
-      absurd (wrong (sym (seen_among status which (0 ∷ 1 ∷ 11 ∷ []) refl refl refl) ∙ ap (is_among (0 ∷ 1 ∷ 11 ∷ [])) is ∙ other))
-
   ended_among : (e : Option Ending) (status : ℕ) → Told e status → IsSeen status → is_among (0 ∷ 1 ∷ 6 ∷ 11 ∷ []) (status_of e) ≡ true
   ended_among e status (inl t) which = cc (seen_among status which (0 ∷ 1 ∷ 6 ∷ 11 ∷ []) refl refl refl)
-  ended_among e status (inr t) which = beyond 6 status t.0 refl which
+  ended_among e status (inr t) which = absurd (omega (arith, t.0, which))
 
   does_so : (status : ℕ) (x : Outcome) → DoesOrStops status old new x → IsSeen status → Does status old new x
   does_so status x (inl does) which = does
-  does_so status x (inr stops) which = by stops.why
-    where
-      by : StopsAt status old new x → Does status old new x
-      by (inl read) = beyond 5 status read.0 refl which
-      by (inr (inl write)) = beyond 6 status write.0 refl which
-      by (inr (inr (inl notes))) = beyond 6 status notes.0.0 refl which
-      by (inr (inr (inr (inl shelf)))) = beyond 7 status shelf.0 refl which
-      by (inr (inr (inr (inr memory)))) = beyond 10 status memory.0 refl which
+  does_so status x (inr stops) which = absurd (omega (arith, stops.why, which))
 
   seen_so : (P : List ℕ → Outcome → Type 0) (e : Option Ending) (status : ℕ) → SeenAs P i i' o o' s s' e → Caused i i' o o' s s' e → Tells n n' e status
       → IsSeen status → DoesSeen P status old new
@@ -300,8 +280,7 @@ module _ (i i' : Intake) (o o' n n' : Outlet) (s s' : Stock) where
         comes = outcome_so i i' o o' n n' s s' e status v.outcome v.ends cause (inl t);
       })
 
-  -- ---- the row
-
+  -- the row
   pub row_so : (asked : Option Asked) → Fits (course_of asked) → (e : Option Ending) (status : ℕ)
       → Runs (task_of asked) (moment i o s) (moment i' o' s') e → (asked ≡ None → o' ≡ o) → Tells n n' e status → CanAnswer asked status old new
   row_so asked fits e status c unnamed t =

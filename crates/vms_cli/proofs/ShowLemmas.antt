@@ -8,7 +8,7 @@ use Rattle.vms_cli.proofs.Facade.{WritesAs, refused_line, Outcome, done, ended, 
 use Rattle.vms_cli.proofs.Facade.{seen_written, sees_as, GivesWithin, Shows, ShowsWell, Refuses, at_option, Mismatch, Counters, computed, one_answer_holds}
 use Rattle.vms_cli.proofs.Facade.{computed_holds, Finding, answer_of, fetched_set, named_sets, SetText, set_in, sets_in, mismatch_line, SetWord, FitStep}
 use Rattle.vms_cli.proofs.Facade.{fit_text, IsSound, sound_next, sound_sets, Answers, CountersBy, counted, counter_text, no_state}
-use Rattle.vms_cli.specs.{Commands.ShowCommand.Values, Commands.CounterCommand.Tells}
+use Rattle.vms_cli.specs.{Commands.ShowCommand.Values}
 use Rattle.vms_frames.specs.declared.fault.Refusal.{Refusal as RefusedAt}
 use Rattle.vms_counter_laws.specs.Counters.{Answer}
 use Rattle.vms_load.specs.declared.fault.LoadFault.TheVariants as faults
@@ -119,8 +119,7 @@ module _ (set : Set) where
       record { cells = shape.cells; subs = shape.subs; few = omega (arith, few_cells set well k) } in
       subst (λ (x : Image). IsOf set (device_at set k) x) (sym (get_or-map state_of images k no_image (state_of no_image) (omega arith))) is)
 
--- ---- how many bytes the input gives
-
+-- how many bytes the input gives
 pub gives_none : (step : Step Set) (i : Intake) → GivesWithin step i i
 gives_none Untold i = inl refl
 gives_none (Gives set) i = omega arith
@@ -133,8 +132,6 @@ gives_within m (Gives set) t i i' h within well = rw h at within
 gives_within m (Ends status line) t i i' h within well = absurd h
 
 -- ---- Of `counter`: what is answered is the text that its steps give.
-
--- ---- both sets are well formed
 
 abbrev pub AreFit : Step (Both Set) → Type 0
 AreFit Untold = Unit {0}

@@ -1,8 +1,8 @@
 -- Two steps, one after the other, and the two steps of `convert`.
-use Rattle.vms_cli.proofs.{Facade.ConvertsBy, Facade.agrees, Facade.newest, RowLemmas.write_quiet}
-use Rattle.vms_cli.proofs.Facade.{◌≡◌, ℕ, ◌<◌, ◌^◌, Bool, List, Ok, Err, Option, Some, ◌+◌, ◌≤◌, refl, ap, subst, arith, Looks, Intake, Outlet, Stock, Ending}
-use Rattle.vms_cli.proofs.Facade.{EndsAs, Outcome, StepAs, TextEnds, Both, Gives, HasText, Step, both, next, Untold, Ends, HasBy, quiet_same, err_text}
-use Rattle.vms_cli.proofs.Facade.{first_err, text_ends, then_as, then_text, WritesBy, Held, most_given, Set, IsGiven, SeenAs, WithGiven, sees_as, ConvertGives}
+use Rattle.vms_cli.proofs.{Facade.sees_as, Facade.ConvertGives, RowLemmas.write_quiet}
+use Rattle.vms_cli.proofs.Facade.{ConvertsBy, agrees, newest, ◌≡◌, ℕ, ◌<◌, ◌^◌, Bool, List, Ok, Err, Option, Some, ◌+◌, ◌≤◌, refl, ap, arith, Looks, Intake}
+use Rattle.vms_cli.proofs.Facade.{Outlet, Stock, Ending, EndsAs, Outcome, StepAs, TextEnds, Both, Gives, HasText, Step, both, next, Untold, Ends, HasBy}
+use Rattle.vms_cli.proofs.Facade.{quiet_same, err_text, first_err, text_ends, then_as, then_text, WritesBy, Held, most_given, Set, IsGiven, SeenAs, WithGiven}
 
 -- ---- Two steps, one after the other: what is said of the first that ends the command, or of what both give.
 
@@ -15,16 +15,13 @@ module _ {A T U : Type 0} (m : T → A) (n : U → Both A) where
   pub second_of : (s r : Step A) (t : T) (e : Ending) → StepAs m s (Ok t) → StepAs {A = A} {T = T} m r (Err e)
       → StepAs {A = Both A} {T = U} n (both s r) (Err e)
   second_of s r t e h k =
-      then_as m n (λ a. next r (λ b. Gives (record { old = a; new = b }))) s t (Err e) h
-      (first_err m n (λ b. Gives (record { old = m t; new = b })) r e k)
+      then_as m n (λ a. next r (λ b. Gives (record { old = a; new = b }))) s t (Err e) h (first_err m n (λ b. Gives (record { old = m t; new = b })) r e k)
 
   -- both gave something
   pub two_of : (s r : Step A) (t v : T) (u : U) → n u ≡ record { old = m t; new = m v } → StepAs m s (Ok t) → StepAs m r (Ok v) → StepAs n (both s r) (Ok u)
   two_of s r t v u is h k =
       then_as m n (λ a. next r (λ b. Gives (record { old = a; new = b }))) s t (Ok u) h
       (then_as m n (λ b. Gives (record { old = m t; new = b })) r v (Ok u) k is)
-
--- ---- a command that writes the text of a step, by a step before
 
 module _ {A T : Type 0} (m : T → A) (f : A → Step (List ℕ)) (step : Step A) (i : Intake) (o : Outlet) (s s' : Stock) (few : i.given < 2 ^ 64)
     (looks : Looks s s') (x : Outcome) (has : HasText s.held (next step f) x) where

@@ -35,8 +35,7 @@ unshelved_so s course e can risen out input draws serves = record {
 
 -- nothing was touched
 pub same_so : (i : Intake) (o : Outlet) (s : Stock) (course : Course) (e : Option Ending) → is_among course.statuses (status_of e) ≡ true → Risen i i o o s s e → EndsSo i i o o s s course e
-same_so i o s course e can risen =
-    unshelved_so s course e can risen (λ f. Keeps-refl o.written) (λ f. refl) (draws_none i) (serves_none o)
+same_so i o s course e can risen = unshelved_so s course e can risen (λ f. Keeps-refl o.written) (λ f. refl) (draws_none i) (serves_none o)
 
 -- the shelf was only read
 pub looked_so : (i : Intake) (o : Outlet) {s s' : Stock} (course : Course) (e : Option Ending) → Looks s s' → (course.asks ≡ false → s' ≡ s) → is_among course.statuses (status_of e) ≡ true → Risen i i o o s s' e → EndsSo i i o o s s' course e

@@ -5,7 +5,7 @@ use Rattle.std.specs.{List.slice_get, Option.option_and_then}
 use Rattle.serde_json.specs.{Data.Data, Data.Items, Data.no_items, Data.item, Find.get, Find.as_array, Find.as_number, Find.as_u64}
 use Rattle.vms_spec.specs.{Sets.Formula, Sets.Desc, Sets.Sub, Sets.Device, Sets.Set, WellFormed.SetFault, WellFormed.first_fault, Good.IsFit}
 use Rattle.vms_desc.proofs.{Bounds.none_is, ClockHeads.clock_heads, Formed.clock_formed, Formed.fit_number}
-use Rattle.vms_desc.specs.Formed.{shipped_set, clock_set}
+use Rattle.vms_desc.specs.Formed.{clock_set}
 use Rattle.vms_io.specs.Shelves.{Held}
 use Rattle.vms_commands.specs.Fetching.{SetText, Number, Text, fetched_set, said_set, set_in, word_set}
 use Rattle.vms_commands.specs.SetWords.{Isa, Clock, SetWord}
@@ -189,8 +189,7 @@ device_in_small asks d =
     (says_so Small (instance_said d) instance (says_at Small u32_of (codes "instance") d small_u32) f, w.0, w.1)))
 
 device_small : (asks : Bool) (d : Data) → Says SmallDevice (device_of asks d)
-device_small asks d =
-    says_judged SmallDevice (fits (codes "desc" ∷ codes "instance" ∷ []) [] d) (device_in asks d) (device_in_small asks d)
+device_small asks d = says_judged SmallDevice (fits (codes "desc" ∷ codes "instance" ∷ []) [] d) (device_in asks d) (device_in_small asks d)
 
 -- ---- sets
 
@@ -214,8 +213,7 @@ set_in_small asks d =
     (λ structs. good (record { machines = machines; structs = structs; devices = devices })) (λ structs g. small)))
 
 set_small : (asks : Bool) (d : Data) → Says SmallSet (set_of asks d)
-set_small asks d =
-    says_judged SmallSet (fits (codes "devices" ∷ codes "machines" ∷ codes "structs" ∷ []) [] d) (set_said asks d) (set_in_small asks d)
+set_small asks d = says_judged SmallSet (fits (codes "devices" ∷ codes "machines" ∷ codes "structs" ∷ []) [] d) (set_said asks d) (set_in_small asks d)
 
 -- ---- files
 

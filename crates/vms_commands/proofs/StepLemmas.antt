@@ -214,5 +214,4 @@ under_gives most name text false e fits = absurd (omega (arith, leb-false (lengt
 
 pub fetched_gives : (most : ℕ) (map : Held) (name text : List ℕ) → map name ≡ Some text → length text ≤ most
     → fetched most (Some map) name ≡ Gives text
-fetched_gives most map name text e fits =
-    ap (text_under most name) e ∙ under_gives most name text (nat_le (length text) most) refl fits
+fetched_gives most map name text e fits = ap (text_under most name) e ∙ under_gives most name text (nat_le (length text) most) refl fits

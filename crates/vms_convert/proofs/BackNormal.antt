@@ -54,8 +54,7 @@ module _ (to : Set) (well : WellFormed to) (heads : FitsHeads to) (i : ℕ) (d :
         (taken_fits numbers (get_or cells c no_cell) (has_cell (image_slots to d (whole d now)) c) (get_or partners c None) (good.defaults i d there c lt)
         (λ k e. let h = paired.kinds c k (at_get partners c k e) in rw h.1 (of_kinds.in_range k h.0)))
 
-    -- ---- and so does what is settled
-
+    -- and so does what is settled
     either_fits : (c : ℕ) (b : Bool) → c < length cells → get_or then_ c (pos 0) ≡ (if b then get_or now c (pos 0) else default_at c)
         → FitsCell (get_or cells c no_cell) (get_or then_ c (pos 0))
     either_fits c true lt e = rw e (taken_fit c lt)

@@ -24,8 +24,7 @@ back_stands to new fit well i d e there numbers kinds image back =
     back_may to fit.well fit.heads i d there (device_cells new e) (device_partners to new d e) (device_paired to new fit.well well i d e there) numbers kinds
     image back
 
--- ---- recast twice
-
+-- recast twice
 twice : (to : Set) (e : Device) (numbers : List ℤ) → recast to e (recast to e numbers) ≡ recast to e numbers
 twice to e numbers = elim (is_port e && wants_arrays to) as
     (λ b. (if b then recast_cells (if b then recast_cells numbers else numbers) else (if b then recast_cells numbers else numbers))

@@ -74,8 +74,8 @@ unfoldable pub use Rattle.vms_check.specs.Partners.{device_partners}
 pub use Rattle.vms_check.specs.Reducing.{presence}
 pub use Rattle.vms_check.specs.Sides.{IsSide, desc_on, own_side}
 pub use Rattle.vms_check.specs.declared.side.Side.{Side}
-pub use Rattle.vms_check_laws.proofs.GoesDevices.{carried_stands}
-pub use Rattle.vms_check_laws.proofs.PairDevices.{device_paired, struct_is}
+pub use Rattle.vms_check_laws.proofs.{GoesDevices.carried_stands, GoesFields.struct_is}
+pub use Rattle.vms_check_laws.proofs.PairDevices.{device_paired}
 pub use Rattle.vms_check_laws.proofs.Streaming.{all_in, back, found_device, found_some, pair, upgrade_stands}
 pub use Rattle.vms_check_laws.proofs.SubParts.{one_number, one_part, own_or_sub}
 pub use Rattle.vms_check_laws.proofs.Wholes.{at_map}

@@ -200,8 +200,7 @@ module _ (to new : Set) (wanted : List (List ℤ)) where
         first_lost = rw states (lost_next to new wanted all (state_of x) n k long pair lost cell next h.first_lost is.lost earlier);
       }
 
--- ---- the newest set's device of a name
-
+-- the newest set's device of a name
 pub pair_found : (to new : Set) (i k : ℕ) → i < length to.devices → find_device 0 new.devices (device_at to i).desc.name (device_at to i).instance ≡ Some k
     → ArePaired to new i k
 pair_found to new i k lt found =

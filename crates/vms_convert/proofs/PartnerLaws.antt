@@ -6,8 +6,7 @@ use Rattle.vms_convert.proofs.Facade.{FieldsBelow, all_below, first_at, is_well_
 use Rattle.vms_convert.proofs.Facade.{present_from, presence, Pairer, no_pairer, pairer_of, unpaired, item_partners, array_partners, field_partners}
 use Rattle.vms_convert.proofs.Facade.{fields_left, partners_from, desc_partners, table, struct_on}
 
--- ---- how far down structures go
-
+-- how far down structures go
 abbrev pub depth : Item → ℕ
 depth (Struct j) = suc j
 depth item = 0

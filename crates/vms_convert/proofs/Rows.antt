@@ -120,8 +120,7 @@ timeout_is_lost : (carried_device set_2 set_4 serial_at_2 serial_at_4 (image_of 
 unfolding first
 timeout_is_lost = refl
 
--- ---- structures: the timer chip's three counters, cell by cell
-
+-- structures: the timer chip's three counters, cell by cell
 chip_1 : device_partners set_1 set_4 i8254_at_1 i8254_at_2 ≡ some_from 0 33
 unfolding device_partners first
 chip_1 = refl

@@ -62,8 +62,6 @@ first_next set d came j s o n e f =
       append_assoc (own_slots set d d.desc.version n) front (one_slots set s o n (part_place set d j)),
     )
 
--- ---- they go by the cells before the next part
-
 module _ (set : Set) (structs : AreSound set.structs) (d : Device) where
   came_same : (n m : List ℤ) (from : ℕ) (subs : List Sub) (came : List (Option ℕ)) (j : ℕ) → ((i : ℕ) (s : Sub) → slice_get subs i ≡ Some s → IsSound s.desc)
       → SameIn from (sub_place set from subs j) n m

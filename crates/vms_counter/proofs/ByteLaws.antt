@@ -11,8 +11,7 @@ capped_item bytes n _ = refl
 
 capped_fields : (bytes : List ℕ) (fs : List sets.Field) → in_u32 (fields_bytes (map in_u32 bytes) fs) ≡ in_u32 (fields_bytes bytes fs)
 capped_fields bytes [] = refl
-capped_fields bytes (f ∷ fs) =
-    omega (arith, capped_item bytes (capacity_of f.count) f.item, capped_fields bytes fs)
+capped_fields bytes (f ∷ fs) = omega (arith, capped_item bytes (capacity_of f.count) f.item, capped_fields bytes fs)
 
 capped_subs : (bytes : List ℕ) (subs : List sets.Sub) → in_u32 (subs_in (map in_u32 bytes) subs) ≡ in_u32 (subs_in bytes subs)
 capped_subs bytes [] = refl
@@ -64,5 +63,4 @@ pub read_bytes : (set : sets.Set) (given : List Desc) (told : List Device) (byte
     → bytes ≡ items
     → items ≡ map in_u32 (struct_bytes (map desc_of given) (length given)) → map desc_of given ≡ set.structs → map device_of told ≡ set.devices
     → n ≡ in_u32 (devices_in (map in_u32 (struct_bytes set.structs (length set.structs))) set.devices)
-read_bytes set given told bytes items n has same is of_structs of_devices =
-    has ∙ rw (same, is, ← (length-map given desc_of), of_structs, of_devices)
+read_bytes set given told bytes items n has same is of_structs of_devices = has ∙ rw (same, is, ← (length-map given desc_of), of_structs, of_devices)

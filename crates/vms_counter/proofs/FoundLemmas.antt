@@ -51,8 +51,7 @@ named machines machine = by (at_option machines machine) refl
 -- what was tried, as it is named elsewhere
 pub tries_by : (old new : Set) (name k : Option (List ℕ)) (typed images : List Typed) (o r : Option Refused) → k ≡ name → typed ≡ images → o ≡ r
     → Tries old new k (map state_of typed) o → Tries old new name (map state_of images) r
-tries_by old new name k typed images o r named same is t =
-    rw (named, same, is) at t
+tries_by old new name k typed images o r named same is t = rw (named, same, is) at t
 
 module _ (old new : Set) (m : Mismatch) (first : first_mismatch old new ≡ Some m) where
   -- a candidate that isn't refused doesn't show the mismatch
@@ -75,13 +74,11 @@ module _ (old new : Set) (m : Mismatch) (first : first_mismatch old new ≡ Some
       Finds m images (refusal_of r) t.1.size first (rw e later) t.1.fault
 
   pub none_found : Tries old new (machine_for old new m) (default_images old) None → raised old new m ≡ None → Counters old new (NoState m)
-  none_found none e =
-      Lacks m first (rw e (not_shown (default_images old) none, tt))
+  none_found none e = Lacks m first (rw e (not_shown (default_images old) none, tt))
 
   pub neither_found : (images : List Image) → Tries old new (machine_for old new m) (default_images old) None → raised old new m ≡ Some images
       → Tries old new (machine_for old new m) images None → Counters old new (NoState m)
-  neither_found images none e t =
-      Lacks m first (rw e (not_shown (default_images old) none, (not_shown images t, tt)))
+  neither_found images none e t = Lacks m first (rw e (not_shown (default_images old) none, (not_shown images t, tt)))
 
 pub accepted_none : (o : Option Mismatch) → Accepted ≡ verdict_of o → o ≡ None
 accepted_none None e = refl

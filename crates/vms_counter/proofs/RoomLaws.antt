@@ -27,8 +27,7 @@ module _ (set : Set) where
   -- no stream of images with a machine or none, and without a description, fills this room
   pub stream-short : (machine : Option (List ℕ)) (images : List Image) → IfSome machine (λ m. length m ≤ 64) → AllParts IsShort set.devices
       → length (written set machine images None) < BESIDE_SECTIONS + devices_most set set.devices
-  stream-short machine images named short =
-      omega (arith, stream_le set machine images None, config-long machine named, devices-short set.devices short)
+  stream-short machine images named short = omega (arith, stream_le set machine images None, config-long machine named, devices-short set.devices short)
 
 -- ---- The room that no stream of a well-formed set fills.
 

@@ -1,5 +1,6 @@
 -- The fields that tests and counts of a well-formed set name exist, and the code's answers are
 -- those of the definitions.
+use Rattle.vms_desc.proofs.{Bounds.small_layout, Clean.field_clean, Clean.validate_clean, Clean.sub_clean, EvalLaws.truth_same, EvalLaws.own_number}
 use Rattle.vms_desc.proofs.Facade.{◌≡◌, ℕ, zero, suc, ◌+◌, ◌<◌, ◌≤◌, List, [], ◌∷◌, length, length-append, get_or, map, Option, Some, None, refl, sym, ap, ◌∙◌}
 use Rattle.vms_desc.proofs.Facade.{arith, Bool, true, ◌&&◌, ℤ, flat_map, slice_get, list_all, and_parts, length-map, get_or_from_slice_get, get_or-map}
 use Rattle.vms_desc.proofs.Facade.{MOST_ITEMS, Counted, Own, Parent, Part, Formula, AtLeast, Below, Cell, Not, And, Or, Field, Desc, Sub, Device, Set, truth}
@@ -7,14 +8,10 @@ use Rattle.vms_desc.proofs.Facade.{own_cells, sub_place, no_desc, no_field, no_p
 use Rattle.vms_desc.proofs.Facade.{has_no_test, is_steady, is_steady_in, is_earlier_in, is_counting, names_well, nobody, test_names_well, count_names_well}
 use Rattle.vms_desc.proofs.Facade.{device_at, field_of, desc_of, sub_of, device_of, form_of, get_map_at, Scope, own_numbers, HasCells, is_well_formed}
 use Rattle.vms_desc.proofs.Facade.{fields_in, number_of, IsScope, HasPart, desc_at, sub_at, is_number, is_number_in, is_placed}
+pub use Rattle.vms_spec.proofs.ListLaws.{sub_first}
+use Rattle.vms_parts.specs.{declared.types.Desc.Desc as CodeDesc, declared.types.Device.Device as CodeDevice, declared.types.Field.Field as CodeField}
+use Rattle.vms_parts.specs.{declared.types.Sub.Sub as CodeSub}
 use Rattle.vms_spec.specs.declared.Part.TheVariants as parts
-use Rattle.vms_parts.specs.declared.types.Desc.{Desc as CodeDesc}
-use Rattle.vms_parts.specs.declared.types.Device.{Device as CodeDevice}
-use Rattle.vms_parts.specs.declared.types.Field.{Field as CodeField}
-use Rattle.vms_parts.specs.declared.types.Sub.{Sub as CodeSub}
-use Rattle.vms_desc.proofs.Bounds.{small_layout}
-use Rattle.vms_desc.proofs.Clean.{field_clean, validate_clean, sub_clean}
-use Rattle.vms_desc.proofs.EvalLaws.{truth_same, own_number}
 
 -- ---- what tests name
 
@@ -51,21 +48,19 @@ test_names d k (Some u) t is e =
     let same : t ≡ u = cc in rw same (names_more (is_earlier_in d k) (is_number_in d.fields) nobody nobody (earlier_number d k) (λ j x. x) u e)
 
 module _ (set : Set) (well : is_well_formed set ≡ true) where
-  -- the test of a field
-  pub field_names : (part : Part) → HasPart set part → (k : ℕ) → k < length (desc_at set part).fields → (f : Field)
-      → f ≡ get_or (desc_at set part).fields k no_field
-      → (t : Formula) → f.test ≡ Some t → names_well (is_number_in (desc_at set part).fields) nobody t ≡ true
-  field_names part h k lt f fs t is =
-      test_names (desc_at set part) k _ t (ap (λ (x : Field). x.test) (sym fs) ∙ is) (field_clean set well part h k lt).test
+  module _ (part : Part) (h : HasPart set part) (k : ℕ) (lt : k < length (desc_at set part).fields) (f : Field)
+      (fs : f ≡ get_or (desc_at set part).fields k no_field) where
+    -- the test of a field
+    pub field_names : (t : Formula) → f.test ≡ Some t → names_well (is_number_in (desc_at set part).fields) nobody t ≡ true
+    field_names t is = test_names (desc_at set part) k _ t (ap (λ (x : Field). x.test) (sym fs) ∙ is) (field_clean set well part h k lt).test
 
-  -- the field that counts the elements of a field
-  pub field_counts : (part : Part) → HasPart set part → (k : ℕ) → k < length (desc_at set part).fields → (f : Field)
-      → f ≡ get_or (desc_at set part).fields k no_field
-      → (by most : ℕ) → f.count ≡ Counted by most → (own : Scope) → fields_in own ≡ (desc_at set part).fields → is_number_in (fields_in own) by ≡ true
-  field_counts part h k lt f fs by most is own e =
-      let d = desc_at set part in
-      let c : count_names_well d k (Counted by most) ≡ true = cc ((field_clean set well part h k lt).count) in
-      rw e (earlier_number d k by (and_parts (is_earlier_in d k by) (is_counting (slice_get d.fields by)) c).0)
+    -- the field that counts the elements of a field
+    pub field_counts : (by most : ℕ) → f.count ≡ Counted by most → (own : Scope) → fields_in own ≡ (desc_at set part).fields
+        → is_number_in (fields_in own) by ≡ true
+    field_counts by most is own e =
+        let d = desc_at set part in
+        let c : count_names_well d k (Counted by most) ≡ true = cc ((field_clean set well part h k lt).count) in
+        rw e (earlier_number d k by (and_parts (is_earlier_in d k by) (is_counting (slice_get d.fields by)) c).0)
 
   -- the validations
   pub rules_name : (part : Part) → HasPart set part → (own : Scope) → fields_in own ≡ (desc_at set part).fields → (ts : List Formula)
@@ -119,10 +114,6 @@ module _ (set : Set) (part : Part) (base : ℕ) (own : Scope) (numbers : List �
   same_rules ts v = all_hold_same ts v (number_of numbers own) (own_numbers set part numbers base) same_number
 
 -- ---- where subsections begin
-
-pub sub_first : (set : Set) (at' : ℕ) (subs : List Sub) → sub_place set at' subs 0 ≡ at'
-sub_first set at' [] = refl
-sub_first set at' (s ∷ subs) = refl
 
 pub sub_next : (set : Set) (at' : ℕ) (subs : List Sub) (j : ℕ) (x : Sub) → j < length subs
     → sub_place set at' subs (j + 1) ≡ sub_place set at' subs j + length (desc_cells (struct_cells set) (get_or subs j x).desc)

@@ -1,34 +1,17 @@
 -- The limits of well-formed sets.
-use Rattle.vms_desc.proofs.Facade.{◌≡◌, ℕ, zero, suc, ◌*◌, ◌≤◌, List, ◌∷◌, ◌++◌, length, length-append, get_or, map, refl, sym, ap, ◌∙◌, arith, true, ◌&&◌}
-use Rattle.vms_desc.proofs.Facade.{nat_le, Option, Some, None, is_none, [], flat_map, and_parts, leb-true, length-map, map-map, Item, Struct, MOST_ITEMS}
-use Rattle.vms_desc.proofs.Facade.{first_answer, Field, Desc, Sub, Device, Set, first, no_desc, capacity_of, desc_cells, struct_cells, device_cells, failing}
-use Rattle.vms_desc.proofs.Facade.{here, struct_fault, device_fault, set_rules, size_rules, first_fault, items_in, struct_items, subs_items, devices_items}
-use Rattle.vms_desc.proofs.Facade.{IsFit, IsGood, FitsHeads, or_else_none, AllTrue, all_true, first_long, well_good, Cells, Items, in_u32, size_of, fields_size}
-use Rattle.vms_desc.proofs.Facade.{sizes_to, form_of, layout_of, items_are, items_to, is_well_formed}
-use Rattle.vms_spec.specs.declared.Part.TheVariants as parts
-use Rattle.vms_desc.proofs.EvalLaws.{cells_size, struct_sizes}
+use Rattle.vms_desc.proofs.{Facade.items_are, Facade.items_to, Facade.is_well_formed, EvalLaws.cells_size, EvalLaws.struct_sizes}
+use Rattle.vms_desc.proofs.Facade.{◌≡◌, ℕ, zero, suc, ◌*◌, ◌≤◌, List, ◌∷◌, ◌++◌, length, length-append, get_or, map, sym, ap, ◌∙◌, arith, true, ◌&&◌, nat_le}
+use Rattle.vms_desc.proofs.Facade.{[], flat_map, and_parts, leb-true, length-map, map-map, Item, Struct, MOST_ITEMS, Field, Desc, Sub, Device, Set, first}
+use Rattle.vms_desc.proofs.Facade.{no_desc, capacity_of, desc_cells, struct_cells, device_cells, first_fault, items_in, struct_items, subs_items, devices_items}
+use Rattle.vms_desc.proofs.Facade.{IsFit, IsGood, FitsHeads, first_long, well_good, Cells, Items, in_u32, size_of, fields_size, sizes_to, form_of, layout_of}
+pub use Rattle.vms_spec.proofs.ShippedSets.{none_is}
+use Rattle.vms_spec.proofs.Faultless.{set_clean}
 
 -- ---- no fault at the set
 
-pub none_is : {X : Type 0} (o : Option X) → is_none o ≡ true → o ≡ None
-none_is None h = refl
-none_is (Some x) h = cc
-
-record SetClean (set : Set) : Type 0 where
-  pub first : AllTrue (set_rules set)
-  pub last : AllTrue (size_rules set)
-
 module _ (set : Set) (h : is_well_formed set ≡ true) where
-  set_clean : SetClean set
-  unfolding first_fault
-  set_clean =
-      let a = or_else_none (failing 1 (set_rules set) (here parts.Set)) _ (none_is (first_fault set) h) in
-      let b = or_else_none (first_answer (struct_fault set.structs) 0 set.structs) _ a.1 in
-      let c = or_else_none (first_answer (device_fault set) 0 set.devices) (failing 1 (size_rules set) (here parts.Set)) b.1 in
-      record { first = all_true 1 (set_rules set) (here parts.Set) a.0; last = all_true 1 (size_rules set) (here parts.Set) c.1 }
-
   few_parts : ((nat_le (length set.machines) 16 && nat_le (length set.structs) 64) ≡ true) × (nat_le (length set.devices) 64 ≡ true)
-  few_parts = and_parts (nat_le (length set.machines) 16 && nat_le (length set.structs) 64) (nat_le (length set.devices) 64) set_clean.first.1.1.1.1.1.1.0
+  few_parts = and_parts (nat_le (length set.machines) 16 && nat_le (length set.structs) 64) (nat_le (length set.devices) 64) (set_clean set (none_is (first_fault set) h)).own.1.1.1.1.1.1.0
 
   pub few_machines : length set.machines ≤ 16
   few_machines = leb-true (length set.machines) 16 (and_parts (nat_le (length set.machines) 16) (nat_le (length set.structs) 64) few_parts.0).0
@@ -40,7 +23,7 @@ module _ (set : Set) (h : is_well_formed set ≡ true) where
   few_devices = leb-true (length set.devices) 64 few_parts.1
 
   pub few_items : devices_items (struct_items set.structs) set.devices ≤ MOST_ITEMS
-  few_items = leb-true (devices_items (struct_items set.structs) set.devices) MOST_ITEMS set_clean.last.1.1.1.1.1.1.0
+  few_items = leb-true (devices_items (struct_items set.structs) set.devices) MOST_ITEMS (set_clean set (none_is (first_fault set) h)).sizes.1.1.1.1.1.1.0
 
   -- a set whose instances and versions fit is fit, and good
   pub fit_of : FitsHeads set → IsFit set

@@ -60,12 +60,9 @@ is_clean k d rules c =
     }
 
 record IsCleanPart (k : ℕ) (d : Desc) : Type 0 where
-  pub each : (i : ℕ) → i < length d.fields → AllTrue (field_rules k d i (get_or d.fields i no_field))
-  pub validate : list_all (names_well (is_steady_in d) nobody) d.validate ≡ true
+  pub rules : List Bool
+  pub is : IsClean k d rules
   pub few : length d.fields ≤ 256
-
-of_part : {k : ℕ} {d : Desc} {rules : List Bool} → IsClean k d rules → length d.fields ≤ 256 → IsCleanPart k d
-of_part c few = record { each = c.each; validate = c.validate; few = few }
 
 few : (d : Desc) (more : Bool) → has_few d && more ≡ true → length d.fields ≤ 256
 few d more e = leb-true (length d.fields) 256 (and_parts (nat_le (length d.fields) 256) (nat_le (length d.validate) 16) (and_parts (has_few d) more e).0).0
@@ -104,21 +101,22 @@ module _ (set : Set) (well : is_well_formed set ≡ true) where
 
   part_clean : (part : Part) → HasPart set part → IsCleanPart (reach set part) (desc_at set part)
   part_clean parts.Set h = absurd h
-  part_clean (parts.Struct j) h = let c = struct_clean j h in of_part c (few (get_or set.structs j no_desc) _ c.own.1.1.1.1.1.1.0)
-  part_clean (parts.Device k) h = let c = device_clean k h in of_part c (few (device_at set k).desc _ c.own.1.1.1.1.1.1.0)
-  part_clean (parts.Sub k j) h = let c = sub_clean k j h.0 h.1 in of_part c (few (sub_at (device_at set k) j).desc _ c.own.1.1.1.1.1.1.0)
+  part_clean (parts.Struct j) h = let c = struct_clean j h in record { rules = _; is = c; few = few (get_or set.structs j no_desc) _ c.own.1.1.1.1.1.1.0 }
+  part_clean (parts.Device k) h = let c = device_clean k h in record { rules = _; is = c; few = few (device_at set k).desc _ c.own.1.1.1.1.1.1.0 }
+  part_clean (parts.Sub k j) h =
+      let c = sub_clean k j h.0 h.1 in
+      record { rules = _; is = c; few = few (sub_at (device_at set k) j).desc _ c.own.1.1.1.1.1.1.0 }
 
-  -- the rules that hold for a field
-  pub field_sound : (part : Part) → HasPart set part → (i : ℕ) → i < length (desc_at set part).fields
-      → AllTrue (field_rules (reach set part) (desc_at set part) i (get_or (desc_at set part).fields i no_field))
-  field_sound part h i lt = (part_clean part h).each i lt
+  module _ (part : Part) (h : HasPart set part) (i : ℕ) (lt : i < length (desc_at set part).fields) where
+    -- the rules that hold for a field
+    pub field_sound : AllTrue (field_rules (reach set part) (desc_at set part) i (get_or (desc_at set part).fields i no_field))
+    field_sound = (part_clean part h).is.each i lt
 
-  pub field_clean : (part : Part) → HasPart set part → (i : ℕ) → i < length (desc_at set part).fields
-      → IsCleanField (reach set part) (desc_at set part) i (get_or (desc_at set part).fields i no_field)
-  field_clean part h i lt = clean_field _ _ i _ (field_sound part h i lt)
+    pub field_clean : IsCleanField (reach set part) (desc_at set part) i (get_or (desc_at set part).fields i no_field)
+    field_clean = (part_clean part h).is.fields i lt
 
   pub validate_clean : (part : Part) → HasPart set part → list_all (names_well (is_steady_in (desc_at set part)) nobody) (desc_at set part).validate ≡ true
-  validate_clean part h = (part_clean part h).validate
+  validate_clean part h = (part_clean part h).is.validate
 
   pub few_fields : (part : Part) → HasPart set part → length (desc_at set part).fields ≤ 256
   few_fields part h = (part_clean part h).few

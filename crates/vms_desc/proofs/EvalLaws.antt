@@ -1,20 +1,19 @@
 -- Numbers by sizes, and the numbers of cells: those of the definition.
 use Rattle.vms_desc.proofs.Facade.{◌≡◌, ℕ, zero, suc, ◌+◌, ◌*◌, ◌<◌, ◌≤◌, List, [], ◌∷◌, length, length-append, get_or, take, map, min, refl, sym, ap, ◌∙◌}
-use Rattle.vms_desc.proofs.Facade.{arith, Bool, true, ◌&&◌, Option, Some, None, ℤ, pos, flat_map, slice_get, and_parts, map-append, take_min, map-map, get_or-map}
-use Rattle.vms_desc.proofs.Facade.{Item, Num, Struct, Count, One, Part, MOST_ITEMS, Own, Parent, first, no_desc, no_field, times, counted, capacity_of}
-use Rattle.vms_desc.proofs.Facade.{item_cells, item_size, field_cells, cells_from, desc_cells, struct_cells, device_cells, numbers_of, place_of, is_num, is_one}
-use Rattle.vms_desc.proofs.Facade.{names_well, Formula, AtLeast, Below, Cell, Not, And, Or, Field, Desc, Sub, Device, Set, truth, field_size, Cells, device_at}
-use Rattle.vms_desc.proofs.Facade.{in_u32, size_of, fields_size, sizes_to, field_of, form_of, capped_fields, Scope, item_forms, fields_forms, subs_forms}
-use Rattle.vms_desc.proofs.Facade.{device_forms, forms_to, sizes_of, place_in, number_in, number_of, number_of_parent, desc_at, is_number, is_number_in}
-use Rattle.vms_desc.proofs.Facade.{is_number_of_parent, is_placed, parent_of, HasParentCells, may_ask, may_ask_parent, IsInside, IsInsideParent, IsScope}
-use Rattle.vms_desc.proofs.Facade.{IsParent, AreStarts}
-use Rattle.vms_spec.specs.declared.Part.TheVariants as parts
+use Rattle.vms_desc.proofs.Facade.{arith, Bool, true, ◌&&◌, Option, Some, None, ℤ, pos, flat_map, slice_get, and_parts, map-append, take_min, map-map}
+use Rattle.vms_desc.proofs.Facade.{get_or-map, Item, Num, Struct, Count, One, Part, MOST_ITEMS, Own, Parent, first, no_desc, no_field, times, counted}
+use Rattle.vms_desc.proofs.Facade.{capacity_of, item_cells, item_size, field_cells, cells_from, desc_cells, struct_cells, device_cells, numbers_of, place_of}
+use Rattle.vms_desc.proofs.Facade.{is_num, is_one, names_well, Formula, AtLeast, Below, Cell, Not, And, Or, Field, Desc, Sub, Device, Set, truth, field_size}
+use Rattle.vms_desc.proofs.Facade.{Cells, device_at, in_u32, size_of, fields_size, sizes_to, field_of, form_of, capped_fields, Scope, item_forms, fields_forms}
+use Rattle.vms_desc.proofs.Facade.{subs_forms, device_forms, forms_to, sizes_of, place_in, number_in, number_of, number_of_parent, desc_at, is_number}
+use Rattle.vms_desc.proofs.Facade.{is_number_in, is_number_of_parent, is_placed, parent_of, HasParentCells, may_ask, may_ask_parent, IsInside, IsInsideParent}
+use Rattle.vms_desc.proofs.Facade.{IsScope, IsParent, AreStarts}
 use Rattle.std.proofs.Common.{negsuc, ◌%◌, ◌^◌}
-use Rattle.vms_kinds.specs.Codes.{residue, width}
-use Rattle.vms_kinds.specs.declared.Kind.{Kind}
-use Rattle.vms_kinds.specs.declared.Kind.TheVariants as kinds
+use Rattle.vms_kinds.specs.{Codes.residue, Codes.width, declared.Kind.Kind}
 use Rattle.vms_spec.specs.Layout.{Cell as OneCell}
 use Rattle.vms_parts.specs.declared.types.Field.{Field as CodeField}
+use Rattle.vms_spec.specs.declared.Part.TheVariants as parts
+use Rattle.vms_kinds.specs.declared.Kind.TheVariants as kinds
 
 -- ---- the cells of the fields' numbers
 
@@ -205,18 +204,16 @@ module _ (set : Set) (d : Desc) (base : ℕ) (own : Scope) (numbers : List ℤ) 
   pub own_number : (k : ℕ) → number_of numbers own k ≡ numbers_of (struct_cells set) d numbers base k
   own_number k = rw (s.fields, s.first) (number_is set d small own.starts.now s.starts numbers base k)
 
-pub parent_inside : (set : Set) (part : Part) (parent : Option Scope) (numbers : List ℤ) → IsParent set part parent → length numbers ≤ MOST_ITEMS
-    → HasParentCells set part (length numbers) → IsInsideParent numbers parent
-parent_inside set (parts.Sub i j) (Some s) numbers p few h = own_inside set (device_at set i).desc 0 s numbers p few (omega arith)
-parent_inside set part None numbers p few h = tt
-parent_inside set part (Some s) numbers p few h = absurd p
-
-parent_number : (set : Set) (part : Part) (parent : Option Scope) (numbers : List ℤ) → IsParent set part parent → length numbers ≤ MOST_ITEMS
-    → HasParentCells set part (length numbers) → (k : ℕ) → number_of_parent numbers parent k ≡ parent_of set part numbers k
-parent_number set (parts.Sub i j) None numbers p few h k = absurd p
-parent_number set (parts.Sub i j) (Some s) numbers p few h k = own_number set (device_at set i).desc 0 s numbers p few (omega arith) k
-parent_number set part None numbers p few h k = refl
-parent_number set part (Some s) numbers p few h k = absurd p
+-- the cells of the parent are there, and its numbers are those of the part's parent
+pub parent_is : (set : Set) (part : Part) (parent : Option Scope) (numbers : List ℤ) → IsParent set part parent → length numbers ≤ MOST_ITEMS
+    → HasParentCells set part (length numbers)
+    → IsInsideParent numbers parent × ((k : ℕ) → number_of_parent numbers parent k ≡ parent_of set part numbers k)
+parent_is set (parts.Sub i j) None numbers p few h = absurd p
+parent_is set (parts.Sub i j) (Some s) numbers p few h =
+    let room : 0 + length (desc_cells (struct_cells set) (device_at set i).desc) ≤ length numbers = omega arith in
+    (own_inside set (device_at set i).desc 0 s numbers p few room, own_number set (device_at set i).desc 0 s numbers p few room)
+parent_is set part None numbers p few h = (tt, λ k. refl)
+parent_is set part (Some s) numbers p few h = absurd p
 
 pub truth_is : (set : Set) (part : Part) (base : ℕ) (own : Scope) (parent : Option Scope) (numbers : List ℤ) (t : Formula) (v : ℕ)
     → IsScope set (desc_at set part) base own
@@ -226,7 +223,7 @@ pub truth_is : (set : Set) (part : Part) (base : ℕ) (own : Scope) (parent : Op
     (parent_of set part numbers)
 truth_is set part base own parent numbers t v s p few room h =
     truth_same v (number_of numbers own) (numbers_of (struct_cells set) (desc_at set part) numbers base) (number_of_parent numbers parent)
-    (parent_of set part numbers) (own_number set (desc_at set part) base own numbers s few room) (parent_number set part parent numbers p few h) t
+    (parent_of set part numbers) (own_number set (desc_at set part) base own numbers s few room) (parent_is set part parent numbers p few h).1 t
 
 -- ---- the low bytes of a number
 

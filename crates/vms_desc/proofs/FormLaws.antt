@@ -1,19 +1,14 @@
 -- Forms that are appended, and the numbers of a device's cells at their defaults.
+use Rattle.vms_desc.proofs.{Bounds.none_is, EvalLaws.device_forms_are}
 use Rattle.vms_desc.proofs.Facade.{◌≡◌, ℕ, zero, suc, ◌+◌, ◌-◌, ◌*◌, ◌<◌, ◌≤◌, List, [], ◌∷◌, ◌++◌, length, get_or, drop, take, map, refl, sym, ap, ◌∙◌, arith}
 use Rattle.vms_desc.proofs.Facade.{ℤ, pos, append_assoc, append-nil, length-append, true, drop_all, drop_at, ext_get_or, length-map, map-append, take-map}
-use Rattle.vms_desc.proofs.Facade.{take_at, get_or_past, mul-le, slice_get-get_or, map-map, Kind, U8, InRange, FitsHeads, no_desc, no_cell, times, device_cells}
-use Rattle.vms_desc.proofs.Facade.{first_fault, DefaultsFit, first_at, first_take, first_long, well_good, device_at, CellForm, Parts, field_of, desc_of, sub_of}
-use Rattle.vms_desc.proofs.Facade.{device_of, set_of, form_of, layout_of, drop_is, get_map_at, Held, Forms, is_well_formed, field_forms, fields_forms}
-use Rattle.vms_desc.proofs.Facade.{subs_forms, device_forms, forms_to, AreForms, Puts, kinds_at, form_numbers, defaults_at}
-use Rattle.std.proofs.Common.{take_all}
-use Rattle.std.proofs.lemmas.List.{get_or-map, length-take-le}
+use Rattle.vms_desc.proofs.Facade.{take_at, take-append-le, length-drop, get_or_past, mul-le, slice_get-get_or, map-map, Kind, U8, InRange, FitsHeads, no_desc}
+use Rattle.vms_desc.proofs.Facade.{no_cell, times, device_cells, first_fault, DefaultsFit, first_at, first_take, first_long, well_good, device_at, CellForm}
+use Rattle.vms_desc.proofs.Facade.{Parts, field_of, desc_of, sub_of, device_of, set_of, form_of, layout_of, drop_is, get_map_at, Held, Forms, is_well_formed}
+use Rattle.vms_desc.proofs.Facade.{field_forms, fields_forms, subs_forms, device_forms, forms_to, AreForms, Puts, kinds_at, form_numbers, defaults_at}
+use Rattle.std.proofs.{Common.drop-drop, Common.take_all, Math.Seq.take-add, lemmas.List.drop-append-le, lemmas.List.get_or-map, lemmas.List.length-take-le}
+use Rattle.vms_parts.specs.{declared.types.Desc.Desc, declared.types.Device.Device, declared.types.Field.Field, declared.types.Sub.Sub}
 use Rattle.vms_spec.specs.Sets as sets
-use Rattle.vms_parts.specs.declared.types.Desc.{Desc}
-use Rattle.vms_parts.specs.declared.types.Device.{Device}
-use Rattle.vms_parts.specs.declared.types.Field.{Field}
-use Rattle.vms_parts.specs.declared.types.Sub.{Sub}
-use Rattle.vms_desc.proofs.Bounds.{none_is}
-use Rattle.vms_desc.proofs.EvalLaws.{device_forms_are}
 
 -- ---- forms in order
 
@@ -67,6 +62,22 @@ subs_next ts subs i s lt is = rw (drop_is subs i s lt is)
 
 pub subs_over : (ts : List (List CellForm)) (subs : List Sub) (i : ℕ) → length subs ≤ i → subs_forms ts (map sub_of (drop i subs)) ≡ []
 subs_over ts subs i all = rw (drop_all i subs all)
+
+-- one more piece of a part that is appended again
+pub piece_next : {X : Type 0} (old items new : List X) (start done next : ℕ) → start ≤ done → done ≤ next → next ≤ length old
+    → items ≡ old ++ take (done - start) (drop start old) → new ≡ items ++ take (next - done) (drop done items)
+    → new ≡ old ++ take (next - start) (drop start old)
+piece_next old items new start done next begun on inside is more =
+    let part = drop start old in
+    let here : drop done items ≡ drop done old ++ take (done - start) part = ap (drop done) is ∙ drop-append-le done old (take (done - start) part) (omega arith) in
+    let piece : take (next - done) (drop done items) ≡ take (next - done) (drop done old) =
+    ap (take (next - done)) here ∙ take-append-le (next - done) (drop done old) (take (done - start) part) (omega (arith, length-drop done old)) in
+    let there : drop done old ≡ drop (done - start) part =
+    let e : done ≡ start + (done - start) = omega arith in ap (λ (k : ℕ). drop k old) e ∙ sym (drop-drop (done - start) start old) in
+    let sum : next - start ≡ (done - start) + (next - done) = omega arith in
+    more ∙ ap (λ l. items ++ l) (piece ∙ ap (take (next - done)) there) ∙ ap (λ l. l ++ take (next - done) (drop (done - start) part)) is
+    ∙ append_assoc old (take (done - start) part) (take (next - done) (drop (done - start) part))
+    ∙ ap (λ l. old ++ l) (sym (take-add (done - start) (next - done) part)) ∙ ap (λ (k : ℕ). old ++ take k part) (sym sum)
 
 -- one element, repeated
 module _ {X : Type 0} (part : List X) where

@@ -1,8 +1,8 @@
 -- The cell of a path, given the numbers of cells of the structures, and the first cell of a path.
 use Rattle.vms_desc.proofs.Facade.{◌≡◌, ℕ, zero, suc, ◌+◌, ◌*◌, ◌<◌, ◌≤◌, List, ◌∷◌, length, length-append, length-take-le, get_or, take, map, refl, sym, ap}
-use Rattle.vms_desc.proofs.Facade.{subst, ◌∙◌, arith, Bool, true, false, inl, inr, Option, Some, None, [], nat_lt, if◌then◌else◌, flat_map, slice_get, ltb-true}
-use Rattle.vms_desc.proofs.Facade.{lt-ltb, cases_lt, length-map, take_all, take-append-le, take-map, map-map, get_or-map, Kind, Item, Num, Struct, MOST_ITEMS}
-use Rattle.vms_desc.proofs.Facade.{first, no_desc, capacity_of, place_of, item_size, desc_cells, struct_cells, device_cells, sub_place, own_cells, item_at}
+use Rattle.vms_desc.proofs.Facade.{cases_Bool, ◌∙◌, arith, inl, inr, Option, Some, None, [], nat_lt, if◌then◌else◌, flat_map, slice_get, ltb-true, lt-ltb}
+use Rattle.vms_desc.proofs.Facade.{cases_lt, length-map, take_all, take-append-le, take-map, map-map, get_or-map, Kind, Item, Num, Struct, MOST_ITEMS, first}
+use Rattle.vms_desc.proofs.Facade.{no_desc, capacity_of, place_of, item_size, desc_cells, struct_cells, device_cells, sub_place, own_cells, item_at}
 use Rattle.vms_desc.proofs.Facade.{element_at, path_at, cell_in, desc_of_sub, element_room, first_long, first_at, Cells, in_u32, size_of, fields_size}
 use Rattle.vms_desc.proofs.Facade.{subs_size, field_of, desc_of, form_of, layout_of, capped_fields, capped_subs, Placed, Element, sizes_of, element_in}
 use Rattle.vms_desc.proofs.Facade.{element_of, begin_desc, begin_base, Begins, Enters, IsPlaced}
@@ -47,15 +47,13 @@ cell_by sizes d base step f = base + fields_size Cells sizes (take step.0 d.fiel
 within_in : (sizes : List ℕ) (d : sets.Desc) (base : ℕ) (step : ℕ × ℕ) (el : Element) (o : Option sets.Field) → slice_get d.fields step.0 ≡ o
     → base + fields_size Cells sizes d.fields ≤ MOST_ITEMS → Some el ≡ element_in sizes d base step o → el.cell + size_of Cells sizes el.item ≤ MOST_ITEMS
 within_in sizes d base step el None there few e = cc
-within_in sizes d base step el (Some f) there few e = by_test (nat_lt step.1 (capacity_of f.count)) refl e where
-  by_test : (b : Bool) → nat_lt step.1 (capacity_of f.count) ≡ b
-      → Some el ≡ (if b then Some (record { item = f.item; cell = cell_by sizes d base step f }) else None)
-      → el.cell + size_of Cells sizes el.item ≤ MOST_ITEMS
-  by_test false t e = cc
-  by_test true t e =
-      let same : el ≡ record { item = f.item; cell = cell_by sizes d base step f } = cc in
-      subst (λ (x : Element). x.cell + size_of Cells sizes x.item ≤ MOST_ITEMS) (sym same)
-      (element_fits sizes d.fields base step.0 step.1 f there (ltb-true step.1 (capacity_of f.count) t) few)
+within_in sizes d base step el (Some f) there few e = elim (cases_Bool (nat_lt step.1 (capacity_of f.count))) [
+  | inl t ↦ (
+      let made : Some el ≡ Some (record { item = f.item; cell = cell_by sizes d base step f }) = rw t at e in
+      let same : el ≡ record { item = f.item; cell = cell_by sizes d base step f } = cc made in
+      rw same (element_fits sizes d.fields base step.0 step.1 f there (ltb-true step.1 (capacity_of f.count) t) few))
+  | inr t ↦ (let none : Some el ≡ None = rw t at e in cc none)
+]
 
 pub element_within : (sizes : List ℕ) (d : sets.Desc) (base : ℕ) (step : ℕ × ℕ) (el : Element) → base + fields_size Cells sizes d.fields ≤ MOST_ITEMS
     → Some el ≡ element_of sizes d base step → el.cell + size_of Cells sizes el.item ≤ MOST_ITEMS
@@ -113,12 +111,10 @@ module _ (set : sets.Set) (p : Placed) (placed : IsPlaced set p) where
   after_is : (path : List (ℕ × ℕ)) (step : ℕ × ℕ) (o : Option sets.Field) → slice_get fields step.0 ≡ o
       → element_at cells (desc_of p.desc.now) p.base step.0 step.1 o (goes path) ≡ after path (element_in p.sizes.now (desc_of p.desc.now) p.base step o)
   after_is path step None there = refl
-  after_is path step (Some f) there = by_test (nat_lt step.1 (capacity_of f.count)) refl where
-    by_test : (b : Bool) → nat_lt step.1 (capacity_of f.count) ≡ b
-        → (if b then goes path f.item (place_of cells fields 0 p.base fields step.0 + step.1 * item_size cells f.item) else None)
-        ≡ after path (if b then Some (record { item = f.item; cell = cell_by p.sizes.now (desc_of p.desc.now) p.base step f }) else None)
-    by_test false t = refl
-    by_test true t = ap (goes path f.item) (sym (same_cell step.0 step.1 f there (ltb-true step.1 (capacity_of f.count) t)))
+  after_is path step (Some f) there = elim (cases_Bool (nat_lt step.1 (capacity_of f.count))) [
+    | inl t ↦ rw t (ap (goes path f.item) (sym (same_cell step.0 step.1 f there (ltb-true step.1 (capacity_of f.count) t))))
+    | inr t ↦ rw t refl
+  ]
 
   pub path_is : (path : List (ℕ × ℕ)) (step : ℕ × ℕ)
       → path_at set (step ∷ path) (length p.sizes.now) (Some (desc_of p.desc.now)) p.base ≡ after path (element_of p.sizes.now (desc_of p.desc.now) p.base step)

@@ -4,8 +4,7 @@ use Rattle.vms_desc.proofs.Facade.{inl, inr, [], slice_get, get_or-map, cases_lt
 use Rattle.vms_desc.proofs.Facade.{FitsHeads, capacity_of, no_field, no_desc, Field, Sub, Device, AtLeast, last_is, Cells, Parts, in_u32, size_of, fields_size}
 use Rattle.vms_desc.proofs.Facade.{set_of, field_of, device_of, get_map_at, Table, HeadsFit, sub_at, IsTable, no_table, AreTables, device_fields}
 use Rattle.vms_desc.proofs.Facade.{AreDeviceTables}
-use Rattle.vms_parts.specs.declared.types.Device.{Device as CodeDevice}
-use Rattle.vms_parts.specs.declared.types.Field.{Field as CodeField}
+use Rattle.vms_parts.specs.{declared.types.Device.Device as CodeDevice, declared.types.Field.Field as CodeField}
 
 -- ---- numbers of heads, device by device
 

@@ -11,8 +11,12 @@ use std::alloc::{AllocError, Global};
 use vms_kinds::{Item, Kind};
 use vms_parts::{Measure, capacity, size_of_fields, size_of_subs};
 
-// Parts of a list from this length on are repeated as a whole.
+// Parts of a list from this length on are repeated piece by piece.
 const LONG_PART: usize = 32;
+
+// The most elements of a piece. Their defaults take less than 2,048 bytes; above that, memcpy goes
+// byte by byte.
+const PIECE: usize = 120;
 
 // The forms of cells, in order: the kind and the default of each. Two lists take half of the memory
 // of a list of `CellForm`.
@@ -88,8 +92,8 @@ fn repeat<T: Copy>(list: &mut Vec<T>, start: usize, count: u32) -> Result<(), Al
     Ok(())
 }
 
-// Appends the part of a list between two places again. A long part is copied as a whole, which needs
-// room for it, but not element by element.
+// Appends the part of a list between two places again. A long part goes through a list of its own,
+// piece by piece and not element by element.
 fn append_again<T: Copy>(list: &mut Vec<T>, start: usize, end: usize) -> Result<(), AllocError>
     requires order { start ≤ end }
     requires within { end ≤ length list.old.items }
@@ -99,9 +103,16 @@ fn append_again<T: Copy>(list: &mut Vec<T>, start: usize, end: usize) -> Result<
     if end - start < LONG_PART {
         return list.extend_from_within(start..end);
     }
-    let mut part = Vec::new(*list.allocator());
-    part.extend_from_slice(&list[start..end])?;
-    list.extend_from_slice(&part)
+    let mut piece = Vec::new(*list.allocator());
+    let mut done = start;
+    while done < end {
+        let next = done + PIECE.min(end - done);
+        piece.clear();
+        piece.extend_from_slice(&list[done..next])?;
+        list.extend_from_slice(&piece)?;
+        done = next;
+    }
+    Ok(())
 }
 
 #[cycle(forms)]

@@ -1,5 +1,5 @@
 -- What is read of an array whose first elements count and whose later ones give nothing.
-use Rattle.vms_elements.proofs.Facade.{◌≡◌, ℕ, zero, suc, ◌+◌, ◌-◌, ◌≤◌, List, [], ◌++◌, map, ap, arith, Bool, true, false, ◌&&◌, le-ltb, lt-ltb, Field}
+use Rattle.vms_elements.proofs.Facade.{◌≡◌, ℕ, zero, suc, ◌+◌, ◌-◌, ◌≤◌, List, [], ◌++◌, map, arith, Bool, true, false, ◌&&◌, le-ltb, lt-ltb, Field}
 use Rattle.vms_elements.proofs.Facade.{Element, Stand, behind, array_elements, index_text}
 
 -- the parts of the elements from e on, m of them

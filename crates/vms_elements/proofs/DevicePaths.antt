@@ -1,10 +1,9 @@
 -- The paths of a device's cells.
-use Rattle.vms_elements.proofs.{Facade.DistinctLaw, Facade.PathLaw, Walk.walks, Walk.numbers_long, Members.Each, Members.Has}
-use Rattle.vms_elements.proofs.Facade.{◌≡◌, ℕ, zero, suc, ◌+◌, ◌<◌, ◌≤◌, List, [], ◌∷◌, ◌++◌, length, get_or, refl, sym, ap, ◌∙◌, arith, Bool, true, false}
-use Rattle.vms_elements.proofs.Facade.{if◌then◌else◌, Option, Some, None, inl, inr, flat_map, slice_get, Desc, Sub, Device, Set, Cell, no_cell, desc_cells}
-use Rattle.vms_elements.proofs.Facade.{struct_cells, device_cells, sub_place, own_cells, path_at, desc_of_sub, cell_in, cell_at, What, Element, Number}
-use Rattle.vms_elements.proofs.Facade.{is_number, numbers_in, cells_of, cells_with, CountsUp, elements_in, field_named, IsFieldOf, ArePaths, part_desc}
-use Rattle.vms_elements.proofs.PathsOf.{IsAt, Tells, each_tells, path_stands}
+use Rattle.vms_elements.proofs.{Walk.walks, Walk.numbers_long, Members.Each, Members.Has, PathsOf.IsAt, PathsOf.Tells, PathsOf.each_tells, PathsOf.path_stands}
+use Rattle.vms_elements.proofs.Facade.{DistinctLaw, PathLaw, ◌≡◌, ℕ, zero, suc, ◌+◌, ◌<◌, ◌≤◌, List, [], ◌∷◌, ◌++◌, length, get_or, refl, ap, ◌∙◌, arith, Bool}
+use Rattle.vms_elements.proofs.Facade.{true, false, if◌then◌else◌, Option, Some, None, inl, inr, flat_map, slice_get, Desc, Sub, Device, Set, Cell, no_cell}
+use Rattle.vms_elements.proofs.Facade.{desc_cells, struct_cells, device_cells, sub_place, own_cells, path_at, desc_of_sub, cell_in, cell_at, What, Element}
+use Rattle.vms_elements.proofs.Facade.{Number, is_number, numbers_in, cells_of, cells_with, CountsUp, elements_in, field_named, IsFieldOf, ArePaths, part_desc}
 
 -- ---- numbers that count up
 

@@ -1,8 +1,8 @@
 -- The lines of the entries are the lines of the values text.
-use Rattle.vms_elements.proofs.{Facade.device_entries, Facade.devices_entries, Facade.entry_line, Facade.EntryLaw, Tables.both}
-use Rattle.vms_elements.proofs.Facade.{◌≡◌, ℕ, suc, ◌+◌, List, [], ◌∷◌, ◌++◌, length, map, Option, Some, None, ℤ, refl, ap, ◌∙◌, codes, map-append, Desc, Sub}
-use Rattle.vms_elements.proofs.Facade.{Device, Set, desc_cells, struct_cells, Image, own_cells, Element, elements_in, printed, number_line, number_lines}
-use Rattle.vms_elements.proofs.Facade.{sub_line, section_line, subs_lines, device_lines, devices_lines, Entry, OfNumber, number_entries, subs_entries}
+use Rattle.vms_elements.proofs.{Facade.subs_entries, Tables.both}
+use Rattle.vms_elements.proofs.Facade.{device_entries, devices_entries, entry_line, EntryLaw, ◌≡◌, ℕ, suc, ◌+◌, List, [], ◌∷◌, ◌++◌, length, map, Option, Some}
+use Rattle.vms_elements.proofs.Facade.{None, ℤ, refl, ◌∙◌, map-append, Desc, Sub, Device, Set, desc_cells, struct_cells, Image, own_cells, Element, elements_in}
+use Rattle.vms_elements.proofs.Facade.{printed, number_line, number_lines, subs_lines, device_lines, devices_lines, Entry, OfNumber, number_entries}
 
 numbers_same : (numbers : List ℤ) (xs : List Element) → map entry_line (map (λ x. OfNumber x numbers) xs) ≡ map (number_line numbers) xs
 numbers_same numbers [] = refl

@@ -8,7 +8,7 @@ pub use Rattle.std.specs.{Fmt.decimal, List.flat_map, List.slice_get}
 unfoldable pub use Rattle.std.specs.Fmt.{digits}
 pub use Rattle.vms_kinds.specs.{declared.Item.Item, declared.Item.TheVariants.Num, declared.Item.TheVariants.Struct, declared.Kind.Kind}
 pub use Rattle.vms_spec.proofs.{Boxes.counted_set, Boxes.mixed_set, Boxes.sub_of, Boxes.subsection_set, Boxes.tested_set, ListLaws.pick_append}
-pub use Rattle.vms_spec.proofs.{Prefixes.first_cells, Sizes.elements_fit, Sizes.size_same, Tables.first_at, Tables.first_long, Tables.one_more}
+pub use Rattle.vms_spec.proofs.{Prefixes.first_cells, Sizes.elements_fit, Sizes.size_same, Tables.first_at, Tables.first_long, Tables.one_more, Tables.two_more}
 pub use Rattle.vms_spec.specs.{Layout.slots_from, Layout.struct_cells, Layout.times, Sets.Desc, Sets.Device, Sets.Field, Sets.Set, Sets.Sub}
 pub use Rattle.vms_spec.specs.{Spelling.first_line, Values.version_text, ValuesReading.machine_named, declared.Count.Count, declared.ValuesReason.ValuesReason}
 pub use Rattle.vms_spec.specs.Images.{Image, came_slots, own_cells, sub_place}
@@ -23,7 +23,7 @@ pub use Rattle.vms_elements.specs.Elements.{field_elements, index_text, item_ele
 pub use Rattle.vms_elements.specs.Entries.{Entry, OfNumber, OfSection, OfSub, device_entries, devices_entries, entries, entry_line, front_reason}
 pub use Rattle.vms_elements.specs.Entries.{number_entries, part_reason, subs_entries}
 pub use Rattle.vms_elements.specs.Laws.{ArePaths, CellLaw, CountedLaw, DeviceLaw, DistinctLaw, ElementsLaw, EntryLaw, PathLaw, TextLaw, part_desc}
-pub use Rattle.vms_elements.specs.Lines.{device_lines, devices_lines, machine_lines, number_line, number_lines, printed, section_line, sub_line, subs_lines}
+pub use Rattle.vms_elements.specs.Lines.{device_lines, devices_lines, machine_lines, number_line, number_lines, printed, subs_lines}
 pub use Rattle.vms_elements.specs.Lines.{text_of, values_lines}
 pub use Rattle.vms_elements.specs.Parts.{CountsUp, IsFieldOf, absent, cell_name, cells_of, cells_with, device_elements, elements_in, field_named, is_number}
 pub use Rattle.vms_elements.specs.Parts.{last_field, names_of, numbers_in, slot_of, slots_of, sub_elements, subs_elements}

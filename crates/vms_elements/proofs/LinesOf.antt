@@ -1,12 +1,12 @@
 -- The lines of the counted numbers are the text of a description.
-use Rattle.vms_elements.proofs.{Arrays.array_of, Arrays.outs, Tables.both, Tables.two_more, Tables.shapes_cells}
-use Rattle.vms_elements.proofs.Facade.{◌≡◌, ℕ, zero, suc, ◌+◌, ◌≤◌, List, ◌∷◌, ◌++◌, length, get_or, map, ℤ, refl, sym, ap, ◌∙◌, arith, Bool, true, false, ◌&&◌}
-use Rattle.vms_elements.proofs.Facade.{if◌then◌else◌, append-nil, append_assoc, Option, Some, None, codes, [], map-append, decimal, Item, Num, Struct, Count}
-use Rattle.vms_elements.proofs.Facade.{One, Fixed, Counted, Field, Desc, Sub, Device, Set, Image, own_cells, no_desc, first, counted, capacity_of, elements_of}
-use Rattle.vms_elements.proofs.Facade.{item_size, desc_cells, struct_cells, Printer, no_printer, printer, printers, item_lines, element_lines, array_lines}
-use Rattle.vms_elements.proofs.Facade.{field_lines, desc_lines, values_text, version_text, pick_append, first_cells, elements_fit, first_long, Element, Shape}
-use Rattle.vms_elements.proofs.Facade.{no_shape, shape, shapes, cells_in, dotted, behind, item_elements, Stand, stand_of, array_elements, field_elements}
-use Rattle.vms_elements.proofs.Facade.{elements_from, desc_elements, index_text, text_of, printed, number_line, number_lines, section_line, sub_line}
+use Rattle.vms_elements.proofs.{Arrays.array_of, Arrays.outs, Tables.both, Tables.shapes_cells}
+use Rattle.vms_elements.proofs.Facade.{◌≡◌, ℕ, zero, suc, ◌+◌, ◌≤◌, List, ◌∷◌, ◌++◌, length, get_or, map, ℤ, refl, sym, ◌∙◌, arith, Bool, true, false, ◌&&◌}
+use Rattle.vms_elements.proofs.Facade.{two_more, if◌then◌else◌, append-nil, append_assoc, Option, Some, None, codes, [], map-append, decimal, Item, Num}
+use Rattle.vms_elements.proofs.Facade.{Struct, Count, One, Fixed, Counted, Field, Desc, Sub, Device, Set, Image, own_cells, no_desc, first, counted}
+use Rattle.vms_elements.proofs.Facade.{capacity_of, elements_of, item_size, desc_cells, struct_cells, Printer, no_printer, printer, printers, item_lines}
+use Rattle.vms_elements.proofs.Facade.{element_lines, array_lines, field_lines, desc_lines, values_text, version_text, pick_append, first_cells, elements_fit}
+use Rattle.vms_elements.proofs.Facade.{first_long, Element, Shape, no_shape, shape, shapes, cells_in, dotted, behind, item_elements, Stand, stand_of}
+use Rattle.vms_elements.proofs.Facade.{array_elements, field_elements, elements_from, desc_elements, index_text, text_of, printed, number_line, number_lines}
 use Rattle.vms_elements.proofs.Facade.{subs_lines, device_lines, devices_lines, machine_lines, values_lines, is_number}
 use Rattle.vms_spec.specs.Values as texts
 

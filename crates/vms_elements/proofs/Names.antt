@@ -1,7 +1,7 @@
 -- The name of a number is found from its cell.
-use Rattle.vms_elements.proofs.{Facade.behind, Facade.absent, Facade.names_of, Walk.is_absent, Walk.is_behind, Walk.names_append, Walk.names_map}
-use Rattle.vms_elements.proofs.Facade.{◌≡◌, ℕ, zero, suc, ◌+◌, ◌-◌, ◌*◌, ◌<◌, ◌≤◌, List, [], ◌∷◌, ◌++◌, length, get_or, map, ap, ◌∙◌, refl, arith, nat_lt, ◌&&◌}
-use Rattle.vms_elements.proofs.Facade.{length-map, get_or-map, get_or_append_left, get_or-append_right, Field, Element, Stand, array_elements, index_text}
+use Rattle.vms_elements.proofs.{Facade.array_elements, Facade.index_text, Walk.is_absent, Walk.is_behind, Walk.names_append, Walk.names_map}
+use Rattle.vms_elements.proofs.Facade.{behind, absent, names_of, ◌≡◌, ℕ, zero, suc, ◌+◌, ◌-◌, ◌*◌, ◌<◌, ◌≤◌, List, [], ◌∷◌, ◌++◌, length, get_or, map, ◌∙◌}
+use Rattle.vms_elements.proofs.Facade.{refl, arith, nat_lt, ◌&&◌, length-map, get_or-map, get_or_append_left, get_or-append_right, Field, Element, Stand}
 
 pub names_absent : (xs : List Element) → names_of (map absent xs) ≡ names_of xs
 names_absent xs = names_map is_absent xs ∙ same (names_of xs)

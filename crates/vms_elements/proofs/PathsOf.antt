@@ -1,12 +1,12 @@
 -- The path of each number has its cell and names a field of its kind and default; and a path that has a cell is a number's.
-use Rattle.vms_elements.proofs.{Facade.first_at, Facade.first_long, Tables.shapes_cells}
-use Rattle.vms_elements.proofs.Facade.{◌≡◌, ℕ, zero, suc, ◌+◌, ◌*◌, ◌<◌, ◌≤◌, List, ◌∷◌, ◌++◌, length, get_or, map, ℤ, refl, sym, ap, ◌∙◌, subst, arith, Bool}
-use Rattle.vms_elements.proofs.Facade.{true, false, ◌&&◌, nat_lt, if◌then◌else◌, Option, Some, None, [], inl, slice_get, ltb-true, ltb-false, lt-ltb}
-use Rattle.vms_elements.proofs.Facade.{slice_get-get_or, get_or_past, Kind, Item, Num, Struct, Field, Desc, Set, Cell, no_desc, first, counted, capacity_of}
-use Rattle.vms_elements.proofs.Facade.{item_size, field_cells, desc_cells, place_of, numbers_of, all_hold, item_at, element_at, path_at, Element, Shape}
-use Rattle.vms_elements.proofs.Facade.{no_shape, shape, cells_in, dotted, behind, single, Number, Rule, item_elements, Stand, stand_of, array_elements}
+use Rattle.vms_elements.proofs.Facade.{first_at, first_long, ◌≡◌, ℕ, zero, suc, ◌+◌, ◌*◌, ◌<◌, ◌≤◌, List, ◌∷◌, ◌++◌, length, get_or, map, ℤ, refl, sym, ap, ◌∙◌}
+use Rattle.vms_elements.proofs.Facade.{arith, Bool, true, false, ◌&&◌, nat_lt, if◌then◌else◌, Option, Some, None, [], inl, slice_get, ltb-true, ltb-false}
+use Rattle.vms_elements.proofs.Facade.{lt-ltb, slice_get-get_or, get_or_past, Kind, Item, Num, Struct, Field, Desc, Set, Cell, no_desc, first, counted}
+use Rattle.vms_elements.proofs.Facade.{capacity_of, item_size, field_cells, desc_cells, place_of, numbers_of, all_hold, item_at, element_at, path_at, Element}
+use Rattle.vms_elements.proofs.Facade.{Shape, no_shape, shape, cells_in, dotted, behind, single, Number, Rule, item_elements, Stand, stand_of, array_elements}
 use Rattle.vms_elements.proofs.Facade.{field_elements, elements_from, desc_elements, index_text, is_number, elements_in, last_field, field_named, IsFieldOf}
 use Rattle.vms_elements.proofs.Members.{Each, each_append, each_map, Has, has_left, has_right, has_map}
+use Rattle.vms_elements.proofs.Tables.{shapes_cells}
 
 -- an element of a field that there is
 element_is : (cs : List (List Cell)) (d : Desc) (base i e place : ℕ) (f : Field) (go : Item → ℕ → Option ℕ) → slice_get d.fields i ≡ Some f → nat_lt e (capacity_of f.count) ≡ true

@@ -1,7 +1,7 @@
 -- The elements that are in the bytes are the slots.
-use Rattle.vms_elements.proofs.{Arrays.array_of, Arrays.outs, Tables.two_more, Tables.shapes_cells}
+use Rattle.vms_elements.proofs.{Arrays.array_of, Arrays.outs, Tables.shapes_cells}
 use Rattle.vms_elements.proofs.Facade.{◌≡◌, ℕ, zero, suc, ◌+◌, List, ◌∷◌, ◌++◌, length, get_or, map, ℤ, refl, sym, ap, ◌∙◌, arith, Bool, true, false, ◌&&◌}
-use Rattle.vms_elements.proofs.Facade.{if◌then◌else◌, [], Item, Struct, Field, Desc, Set, Slot, Meaning, no_meaning, no_desc, first, times, counted}
+use Rattle.vms_elements.proofs.Facade.{two_more, if◌then◌else◌, [], Item, Struct, Field, Desc, Set, Slot, Meaning, no_meaning, no_desc, first, times, counted}
 use Rattle.vms_elements.proofs.Facade.{capacity_of, elements_of, item_size, item_slots, slots_from, desc_slots, meaning, meanings, pick_append, first_cells}
 use Rattle.vms_elements.proofs.Facade.{elements_fit, first_long, Element, Shape, no_shape, shape, shapes, cells_in, dotted, behind, item_elements, stand_of}
 use Rattle.vms_elements.proofs.Facade.{elements_from, desc_elements, slot_of, slots_of, elements_in}

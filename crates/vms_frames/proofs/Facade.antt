@@ -1,58 +1,37 @@
 -- The names of other crates, and of this crate's `specs`, that the proofs use.
-pub use Rattle.std.proofs.Common.{Bool, Err, List, None, Ok, Option, Result, SFits, Some, [], ap, append_assoc, arith, drop, drop_at, false, get_or}
-pub use Rattle.std.proofs.Common.{if◌then◌else◌, length, length-append, length-drop, nat_lt, not, refl, rules, slice_index, subst, suc, sym, take}
-pub use Rattle.std.proofs.Common.{take-append-drop, take_all, take_at, true, zero, ℕ, ℤ, ◌&&◌, ◌++◌, ◌+◌, ◌-◌, ◌<◌, ◌==◌, ◌^◌, ◌||◌, ◌∙◌, ◌∷◌, ◌≡◌, ◌≤◌}
+pub use Rattle.std.proofs.{lemmas.Int.to_z-of_z, lemmas.Option.same_Some, lemmas.Result.err_from_is_err_and, lemmas.Slice.Eq.bytes_eq-Decides}
+pub use Rattle.std.proofs.Common.{Bool, Err, List, None, Ok, Option, Result, Some, [], ap, append_assoc, arith, drop, drop_at, false, get_or, if◌then◌else◌}
+pub use Rattle.std.proofs.Common.{length, length-append, length-drop, nat_lt, not, refl, rules, slice_index, subst, suc, sym, take, take-append-drop, take_all}
+pub use Rattle.std.proofs.Common.{take_at, true, zero, ℕ, ℤ, ◌&&◌, ◌++◌, ◌+◌, ◌-◌, ◌<◌, ◌==◌, ◌^◌, ◌||◌, ◌∙◌, ◌∷◌, ◌≡◌, ◌≤◌}
 pub use Rattle.std.proofs.lemmas.Bool.{eq-eqb, eqb-true, false_from_ne_true, le-ltb, lt-ltb, ltb-true, ne_eqb}
-pub use Rattle.std.proofs.lemmas.Int.{to_z-of_z}
 pub use Rattle.std.proofs.lemmas.List.{append-nil, get_or-take, length-take-le, take-append-le}
-pub use Rattle.std.proofs.lemmas.Option.{same_Some}
-pub use Rattle.std.proofs.lemmas.Result.{err_from_is_err_and}
-pub use Rattle.std.proofs.lemmas.Slice.Eq.{bytes_eq-Decides}
-pub use Rattle.std.specs.Int.{w128}
-pub use Rattle.std.specs.Str.{bytes_eq}
-pub use Rattle.vms_kinds.specs.Codes.{IsBadBool, value_of, width}
-pub use Rattle.vms_kinds.specs.declared.Kind.{Kind}
-pub use Rattle.vms_spec.specs.Lookup.{bytes_at, is_bad_bool, number_at}
-pub use Rattle.vms_spec.specs.Numbers.{is_above, is_truth}
-pub use Rattle.vms_spec.specs.Streams.{longest_text, magic}
+pub use Rattle.std.specs.{Int.w128, Str.bytes_eq}
+pub use Rattle.vms_kinds.specs.{Codes.IsBadBool, Codes.value_of, Codes.width, declared.Kind.Kind}
+pub use Rattle.vms_spec.specs.{Lookup.bytes_at, Lookup.is_bad_bool, Lookup.number_at, Numbers.is_above, Numbers.is_truth, Streams.longest_text, Streams.magic}
+pub use Rattle.vms_spec.specs.{declared.Reason.Reason, declared.TheConstants.LONGEST_NAME, declared.TheConstants.LONGEST_TEXT}
 pub use Rattle.vms_spec.specs.Units.{Configuration, Description, End, Foot, Long, Magic, Number, Piece, Start, Version}
-pub use Rattle.vms_spec.specs.declared.Reason.{Reason}
-pub use Rattle.vms_spec.specs.declared.TheConstants.{LONGEST_NAME, LONGEST_TEXT}
-pub use Rattle.vms_bodies.proofs.BodyOnly.{if_false}
-pub use Rattle.vms_bodies.proofs.FaultFields.{bad_same, raw_same}
+pub use Rattle.vms_bodies.proofs.{BodyOnly.if_false, FaultFields.bad_same, FaultFields.raw_same}
 pub use Rattle.vms_stream.proofs.Calls.Judged.{foot_row, not_between}
-pub use Rattle.vms_stream.specs.Dues.{AMagic, AVersion, AfterEnd, AfterFields, Due, Field, begins_next, is_foot, raw}
-pub use Rattle.vms_stream.specs.Finding.{Cut, Whole, head_at, needs, start_at, sub_at, text_at}
-unfoldable pub use Rattle.vms_stream.specs.Finding.{behind_at, between_at, trailer_at}
+pub use Rattle.vms_stream.specs.{SoFar.Footed, SoFar.Known, SoFar.Unknown, Table.alone, Table.first_row, Table.is_ram, Taking.nothing_known}
+pub use Rattle.vms_stream.specs.Dues.{AMagic, AVersion, AfterEnd, AfterFields, Due, Field, is_foot, raw}
+pub use Rattle.vms_stream.specs.Finding.{Cut, Whole, needs, sub_at, text_at}
 pub use Rattle.vms_stream.specs.Seen.{Bad, Good, Seen, Short, seen, seen_by, seen_in}
-pub use Rattle.vms_stream.specs.SoFar.{Footed, Known, Unknown}
-pub use Rattle.vms_stream.specs.Table.{alone, first_row, is_ram}
-pub use Rattle.vms_stream.specs.Taking.{nothing_known}
+unfoldable pub use Rattle.vms_stream.specs.Finding.{behind_at, between_at, trailer_at}
 pub use Rattle.vms_frames.specs.Calls.{AnswersAfter, AnswersBehind, AnswersEnd, AnswersHead, AnswersSeen, Fails, ReadsEnd, ReadsNumber, after_of, behind_long}
 pub use Rattle.vms_frames.specs.Calls.{due_of, held_of, in_section, step_long, tail_of, unit_of_step}
 pub use Rattle.vms_frames.specs.Reads.{BehindReads, BetweenReads, CutsShort, EndReads, Grows, HeadReads, IsBegun, IsLong, Passes, ReadsAs, ReadsBehind}
 pub use Rattle.vms_frames.specs.Reads.{ReadsCode, ReadsFoot, ReadsMagic, ReadsNext, ReadsStep, ReadsSub, ReadsText, ReadsTrailer, ReadsUnit, ReadsVersion}
 pub use Rattle.vms_frames.specs.Reads.{configuration_seen, described, foot_seen, head_seen, held_bytes, start_reason, start_seen, sub_long, sub_reason}
 pub use Rattle.vms_frames.specs.Reads.{sub_seen}
-pub use Rattle.vms_frames.specs.declared.fault.FrameFault.{FrameFault}
-pub use Rattle.vms_frames.specs.declared.fault.FrameFault.TheVariants.{ReadFault, Refused}
-pub use Rattle.vms_frames.specs.declared.units.Behind.{Behind}
-pub use Rattle.vms_frames.specs.declared.units.Behind.TheVariants.{Done, Next, Sub}
-pub use Rattle.vms_frames.specs.declared.units.Between.{Between}
-pub use Rattle.vms_frames.specs.declared.units.Between.TheVariants.{AfterConfiguration, First, Later}
-pub use Rattle.vms_frames.specs.declared.units.Step.{Step}
-pub use Rattle.vms_frames.specs.declared.units.Step.TheVariants.{Section}
+pub use Rattle.vms_frames.specs.declared.fault.FrameFault.{FrameFault, TheVariants.ReadFault, TheVariants.Refused}
+pub use Rattle.vms_frames.specs.declared.units.Behind.{Behind, TheVariants.Done, TheVariants.Next, TheVariants.Sub}
+pub use Rattle.vms_frames.specs.declared.units.Between.{Between, TheVariants.AfterConfiguration, TheVariants.First}
+pub use Rattle.vms_frames.specs.declared.units.Step.{Step, TheVariants.Section}
 pub use Rattle.vms_frames.specs.declared.units.Tail.{Tail}
+pub use Rattle.vms_io.proofs.{ReadingLemmas.takes_none}
 pub use Rattle.vms_io.proofs.ReadingLemmas.{breaks_more, misses_more, nothing_follows, reads_as, reads_behind, reads_both, reads_last, takes_as, takes_both}
-pub use Rattle.vms_io.proofs.ReadingLemmas.{takes_none}
-pub use Rattle.vms_io.specs.Reading.{Breaks, Takes}
-pub use Rattle.vms_io.specs.Told.{Intake, intake}
+pub use Rattle.vms_io.specs.{Reading.Breaks, Reading.Takes, Told.Intake, Told.intake}
+pub use Rattle.vms_marks.specs.{Marks.byte_of, Marks.mark_of, declared.description.TheConstants.LONGEST_DESCRIPTION, declared.head.TheConstants.LONGEST_HEAD}
+pub use Rattle.vms_marks.specs.{declared.mark.Mark.Mark, declared.sub_head.SubHead.SubHead, declared.sub_head.TheConstants.LONGEST_SUB_HEAD}
 pub use Rattle.vms_marks.specs.Heads.{configuration_in, head_in, sub_head_in}
-pub use Rattle.vms_marks.specs.Marks.{byte_of, mark_of}
-pub use Rattle.vms_marks.specs.declared.description.TheConstants.{LONGEST_DESCRIPTION}
-pub use Rattle.vms_marks.specs.declared.head.Head.{Head}
-pub use Rattle.vms_marks.specs.declared.head.TheConstants.{LONGEST_HEAD}
-pub use Rattle.vms_marks.specs.declared.mark.Mark.{Mark}
-pub use Rattle.vms_marks.specs.declared.sub_head.SubHead.{SubHead}
-pub use Rattle.vms_marks.specs.declared.sub_head.TheConstants.{LONGEST_SUB_HEAD}
 pub use Rattle.byteorder.specs.Endian.{big_from, big_number}

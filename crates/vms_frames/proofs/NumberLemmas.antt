@@ -1,5 +1,5 @@
 -- A number whose code came, and the head of a stream.
-use Rattle.vms_frames.proofs.Facade.{subst, ◌≡◌, ◌&&◌, not, ℕ, ℤ, Bool, true, false, if◌then◌else◌, slice_index, List, [], ◌++◌, length, take, Some, None, refl, sym}
+use Rattle.vms_frames.proofs.Facade.{◌≡◌, ◌&&◌, not, ℕ, ℤ, Bool, true, false, if◌then◌else◌, slice_index, List, [], ◌++◌, length, take, Some, None, refl, sym}
 use Rattle.vms_frames.proofs.Facade.{ap, ◌∙◌, arith, length-append, take_at, false_from_ne_true, ltb-true, lt-ltb, bytes_eq, bytes_eq-Decides, big_number, Kind}
 use Rattle.vms_frames.proofs.Facade.{width, value_of, IsBadBool, is_truth, is_above, is_bad_bool, Magic, Number, raw_same, bad_same, magic, AMagic, Field, raw}
 use Rattle.vms_frames.proofs.Facade.{Seen, Good, Bad, seen, seen_by, nothing_known}

@@ -1,12 +1,10 @@
 -- What ends a stream: nothing, or a description section.
-use Rattle.vms_frames.proofs.Facade.{◌≡◌, ℕ, ◌+◌, ◌-◌, List, [], ◌∷◌, ◌++◌, Option, Some, None, Ok, Err, Result, refl, sym, ap, subst, ◌∙◌, arith, Bool, ◌==◌}
-use Rattle.vms_frames.proofs.Facade.{◌||◌, if◌then◌else◌, ne_eqb, Intake, Takes, Breaks, reads_behind, reads_last, Reason, longest_text, number_at, Description}
-use Rattle.vms_frames.proofs.Facade.{AfterEnd, first_row, alone, needs, text_at, trailer_at, Seen, Bad, seen, seen_in, seen_by, nothing_known, not_between}
-use Rattle.vms_frames.proofs.Facade.{FrameFault, Refused, ReadFault, AnswersEnd, ReadsEnd, Fails, IsLong, ReadsText, ReadsTrailer, LONGEST_DESCRIPTION}
-use Rattle.vms_spec.specs.declared.Reason.TheVariants as reasons
+use Rattle.vms_frames.proofs.{Facade.ReadsTrailer, Facade.LONGEST_DESCRIPTION, UnitLemmas.seen_whole, HeadLemmas.text_seen}
+use Rattle.vms_frames.proofs.Facade.{◌≡◌, ℕ, ◌+◌, ◌-◌, List, [], ◌∷◌, ◌++◌, Option, Some, None, Ok, Err, Result, refl, ap, ◌∙◌, arith, ◌==◌, ◌||◌, ne_eqb}
+use Rattle.vms_frames.proofs.Facade.{Intake, Takes, Breaks, reads_behind, reads_last, longest_text, Description, AfterEnd, first_row, alone, trailer_at, Bad}
+use Rattle.vms_frames.proofs.Facade.{seen, seen_by, nothing_known, not_between, FrameFault, Refused, ReadFault, AnswersEnd, ReadsEnd, IsLong, ReadsText}
 use Rattle.vms_spec.specs.Units.{Mark}
-use Rattle.vms_frames.proofs.UnitLemmas.{seen_whole}
-use Rattle.vms_frames.proofs.HeadLemmas.{text_seen}
+use Rattle.vms_spec.specs.declared.Reason.TheVariants as reasons
 
 -- a description, after its mark
 pub description_there : (more : List ℕ)

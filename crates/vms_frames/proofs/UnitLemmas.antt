@@ -1,5 +1,5 @@
 -- A unit whose bytes came one part after the other.
-use Rattle.vms_frames.proofs.Facade.{◌≡◌, ℕ, suc, zero, ◌+◌, ◌<◌, ◌≤◌, List, [], ◌∷◌, ◌++◌, length, get_or, drop, Some, Ok, Err, refl, sym, ap, arith, drop_at}
+use Rattle.vms_frames.proofs.Facade.{◌≡◌, ℕ, suc, zero, ◌+◌, ◌<◌, ◌≤◌, List, [], ◌++◌, length, get_or, drop, Some, Ok, Err, refl, sym, ap, arith, drop_at}
 use Rattle.vms_frames.proofs.Facade.{length-drop, take-append-le, append-nil, le-ltb, lt-ltb, big_from, Reason, number_at, bytes_at, Refused, Piece, Known, Due}
 use Rattle.vms_frames.proofs.Facade.{first_row, alone, needs, Seen, Good, Bad, Short, seen_in, seen_by, AnswersSeen, Fails}
 use Rattle.std.proofs.lemmas.List.{get_or_append_left, drop-append-le}

@@ -2,7 +2,7 @@
 use Rattle.vms_load.proofs.Facade.{◌≡◌, ℕ, ◌+◌, ◌-◌, ◌≤◌, List, length, drop, Option, Some, None, Result, Ok, Err, OnOk, refl, sym, ap, ◌∙◌, subst, arith, ◌<◌}
 use Rattle.vms_load.proofs.Facade.{◌^◌, [], IfErr, drop-drop, drop_all, Reason, Verdict, Goes, Faulty, Over, Reading, Refused, reading_after, Piece, Set, State}
 use Rattle.vms_load.proofs.Facade.{by_state, Seen, Good, Bad, Short, judge_seen, judge, advances, solid, Stand, ahead, Fails, AnswersSeen, FrameFault, Refusal}
-use Rattle.vms_load.proofs.Facade.{Onward, behind, Leads, LeadsOn, Refuses, Reads, ReadsOn, ReadsBehind, IsBehind, Settles, concerning, IsRefused, reach}
+use Rattle.vms_load.proofs.Facade.{Onward, behind, LeadsOn, Refuses, Reads, ReadsOn, ReadsBehind, IsBehind, Settles, concerning, IsRefused, reach}
 use Rattle.vms_load.proofs.Facade.{LoadFault, reading_on, one_unit, Intake, On, takes_none, reads_as, reads_both, reads_last, course, fault_course, IsSpent}
 use Rattle.vms_load.proofs.Facade.{GoesOn, GoesSoFar, GoesBehind}
 use Rattle.vms_io.specs.Reading.{Reads as Takes}

@@ -1,17 +1,14 @@
 -- Steps that are taken or refused, and runs of numbers of one kind.
 use Rattle.vms_load.proofs.Facade.{◌≡◌, ℕ, List, [], ◌∷◌, Option, Some, Result, Ok, Err, OnOk, IfErr, ℤ, ap, arith, zero, suc, ◌+◌, ◌*◌, ◌<◌, ◌≤◌, ◌++◌, length}
-use Rattle.vms_load.proofs.Facade.{take, drop, slice_set, None, refl, ◌∙◌, length-append, length-drop, false, if◌then◌else◌, ◌/◌, sym, subst, le-ltb, lt-ltb}
-use Rattle.vms_load.proofs.Facade.{take-append-le, drop-append-le, drop_all, length-take-le, take-append-drop, take-take, IsAtEnd, div-le_of_le-mul}
-use Rattle.vms_load.proofs.Facade.{div-lt_iff_lt-mul, lt-div-mul-add, div-mul-le_self, Typed, Taken, ◌>>=◌, take_slot, Progress, refuse, on, reads_as}
-use Rattle.vms_load.proofs.Facade.{nothing_follows, FrameFault, WalkStep, TakesAs, TakesOn, progress, slot_of, take_steps, last_numbers, numbers_then}
-use Rattle.vms_load.proofs.Facade.{step_long, Told, from, Took, Failed, IsTaken, IsStopped, steps_long, take_append, last_taken, told, Kind}
-use Rattle.vms_load.proofs.Facade.{width, value_of, is_bad_bool, exceeds, values_of, put_from, run_of, keeps_same, keeps_more}
-use Rattle.vms_load.proofs.Facade.{keeps_put, run_split, Intake, Breaks, width_positive}
-use Rattle.std.proofs.Common.{Bool as Truth}
-use Rattle.vms_walk.specs.Inside.{Keeps}
+use Rattle.vms_load.proofs.Facade.{take, drop, slice_set, None, refl, ◌∙◌, length-append, length-drop, false, ◌/◌, sym, subst, le-ltb, lt-ltb, take-append-le}
+use Rattle.vms_load.proofs.Facade.{drop-append-le, drop_all, length-take-le, take-append-drop, take-take, IsAtEnd, div-le_of_le-mul, div-lt_iff_lt-mul}
+use Rattle.vms_load.proofs.Facade.{lt-div-mul-add, div-mul-le_self, Typed, Taken, ◌>>=◌, take_slot, Progress, refuse, on, reads_as, nothing_follows, FrameFault}
+use Rattle.vms_load.proofs.Facade.{WalkStep, TakesAs, TakesOn, progress, slot_of, take_steps, last_numbers, numbers_then, step_long, Told, from, Took, Failed}
+use Rattle.vms_load.proofs.Facade.{IsTaken, IsStopped, steps_long, take_append, last_taken, told, Kind, width, value_of, is_bad_bool, values_of, put_from}
+use Rattle.vms_load.proofs.Facade.{run_of, keeps_same, keeps_more, keeps_put, run_split, Intake, Breaks, width_positive}
+use Rattle.vms_walk.specs.{Inside.Keeps, declared.step.WalkStep.TheVariants.Number}
 use Rattle.std.proofs.lemmas.List.{append-nil}
 use Rattle.vms_kinds.specs.declared.Kind.TheVariants.{Bool}
-use Rattle.vms_walk.specs.declared.step.WalkStep.TheVariants.{Number}
 use Rattle.vms_io.specs.Reading.{Takes}
 use Rattle.vms_frames.specs.declared.fault.FrameFault.TheVariants as faults
 use Rattle.vms_spec.specs.declared.Reason.TheVariants as reasons

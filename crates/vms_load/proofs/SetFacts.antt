@@ -1,16 +1,15 @@
 -- What each description set has, and the most bytes of its streams.
 use Rattle.vms_load.proofs.Facade.{◌≡◌, ℕ, ◌+◌, ◌<◌, ◌≤◌, List, [], ◌∷◌, ◌++◌, length, map, Option, Some, None, ℤ, refl, sym, ap, ◌∙◌, subst, arith, true}
 use Rattle.vms_load.proofs.Facade.{nat_le, suc, get_or, Bool, ◌&&◌, zero, ◌*◌, ◌^◌, false, and_parts, leb-true, get_or-map, slice_get-get_or, slice_get_within}
-use Rattle.vms_load.proofs.Facade.{get_or_from_slice_get, slice_get, State, at_start, Set, Sub, Desc, Field, Device, Slot, Number, Constant, Filler}
-use Rattle.vms_load.proofs.Facade.{Rule, Cell, no_cell, no_desc, desc_slots, device_cells, first, capacity_of, own_cells, own_slots, sub_place, sub_slots, Kind}
-use Rattle.vms_load.proofs.Facade.{U8, own_cell_count, first_fault, WellFormed, has_few, item_count, items_in, struct_items, subs_items, devices_items}
-use Rattle.vms_load.proofs.Facade.{Part, AreCells, sub_are, own_are, device_parts, Clean, struct_clean, sub_clean, device_at, is_well_formed, first_cell}
-use Rattle.vms_load.proofs.Facade.{HasPart, desc_at, sub_at, kinds_at, few_cells, own_inside_device, sub_inside, none_is, few_items, few_devices, IsIn, part_of}
-use Rattle.vms_load.proofs.Facade.{part_desc, part_base, bytes_of, subs_due, HasSpot, table, spot_slots, steps_of, WalkStep, IsOfKind, AreOfKinds, PartAt}
-use Rattle.vms_load.proofs.Facade.{is_small_item, is_small_optional, Item, Num, Equal, Unused, Struct, MOST_UNUSED, first_long, width_small, item_bytes}
-use Rattle.vms_load.proofs.Facade.{fields_bytes, desc_bytes, struct_bytes, section_bytes, sections_due, subs_bytes, devices_most, FOOT_LENGTH, LONGEST_HEAD}
-use Rattle.vms_load.proofs.Facade.{LONGEST_SUB_HEAD}
-use Rattle.vms_load.proofs.StreamLengths.{two_more}
+use Rattle.vms_load.proofs.Facade.{get_or_from_slice_get, slice_get, State, at_start, Set, Sub, Desc, Field, Device, Slot, Number, Constant, Filler, Rule, Cell}
+use Rattle.vms_load.proofs.Facade.{no_cell, no_desc, desc_slots, device_cells, first, capacity_of, own_cells, own_slots, sub_place, sub_slots, Kind, U8}
+use Rattle.vms_load.proofs.Facade.{own_cell_count, first_fault, WellFormed, has_few, item_count, items_in, struct_items, subs_items, devices_items, AreCells}
+use Rattle.vms_load.proofs.Facade.{sub_are, own_are, device_parts, Clean, struct_clean, sub_clean, device_at, is_well_formed, first_cell, HasPart, desc_at}
+use Rattle.vms_load.proofs.Facade.{sub_at, kinds_at, few_cells, own_inside_device, sub_inside, none_is, few_items, few_devices, IsIn, part_of, part_desc}
+use Rattle.vms_load.proofs.Facade.{part_base, bytes_of, subs_due, HasSpot, table, spot_slots, steps_of, WalkStep, IsOfKind, AreOfKinds, PartAt, is_small_item}
+use Rattle.vms_load.proofs.Facade.{is_small_optional, Item, Num, Equal, Unused, Struct, MOST_UNUSED, first_long, width_small, item_bytes, fields_bytes}
+use Rattle.vms_load.proofs.Facade.{desc_bytes, struct_bytes, section_bytes, sections_due, subs_bytes, devices_most, FOOT_LENGTH, LONGEST_HEAD, LONGEST_SUB_HEAD}
+use Rattle.vms_spec.proofs.Tables.{two_more}
 
 pub well_of : (set : Set) → is_well_formed set ≡ true → WellFormed set
 well_of set h = none_is (first_fault set) h
@@ -38,11 +37,7 @@ module _ (set : Set) (well : is_well_formed set ≡ true) (k : ℕ) (lt : k < le
   part_spot sub h n long spot part base =
       let here : spot.base ≡ first_cell set (part_of k sub) = cc in
       let size = ap (λ p. own_cell_count set (desc_at set p)) part in
-      record {
-        part = rw part (has_part sub h);
-        few = omega (arith, few_cells set well k);
-        room = omega (arith, inside sub h);
-      }
+      record { part = rw part (has_part sub h); few = omega (arith, few_cells set well k); room = omega (arith, inside sub h) }
 
 -- the numbers of a part are of the kinds of the device's cells
 of_kinds : (cells : List Cell) (slots : List Slot) → AreCells cells slots → AreOfKinds (map (λ c. c.kind) cells) slots

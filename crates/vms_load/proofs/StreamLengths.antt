@@ -7,6 +7,7 @@ use Rattle.vms_load.proofs.Facade.{meanings, Number, Constant, Filler, desc_cell
 use Rattle.vms_load.proofs.Facade.{spot_slots, steps_append, item_bytes, field_bytes, fields_bytes, desc_bytes, struct_bytes, bytes_of, steps_long, long_append}
 use Rattle.vms_load.proofs.Facade.{width, code, Kind, length-code, Image, zeroed, own_cells, own_slots, sub_slots, be32, optional, configuration, section_head}
 use Rattle.vms_load.proofs.Facade.{sub_head, foot, trailer, end_mark, stream_head, written, written_section, written_sections, written_subs, FOOT_LENGTH}
+use Rattle.vms_spec.proofs.Tables.{two_more}
 use Rattle.std.specs.Prelude.{replicate}
 
 abbrev long : List Slot → ℕ
@@ -14,16 +15,6 @@ long xs = steps_long (steps_of xs)
 
 joined : (xs ys : List Slot) → long (xs ++ ys) ≡ long xs + long ys
 joined xs ys = cc (steps_append xs ys, long_append (steps_of xs) (steps_of ys))
-
--- one more at the end of two lists side by side
-pub two_more : {A B : Type 0} (R : A → B → Type 0) (a0 : A) (b0 : B) → R a0 b0 → (xs : List A) (ys : List B) → length xs ≡ length ys
-    → ((j : ℕ) → R (get_or xs j a0) (get_or ys j b0)) → (a : A) (b : B) → R a b → (j : ℕ) → R (get_or (xs ++ a ∷ []) j a0) (get_or (ys ++ b ∷ []) j b0)
-two_more R a0 b0 r0 [] [] e all a b r zero = r
-two_more R a0 b0 r0 [] [] e all a b r (suc j) = r0
-two_more R a0 b0 r0 [] (y ∷ ys) e all a b r j = absurd (omega arith)
-two_more R a0 b0 r0 (x ∷ xs) [] e all a b r j = absurd (omega arith)
-two_more R a0 b0 r0 (x ∷ xs) (y ∷ ys) e all a b r zero = all zero
-two_more R a0 b0 r0 (x ∷ xs) (y ∷ ys) e all a b r (suc j) = two_more R a0 b0 r0 xs ys (omega arith) (λ k. all (suc k)) a b r j
 
 -- the slots of a structure have no more bytes than this, and those of each structure than these
 abbrev IsBound : Meaning → ℕ → Type 0
@@ -110,8 +101,7 @@ devices_long set [] = 0
 devices_long set (d ∷ devices) = device_long set d + devices_long set devices
 
 head-long : (id instance version : ℕ) (name : List ℕ) → length (section_head id name instance version) ≤ 14 + length name
-head-long id instance version name =
-    omega (arith, length-append (name ++ be32 instance) (be32 version), length-append name (be32 instance))
+head-long id instance version name = omega (arith, length-append (name ++ be32 instance) (be32 version), length-append name (be32 instance))
 
 sub-long : (name : List ℕ) (v : ℕ) → length (sub_head name v) ≤ 6 + length name
 sub-long name v = omega (arith, length-append name (be32 v))

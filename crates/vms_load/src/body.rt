@@ -107,6 +107,13 @@ impl<S: Source> Walker for Reader<'_, S> {
         read_step(step, self.image, self.cursor, self.source)
     }
 
+    // As the trait has it. A hint on a provided method isn't taken, so it is inlined here.
+    #[inline(always)]
+    fn rules(&mut self, set: &DescSet, spot: PartAt) -> Result<(), FrameFault> {
+        let holds = set.holds_rules(spot.part, spot.base, spot.version, self);
+        self.step(WalkStep::Rule { holds })
+    }
+
     fn run(&mut self, first: u32, count: u32, kind: Kind) -> Result<(), FrameFault> {
         let width = kind.width();
         let mut room = [0; LONGEST_CODES];

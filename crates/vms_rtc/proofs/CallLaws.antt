@@ -50,13 +50,6 @@ write-version port value chip =
     let P : Rtc → Type 0 = λ c. c.version ≡ chip.version in
     either P (port == INDEX_PORT) _ _ refl (either P ((chip.index == REGISTER_C) || (chip.index == REGISTER_D)) _ _ refl refl)
 
-on-version : (version : ℕ) → (power_on version).version ≡ version
-unfolding power_on
-on-version version = refl
-
-passed-version : (from to : ℕ) (chip : Rtc) → (passed from to chip).version ≡ chip.version
-unfolding passed
-passed-version from to chip = refl
-
 pub version_stays : VersionStays
-version_stays = record { power_on = on-version; read = read-version; write = write-version; passed = passed-version }
+unfolding power_on passed
+version_stays = record { power_on = λ version. refl; read = read-version; write = write-version; passed = λ from to chip. refl }

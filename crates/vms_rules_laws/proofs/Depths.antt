@@ -58,10 +58,8 @@ most-deep sizes n (f ∷ fs) h = max-le (h 0 f refl) (most-deep sizes n fs (λ k
 
 as-deep : (sizes : List ℕ) (fs : List Field) (k : ℕ) (f : Field) → At fs k f → item_depth sizes f.item ≤ deepest sizes fs
 as-deep sizes [] k f e = cc
-as-deep sizes (g ∷ fs) zero f e =
-    let same : g ≡ f = cc in rw (← same) (le-max_left (item_depth sizes g.item) (deepest sizes fs))
-as-deep sizes (g ∷ fs) (suc k) f e =
-    let inner = as-deep sizes fs k f e in let l = le-max_right (item_depth sizes g.item) (deepest sizes fs) in omega arith
+as-deep sizes (g ∷ fs) zero f e = let same : g ≡ f = cc in rw (← same) (le-max_left (item_depth sizes g.item) (deepest sizes fs))
+as-deep sizes (g ∷ fs) (suc k) f e = let inner = as-deep sizes fs k f e in let l = le-max_right (item_depth sizes g.item) (deepest sizes fs) in omega arith
 
 module _ (ds : List Desc) where
   own-depth : (i : ℕ) (d : Desc) → At ds i d → depth_at ds i ≡ 1 + deepest (depths ds i) d.fields

@@ -2,13 +2,13 @@
 use Rattle.vms_rules_laws.proofs.{Depths.deep_struct, Depths.shallow_struct, Fields.all_eight, Fields.field_decides, Fields.validation_decides}
 use Rattle.vms_rules_laws.proofs.{Items.set_counts, Names.distinct_decides, Names.name_decides, Names.sub_name_decides}
 use Rattle.vms_rules_laws.proofs.Facade.{◌≡◌, ℕ, zero, suc, ◌+◌, ◌<◌, ◌≤◌, Bool, true, false, not, nat_le, List, [], ◌∷◌, length, get_or, take, Option, None}
-use Rattle.vms_rules_laws.proofs.Facade.{inl, inr, refl, arith, Decides, list_any, leb-true, le-leb, or_left, or_right, Decides-and, Decides-eqb, Decides-like}
-use Rattle.vms_rules_laws.proofs.Facade.{Decides-not, slice_get_within, bytes_eq-Decides, MOST_ITEMS, Part, Place, first_answer, or_else, is_name, field_rules}
-use Rattle.vms_rules_laws.proofs.Facade.{is_small_test, validation_rules, Desc, Sub, Device, Set, desc_fault, device_fault, device_rules, devices_items}
-use Rattle.vms_rules_laws.proofs.Facade.{failing, first_fault, has_few, here, in_field, is_same_device, set_rules, size_rules, struct_depths, struct_fault}
-use Rattle.vms_rules_laws.proofs.Facade.{struct_items, struct_rules, sub_fault, sub_rules, AllTrue, all_true, or_else_none, both_none, Clean, device_parts}
-use Rattle.vms_rules_laws.proofs.Facade.{struct_clean, sub_clean, At, IsDesc, IsDevice, IsName, IsSteady, IsStruct, IsSub, EightLaw}
-use Rattle.vms_rules_laws.proofs.Tests.{all_decides, le_decides, names_decides, never, new_decides, small_decides, split, steady_decides}
+use Rattle.vms_rules_laws.proofs.Facade.{le_decides, set_clean, inl, inr, refl, arith, Decides, list_any, leb-true, le-leb, or_left, or_right, Decides-and}
+use Rattle.vms_rules_laws.proofs.Facade.{Decides-eqb, Decides-like, Decides-not, slice_get_within, bytes_eq-Decides, MOST_ITEMS, Part, Place, first_answer}
+use Rattle.vms_rules_laws.proofs.Facade.{or_else, is_name, field_rules, is_small_test, validation_rules, Desc, Sub, Device, Set, desc_fault, device_fault}
+use Rattle.vms_rules_laws.proofs.Facade.{device_rules, devices_items, failing, first_fault, has_few, here, in_field, is_same_device, set_rules, size_rules}
+use Rattle.vms_rules_laws.proofs.Facade.{struct_depths, struct_fault, struct_items, struct_rules, sub_fault, sub_rules, AllTrue, both_none, Clean}
+use Rattle.vms_rules_laws.proofs.Facade.{device_parts, struct_clean, sub_clean, At, IsDesc, IsDevice, IsName, IsSteady, IsStruct, IsSub, EightLaw}
+use Rattle.vms_rules_laws.proofs.Tests.{all_decides, names_decides, never, new_decides, small_decides, split, steady_decides}
 use Rattle.vms_spec.specs.declared.Part.TheVariants as parts
 
 -- ---- nothing fails
@@ -171,14 +171,12 @@ eight_holds set =
     Decides-and _ _ (Decides-and _ _ (le_decides (length set.machines) 16) (le_decides (length set.structs) 64)) (le_decides (length set.devices) 64) in
     let items = le_decides (devices_items (struct_items set.structs) set.devices) MOST_ITEMS in (
       λ well.
-          let split_rules = or_else_none (failing 1 (set_rules set) (here parts.Set)) (or_else of_structs (or_else of_devices last)) well in
-          let sizes = or_else_none of_devices last (or_else_none of_structs (or_else of_devices last) split_rules.1).1 in
-          let own = all_true 1 (set_rules set) (here parts.Set) split_rules.0 in
-          let few = limits.0 own.1.1.1.1.1.1.0 in
-          let most = items.0 (all_true 1 (size_rules set) (here parts.Set) sizes.1).1.1.1.1.1.1.0 in
+          let clean = set_clean set well in
+          let few = limits.0 clean.own.1.1.1.1.1.1.0 in
+          let most = items.0 clean.sizes.1.1.1.1.1.1.0 in
           record {
-            named = named.0 own.0;
-            new = new.0 own.1.0;
+            named = named.0 clean.own.0;
+            new = new.0 clean.own.1.0;
             few_machines = few.0.0;
             few_structs = few.0.1;
             few_devices = few.1;

@@ -1,14 +1,14 @@
 -- The rules that the tests at a field and at a validation decide.
 use Rattle.vms_rules_laws.proofs.{Names.name_decides, Names.new_names_decides, Names.within_decides, Tests.steady_decides}
 use Rattle.vms_rules_laws.proofs.Facade.{◌≡◌, ℕ, suc, ◌<◌, Bool, true, false, ◌==◌, if◌then◌else◌, List, [], ◌∷◌, ◌++◌, length, Option, Some, None, ℤ, pos}
-use Rattle.vms_rules_laws.proofs.Facade.{◌≤ℤ◌, inl, inr, refl, sym, ap, ◌∙◌, subst, Decides, AllByRecursion, slice_get, and_from, and_parts, eq-eqb, eqb-true}
-use Rattle.vms_rules_laws.proofs.Facade.{Decides-and, Decides-ltb, Item, Num, Equal, Unused, Struct, Kind, U8, U16, U32, InRange, MOST_UNUSED, Count, One}
-use Rattle.vms_rules_laws.proofs.Facade.{Fixed, Counted, counted, is_name, same_number, count_names_well, counts_well, defaults_well, field_rules}
-use Rattle.vms_rules_laws.proofs.Facade.{has_good_count, in_range, is_counting, is_counting_item, is_earlier_in, is_small_item, is_small_optional}
-use Rattle.vms_rules_laws.proofs.Facade.{is_small_test, is_steady_in, names_well, nobody, test_names_well, uses_below, validation_rules, Formula, Field, Desc}
-use Rattle.vms_rules_laws.proofs.Facade.{AllTrue, same_number_is, ranges, within, counted_well, is_same, ranged, At, CountFits, DefaultFits, IsCounting}
-use Rattle.vms_rules_laws.proofs.Facade.{IsEarlier, IsField, IsName, IsSmall, IsSteady, IsValidation, IsWithin, NamesOnly, Nobody}
-use Rattle.vms_rules_laws.proofs.Tests.{all_decides, at_places, earlier_decides, le_decides, names_decides, never, nobody_decides, one_decides, small_decides}
+use Rattle.vms_rules_laws.proofs.Facade.{le_decides, ◌≤ℤ◌, inl, inr, refl, sym, ap, ◌∙◌, subst, Decides, AllByRecursion, slice_get, and_from, and_parts}
+use Rattle.vms_rules_laws.proofs.Facade.{eq-eqb, eqb-true, Decides-and, Decides-ltb, Item, Num, Equal, Unused, Struct, Kind, U8, U16, U32, InRange}
+use Rattle.vms_rules_laws.proofs.Facade.{MOST_UNUSED, Count, One, Fixed, Counted, counted, is_name, same_number, count_names_well, counts_well, defaults_well}
+use Rattle.vms_rules_laws.proofs.Facade.{field_rules, has_good_count, in_range, is_counting, is_counting_item, is_earlier_in, is_small_item}
+use Rattle.vms_rules_laws.proofs.Facade.{is_small_optional, is_small_test, is_steady_in, names_well, nobody, test_names_well, uses_below, validation_rules}
+use Rattle.vms_rules_laws.proofs.Facade.{Formula, Field, Desc, AllTrue, same_number_is, ranges, within, counted_well, is_same, ranged, At, CountFits}
+use Rattle.vms_rules_laws.proofs.Facade.{DefaultFits, IsCounting, IsEarlier, IsField, IsName, IsSmall, IsSteady, IsValidation, IsWithin, NamesOnly, Nobody}
+use Rattle.vms_rules_laws.proofs.Tests.{all_decides, at_places, earlier_decides, names_decides, never, nobody_decides, one_decides, small_decides}
 
 -- ---- tests
 

@@ -1,10 +1,10 @@
 -- A set has the number of items that the walk computes.
 use Rattle.vms_rules_laws.proofs.Facade.{◌≡◌, ℕ, zero, suc, ◌+◌, ◌*◌, List, [], ◌∷◌, ◌++◌, length, get_or, map, ℤ, None, Bool, ◌&&◌, nat_lt, refl, sym, ◌∙◌}
-use Rattle.vms_rules_laws.proofs.Facade.{arith, suc-mul, Item, Struct, Field, Desc, Sub, Device, Set, no_desc, first, counted, capacity_of, item_size}
-use Rattle.vms_rules_laws.proofs.Facade.{field_cells, desc_cells, struct_cells, numbers_of, all_hold, default_image, own_cells, item_count, items_in}
-use Rattle.vms_rules_laws.proofs.Facade.{struct_items, subs_items, devices_items, first_long, Element, Shape, no_shape, shape, shapes, cells_in, dotted, behind}
-use Rattle.vms_rules_laws.proofs.Facade.{single, Rule, item_elements, Stand, stand_of, array_elements, field_elements, elements_from, desc_elements, index_text}
-use Rattle.vms_rules_laws.proofs.Facade.{absent, elements_in, subs_elements, two_more, items_among, items_of}
+use Rattle.vms_rules_laws.proofs.Facade.{field_cells, arith, suc-mul, Item, Struct, Field, Desc, Sub, Device, Set, no_desc, first, counted, capacity_of}
+use Rattle.vms_rules_laws.proofs.Facade.{item_size, desc_cells, struct_cells, numbers_of, all_hold, default_image, own_cells, item_count, items_in}
+use Rattle.vms_rules_laws.proofs.Facade.{struct_items, subs_items, devices_items, first_long, Element, Shape, no_shape, shape, shapes, cells_in, dotted}
+use Rattle.vms_rules_laws.proofs.Facade.{behind, single, Rule, item_elements, Stand, stand_of, array_elements, field_elements, elements_from, desc_elements}
+use Rattle.vms_rules_laws.proofs.Facade.{index_text, absent, elements_in, subs_elements, two_more, items_among, items_of}
 
 items_append : (xs ys : List Element) → items_among (xs ++ ys) ≡ items_among xs + items_among ys
 items_append [] ys = omega arith
@@ -40,19 +40,15 @@ module _ (ss : List Shape) (sizes : List ℕ) (good : AreCounted ss sizes) where
       let rest = array_counts f stand part size h step (suc e) n (at + step) in
       items_append here (array_elements f stand part step (suc e) n (at + step)) ∙ omega (arith, suc-mul n size)
 
-  field_counts : (fields : List Field) (v : ℕ) (own : ℕ → ℕ) (n : List ℤ) (i at : ℕ) (f : Field)
-      → items_among (field_elements ss fields v own n i at f) ≡ capacity_of f.count * item_count sizes f.item
-  field_counts fields v own n i at f =
-      array_counts f (stand_of i f v own) (item_elements ss f.item (counted i fields) f.default n) (item_count sizes f.item)
-      (λ a. item_counts f.item (counted i fields) f.default n a) (item_size (cells_in ss) f.item) 0 (capacity_of f.count) at
+  module _ (fields : List Field) (v : ℕ) (own : ℕ → ℕ) (n : List ℤ) where
+    field_counts : (i at : ℕ) (f : Field) → items_among (field_elements ss fields v own n i at f) ≡ capacity_of f.count * item_count sizes f.item
+    field_counts i at f =
+        array_counts f (stand_of i f v own) (item_elements ss f.item (counted i fields) f.default n) (item_count sizes f.item)
+        (λ a. item_counts f.item (counted i fields) f.default n a) (item_size (cells_in ss) f.item) 0 (capacity_of f.count) at
 
-  fields_count : (fields : List Field) (v : ℕ) (own : ℕ → ℕ) (n : List ℤ) (i at : ℕ) (fs : List Field)
-      → items_among (elements_from ss fields v own n i at fs) ≡ items_in sizes fs
-  fields_count fields v own n i at [] = refl
-  fields_count fields v own n i at (f ∷ fs) =
-      let next = at + length (field_cells (cells_in ss) fields i f) in
-      items_append (field_elements ss fields v own n i at f) (elements_from ss fields v own n (suc i) next fs)
-      ∙ rw (field_counts fields v own n i at f, fields_count fields v own n (suc i) next fs) refl
+    fields_count : (i at : ℕ) (fs : List Field) → items_among (elements_from ss fields v own n i at fs) ≡ items_in sizes fs
+    fields_count i at [] = refl
+    fields_count i at (f ∷ fs) = rw (items_append, field_counts i at f, fields_count (suc i) (at + length (field_cells (cells_in ss) fields i f)) fs) refl
 
   desc_counts : (d : Desc) (v : ℕ) (n : List ℤ) (at : ℕ) → items_among (desc_elements ss d v n at) ≡ items_in sizes d.fields
   desc_counts d v n at =

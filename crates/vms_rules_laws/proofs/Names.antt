@@ -1,9 +1,9 @@
 -- The relations that the tests of names decide.
+use Rattle.vms_rules_laws.proofs.{Facade.names_of, Tests.all_decides, Tests.one_of_decides}
 use Rattle.vms_rules_laws.proofs.Facade.{◌≡◌, ◌⊎◌, ℕ, zero, suc, ◌+◌, ◌<◌, ◌&&◌, nat_le, List, [], ◌∷◌, ◌++◌, append_assoc, length, length-append, take, drop}
-use Rattle.vms_rules_laws.proofs.Facade.{inl, inr, refl, sym, ap, ◌∙◌, subst, arith, Decides, Decides-and, Decides-at, Decides-eqb, Decides-like, Decides-not}
-use Rattle.vms_rules_laws.proofs.Facade.{Decides-or, or_assoc, drop_at, take-append-drop, take_at, bytes_eq-Decides, all_names, are_new, is_name, is_name_byte}
-use Rattle.vms_rules_laws.proofs.Facade.{is_sub_name, Field, is_one_of, are_distinct, AreNewNames, At, IsName, IsNameByte, IsSubName, IsWithin, names_of}
-use Rattle.vms_rules_laws.proofs.Tests.{all_decides, le_decides, one_of_decides}
+use Rattle.vms_rules_laws.proofs.Facade.{le_decides, inl, inr, refl, sym, ap, ◌∙◌, subst, arith, Decides, Decides-and, Decides-at, Decides-eqb, Decides-like}
+use Rattle.vms_rules_laws.proofs.Facade.{Decides-not, Decides-or, or_assoc, drop_at, take-append-drop, take_at, bytes_eq-Decides, all_names, are_new, is_name}
+use Rattle.vms_rules_laws.proofs.Facade.{is_name_byte, is_sub_name, Field, is_one_of, are_distinct, AreNewNames, At, IsName, IsNameByte, IsSubName, IsWithin}
 
 -- ---- bytes and names
 
@@ -37,8 +37,7 @@ sub_name_decides device name =
 pub distinct_decides : (names : List (List ℕ)) → Decides (are_distinct names) ((j k : ℕ) (name : List ℕ) → j < k → At names j name → At names k name → ⊥)
 distinct_decides [] = (λ e j k name lt x y. cc, λ h. refl)
 distinct_decides (n ∷ names) =
-    Decides-like _ (λ h. apart h.0 h.1)
-    (λ h. (λ m. h 0 (suc m.0) n (omega arith) refl m.1, λ j k name lt x y. h (suc j) (suc k) name (omega arith) x y))
+    Decides-like _ (λ h. apart h.0 h.1) (λ h. (λ m. h 0 (suc m.0) n (omega arith) refl m.1, λ j k name lt x y. h (suc j) (suc k) name (omega arith) x y))
     (Decides-and _ _ (Decides-not (is_one_of names n) (one_of_decides names n)) (distinct_decides names))
   where
     apart : (((k : ℕ) × At names k n) → ⊥) → ((j k : ℕ) (name : List ℕ) → j < k → At names j name → At names k name → ⊥)

@@ -1,13 +1,10 @@
 -- The relations that the tests of lists and of formulas decide.
-use Rattle.vms_rules_laws.proofs.Facade.{◌≡◌, ◌⊎◌, ℕ, zero, suc, ◌<◌, ◌≤◌, Bool, true, false, not, ◌||◌, nat_le, nat_lt, List, [], ◌∷◌, take, map, Option, Some}
-use Rattle.vms_rules_laws.proofs.Facade.{None, inl, inr, refl, ap, subst, arith, Decides, list_all, slice_get, le-leb, leb-true, Decides-and, Decides-like}
+use Rattle.vms_rules_laws.proofs.Facade.{◌≡◌, ◌⊎◌, ℕ, zero, suc, ◌<◌, ◌≤◌, Bool, true, false, not, ◌||◌, nat_lt, List, [], ◌∷◌, take, map, Option, Some}
+use Rattle.vms_rules_laws.proofs.Facade.{le_decides, None, inl, inr, refl, ap, subst, arith, Decides, list_all, slice_get, Decides-and, Decides-like}
 use Rattle.vms_rules_laws.proofs.Facade.{Decides-ltb, Decides-not, Decides-or, bytes_eq-Decides, Kind, Item, Num, Count, One, Own, Parent, depth, has_no_test}
 use Rattle.vms_rules_laws.proofs.Facade.{is_earlier_in, is_num, is_one, is_small_test, is_steady, is_steady_in, names_well, nobody, nodes, Formula, Cell, Not}
 use Rattle.vms_rules_laws.proofs.Facade.{And, Or, Field, Desc, is_one_of, untested, At, IsEarlier, IsNew, IsSmall, IsSteady, NamesOnly, Nobody}
 use Rattle.vms_rules_laws.proofs.Depths.{part_count, deep_test, shallow_test}
-
-pub le_decides : (a b : ℕ) → Decides (nat_le a b) (a ≤ b)
-le_decides a b = (leb-true a b, le-leb a b)
 
 pub split : (b c : Bool) → (b || c) ≡ true → (b ≡ true) ⊎ (c ≡ true)
 split true c e = inl refl

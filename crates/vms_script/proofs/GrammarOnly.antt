@@ -1,15 +1,14 @@
 -- What is read is spelled so.
-use Rattle.vms_script.proofs.Facade.{arith, ◌≡◌, ℕ, ◌+◌, Bool, true, false, ◌==◌, List, ◌∷◌, ◌++◌, Option, Some, None, Ok, Err, ℤ, pos, negsuc, if◌then◌else◌, refl}
-use Rattle.vms_script.proofs.Facade.{sym, ap, ◌∙◌, subst, [], codes, decimal, bytes_eq, eqb-true, and_parts, bytes_eq-Decides, number_spelled}
-use Rattle.vms_script.proofs.Facade.{spelled_holds, line_text, script_text, IsLine, AreLines, ReadsExactly, is_wire, NEWEST, ScriptLine, Happens}
-use Rattle.vms_script.proofs.Facade.{Saves, Restores, Read, or_form, or_range, number_in, is_wait, is_set_of, in_line, byte_line, wait_line, out_line}
-use Rattle.vms_script.proofs.Facade.{wire_line, set_spelled, name_spelled, save_line, restore_line, play_line, line_split, line_read, is_shelf_name, Split}
-use Rattle.vms_script.proofs.Facade.{Reading, lines_of, begun, with_line, unended, tail_read, lines_read, script_read, level_text, first_word, longer_word}
-use Rattle.vms_script.proofs.Facade.{byte_spelled, port_spelled, level_spelled, ScriptReason}
+use Rattle.vms_script.proofs.{Facade.port_spelled, Facade.level_spelled, Facade.ScriptReason, GrammarLemmas.spelled_read, GrammarLemmas.early_small}
+use Rattle.vms_script.proofs.Facade.{arith, ◌≡◌, ℕ, ◌+◌, Bool, true, false, ◌==◌, List, ◌∷◌, ◌++◌, Option, Some, None, Ok, Err, ℤ, pos, negsuc, if◌then◌else◌}
+use Rattle.vms_script.proofs.Facade.{refl, sym, ap, ◌∙◌, subst, [], codes, decimal, bytes_eq, eqb-true, and_parts, bytes_eq-Decides, number_spelled}
+use Rattle.vms_script.proofs.Facade.{spelled_holds, line_text, script_text, IsLine, AreLines, ReadsExactly, is_wire, NEWEST, ScriptLine, Happens, Saves}
+use Rattle.vms_script.proofs.Facade.{Restores, Read, or_form, or_range, number_in, is_wait, is_set_of, in_line, byte_line, wait_line, out_line, wire_line}
+use Rattle.vms_script.proofs.Facade.{set_spelled, name_spelled, save_line, restore_line, play_line, line_split, line_read, is_shelf_name, Split, Reading}
+use Rattle.vms_script.proofs.Facade.{lines_of, begun, with_line, unended, tail_read, lines_read, script_read, level_text, first_word, longer_word, byte_spelled}
+use Rattle.vms_script.proofs.NumberLemmas.{byte_is, port_is, EndsEarly, waits_end, wires_end, sets_end}
 use Rattle.dev_board.specs.declared.event.Event.TheVariants as events
 use Rattle.vms_script.specs.declared.line.ScriptReason.TheVariants as reasons
-use Rattle.vms_script.proofs.NumberLemmas.{byte_is, port_is, EndsEarly, waits_end, wires_end, sets_end}
-use Rattle.vms_script.proofs.GrammarLemmas.{spelled_read, early_small}
 
 -- each line that is read satisfies P
 record Only (P : ScriptLine → Type 0) (r : Read) : Type 0 where

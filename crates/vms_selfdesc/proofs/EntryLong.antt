@@ -1,8 +1,8 @@
 -- How long the text of an entry is.
-use Rattle.vms_selfdesc.proofs.{Facade.IsPlain, Plain.quoted_long, Plain.key_long, Plain.word_plain}
-use Rattle.vms_selfdesc.proofs.Facade.{◌≡◌, ℕ, suc, ◌+◌, ◌<◌, ◌≤◌, List, length, length-append, ℤ, refl, arith, Bool, true, false, decimal, codes}
+use Rattle.vms_selfdesc.proofs.Facade.{IsPlain, ◌≡◌, ℕ, suc, ◌+◌, ◌<◌, ◌≤◌, List, length, length-append, ℤ, refl, arith, Bool, true, false, decimal, codes}
 use Rattle.vms_selfdesc.proofs.Facade.{length-decimal-le, escape_byte, quoted, Data, Members, no_members, member, string, number, of_integer, compact_text}
 use Rattle.vms_selfdesc.proofs.Facade.{members_text, number_text, comma_if, Kind, MOST_UNUSED, kind_word, sent_entry, absent_entry, natural, entry_tree}
+use Rattle.vms_selfdesc.proofs.Plain.{quoted_long, key_long, word_plain}
 use Rattle.vms_kinds.specs.declared.Kind.TheVariants as kinds
 
 -- a member of an object, with what comes after it

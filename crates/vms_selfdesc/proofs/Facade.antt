@@ -7,7 +7,7 @@ pub use Rattle.std.proofs.Common.{if◌then◌else◌, inl, inr, int_lt, is_none
 pub use Rattle.std.proofs.Common.{pos, refl, rules, string_bytes, subst, suc, sym, take, true, w64, zero, ℕ, ℤ, ◌%◌, ◌&&◌, ◌*◌, ◌++◌, ◌+◌, ◌-◌, ◌/◌, ◌<◌, ◌==◌}
 pub use Rattle.std.proofs.Common.{◌^◌, ◌||◌, ◌∙◌, ◌∷◌, ◌≡◌, ◌≤◌}
 pub use Rattle.std.proofs.Math.Bool.{and-false, and-true, and_assoc}
-pub use Rattle.std.proofs.lemmas.Bool.{and_parts, cases_lt, eqb-true, le-ltb, leb-true, lt-ltb, ltb-false, ltb-true, or_from, Decides.nat_tests}
+pub use Rattle.std.proofs.lemmas.Bool.{OnTrue_at, OnTrue_from, and_parts, cases_lt, eqb-true, le-ltb, leb-true, lt-ltb, ltb-false, ltb-true, or_from, Decides.nat_tests}
 pub use Rattle.std.proofs.lemmas.List.{append-nil, drop_all, drop_more, map-append, map-id, take-append-drop}
 pub use Rattle.std.specs.{Char.digit_char, Int.w128, Int.Signed.mag, List.AllByRecursion, List.list_all, Option.option_map, Str.IsUtf8, Str.bytes_eq}
 pub use Rattle.std.specs.Fmt.{digit_glyph, digits_onto, signed_decimal}
@@ -24,7 +24,7 @@ pub use Rattle.vms_spec.specs.{Streams.longest_text, Streams.written, Tests.is_t
 pub use Rattle.vms_spec.specs.Layout.{capacity_of, counted, desc_cells, elements_of, field_cells, item_size, no_desc, no_field, no_parent, numbers_of}
 pub use Rattle.vms_spec.specs.Names.{is_name, is_name_byte, is_sub_name}
 pub use Rattle.vms_spec.specs.Rules.{counts_well, defaults_well, field_rules, in_range, int_le, is_small_item, is_small_optional, uses_below}
-pub use Rattle.vms_spec.specs.Sets.{AtLeast, Desc, Device, Field, Set, Sub}
+pub use Rattle.vms_spec.specs.Sets.{AtLeast, Desc, Device, Field, Formula, Set, Sub}
 pub use Rattle.vms_spec.specs.WellFormed.{deepest, devices_items, first_fault, has_few, item_count, item_depth, items_in, struct_depths, struct_items}
 pub use Rattle.vms_spec.specs.declared.Count.TheVariants.{Counted, Fixed, One}
 pub use Rattle.vms_spec.specs.declared.TheConstants.{MOST_ITEMS, MOST_UNUSED}

@@ -1,4 +1,5 @@
 mod Rows
+pub mod AlikeLemmas
 pub mod Bounds
 pub mod EntryLong
 pub mod Facade

@@ -21,23 +21,16 @@ module _ (j : ℕ) (ss Ss : List Shape) (agree : (i : ℕ) → i < j → get_or 
   item_elements_same (Struct i) caps z n at e = rw (agree i e)
   item_elements_same _ caps z n at e = refl
 
-  field_elements_same : (fields : List Field) (v : ℕ) (own : ℕ → ℕ) (n : List ℤ) (i at : ℕ) (f : Field) → ItemBelow j f.item
-      → field_elements ss fields v own n i at f ≡ field_elements Ss fields v own n i at f
-  field_elements_same fields v own n i at f e =
-      rw (
-        fun_ext (λ (a : ℕ). item_elements_same f.item (counted i fields) f.default n a e),
-        item_cells_same j (cells_in ss) (cells_in Ss) cells_agree f.item [] (pos 0) e,
-      )
-
-  elements_same : (fields : List Field) (v : ℕ) (own : ℕ → ℕ) (n : List ℤ) (i at : ℕ) (fs : List Field) → FieldsBelow j fs
-      → elements_from ss fields v own n i at fs ≡ elements_from Ss fields v own n i at fs
-  elements_same fields v own n i at [] b = refl
-  elements_same fields v own n i at (f ∷ fs) b =
-      rw (
-        field_elements_same fields v own n i at f b.0,
-        field_cells_same j (cells_in ss) (cells_in Ss) cells_agree fields i f b.0,
-        elements_same fields v own n (suc i) (at + length (field_cells (cells_in Ss) fields i f)) fs b.1,
-      )
+  module _ (fields : List Field) (v : ℕ) (own : ℕ → ℕ) (n : List ℤ) where
+    elements_same : (i at : ℕ) (fs : List Field) → FieldsBelow j fs → elements_from ss fields v own n i at fs ≡ elements_from Ss fields v own n i at fs
+    elements_same i at [] b = refl
+    elements_same i at (f ∷ fs) b =
+        rw (
+          fun_ext (λ (a : ℕ). item_elements_same f.item (counted i fields) f.default n a b.0),
+          item_cells_same j (cells_in ss) (cells_in Ss) cells_agree f.item [] (pos 0) b.0,
+          field_cells_same j (cells_in ss) (cells_in Ss) cells_agree fields i f b.0,
+          elements_same (suc i) (at + length (field_cells (cells_in Ss) fields i f)) fs b.1,
+        )
 
   desc_elements_same : (d : Desc) (v : ℕ) (n : List ℤ) (at : ℕ) → FieldsBelow j d.fields → desc_elements ss d v n at ≡ desc_elements Ss d v n at
   desc_elements_same d v n at b =
@@ -229,5 +222,4 @@ module _ (set : Set) (well : is_well_formed set ≡ true) (item : Item) (j : ℕ
 
   pub struct_list : (z : ℤ) (sent : Bool) (path whole : List ℕ) (n : List ℤ) (cell : ℕ) → whole ≡ path ++ 46 ∷ []
       → part_list set (parts.Struct j) sent n whole cell ≡ item_entries (shapes set) item z sent n path cell
-  struct_list z sent path whole n cell e =
-      rw (e, is, of_dotted, struct_elements_are set j struct_there below n cell)
+  struct_list z sent path whole n cell e = rw (e, is, of_dotted, struct_elements_are set j struct_there below n cell)

@@ -198,8 +198,7 @@ entry_adds {a} {b} {e} {t} {size} {type} {ms} p begun path more sound later kept
 
 pub tail_text : (kind : Kind) → cell_tail kind ≡ 34 ∷ members_text true (size_members (width kind) (kind_word kind) no_members)
 unfolding escape_byte
-tail_text kind =
-    let word = kind_word kind in rw (plain_escape word (name_plain word (word_plain kind)), append_assoc word (34 ∷ []) (125 ∷ []))
+tail_text kind = let word = kind_word kind in rw (plain_escape word (name_plain word (word_plain kind)), append_assoc word (34 ∷ []) (125 ∷ []))
 
 pub absent_text : (kind : Kind) (d : Data)
     → absent_tail kind ++ (compact_text d ++ codes "}") ≡ 34 ∷ members_text true (size_members 0 (kind_word kind) (member (codes "value") d no_members))

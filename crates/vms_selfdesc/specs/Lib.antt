@@ -1,3 +1,4 @@
+pub mod Alike
 pub mod Drafts
 pub mod Entries
 pub mod Tree

@@ -1,11 +1,12 @@
 -- Lines of a session, one after the other.
-use Rattle.vms_session.proofs.Facade.{◌≡◌, ◌⊎◌, inl, inr, ℕ, zero, suc, ◌+◌, ◌<◌, ◌≤◌, List, [], ◌∷◌, ◌++◌, append-nil, length, take, drop, get_or, Option}
+use Rattle.vms_session.proofs.Facade.{◌≡◌, ◌⊎◌, inl, inr, ℕ, zero, suc, ◌+◌, ◌<◌, ◌≤◌, List, [], ◌∷◌, ◌++◌, append-nil, length, take, drop, get_or}
 use Rattle.vms_session.proofs.Facade.{Some, Result, Ok, Err, refl, sym, ap, subst, ◌∙◌, arith, drop_more, take_all, Appends-nil, Appends-trans, Appends, State}
 use Rattle.vms_session.proofs.Facade.{Rose, Held, Reaches, Outlet, Stock, Serves, reaches_both, serves_both, Part, text_of, text_begun, held_after, stored_next}
-use Rattle.vms_session.proofs.Facade.{HoldsBut, FailsToStore, ScriptLine, line_view, lines_view, Line, Session, Does, stored_by, part_of, Plays, session_of}
+use Rattle.vms_session.proofs.Facade.{HoldsBut, FailsToStore, ScriptLine, line_view, lines_view, Line, Session, Does, part_of, Plays, session_of}
 use Rattle.vms_session.proofs.Facade.{DoesSome, Goes, LinesEnd, HasPlayCause, PlayFault, WriteFault, ShelfFault, NoMemory}
 use Rattle.vms_commands.specs.Outcomes.{ComesTo}
 use Rattle.vms_session.proofs.PartLemmas.{text_next, held_next, rest_next, begun_next, begun_whole, text_all, held_all}
+use Rattle.std.proofs.Common.{add-one}
 
 -- ---- lines
 
@@ -47,8 +48,7 @@ pub record InCourse (i : ℕ) (left : List ScriptLine) (parts : List Part) (new 
 
 pub in_course : (lines : List ScriptLine) (parts : List Part) (new : Session) (board : State) (held : Held) (out : Outlet) (shelf : Stock)
     → shelf.held ≡ Some held → Plays lines (session_of board held) parts new → InCourse 0 lines parts new board out out shelf shelf
-in_course lines parts new board held out shelf told plays =
-    record { holds = held; told = told; rest = plays; text = Appends-nil out.written; held = refl }
+in_course lines parts new board held out shelf told plays = record { holds = held; told = told; rest = plays; text = Appends-nil out.written; held = refl }
 
 -- nothing of a part was done, or some of it was written once the shelf was as after it
 one_part : (out out' : Outlet) (shelf shelf' : Stock) (part : Part) → ComesTo out out' shelf shelf' (part ∷ [])
@@ -76,8 +76,7 @@ Content line board board' out out' shelf shelf' result =
     → LinesEnd (part_of line text new ∷ []) new out out' shelf shelf' board' result
 
 module _ (i : ℕ) (line : ScriptLine) (left : List ScriptLine) (parts : List Part) (new : Session) (board board' : State) (out out' out'' : Outlet)
-    (shelf shelf' shelf'' : Stock)
-    (course : InCourse i (line ∷ left) parts new board out out' shelf shelf') where
+    (shelf shelf' shelf'' : Stock) (course : InCourse i (line ∷ left) parts new board out out' shelf shelf') where
   abbrev text : List ℕ
   text = course.rest.0
 
@@ -87,10 +86,10 @@ module _ (i : ℕ) (line : ScriptLine) (left : List ScriptLine) (parts : List Pa
   abbrev next : drop i parts ≡ part_of line text between ∷ course.rest.1
   next = course.rest.5
 
-  pub course_goes : Content line board board' out' out'' shelf' shelf'' (Ok tt) → InCourse (suc i) left parts new board' out out'' shelf shelf''
+  pub course_goes : Content line board board' out' out'' shelf' shelf'' (Ok tt) → InCourse (i + 1) left parts new board' out out'' shelf shelf''
   course_goes content =
       let ends = content course.holds text between course.told course.rest.3 in
-      record {
+      rw add-one (record {
         holds = between.held;
         told = ends.1;
         rest = rw ends.2 (rw (rest_next (part_of line text between) course.rest.1 i parts next) course.rest.4);
@@ -98,7 +97,7 @@ module _ (i : ℕ) (line : ScriptLine) (left : List ScriptLine) (parts : List Pa
             (Appends-trans out.written out'.written out''.written (text_of (take i parts)) text course.text
             (rw (append-nil text) at ends.0));
         held = cc (held_next (part_of line text between) course.rest.1 i shelf.held parts next);
-      }
+      })
 
   -- all of the lines before this one has been written, where this one writes nothing
   behind : Appends out'.written out''.written [] → Appends out.written out''.written (text_of (take i parts))
@@ -177,23 +176,6 @@ module _ (i : ℕ) (line : ScriptLine) (left : List ScriptLine) (parts : List Pa
       by (inl does) = inl (does_behind does)
       by (inr fails) = inr (fails_behind le fails)
   course_stops NoMemory le content = does_behind (content course.holds text between course.told course.rest.3)
-
--- the same of lines that begin with this one
-module _ (i : ℕ) (line : ScriptLine) (left said : List ScriptLine) (split : said ≡ line ∷ left) (parts : List Part) (new : Session) (board board' : State)
-    (out out' out'' : Outlet) (shelf shelf' shelf'' : Stock)
-    (course : InCourse i said parts new board out out' shelf shelf') where
-  begun : InCourse i (line ∷ left) parts new board out out' shelf shelf'
-  begun = rw split at course
-
-  pub next_course : Content line board board' out' out'' shelf' shelf'' (Ok tt) → InCourse (i + 1) left parts new board' out out'' shelf shelf''
-  next_course content =
-      let one : suc i ≡ i + 1 = omega arith in
-      subst (λ n. InCourse n left parts new board' out out'' shelf shelf'') one
-      (course_goes i line left parts new board board' out out' out'' shelf shelf' shelf'' begun content)
-
-  pub stop_course : (fault : PlayFault) → shelf.faults ≤ shelf'.faults → Content line board board' out' out'' shelf' shelf'' (Err fault)
-      → LinesEnd parts new out out'' shelf shelf'' board' (Err fault)
-  stop_course fault le content = course_stops i line left parts new board board' out out' out'' shelf shelf' shelf'' begun fault le content
 
 pub course_ends : (i : ℕ) (parts : List Part) (new : Session) (board : State) (out out' : Outlet) (shelf shelf' : Stock)
     → InCourse i [] parts new board out out' shelf shelf' → LinesEnd parts new out out' shelf shelf' board (Ok tt)

@@ -1,11 +1,13 @@
 -- Each session has a trace and an end.
 use Rattle.vms_session.proofs.{SessionLaws.line_level, SoundLaws.sessions_stay_sound}
-use Rattle.vms_session.proofs.Facade.{◌≡◌, ℕ, ◌<◌, ◌≤◌, Bool, true, false, if◌then◌else◌, List, [], ◌∷◌, length, Option, Some, None, nat_lt, arith, refl, sym}
+use Rattle.vms_session.proofs.Facade.{◌≡◌, ℕ, ◌≤◌, Bool, true, false, if◌then◌else◌, List, [], ◌∷◌, length, Option, Some, None, nat_lt, arith, refl}
 use Rattle.vms_session.proofs.Facade.{subst, ◌∙◌, bytes_eq, bytes_eq-Decides, nat_tests, NEWEST, IsSound, State, step, shipped_set, Held, PutsUnder, IsLine}
 use Rattle.vms_session.proofs.Facade.{AreLines, ScriptLine, Happens, Saves, is_set_of, trace_line, streams_come_back, bytes_are_one, Restore, Back, Refused}
 use Rattle.vms_session.proofs.Facade.{Restores, saved_stream, part_of, HoldsBytes, HasAnEnd, SessionsEnd, saved_line, restored_line, missing_line}
-use Rattle.vms_session.proofs.Facade.{too_large_line, refused_line, Session, IsTooLarge, IsLoaded, LoadsHeld, Does, longest_file, isa, MaySaveIn}
+use Rattle.vms_session.proofs.Facade.{too_large_line, refused_line, Session, IsTooLarge, IsLoaded, Does, longest_file, isa, MaySaveIn}
 use Rattle.vms_script.specs.Lines.{Restores as Loads}
+use Rattle.dev_base.proofs.Choices.{either}
+use Rattle.std.proofs.lemmas.Bool.{false_from_ne_true}
 
 -- ---- what bytes restore
 
@@ -27,24 +29,11 @@ held-comes level (Some bytes) h = bytes_are_one.some level bytes h
 abbrev put : Held → List ℕ → List ℕ → Held
 put held name bytes other = if bytes_eq other name then Some bytes else held other
 
-differs : (b : Bool) (x y : Option (List ℕ)) → (b ≡ true → ⊥) → (if b then x else y) ≡ y
-differs true x y never = absurd (never refl)
-differs false x y never = refl
-
-taken-so : (b : Bool) (x y : Option (List ℕ)) → b ≡ true → (if b then x else y) ≡ x
-taken-so true x y e = refl
-taken-so false x y e = cc
-
 puts-under : (held : Held) (name bytes : List ℕ) → PutsUnder held (put held name bytes) name bytes
 puts-under held name bytes = record {
-  there = taken-so (bytes_eq name name) (Some bytes) (held name) ((bytes_eq-Decides name name).1 refl);
-  others = λ other ne. differs (bytes_eq other name) (Some bytes) (held other) (λ e. ne ((bytes_eq-Decides other name).0 e));
+  there = rw ((bytes_eq-Decides name name).1 refl) refl;
+  others = λ other ne. rw (false_from_ne_true (bytes_eq other name) (λ e. ne ((bytes_eq-Decides other name).0 e))) refl;
 }
-
-either-comes : (level : ℕ) (b : Bool) (bytes : List ℕ) (held : Option (List ℕ)) → Comes level bytes → HeldComes level held
-    → HeldComes level (if b then Some bytes else held)
-either-comes level true bytes held new old = new
-either-comes level false bytes held new old = old
 
 -- ---- lines
 
@@ -92,8 +81,7 @@ held-end name old None there comes held = record {
   does = rw there (record { text_is = refl; new_is = refl });
   held = held;
 }
-held-end name old (Some bytes) there comes held =
-    bytes-end name bytes old (nat_lt longest_file (length bytes)) refl there comes held
+held-end name old (Some bytes) there comes held = bytes-end name bytes old (nat_lt longest_file (length bytes)) refl there comes held
 
 pub may_save : (m : State) (set : ℕ) → is_set_of NEWEST m.level set ≡ true → MaySaveIn isa m set
 may_save m set e = record { level_le_set = grind (arith, nat_tests, e); set_le_newest = grind (arith, nat_tests, e) }
@@ -106,7 +94,7 @@ saved-ends set name old may s held =
       text = saved_line (length (saved_stream isa set old.board));
       new = record old { held = put old.held name (saved_stream isa set old.board) };
       does = record { text_is = refl; board = refl; held = puts-under old.held name (saved_stream isa set old.board) };
-      held = λ other. either-comes old.board.level (bytes_eq other name) (saved_stream isa set old.board) (old.held other)
+      held = λ other. either (HeldComes old.board.level) (bytes_eq other name) (Some (saved_stream isa set old.board)) (old.held other)
           (Back back.back (length (saved_stream isa set old.board)), back.restores) (held other);
     }
 

@@ -1,15 +1,14 @@
 -- The names of other crates, and of this crate's `specs`, that the proofs use.
 pub use Rattle.std.proofs.{KnownBytes.Appends-nil, KnownBytes.Appends-trans, lemmas.Bool.Decides.nat_tests, lemmas.List.drop_all, lemmas.List.drop_more}
-pub use Rattle.std.proofs.{lemmas.List.take_all, lemmas.Result.err_from_is_err_and, lemmas.Slice.Eq.bytes_eq-Decides}
-pub use Rattle.std.proofs.Common.{Bool, Err, IfSome, List, None, Ok, Option, Result, Some, [], ap, append-nil, append_assoc, arith, drop, false, get_or}
-pub use Rattle.std.proofs.Common.{if◌then◌else◌, inl, inr, length, length-append, map, nat_lt, refl, subst, suc, sym, take, true, zero, ℕ, ◌++◌, ◌+◌, ◌<◌, ◌∙◌}
-pub use Rattle.std.proofs.Common.{◌∷◌, ◌≡◌, ◌≢◌, ◌≤◌, ◌⊎◌}
+pub use Rattle.std.proofs.{lemmas.List.take_all, lemmas.Result.err_from_is_err_and, lemmas.Slice.Eq.bytes_eq-Decides, Common.◌≤◌, Common.◌⊎◌}
+pub use Rattle.std.proofs.Common.{Bool, Err, List, None, Ok, Option, Result, Some, [], ap, append-nil, append_assoc, arith, drop, false, get_or, if◌then◌else◌}
+pub use Rattle.std.proofs.Common.{inl, inr, length, length-append, map, nat_lt, refl, subst, suc, sym, take, true, zero, ℕ, ◌++◌, ◌+◌, ◌<◌, ◌∙◌, ◌∷◌, ◌≡◌, ◌≢◌}
 pub use Rattle.std.specs.{Io.KnownBytes.Appends, List.slice_get, Prelude.slice_set, Str.bytes_eq}
 pub use Rattle.vms_kinds.specs.Bytes.{IsBytes}
 pub use Rattle.vms_spec.proofs.{ListLaws.none_left}
 pub use Rattle.vms_spec.specs.{Images.Image, Images.IsNormal, Sets.Device, Sets.Set, Streams.EachOnce, declared.Reason.Reason}
 pub use Rattle.vms_stream.specs.Streams.{HasSection, SectionsSpell}
-pub use Rattle.vms_board.specs.{Family.Family, Family.MaySaveIn, Isa.isa, Saving.saved_stream, Standing.Standing}
+pub use Rattle.vms_board.specs.{Family.Family, Family.MaySaveIn, Isa.isa, Saving.saved_stream}
 pub use Rattle.vms_board.specs.Restoring.{Back, Refused, Restore, Restores, TakesBoard}
 pub use Rattle.vms_board_streams.proofs.{IsaBytes.streams_are_bytes, IsaLaws.bytes_are_one, IsaLaws.streams_come_back}
 pub use Rattle.vms_board_streams.specs.{Sets.AreOf, Streams.after_events}
@@ -20,10 +19,9 @@ pub use Rattle.vms_io.proofs.{PutLemmas.puts_bytes, ShelvingLemmas.reaches_both,
 pub use Rattle.vms_io.proofs.WritingLemmas.{leaves_all, leaves_none, leaves_rest, leaves_stop, serves_both, serves_none}
 pub use Rattle.vms_io.specs.{Causes.Rose, Shelving.Reaches, Told.Outlet, Told.Stock, Told.outlet, Told.stock, Writing.Serves}
 pub use Rattle.vms_io.specs.Shelves.{Held, HoldsAll, HoldsBytes, PutsUnder}
-pub use Rattle.vms_script.specs.{Grammar.AreLines, Grammar.IsLine, Trace.trace_line, declared.line.Line.Line, declared.line.SessionLine.SessionLine}
-pub use Rattle.vms_script.specs.Lines.{Happens, Saves, ScriptLine, is_set_of}
-pub use Rattle.vms_script.specs.Views.{event_lines, line_view, lines_view, session_view}
-pub use Rattle.vms_session.specs.{Events.events_of, Events.trace_from, Parts.Plays, Parts.part_of, Parts.stored_by, declared.line.PlayFault.PlayFault}
+pub use Rattle.vms_script.specs.{Grammar.AreLines, Grammar.IsLine, Trace.trace_line, declared.line.Line.Line, Lines.Happens, Lines.Saves, Lines.ScriptLine}
+pub use Rattle.vms_script.specs.{Lines.is_set_of, Views.event_lines, Views.line_view, Views.lines_view}
+pub use Rattle.vms_session.specs.{Events.events_of, Events.trace_from, Parts.Plays, Parts.part_of, declared.line.PlayFault.PlayFault}
 pub use Rattle.vms_session.specs.Laws.{BringsNone, GoesOnWithout, HasAnEnd, IsLarge, IsMissing, IsOneCourse, IsOneEnd, IsRefused, LevelStays, LinesAreOne}
 pub use Rattle.vms_session.specs.Laws.{ReadsBytes, RefusalsLeave, SessionsAreOne, SessionsEnd, SessionsStaySound}
 pub use Rattle.vms_session.specs.Lines.{missing_line, refused_line, restored_line, saved_line, too_large_line}
@@ -32,9 +30,8 @@ pub use Rattle.vms_session.specs.Session.{ComesTo, Does, IsLoaded, IsTooLarge, L
 pub use Rattle.vms_session.specs.declared.line.PlayFault.TheVariants.{NoMemory, ShelfFault, WriteFault}
 pub use Rattle.dev_base.specs.{Levels.IsLevel, declared.limits.TheConstants.NEWEST}
 pub use Rattle.dev_board.proofs.{ClockLaws.clock_goes_on, RestoredLaws.restored_is_sound, SoundLaws.sound_stays_on, WireBits.names}
-pub use Rattle.dev_board.specs.{Saved.AreBoardCells, Sound.IsSound, State.State, Step.step, declared.event.Answer.Answer, declared.event.Event.Event}
-pub use Rattle.dev_board.specs.Laws.{AreEvents, IsEvent}
-pub use Rattle.dev_board.specs.declared.event.Event.TheVariants.{Ack, Byte, Read, Wait, Wire, Write}
+pub use Rattle.dev_board.specs.{Saved.AreBoardCells, Sound.IsSound, State.State, Step.step, declared.event.Event.Event, Laws.AreEvents, Laws.IsEvent}
+pub use Rattle.dev_board.specs.declared.event.Event.TheVariants.{Byte, Read, Wire, Write}
 unfoldable pub use Rattle.dev_board.specs.Step.{after_by, answers_by}
 pub use Rattle.dev_images.proofs.NormalBoard.{normal_may_be_restored}
 pub use Rattle.dev_images.specs.Images.{cells_in}

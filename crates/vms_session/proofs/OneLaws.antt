@@ -1,5 +1,5 @@
 -- What bytes are to a restore is one thing, and what a line does is one thing.
-use Rattle.vms_session.proofs.Facade.{◌≡◌, ◌≢◌, ℕ, Bool, true, false, List, Option, Some, None, arith, refl, sym, ap, subst, ◌∙◌, bytes_eq, bytes_eq-Decides}
+use Rattle.vms_session.proofs.Facade.{◌≡◌, ◌≢◌, ℕ, Bool, true, false, List, Option, Some, None, arith, refl, sym, ap, ◌∙◌, bytes_eq, bytes_eq-Decides}
 use Rattle.vms_session.proofs.Facade.{NEWEST, State, step, shipped_set, Held, PutsUnder, ScriptLine, Happens, Saves, trace_line, IsBytes, bytes_are_one}
 use Rattle.vms_session.proofs.Facade.{Restore, Back, Refused, saved_stream, HoldsBytes, ReadsBytes, LinesAreOne, IsOneEnd, restored_line, missing_line}
 use Rattle.vms_session.proofs.Facade.{too_large_line, refused_line, Session, Leaves, ComesTo, IsTooLarge, IsLoaded, LoadsBytes, LoadsHeld, Does, isa}

@@ -1,9 +1,8 @@
 -- Streams on the shelf: the result of a save or a load, and what a refused stream leaves.
-use Rattle.vms_session.proofs.Facade.{◌≡◌, ℕ, ◌≤◌, List, [], ◌∷◌, append-nil, length, take, Option, Some, None, Result, Ok, Err, arith, sym, ap, subst, ◌∙◌}
-use Rattle.vms_session.proofs.Facade.{◌<◌, Appends, NEWEST, State, Restore, Back, Refused, Restores, shipped_set, Outlet, Stock, isa, bytes_are_one}
-use Rattle.vms_session.proofs.Facade.{refused_line, too_large_line, Session, ComesTo, IsTooLarge, IsLoaded, LoadsBytes, LoadsHeld, Leaves, Does, longest_file}
-use Rattle.vms_session.proofs.Facade.{ScriptLine, IsBytes, Reason, LinesEnd, WritesText, part_of, Plays, PlayFault, WriteFault, ShelfFault, NoMemory, Part}
-use Rattle.vms_session.proofs.Facade.{BringsNone, IsMissing, IsLarge, IsRefused, GoesOnWithout, RefusalsLeave}
+use Rattle.vms_session.proofs.Facade.{◌≡◌, ℕ, ◌≤◌, List, [], ◌∷◌, append-nil, length, Option, Some, Result, Ok, Err, arith, sym, ap, ◌∙◌, ◌<◌, NEWEST, State}
+use Rattle.vms_session.proofs.Facade.{Restore, Refused, Restores, shipped_set, Outlet, Stock, isa, bytes_are_one, refused_line, too_large_line, Session}
+use Rattle.vms_session.proofs.Facade.{ComesTo, IsTooLarge, IsLoaded, LoadsBytes, Leaves, Does, longest_file, ScriptLine, IsBytes, Reason, LinesEnd, WritesText}
+use Rattle.vms_session.proofs.Facade.{part_of, Plays, PlayFault, WriteFault, Part, BringsNone, IsMissing, IsLarge, IsRefused, GoesOnWithout, RefusalsLeave}
 use Rattle.vms_script.specs.Lines.{Restores as Loads}
 
 -- ---- The result of a stream on the shelf, and a line that is written.
@@ -22,13 +21,6 @@ pub line_ends : (line : ScriptLine) (text mark : List ℕ) (new : Session) (o o'
 line_ends line text mark new o o' s s' m (Ok u) e h held board = (rw (e ∙ sym (append-nil text)) at h.told, held, board)
 line_ends line text mark new o o' s s' m (Err WriteFault) e h held board = record { begun = 1; bytes = h.n; text = rw e at h.puts.told; held = held }
 line_ends line text mark new o o' s s' m _ e h held board = absurd h
-
--- a restore leaves what the shelf holds
-pub loads_keep : (left : Option (List ℕ)) (old : Session) (text : List ℕ) (new : Session) → LoadsHeld left old text new → new.held ≡ old.held
-loads_keep None old text new p = rw (p.new_is)
-loads_keep (Some bytes) old text new (IsTooLarge long p) = rw (p.new_is)
-loads_keep (Some bytes) old text new (IsLoaded (Back m taken) few r p) = rw (p.new_is)
-loads_keep (Some bytes) old text new (IsLoaded (Refused place section reason) few r p) = rw (p.new_is)
 
 -- ---- What a restore leaves that brings no board back.
 

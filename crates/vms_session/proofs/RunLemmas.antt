@@ -40,10 +40,15 @@ are_events play events are = subst AreEvents (events_back events) (lines_are_eve
 -- ---- the board
 
 module _ {S : Type 0} (f : Family S) where
-  pub after_next : (event : Event) (rest events : List Event) (m m' : S) → events ≡ event ∷ rest → m' ≡ (f.step event m).1
-      → after_events f rest m' ≡ after_events f events m
-  unfolding after_by
-  after_next event rest events m m' e done = cc
+  -- An event, and those after it.
+  module _ (event : Event) (rest events : List Event) (m m' : S) (e : events ≡ event ∷ rest) (done : m' ≡ (f.step event m).1) where
+    pub after_next : after_events f rest m' ≡ after_events f events m
+    unfolding after_by
+    after_next = cc
+
+    pub trace_next : trace_from f events m ≡ trace_line (f.step event m).0 ++ trace_from f rest m'
+    unfolding answers_by
+    trace_next = rw e (sym (ap (λ (b : S). trace_line (f.step event m).0 ++ trace_from f rest b) done))
 
   pub after_none : (events : List Event) (m : S) → events ≡ [] → after_events f events m ≡ m
   unfolding after_by
@@ -66,15 +71,9 @@ module _ {S : Type 0} (f : Family S) where
       → m'' ≡ (f.step (event_at events i) m').1 → m'' ≡ after_events f (take (i + 1) events) m
   one_more events i m m' m'' lt before done =
       let next : suc i ≡ i + 1 = omega arith in
-      done ∙ ap (λ (b : S). (f.step (event_at events i) b).1) before ∙ sym (after_more events i m lt)
-      ∙ ap (λ (n : ℕ). after_events f (take n events) m) next
+      done ∙ ap (λ (b : S). (f.step (event_at events i) b).1) before ∙ sym (after_more events i m lt) ∙ ap (λ (n : ℕ). after_events f (take n events) m) next
 
   -- ---- the trace
-
-  pub trace_next : (event : Event) (rest events : List Event) (m m' : S) → events ≡ event ∷ rest → m' ≡ (f.step event m).1
-      → trace_from f events m ≡ trace_line (f.step event m).0 ++ trace_from f rest m'
-  unfolding answers_by
-  trace_next event rest events m m' e done = rw e (sym (ap (λ (b : S). trace_line (f.step event m).0 ++ trace_from f rest b) done))
 
   pub trace_none : (events : List Event) (m : S) → events ≡ [] → trace_from f events m ≡ []
   unfolding answers_by

@@ -1,20 +1,14 @@
 -- A script of a session leaves one trace and one session, and the shelf still holds bytes.
-use Rattle.vms_session.proofs.{EndLaws.may_save, OneLaws.one_end, SessionLaws.line_level, SoundLaws.sessions_stay_sound}
-use Rattle.vms_session.proofs.Facade.{◌≡◌, ℕ, List, [], ◌∷◌, Option, Some, None, refl, sym, ap, ◌∙◌, subst, IsSound, Back, Refused, saved_stream, puts_bytes}
+use Rattle.vms_session.proofs.{EndLaws.may_save, OneLaws.one_end, SessionLaws.line_level, SoundLaws.load_keeps, SoundLaws.sessions_stay_sound}
+use Rattle.vms_session.proofs.Facade.{◌≡◌, ℕ, List, [], ◌∷◌, Some, refl, sym, ap, ◌∙◌, subst, IsSound, saved_stream, puts_bytes}
 use Rattle.vms_session.proofs.Facade.{Held, HoldsAll, AreLines, IsLine, ScriptLine, Happens, Saves, streams_are_bytes, Part, Plays, part_of, IsOneCourse}
-use Rattle.vms_session.proofs.Facade.{ReadsBytes, SessionsAreOne, Session, Does, IsLoaded, IsTooLarge, LoadsHeld, isa}
+use Rattle.vms_session.proofs.Facade.{ReadsBytes, SessionsAreOne, Session, Does, isa}
 use Rattle.vms_script.specs.Lines.{Restores as Loads}
 
 -- ---- the shelf still holds bytes
 
 abbrev held-of : Session → Held
 held-of s = s.held
-
-loads-same : (under : Option (List ℕ)) (old : Session) (text : List ℕ) (new : Session) → LoadsHeld under old text new → held-of new ≡ held-of old
-loads-same None old text new h = ap held-of h.new_is
-loads-same (Some bytes) old text new (IsTooLarge long h) = ap held-of h.new_is
-loads-same (Some bytes) old text new (IsLoaded (Back m taken) few restores h) = ap held-of h.new_is
-loads-same (Some bytes) old text new (IsLoaded (Refused place section reason) few restores h) = ap held-of h.new_is
 
 pub reads_bytes : (line : ScriptLine) (old : Session) → HoldsAll old.held → ReadsBytes line old
 reads_bytes (Loads name) old holds = holds name
@@ -26,7 +20,7 @@ pub line_holds : (line : ScriptLine) (old : Session) (text : List ℕ) (new : Se
 line_holds (Happens event) old text new good does s holds = subst HoldsAll (sym (ap held-of does.new_is)) holds
 line_holds (Saves set name) old text new good does s holds =
     puts_bytes old.held new.held name (saved_stream isa set old.board) does.held (streams_are_bytes.bytes set old.board s (may_save old.board set good.0)) holds
-line_holds (Loads name) old text new good does s holds = subst HoldsAll (sym (loads-same (old.held name) old text new does)) holds
+line_holds (Loads name) old text new good does s holds = subst HoldsAll (sym (load_keeps (old.held name) old text new does).held) holds
 
 -- ---- scripts
 
@@ -63,8 +57,7 @@ lines-one level (line ∷ lines) old parts parts' new new' are f p q =
 lines-follow : (level : ℕ) (lines : List ScriptLine) (old : Session) (parts : List Part) (new : Session) → AreLines (Some level) lines → Follows level old
     → Plays lines old parts new → Follows level new
 lines-follow level [] old parts new are f p = rw p.1 f
-lines-follow level (line ∷ lines) old parts new are f p =
-    lines-follow level lines p.2 p.1 new are.1 (line_follows level line old p.0 p.2 are.0 p.3 f) p.4
+lines-follow level (line ∷ lines) old parts new are f p = lines-follow level lines p.2 p.1 new are.1 (line_follows level line old p.0 p.2 are.0 p.3 f) p.4
 
 pub sessions_are_one : SessionsAreOne
 sessions_are_one = record {

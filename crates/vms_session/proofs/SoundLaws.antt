@@ -1,7 +1,7 @@
 -- What is restored is sound, and so a session keeps its board sound.
 use Rattle.vms_session.proofs.Facade.{◌≡◌, ◌⊎◌, inl, inr, ℕ, zero, suc, ◌∙◌, Bool, true, false, List, ◌∷◌, map, Option, Some, None, refl, sym, ap, subst, []}
 use Rattle.vms_session.proofs.Facade.{slice_set, slice_get, NEWEST, IsLevel, restored_is_sound, sound_stays_on, IsEvent, AreBoardCells, IsSound, State, Event}
-use Rattle.vms_session.proofs.Facade.{Read, Write, Byte, Wait, Wire, Ack, normal_may_be_restored, cells_in, shipped_set, IsLine, AreLines, ScriptLine, Happens}
+use Rattle.vms_session.proofs.Facade.{Write, Byte, Wire, normal_may_be_restored, cells_in, shipped_set, IsLine, AreLines, ScriptLine, Happens}
 use Rattle.vms_session.proofs.Facade.{Saves, Image, IsNormal, Device, Set, EachOnce, none_left, HasSection, SectionsSpell, TakesBoard, Back, Refused, Restores}
 use Rattle.vms_session.proofs.Facade.{Part, Plays, SessionsStaySound, Session, IsTooLarge, IsLoaded, LoadsBytes, LoadsHeld, Does, isa}
 use Rattle.vms_script.specs.{Grammar.IsEvent as IsSpelled, Lines.Restores as Loads}
@@ -46,8 +46,7 @@ taken_may_be_restored level bytes taken images t =
     stream.each_once stream.spelled k d image (not-yet (shipped_set NEWEST).devices k d here) here there)
 
 pub back_is_sound : (level : ℕ) (bytes : List ℕ) (m : State) (taken : ℕ) → IsLevel level → Restores isa level bytes (Back m taken) → IsSound m
-back_is_sound level bytes m taken l r =
-    restored_is_sound.sound level (cells_in r.0) m l (taken_may_be_restored level bytes taken r.0 r.1) r.2
+back_is_sound level bytes m taken l r = restored_is_sound.sound level (cells_in r.0) m l (taken_may_be_restored level bytes taken r.0 r.1) r.2
 
 -- ---- lines
 
@@ -64,22 +63,34 @@ line_event (Some level) event h = h
 same-board : (old new : Session) → new.board ≡ old.board → IsSound old.board → IsSound new.board
 same-board old new e s = subst IsSound (sym e) s
 
-bytes-sound : (bytes : List ℕ) (old : Session) (text : List ℕ) (new : Session) → LoadsBytes bytes old text new → IsSound old.board → IsSound new.board
-bytes-sound bytes old text new (IsTooLarge long left) s = same-board old new (rw (left.new_is)) s
-bytes-sound bytes old text new (IsLoaded (Back m taken) few restores left) s =
-    subst IsSound (sym (rw (left.new_is))) (back_is_sound old.board.level bytes m taken s.devices.level restores)
-bytes-sound bytes old text new (IsLoaded (Refused place section reason) few restores left) s = same-board old new (rw (left.new_is)) s
+-- What a restore from the shelf keeps, whatever it brings back.
+pub record LoadKeeps (old new : Session) : Type 0 where
+  pub held : new.held ≡ old.held
+  pub level : new.board.level ≡ old.board.level
+  pub sound : IsSound old.board → IsSound new.board
 
-held-sound : (held : Option (List ℕ)) (old : Session) (text : List ℕ) (new : Session) → LoadsHeld held old text new → IsSound old.board → IsSound new.board
-held-sound None old text new left s = same-board old new (rw (left.new_is)) s
-held-sound (Some bytes) old text new loads s = bytes-sound bytes old text new loads s
+all-kept : (old new : Session) → new ≡ old → LoadKeeps old new
+all-kept old new e = rw e (record { held = refl; level = refl; sound = λ s. s })
+
+bytes-keep : (bytes : List ℕ) (old : Session) (text : List ℕ) (new : Session) → LoadsBytes bytes old text new → LoadKeeps old new
+bytes-keep bytes old text new (IsTooLarge long left) = all-kept old new left.new_is
+bytes-keep bytes old text new (IsLoaded (Back m taken) few restores left) = rw left.new_is (record {
+  held = refl;
+  level = restored_is_sound.level old.board.level (cells_in restores.0) m restores.2;
+  sound = λ s. back_is_sound old.board.level bytes m taken s.devices.level restores;
+})
+bytes-keep bytes old text new (IsLoaded (Refused place section reason) few restores left) = all-kept old new left.new_is
+
+pub load_keeps : (held : Option (List ℕ)) (old : Session) (text : List ℕ) (new : Session) → LoadsHeld held old text new → LoadKeeps old new
+load_keeps None old text new left = all-kept old new left.new_is
+load_keeps (Some bytes) old text new loads = bytes-keep bytes old text new loads
 
 pub line_sound : (play : Option ℕ) (line : ScriptLine) (old : Session) (text : List ℕ) (new : Session) → IsLine play line → Does line old text new
     → IsSound old.board → IsSound new.board
 line_sound play (Happens event) old text new good does s =
     subst IsSound (sym (rw (does.new_is))) (sound_stays_on.event event old.board (event_is event (line_event play event good)) s)
 line_sound play (Saves set name) old text new good does s = same-board old new does.board s
-line_sound play (Loads name) old text new good does s = held-sound (old.held name) old text new does s
+line_sound play (Loads name) old text new good does s = (load_keeps (old.held name) old text new does).sound s
 
 lines-sound : (play : Option ℕ) (lines : List ScriptLine) (old : Session) (parts : List Part) (new : Session) → AreLines play lines
     → Plays lines old parts new → IsSound old.board → IsSound new.board

@@ -19,7 +19,7 @@ pub use Rattle.vms_spec.specs.{Places.cell_at, Places.cell_count, Readiness.is_n
 pub use Rattle.vms_spec.specs.{Streams.is_one_of, Tests.is_there, Values.values_text, declared.Count.Count, declared.Part.Part, declared.Place.Place}
 pub use Rattle.vms_spec.specs.{declared.TheConstants.MOST_UNUSED, declared.Whose.TheVariants.Own, declared.Whose.TheVariants.Parent}
 pub use Rattle.vms_spec.specs.Good.{ConstantFits, ConstantsFit, DefaultsFit, IsFit, IsGood, ShippedLaw}
-pub use Rattle.vms_spec.specs.Images.{AreVersionsOf, FitsCell, Image, default_image}
+pub use Rattle.vms_spec.specs.Images.{AreVersionsOf, FitsCell, Image, default_image, sub_place}
 pub use Rattle.vms_spec.specs.Layout.{Meaning, capacity_of, cells_from, counted, desc_cells, desc_slots, device_cells, elements_of, field_cells, item_cells}
 pub use Rattle.vms_spec.specs.Layout.{item_size, item_slots, meaning, meanings, no_desc, no_field, no_meaning, no_parent, numbers_of, place_of, slots_from}
 pub use Rattle.vms_spec.specs.Rules.{count_names_well, counts_well, defaults_well, field_rules, has_no_test, in_range, int_le, is_counting, is_earlier_in}

@@ -2,7 +2,7 @@
 use Rattle.vms_spec.proofs.Facade.{◌≡◌, ℕ, suc, ◌+◌, ◌*◌, ◌-◌, ◌<◌, ◌≤◌, min, Bool, true, false, ◌&&◌, nat_le, if◌then◌else◌, List, ◌∷◌, ◌++◌, length, get_or}
 use Rattle.vms_spec.proofs.Facade.{drop, Option, Some, None, refl, sym, ap, ◌∙◌, arith, ◌||◌, [], AllByRecursion, slice_get, bytes_eq, or_assoc, or_comm}
 use Rattle.vms_spec.proofs.Facade.{drop-append_seam, and_from, and_parts, leb-true, le-leb, drop-drop, drop_more, get_or_read, bytes_eq-Decides, or_else}
-use Rattle.vms_spec.proofs.Facade.{position, Sub, AreVersionsOf, AllCame, is_one_of, natural_from}
+use Rattle.vms_spec.proofs.Facade.{position, Set, Sub, sub_place, AreVersionsOf, AllCame, is_one_of, natural_from}
 
 -- ---- tests
 
@@ -81,6 +81,11 @@ versions_long [] [] h = refl
 versions_long (s ∷ subs) (None ∷ came) h = ap suc (versions_long subs came h)
 versions_long (s ∷ subs) (Some v ∷ came) h = ap suc (versions_long subs came h.1)
 versions_long _ _ h = absurd h
+
+-- where the first subsection begins
+pub sub_first : (set : Set) (at : ℕ) (subs : List Sub) → sub_place set at subs 0 ≡ at
+sub_first set at [] = refl
+sub_first set at (s ∷ subs) = refl
 
 -- a number doesn't shrink if digits are added
 pub natural_up : (n : ℕ) (bs : List ℕ) → n ≤ natural_from n bs

@@ -36,7 +36,7 @@ heads_fit set all = record {
       word s.desc.version (each sub_fits d.subs j s f.1 h);
 }
 
-none_is : {X : Type 0} (o : Option X) → is_none o ≡ true → o ≡ None
+pub none_is : {X : Type 0} (o : Option X) → is_none o ≡ true → o ≡ None
 none_is None h = refl
 none_is (Some x) h = cc
 

@@ -31,6 +31,16 @@ one_more P a0 p0 [] all a p (suc j) = p0
 one_more P a0 p0 (x ∷ xs) all a p zero = all zero
 one_more P a0 p0 (x ∷ xs) all a p (suc j) = one_more P a0 p0 xs (λ k. all (suc k)) a p j
 
+-- the same for two lists side by side
+pub two_more : {A B : Type 0} (R : A → B → Type 0) (a0 : A) (b0 : B) → R a0 b0 → (xs : List A) (ys : List B) → length xs ≡ length ys
+    → ((j : ℕ) → R (get_or xs j a0) (get_or ys j b0)) → (a : A) (b : B) → R a b → (j : ℕ) → R (get_or (xs ++ a ∷ []) j a0) (get_or (ys ++ b ∷ []) j b0)
+two_more R a0 b0 r0 [] [] e all a b r zero = r
+two_more R a0 b0 r0 [] [] e all a b r (suc j) = r0
+two_more R a0 b0 r0 [] (y ∷ ys) e all a b r j = absurd (omega arith)
+two_more R a0 b0 r0 (x ∷ xs) [] e all a b r j = absurd (omega arith)
+two_more R a0 b0 r0 (x ∷ xs) (y ∷ ys) e all a b r zero = all zero
+two_more R a0 b0 r0 (x ∷ xs) (y ∷ ys) e all a b r (suc j) = two_more R a0 b0 r0 xs ys (omega arith) (λ k. all (suc k)) a b r j
+
 pub first_at : {B : Type 0} (f : List B → Desc → B) (ds : List Desc) (d : B) (k j : ℕ) → j < k → get_or (first f ds k) j d ≡ f (first f ds j) (get_or ds j no_desc)
 unfolding first
 first_at f ds d zero j lt = absurd (omega arith)

@@ -1,18 +1,18 @@
 -- A set that is well formed is good.
-use Rattle.vms_spec.proofs.{Facade.IsGood, Facade.FitsHeads, Tables.one_more}
-use Rattle.vms_spec.proofs.Facade.{◌≡◌, ℕ, zero, suc, ◌+◌, ◌<◌, List, ◌∷◌, ◌++◌, length, get_or, map, take, Option, Some, None, ℤ, pos, negsuc, ◌≤ℤ◌, refl, sym}
-use Rattle.vms_spec.proofs.Facade.{ap, ◌∙◌, subst, arith, Bool, true, false, ◌&&◌, ◌==◌, nat_lt, nat_le, if◌then◌else◌, [], AllByRecursion, flat_map, slice_get}
-use Rattle.vms_spec.proofs.Facade.{list_any, bytes_eq, and_parts, not-true, ltb-true, leb-true, eq-eqb, and_from, or_parts, bytes_eq-Decides, ints}
-use Rattle.vms_spec.proofs.Facade.{slice_get_within, get_or_from_slice_get, Kind, Item, Num, Equal, Struct, lowest, highest, InRange, Count, One, Counted, Own}
-use Rattle.vms_spec.proofs.Facade.{Parent, Part, position, or_else, first_answer, Formula, Cell, Not, And, Or, Field, Desc, Sub, Device, Set, no_field, no_desc}
-use Rattle.vms_spec.proofs.Facade.{times, counted, capacity_of, item_cells, field_cells, cells_from, desc_cells, struct_cells, device_cells, first, FitsCell}
-use Rattle.vms_spec.proofs.Facade.{is_one_of, find_device, find_sub, is_num, is_one, has_no_test, is_steady, is_steady_in, is_earlier_in, names_well, nobody}
-use Rattle.vms_spec.proofs.Facade.{test_names_well, count_names_well, is_counting, defaults_well, counts_well, int_le, in_range, field_rules, validation_rules}
-use Rattle.vms_spec.proofs.Facade.{failing, here, in_field, fields_fault, validations_fault, desc_fault, struct_fault, struct_rules, sub_fault, sub_rules}
-use Rattle.vms_spec.proofs.Facade.{device_fault, device_rules, is_same_device, set_rules, size_rules, first_fault, WellFormed, IsNumber, IsOne, IsEarlier}
+use Rattle.vms_spec.proofs.Facade.{IsGood, FitsHeads, ◌≡◌, ℕ, zero, suc, ◌+◌, ◌<◌, List, ◌∷◌, ◌++◌, length, get_or, map, take, Option, Some, None, ℤ, pos}
+use Rattle.vms_spec.proofs.Facade.{negsuc, ◌≤ℤ◌, refl, sym, ap, ◌∙◌, subst, arith, Bool, true, false, ◌&&◌, ◌==◌, nat_lt, nat_le, if◌then◌else◌, []}
+use Rattle.vms_spec.proofs.Facade.{AllByRecursion, flat_map, slice_get, list_any, bytes_eq, and_parts, not-true, ltb-true, leb-true, eq-eqb, and_from, or_parts}
+use Rattle.vms_spec.proofs.Facade.{bytes_eq-Decides, ints, slice_get_within, get_or_from_slice_get, Kind, Item, Num, Equal, Struct, lowest, highest, InRange}
+use Rattle.vms_spec.proofs.Facade.{Count, One, Counted, Own, Parent, Part, position, or_else, first_answer, Formula, Cell, Not, And, Or, Field, Desc, Sub}
+use Rattle.vms_spec.proofs.Facade.{Device, Set, no_field, no_desc, times, counted, capacity_of, item_cells, field_cells, cells_from, desc_cells, struct_cells}
+use Rattle.vms_spec.proofs.Facade.{device_cells, first, FitsCell, is_one_of, find_device, find_sub, is_num, is_one, has_no_test, is_steady, is_steady_in}
+use Rattle.vms_spec.proofs.Facade.{is_earlier_in, names_well, nobody, test_names_well, count_names_well, is_counting, defaults_well, counts_well, int_le}
+use Rattle.vms_spec.proofs.Facade.{in_range, field_rules, validation_rules, failing, here, in_field, fields_fault, validations_fault, desc_fault, struct_fault}
+use Rattle.vms_spec.proofs.Facade.{struct_rules, sub_fault, sub_rules, device_fault, device_rules, is_same_device, WellFormed, IsNumber, IsOne, IsEarlier}
 use Rattle.vms_spec.proofs.Facade.{NamesEarlier, IsSoundTest, IsSoundCount, IsSoundField, AreSoundFields, IsSound, DefaultsFit, ConstantFits, ConstantsFit}
-use Rattle.vms_spec.proofs.Faultless.{or_else_none, answers_none, AllTrue, all_true}
-use Rattle.vms_spec.specs.{Layout.Cell as OneCell}
+use Rattle.vms_spec.proofs.Faultless.{or_else_none, answers_none, AllTrue, all_true, set_clean}
+use Rattle.vms_spec.proofs.Tables.{one_more}
+use Rattle.vms_spec.specs.Layout.{Cell as OneCell}
 use Rattle.vms_spec.specs.declared.Part.TheVariants as parts
 
 -- ---- no fault anywhere
@@ -236,25 +236,16 @@ some_names name (s ∷ subs) = rw (some_names name subs)
 -- ---- the set
 
 module _ (set : Set) (well : WellFormed set) where
-  parts_clean : (first_answer (struct_fault set.structs) 0 set.structs ≡ None) × (first_answer (device_fault set) 0 set.devices ≡ None)
-  unfolding first_fault
-  parts_clean =
-      let last = failing 1 (size_rules set) (here parts.Set) in
-      let devices = or_else (first_answer (device_fault set) 0 set.devices) last in
-      let a = or_else_none (failing 1 (set_rules set) (here parts.Set)) (or_else (first_answer (struct_fault set.structs) 0 set.structs) devices) well in
-      let b = or_else_none (first_answer (struct_fault set.structs) 0 set.structs) devices a.1 in
-      (b.0, (or_else_none (first_answer (device_fault set) 0 set.devices) last b.1).0)
-
   pub struct_clean : (j : ℕ) (d : Desc) → slice_get set.structs j ≡ Some d → Clean j d (struct_rules set.structs j d)
   struct_clean j d e =
       clean j d (parts.Struct j) (struct_rules set.structs j d)
-      (subst (λ (i : ℕ). struct_fault set.structs i d ≡ None) (omega arith) (answers_none (struct_fault set.structs) 0 set.structs parts_clean.0 j d e))
+      (subst (λ (i : ℕ). struct_fault set.structs i d ≡ None) (omega arith) (answers_none (struct_fault set.structs) 0 set.structs (set_clean set well).structs j d e))
 
   -- the device's own part, and its subsections
   pub device_parts : (k : ℕ) (d : Device) → slice_get set.devices k ≡ Some d
       → Clean (length set.structs) d.desc (device_rules set k d) × (first_answer (sub_fault (length set.structs) k d) 0 d.subs ≡ None)
   device_parts k d e =
-      let none = subst (λ (i : ℕ). device_fault set i d ≡ None) (omega arith) (answers_none (device_fault set) 0 set.devices parts_clean.1 k d e) in
+      let none = subst (λ (i : ℕ). device_fault set i d ≡ None) (omega arith) (answers_none (device_fault set) 0 set.devices (set_clean set well).devices k d e) in
       let p = or_else_none (desc_fault (length set.structs) d.desc (parts.Device k) (device_rules set k d)) (first_answer (sub_fault (length set.structs) k d) 0 d.subs) none in
       (clean (length set.structs) d.desc (parts.Device k) (device_rules set k d) p.0, p.1)
 

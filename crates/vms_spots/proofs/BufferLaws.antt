@@ -1,11 +1,10 @@
 -- What contracts see of a buffer, and what is unchanged when a number is set.
 use Rattle.vms_spots.proofs.Facade.{◌≡◌, ℕ, ◌+◌, ◌-◌, ◌<◌, ◌≤◌, List, [], ◌∷◌, ◌++◌, length, get_or, take, drop, map, replicate, set, ℤ, pos, negsuc, sym, ap}
 use Rattle.vms_spots.proofs.Facade.{◌∙◌, subst, arith, length-append, ints, length-replicate, get_or_read, length-map, get_or-map, get_or-replicate}
-use Rattle.vms_spots.proofs.Facade.{replicate-append-replicate, Kind, U8, U16, U32, U64, I8, I16, I32, I64, Bool, Timer, width, code, InRange, IsBadBool}
-use Rattle.vms_spots.proofs.Facade.{MOST_ITEMS, length-code, MOST_BYTES, Spot, aligned, spots_of, end_from, bytes_of, no_spot, kinds_of, raw_from, raw_of}
-use Rattle.vms_spots.proofs.Facade.{AreOf, number_at, Held, held, IsHeld}
-use Rattle.vms_spots.proofs.SpotLaws.{aligned_is, spot_is, code_at, numbers_are, set_fits, set_raw, code_0, range_0, end_after}
+use Rattle.vms_spots.proofs.Facade.{replicate-append-replicate, Kind, U8, Bool, width, code, InRange, IsBadBool, MOST_ITEMS, length-code, MOST_BYTES, Spot}
+use Rattle.vms_spots.proofs.Facade.{aligned, spots_of, end_from, bytes_of, no_spot, kinds_of, raw_from, raw_of, AreOf, number_at, Held, held, IsHeld}
 use Rattle.vms_spots.proofs.LayoutLaws.{few_bytes, laid_again, kinds_again}
+use Rattle.vms_spots.proofs.SpotLaws.{aligned_is, spot_is, code_at, numbers_are, set_fits, set_raw, code_0, range_0, end_after}
 
 -- there are the number of bytes that the spots need
 pub raw_long : (e : ℕ) (kinds : List Kind) (numbers : List ℤ) → length numbers ≡ length kinds → e + length (raw_from e kinds numbers) ≡ end_from e kinds

@@ -9,7 +9,7 @@ pub use Rattle.std.proofs.lemmas.List.{take-append-drop, take_at, with_items_is}
 pub use Rattle.std.specs.{Int.w128, List.slice_get, Vec.with_items}
 pub use Rattle.vms_kinds.proofs.{ByteLemmas.bytes_first, ByteLemmas.bytes_rest, CodeLemmas.value_taken}
 pub use Rattle.vms_kinds.specs.{Bytes.IsBytes, Codes.InRange, Codes.IsBadBool, Codes.value_of, Codes.width, declared.Kind.Kind}
-pub use Rattle.vms_kinds.specs.declared.Kind.TheVariants.{Bool, I16, I32, I64, I8, Timer, U16, U32, U64, U8}
+pub use Rattle.vms_kinds.specs.declared.Kind.TheVariants.{Bool, U16, U8}
 unfoldable pub use Rattle.vms_kinds.specs.Codes.{code}
 pub use Rattle.vms_spec.proofs.KindLaws.{length-code, value_code}
 pub use Rattle.vms_spec.specs.declared.TheConstants.{MOST_ITEMS}

@@ -1,9 +1,9 @@
 -- The spots of kinds: each at a multiple of its width, inside of the buffer, apart from the others;
 -- and the bytes there.
 use Rattle.vms_spots.proofs.Facade.{◌≡◌, ◌⊎◌, inl, inr, ℕ, zero, suc, ◌+◌, ◌-◌, ◌*◌, ◌%◌, ◌<◌, ◌≤◌, List, [], ◌∷◌, ◌++◌, length, get_or, take, drop, map}
-use Rattle.vms_spots.proofs.Facade.{replicate, set, ℤ, pos, refl, sym, ap, ◌∙◌, subst, arith, append_assoc, length-append, ints, length-replicate, length-map}
+use Rattle.vms_spots.proofs.Facade.{replicate, set, ℤ, pos, refl, sym, ap, ◌∙◌, subst, arith, append_assoc, length-append, length-replicate, length-map}
 use Rattle.vms_spots.proofs.Facade.{length-set, drop_at, take_at, get_or-map, set-get_or, ext_get_or, get_or-set_same, get_or-set_other, cases_eq, Kind, U8}
-use Rattle.vms_spots.proofs.Facade.{U16, U32, U64, I8, I16, I32, I64, Bool, Timer, width, code, value_of, InRange, length-code, value_code, Spot, aligned}
+use Rattle.vms_spots.proofs.Facade.{width, code, value_of, InRange, length-code, value_code, Spot, aligned}
 use Rattle.vms_spots.proofs.Facade.{spots_from, spots_of, end_from, no_spot, kinds_of, raw_from, raw_of, AreOf, number_at, AreApart}
 
 -- ---- the least multiple

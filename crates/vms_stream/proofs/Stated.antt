@@ -80,11 +80,7 @@ one_stream_holds set names well heads input n m machine other images others t u 
     let b = read set names good input m other others u in
     let e = sym a.is ∙ b.is in
     let same : a.end ≡ b.end = cc in
-    record {
-      lengths = cc;
-      machines = cc;
-      states = cc;
-    }
+    record { lengths = cc; machines = cc; states = cc }
 
 pub either_holds : EitherLaw
 either_holds set names well heads input ok = by (told_holds set names input).0 (told_holds set names input).1

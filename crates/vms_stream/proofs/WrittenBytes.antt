@@ -1,12 +1,11 @@
 -- What a well-formed set writes is bytes. What holds of each part of a set: of the description of each device and subsection.
 use Rattle.vms_stream.proofs.Facade.{◌≡◌, ℕ, suc, List, [], ◌∷◌, Some, refl, zero, ◌+◌, ◌<◌, ◌≤◌, ◌&&◌, nat_le, ◌++◌, length, length-append, get_or, take}
-use Rattle.vms_stream.proofs.Facade.{drop, ℤ, pos, Bool, true, Option, None, IfSome, nat_lt, subst, arith, slice_get, list_all, byte_at, bytes_high_first}
-use Rattle.vms_stream.proofs.Facade.{replicate, bytes_eq, and_parts, ltb-true, leb-true, take-append-drop, bytes_eq-Decides, Desc, Sub, Device, Set, width}
-use Rattle.vms_stream.proofs.Facade.{residue, code, Kind, IsBytes, is_name, is_name_byte, is_sub_name, Image, zeroed, own_cells, own_slots, sub_slots, Slot}
-use Rattle.vms_stream.proofs.Facade.{Rule, desc_cells, struct_cells, be32, optional, configuration, section_head, sub_head, foot, trailer, end_mark}
-use Rattle.vms_stream.proofs.Facade.{stream_head, is_one_of, written, written_section, written_sections, written_subs, WellFormed, failing, first_fault, here}
-use Rattle.vms_stream.proofs.Facade.{set_rules, AllTrue, all_true, every_one, or_else_none, name_byte_low, device_parts, sub_clean}
-use Rattle.vms_spec.specs.declared.Part.TheVariants as parts
+use Rattle.vms_stream.proofs.Facade.{set_clean, drop, ℤ, pos, Bool, true, Option, None, IfSome, nat_lt, subst, arith, slice_get, list_all, byte_at}
+use Rattle.vms_stream.proofs.Facade.{bytes_high_first, replicate, bytes_eq, and_parts, ltb-true, leb-true, take-append-drop, bytes_eq-Decides, Desc, Sub}
+use Rattle.vms_stream.proofs.Facade.{Device, Set, width, residue, code, Kind, IsBytes, is_name, is_name_byte, is_sub_name, Image, zeroed, own_cells}
+use Rattle.vms_stream.proofs.Facade.{own_slots, sub_slots, Slot, Rule, desc_cells, struct_cells, be32, optional, configuration, section_head, sub_head, foot}
+use Rattle.vms_stream.proofs.Facade.{trailer, end_mark, stream_head, is_one_of, written, written_section, written_sections, written_subs, WellFormed}
+use Rattle.vms_stream.proofs.Facade.{every_one, name_byte_low, device_parts, sub_clean}
 use Rattle.vms_spec.specs.Layout.{Number, Constant, Filler}
 
 abbrev pub AllSubs : (Desc → Type 0) → List Sub → Type 0
@@ -194,13 +193,9 @@ module _ (set : Set) (well : WellFormed set) where
       let own : is_name 100 d.desc.name ≡ true = (device_parts set well k d e).0.own.0 in
       (is_named 100 d.desc.name (omega arith) own, λ j s f. sub_named d.desc.name s.desc.name own (sub_clean set well k j d s e f).own.0)
 
-  set_true : AllTrue (set_rules set)
-  unfolding first_fault
-  set_true = all_true 1 (set_rules set) (here parts.Set) (or_else_none (failing 1 (set_rules set) (here parts.Set)) _ well).0
-
   pub machine_bytes : (machine : Option (List ℕ)) → IfSome machine (λ m. is_one_of set.machines m ≡ true) → IfSome machine AreBytes
   machine_bytes None h = tt
-  machine_bytes (Some name) h = (is_named 64 name (omega arith) (every_one (is_name 64) set.machines name set_true.0 h)).octets
+  machine_bytes (Some name) h = (is_named 64 name (omega arith) (every_one (is_name 64) set.machines name (set_clean set well).own.0 h)).octets
 
   -- with a machine's name and a description, if there are any
   pub written_are_bytes : (machine : Option (List ℕ)) (images : List Image) (text : Option (List ℕ)) → IfSome machine AreBytes → IfSome text AreBytes

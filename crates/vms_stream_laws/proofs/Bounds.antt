@@ -1,9 +1,9 @@
 -- A bound on the slots of a part, whatever its numbers are.
-use Rattle.vms_stream_laws.proofs.Facade.{◌≡◌, ℕ, zero, suc, ◌+◌, ◌*◌, ◌≤◌, Bool, true, false, if◌then◌else◌, List, [], ◌∷◌, length, length-append, map, get_or}
-use Rattle.vms_stream_laws.proofs.Facade.{Option, Some, None, ℤ, arith, slice_get, mul-le-mul_right, Item, Struct, Image, own_cells, sub_place, Slot, Rule}
-use Rattle.vms_stream_laws.proofs.Facade.{Meaning, no_meaning, no_desc, all_hold, capacity_of, counted, desc_slots, elements_of, field_cells, field_slots}
-use Rattle.vms_stream_laws.proofs.Facade.{first, item_size, item_slots, meaning, meanings, no_parent, numbers_of, slots_from, times, Desc, Device, Field, Set}
-use Rattle.vms_stream_laws.proofs.Facade.{Sub, part_slots, slots_of_sub, is_there, elements_fit, one_more}
+use Rattle.vms_stream_laws.proofs.{Parts.cells_in, Facade.slots_of_sub, Facade.is_there, Facade.elements_fit, Facade.one_more}
+use Rattle.vms_stream_laws.proofs.Facade.{◌≡◌, ℕ, zero, suc, ◌+◌, ◌*◌, ◌≤◌, List, [], ◌∷◌, length, length-append, get_or, if_there, Rule, all_hold, Option}
+use Rattle.vms_stream_laws.proofs.Facade.{Some, None, ℤ, arith, slice_get, mul-le-mul_right, Item, Struct, Image, own_cells, sub_place, Slot, Meaning}
+use Rattle.vms_stream_laws.proofs.Facade.{no_meaning, no_desc, capacity_of, counted, desc_slots, elements_of, field_cells, field_slots, first, item_size}
+use Rattle.vms_stream_laws.proofs.Facade.{item_slots, meaning, meanings, no_parent, numbers_of, slots_from, times, Desc, Device, Field, Set, Sub, part_slots}
 
 -- a structure has at most this many
 abbrev IsWithin : ℕ → Meaning → Type 0
@@ -23,35 +23,31 @@ module _ (ms : List Meaning) (b : ℕ) (within : AreWithin b ms) where
   item_within (Struct j) caps numbers at = omega (arith, within j numbers at)
   item_within _ caps numbers at = omega arith
 
-  if_within : (there : Bool) (xs : List Slot) (n : ℕ) → length xs ≤ n → length (if there then xs else []) ≤ n
-  if_within true xs n h = h
-  if_within false xs n h = omega arith
-
-  field_within : (fields : List Field) (v : ℕ) (own : ℕ → ℕ) (numbers : List ℤ) (i at : ℕ) (f : Field)
-      → length (field_slots ms fields v own numbers i at f) ≤ capacity_of f.count * suc b
-  field_within fields v own numbers i at f =
-      let part : ℕ → List Slot = item_slots ms f.item (counted i fields) numbers in
-      let step = item_size (map (λ (m : Meaning). m.cells) ms) f.item in
-      let n = elements_of f.count own in
-      let all : length (times n part at step) ≤ n * suc b = times_within n (suc b) part (item_within f.item (counted i fields) numbers) at step in
-      let few : n * suc b ≤ capacity_of f.count * suc b = mul-le-mul_right {m = n} {n = capacity_of f.count} (suc b) (elements_fit f.count own) in
-      if_within (is_there f.test f.since v own no_parent) (times n part at step) (capacity_of f.count * suc b) (omega arith)
-
   abbrev most_of : List Field → ℕ
   most_of [] = 0
   most_of (f ∷ fs) = capacity_of f.count * suc b + most_of fs
 
-  fields_within : (fields : List Field) (v : ℕ) (own : ℕ → ℕ) (numbers : List ℤ) (i at : ℕ) (fs : List Field) → length (slots_from ms fields v own numbers i at fs) ≤ most_of fs
-  fields_within fields v own numbers i at [] = omega arith
-  fields_within fields v own numbers i at (f ∷ fs) =
-      let next = at + length (field_cells (map (λ (m : Meaning). m.cells) ms) fields i f) in
-      let one = field_within fields v own numbers i at f in
-      let others = fields_within fields v own numbers (suc i) next fs in
-      omega (arith, length-append (field_slots ms fields v own numbers i at f) (slots_from ms fields v own numbers (suc i) next fs))
+  module _ (fields : List Field) (v : ℕ) (own : ℕ → ℕ) (numbers : List ℤ) where
+    field_within : (i at : ℕ) (f : Field) → length (field_slots ms fields v own numbers i at f) ≤ capacity_of f.count * suc b
+    field_within i at f =
+        let part : ℕ → List Slot = item_slots ms f.item (counted i fields) numbers in
+        let step = item_size (cells_in ms) f.item in
+        let n = elements_of f.count own in
+        let all : length (times n part at step) ≤ n * suc b = times_within n (suc b) part (item_within f.item (counted i fields) numbers) at step in
+        let few : n * suc b ≤ capacity_of f.count * suc b = mul-le-mul_right {m = n} {n = capacity_of f.count} (suc b) (elements_fit f.count own) in
+        if_there (λ xs. length xs ≤ capacity_of f.count * suc b) (omega arith) (is_there f.test f.since v own no_parent) (times n part at step) (omega arith)
+
+    fields_within : (i at : ℕ) (fs : List Field) → length (slots_from ms fields v own numbers i at fs) ≤ most_of fs
+    fields_within i at [] = omega arith
+    fields_within i at (f ∷ fs) =
+        let next = at + length (field_cells (cells_in ms) fields i f) in
+        let one = field_within i at f in
+        let others = fields_within (suc i) next fs in
+        omega (arith, length-append (field_slots ms fields v own numbers i at f) (slots_from ms fields v own numbers (suc i) next fs))
 
   desc_within : (d : Desc) (v : ℕ) (numbers : List ℤ) (at : ℕ) → length (desc_slots ms d v numbers at) ≤ most_of d.fields + 1
   desc_within d v numbers at =
-      let own = numbers_of (map (λ (m : Meaning). m.cells) ms) d numbers at in
+      let own = numbers_of (cells_in ms) d numbers at in
       let all = fields_within d.fields v own numbers 0 at d.fields in
       omega (arith, length-append (slots_from ms d.fields v own numbers 0 at d.fields) (Rule (all_hold d.validate v own) ∷ []))
 

@@ -1,9 +1,7 @@
 -- Units without a fault are those with which some stream of the set begins, validations aside.
+use Rattle.vms_stream_laws.proofs.{Onward.goes_on, SoFar.all_hold, SoFar.from_bare, SoFar.to_bare, WellFormed.still_fits, WellFormed.still_well}
 use Rattle.vms_stream_laws.proofs.Facade.{ℕ, List, [], ◌∷◌, ◌++◌, length, refl, sym, subst, append-nil, take-append_seam, bytes_first, IsBytes, FitsHeads, Set}
 use Rattle.vms_stream_laws.proofs.Facade.{Piece, spelled, WellFormed, Front, Ends, units_hold, BeginningLaw, Begins, HoldsBefore, RefusedLaw, unruled}
-use Rattle.vms_stream_laws.proofs.Onward.{goes_on}
-use Rattle.vms_stream_laws.proofs.SoFar.{all_hold, from_bare, to_bare}
-use Rattle.vms_stream_laws.proofs.WellFormed.{still_fits, still_well}
 
 module _ (set : Set) (names : List (List ℕ)) where
   begins : WellFormed set → FitsHeads set → (u : List Piece) → IsBytes (spelled u) → Front set names u → Begins set names u

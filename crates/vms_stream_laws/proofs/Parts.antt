@@ -1,13 +1,12 @@
 -- The slots of a set without its validations are those of the set, with every rule true.
+use Rattle.vms_stream_laws.proofs.{Facade.unruled_device, Facade.unruled_sub, Lists.map_both}
 use Rattle.vms_stream_laws.proofs.Facade.{◌≡◌, ℕ, zero, suc, ◌+◌, Bool, true, false, if◌then◌else◌, List, [], ◌∷◌, length, map, get_or, drop, Option, Some}
 use Rattle.vms_stream_laws.proofs.Facade.{None, ℤ, refl, sym, ap, ◌∙◌, flat_map, slice_get, option_map, drop-map, length-map, map-append, slice_get-map}
 use Rattle.vms_stream_laws.proofs.Facade.{fun_ext, Item, Struct, Image, default_image, own_cells, sub_place, Cell, Slot, Rule, Meaning, no_meaning, no_desc}
 use Rattle.vms_stream_laws.proofs.Facade.{all_hold, counted, desc_cells, desc_slots, device_cells, field_cells, field_slots, first, item_slots, meaning}
 use Rattle.vms_stream_laws.proofs.Facade.{meanings, no_parent, numbers_of, slots_from, struct_cells, times, Desc, Device, Field, Set, Sub, fresh, part_slots}
 use Rattle.vms_stream_laws.proofs.Facade.{slots_of_sub, subs_of, is_there, Tail, Footed, beyond, skipped, due_field, rules_hold, unruled, unruled_desc}
-use Rattle.vms_stream_laws.proofs.Facade.{unruled_device, unruled_sub}
 use Rattle.vms_spec.specs.Layout.{Filler}
-use Rattle.vms_stream_laws.proofs.Lists.{map_both}
 
 -- ---- slots whose rules hold
 
@@ -43,7 +42,7 @@ beyond_held n slots = rw (ap skipped (drop_held n slots) ∙ (held_as Footed 0 (
 abbrev held_meaning : Meaning → Meaning
 held_meaning m = record { cells = m.cells; slots = λ numbers at. held (m.slots numbers at) }
 
-abbrev cells_in : List Meaning → List (List Cell)
+abbrev pub cells_in : List Meaning → List (List Cell)
 cells_in ms = map (λ (m : Meaning). m.cells) ms
 
 cells_held : (ms : List Meaning) → cells_in (map held_meaning ms) ≡ cells_in ms

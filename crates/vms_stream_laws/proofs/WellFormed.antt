@@ -1,4 +1,5 @@
 -- A well-formed set is well formed without its validations.
+use Rattle.vms_stream_laws.proofs.{Lists.any_map, Lists.came_from, Lists.map_both, Lists.none_after, Parts.first_unruled}
 use Rattle.vms_stream_laws.proofs.Facade.{◌≡◌, ℕ, suc, ◌^◌, ◌<◌, Bool, true, false, not, ◌&&◌, nat_le, List, [], ◌∷◌, ◌+◌, length, get_or, map, take, None}
 use Rattle.vms_stream_laws.proofs.Facade.{refl, ap, ◌∙◌, subst, slice_get, and_from, and_parts, length-map, take-map, Part, FitsHeads, first_answer, or_else}
 use Rattle.vms_stream_laws.proofs.Facade.{is_small_test, Desc, Device, Set, Sub, WellFormed, deepest, desc_fault, device_fault, device_rules, devices_items}
@@ -6,8 +7,6 @@ use Rattle.vms_stream_laws.proofs.Facade.{failing, fields_fault, first_fault, ha
 use Rattle.vms_stream_laws.proofs.Facade.{struct_fault, struct_items, struct_rules, sub_fault, sub_rules, subs_items, validations_fault, AllTrue, all_true}
 use Rattle.vms_stream_laws.proofs.Facade.{or_else_none, unruled, unruled_desc, unruled_device, unruled_sub, both_none}
 use Rattle.vms_spec.specs.declared.Part.TheVariants as parts
-use Rattle.vms_stream_laws.proofs.Lists.{any_map, came_from, map_both, none_after}
-use Rattle.vms_stream_laws.proofs.Parts.{first_unruled}
 
 none_failing : (r : ℕ) (rules : List Bool) (part : Part) → AllTrue rules → failing r rules (here part) ≡ None
 none_failing r [] part h = refl

@@ -10,14 +10,13 @@ use Rattle.vms_values.proofs.Facade.{sub_fails, is_said_well, judge_subs, judge_
 use Rattle.vms_values.proofs.Facade.{settle, steps_hold, sub_judged, sub_defaults, Item, Struct, is_there, cells_first, one_more, Test, PartAt, ◌*◌, ◌^◌}
 use Rattle.vms_values.proofs.Facade.{sum_by, Ok, Err, Result, sum_by-cons, ForSome, FitsHeads, Device, values_read, ValuesRead, Values, Bad, ReadAll, ended}
 use Rattle.vms_values.proofs.Facade.{judged, answer_of, judge_devices, Refused, Reads, state_of, is_well_formed, few_cells, few_devices, fit_of, few_subs}
-use Rattle.vms_values.proofs.Facade.{most_lines, line_holds, read_holds, ReadsBy, MeansAs, LineFault, Reading, machine_of, bad_of, AllRead, ToldAs}
+use Rattle.vms_values.proofs.Facade.{line_holds, read_holds, ReadsBy, MeansAs, LineFault, Reading, machine_of, bad_of, AllRead, ToldAs}
+use Rattle.vms_values.specs.{declared.fault.Values.Values as Given, declared.judge.BadLine.BadLine as Found}
 use Rattle.vms_parts.specs.declared.types.Desc.{Desc as Described}
+use Rattle.vms_values_laws.specs.Laws.{device_lines}
 use Rattle.vms_spec.specs.declared.Part.TheVariants as parts
 use Rattle.vms_spec.specs.declared.ValuesReason.TheVariants as reasons
 use Rattle.vms_spec.specs.Layout as slots
-use Rattle.vms_values_laws.specs.Laws.{device_lines}
-use Rattle.vms_values.specs.declared.fault.Values.{Values as Given}
-use Rattle.vms_values.specs.declared.judge.BadLine.{BadLine as Found}
 use Rattle.vms_values.specs.declared.fault.LineFault.TheVariants as faults
 
 -- at the steps of slots, exactly if the slots' rules are true

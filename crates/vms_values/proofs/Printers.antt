@@ -10,12 +10,11 @@ use Rattle.vms_values.proofs.Facade.{desc_at, sub_at, found_field, here_fields, 
 use Rattle.vms_values.proofs.Facade.{table, cells_in, item_rank, part_rank, reach_whole, uses_more, rank_below, next_field, cells_table, start_after, cell_of}
 use Rattle.vms_values.proofs.Facade.{fields_at, IsRun, run_lines, IsOf, section_text, whole_sub, Image, own_cells, sub_place, device_at, take-take, Result, Ok}
 use Rattle.vms_values.proofs.Facade.{Err, length-drop, take, length-take, Bor, is_ok, ltb-true, joined, Outlet, Puts, Wrote, wrote_as, wrote_behind}
-use Rattle.vms_values.proofs.Facade.{devices_lines, AreOf, below, below_part, Stays, take-append-le, Part, HasPart, few_structs, field_clean, LONGEST}
+use Rattle.vms_values.proofs.Facade.{devices_lines, AreOf, below, below_part, Stays, take-append-le, Part, HasPart, few_structs, field_clean, LONGEST_PATH}
 use Rattle.vms_values.proofs.Facade.{PART_ROOM}
-use Rattle.vms_parts.specs.declared.types.Desc.{Desc as CodeDesc}
-use Rattle.vms_parts.specs.declared.types.Field.{Field as CodeField}
-use Rattle.vms_spec.specs.declared.Part.TheVariants as parts
+use Rattle.vms_parts.specs.{declared.types.Desc.Desc as CodeDesc, declared.types.Field.Field as CodeField}
 use Rattle.std.proofs.Common.{take_all}
+use Rattle.vms_spec.specs.declared.Part.TheVariants as parts
 
 abbrev pub cells_of : List Printer → List (List Cell)
 cells_of ps = map (λ p. p.cells) ps
@@ -297,5 +296,5 @@ field_short set well part h k lt f is =
     (omega (arith, ap (λ (x : Field). length x.name) is), omega (arith, below_reach set part h, below_uses (reach set part) f.item uses))
 
 -- all of a part
-pub part_short : (set : Set) → is_well_formed set ≡ true → (part : Part) → HasPart set part → below_part set part ≤ LONGEST
+pub part_short : (set : Set) → is_well_formed set ≡ true → (part : Part) → HasPart set part → below_part set part ≤ LONGEST_PATH
 part_short set well part h = omega (arith, below_reach set part h, reach_whole set part h, few_structs set well)

@@ -1,13 +1,12 @@
 -- What is read of structures, arrays and parts.
 use Rattle.vms_values.proofs.Facade.{refl, ◌∙◌, ◌≡◌, ℕ, zero, suc, ◌+◌, ◌<◌, Bool, true, ◌&&◌, List, [], ◌∷◌, ◌++◌, length, get_or, Ok, Err, pos, ap, arith}
-use Rattle.vms_values.proofs.Facade.{codes, ◌-◌, ◌*◌, not, ◌||◌, if◌then◌else◌, drop, slice_set, Option, Some, None, ℤ, sym, decimal, CellLine, exceeds_least}
-use Rattle.vms_values.proofs.Facade.{Typed, IsKept, run_read, Item, Num, Equal, Struct, Count, One, Fixed, Counted, Field, Desc, Set, is_there, Cell, no_desc}
+use Rattle.vms_values.proofs.Facade.{codes, ◌-◌, ◌*◌, drop, Option, Some, None, ℤ, sym, decimal, CellLine, exceeds_least}
+use Rattle.vms_values.proofs.Facade.{Typed, IsKept, run_read, Item, Num, Struct, Count, One, Field, Desc, Set, is_there, no_desc}
 use Rattle.vms_values.proofs.Facade.{no_parent, first, item_size, field_cells, numbers_of, elements_of, counted, no_field, struct_cells, capacity_of, Reader}
 use Rattle.vms_values.proofs.Facade.{Standing, Read, ◌>>=◌, no_reader, reader, readers, cells_of, read_item, read_elements, read_array, read_field, read_fields}
-use Rattle.vms_values.proofs.Facade.{read_desc, BadLine, bad, put_line, put_number, ItemBelow, FieldsBelow, all_below, item_cells_same, field_cells_same}
-use Rattle.vms_values.proofs.Facade.{own_same, row_same, first_same, readers_cells, first_at, is_well_formed, struct_clean, same_number, in_range, first_line}
-use Rattle.vms_values.proofs.Facade.{begins_with, number_spelled, field_size, least_of, size_in, capacities_of, cells_table, fields_at}
-use Rattle.vms_spec.specs.declared.ValuesReason.TheVariants as reasons
+use Rattle.vms_values.proofs.Facade.{read_desc, BadLine, put_line, put_number, ItemBelow, FieldsBelow, all_below, item_cells_same, field_cells_same}
+use Rattle.vms_values.proofs.Facade.{own_same, row_same, first_same, readers_cells, first_at, is_well_formed, struct_clean, first_line}
+use Rattle.vms_values.proofs.Facade.{number_spelled, field_size, least_of, size_in, capacities_of, cells_table, fields_at}
 
 pub kept_none : (a : Typed) → IsKept a a
 kept_none a = record { version = refl; came = refl; long = refl; kinds = refl }

@@ -1,5 +1,5 @@
--- What the calls need, and what they print and read, over the set that they borrow.
-use Rattle.std.specs.Prelude.{◌≡◌, ℕ, ◌+◌, ◌*◌, ◌<◌, ◌≤◌, Bool, true, not, ◌&&◌, List, [], ◌++◌, length, get_or, map, slice_set, Option, None, IfOk, OnOk, Result, ℤ}
+-- What printing and reading need, and what they print and read, over the set that they borrow.
+use Rattle.std.specs.Prelude.{◌≡◌, ℕ, ◌+◌, ◌*◌, ◌<◌, ◌≤◌, Bool, true, ◌&&◌, List, [], length, get_or, map, slice_set, None, IfOk, OnOk, Result, ℤ}
 use Rattle.std.specs.declared.alloc.Global.{Global}
 use Rattle.std.specs.declared.vec.Vec.{Vec}
 use Rattle.vms_kinds.specs.Codes.{InRange}
@@ -10,34 +10,26 @@ use Rattle.vms_kinds.specs.declared.Kind.TheVariants.{U8}
 use Rattle.vms_io.specs.Told.{Outlet}
 use Rattle.vms_io.specs.Writing.{Wrote}
 use Rattle.vms_spec.specs.Images.{Image, own_cells}
-use Rattle.vms_spec.specs.Layout.{capacity_of, device_cells, no_parent}
-use Rattle.vms_spec.specs.Places.{own_cell_count}
-use Rattle.vms_spec.specs.Readiness.{rules_are_true}
+use Rattle.vms_spec.specs.Layout.{no_parent}
 use Rattle.vms_spec.specs.Rules.{uses_below}
 use Rattle.vms_spec.specs.Tests.{is_there}
 use Rattle.vms_spec.specs.Values as values
 use Rattle.vms_spec.specs.Values.{printers}
 use Rattle.vms_spec.specs.ValuesReading as reading
-use Rattle.vms_spec.specs.ValuesReading.{BadLine, Read, Standing, readers, sub_fails}
-use Rattle.vms_spec.specs.declared.Part.{Part}
+use Rattle.vms_spec.specs.ValuesReading.{Read, Standing, readers}
 use Rattle.vms_spec.specs.declared.Part.TheVariants as parts
 use Rattle.vms_spec.specs.declared.TheConstants.{MOST_ITEMS}
-use Rattle.vms_spec.specs.declared.ValuesReason.{ValuesReason}
 use Rattle.vms_parts.specs.Views.{field_of}
 use Rattle.vms_parts.specs.declared.types.Field.{Field}
 use Rattle.vms_desc.specs.Asks.{field_at, first_cell, own_numbers}
 use Rattle.vms_desc.specs.Described.{described, device_at}
-use Rattle.vms_desc.specs.Parts.{HasPart, desc_at, sub_at}
+use Rattle.vms_desc.specs.Parts.{desc_at, sub_at}
 use Rattle.vms_desc.specs.Spots.{kinds_at}
 use Rattle.vms_desc.specs.declared.set.DescSet.{DescSet}
 use Rattle.vms_image.specs.Typed.{AreImagesOf, IsImageOf, IsOfDevice, Typed, default_at, state_of}
-use Rattle.vms_walk.specs.Steps.{HasSpot, capacities_of, cells_in, size_in, spot_slots, table}
+use Rattle.vms_walk.specs.Steps.{HasSpot, capacities_of, cells_in, size_in, table}
 use Rattle.vms_walk.specs.declared.fields.PartAt.{PartAt}
 use Rattle.vms_values.specs.DevicesRead.{AllRead, DeviceRead, device_read, map_ok, start_of}
-use Rattle.vms_values.specs.Judging as judged
-use Rattle.vms_values.specs.Judging.{read_of}
-use Rattle.vms_values.specs.Naming as names
-use Rattle.vms_values.specs.Naming.{IsInPart}
 use Rattle.vms_values.specs.Printing.{AreOf, IsOf, IsRun, Stays, below, below_part, run_lines, whole_sub}
 use Rattle.vms_values.specs.Reading.{Reaches, ReadsBy}
 use Rattle.vms_values.specs.SubsTaken.{SubReached, SubsReached, sub_read}
@@ -46,54 +38,11 @@ use Rattle.vms_values.specs.declared.cursor.Lines.{Lines}
 use Rattle.vms_values.specs.declared.devices.Reading.{Reading}
 use Rattle.vms_values.specs.declared.fault.LineFault.{LineFault}
 use Rattle.vms_values.specs.declared.fault.Values.{Values as Given}
-use Rattle.vms_values.specs.declared.line.TheConstants.{INDEX_ROOM, LONGEST, NUMBER_ROOM, PART_ROOM}
-use Rattle.vms_values.specs.declared.name.Own.{Own}
+use Rattle.vms_values.specs.declared.line.TheConstants.{INDEX_ROOM, LONGEST_PATH, PART_ROOM}
 use Rattle.vms_values.specs.declared.shown.Run.{Run as Elements}
 use Rattle.vms_values.specs.declared.shown.Shown.{Shown}
 use Rattle.vms_values.specs.declared.taken.Run.{Run}
 use Rattle.vms_values.specs.declared.taken.Taken.{Taken}
-
--- ---- paths
-
-module _ (set : DescSet) where
-  -- Device i has cell k.
-  pub record HasCell (i k : ℕ) : Type 0 where
-    pub is_device : i < length (described set).devices
-    pub is_cell : k < length (device_cells (described set) (device_at (described set) i))
-
-  -- The part that cell k of device i is in, and the cell's number in the part.
-  abbrev pub IsOwn : ℕ → ℕ → Own → Type 0
-  IsOwn i k own = IsInPart (described set) i k own
-
-  -- The set has the part, which has cell k.
-  pub record HasName (p : Part) (k : ℕ) : Type 0 where
-    pub part : HasPart (described set) p
-    pub small : own_cell_count (described set) (desc_at (described set) p) ≤ MOST_ITEMS
-    pub cell : k < own_cell_count (described set) (desc_at (described set) p)
-
-  -- The path of cell k of a part.
-  abbrev pub name_at : Part → ℕ → List ℕ
-  name_at part k = get_or (names.part_names (described set) part) k []
-
-  -- The field's structure is one of the set's, and the field has cell k.
-  pub record HasElement (f : Field) (k : ℕ) : Type 0 where
-    pub reaches : uses_below (length (described set).structs) f.item ≡ true
-    pub small : size_in (described set) f.item ≤ MOST_ITEMS
-    pub cell : k < capacity_of f.count * size_in (described set) f.item
-
-  -- The path of cell k of a field.
-  abbrev pub element_name : Field → ℕ → List ℕ
-  element_name f k = names.field_name (described set) (field_of f) k
-
-  -- The item's structure is one of the set's, and the item has cell k.
-  pub record HasInside (item : Item) (k : ℕ) : Type 0 where
-    pub reaches : uses_below (length (described set).structs) item ≡ true
-    pub small : size_in (described set) item ≤ MOST_ITEMS
-    pub cell : k < size_in (described set) item
-
-  -- The path of cell k of an item.
-  abbrev pub inside_name : Item → ℕ → List ℕ
-  inside_name item k = get_or (names.item_names (described set) item) k []
 
 -- ---- what is printed
 
@@ -146,7 +95,7 @@ module _ (shown : Shown) where
   -- The same, and its lines fit after `front`.
   pub record CanPrintPart (at : PartAt) (front : List ℕ) : Type 0 where
     pub spot : HasSpot (described shown.set.now) at shown.image.now.numbers
-    pub short : length front + below_part (described shown.set.now) at.part ≤ LONGEST
+    pub short : length front + below_part (described shown.set.now) at.part ≤ LONGEST_PATH
 
   -- The lines of a part.
   abbrev pub part_lines : PartAt → List ℕ → List ℕ
@@ -156,7 +105,7 @@ module _ (shown : Shown) where
   pub record CanPrintField (f : Field) (run : Elements) (front : List ℕ) : Type 0 where
     pub fits : IsRun (described shown.set.now) (field_of f) run.first run.count shown.image.now.numbers
     pub name : length (field_of f).name ≤ 32
-    pub short : length front + PART_ROOM + below (field_of f).item ≤ LONGEST
+    pub short : length front + PART_ROOM + below (field_of f).item ≤ LONGEST_PATH
 
   -- The lines of a field.
   abbrev pub field_lines : Field → Elements → List ℕ → List ℕ
@@ -168,7 +117,7 @@ module _ (shown : Shown) where
     pub small : size_in (described shown.set.now) item ≤ MOST_ITEMS
     pub room : run.first + run.count * size_in (described shown.set.now) item ≤ length shown.image.now.numbers
     pub few : length shown.image.now.numbers ≤ MOST_ITEMS
-    pub short : length front + INDEX_ROOM + NUMBER_ROOM + below item ≤ LONGEST
+    pub short : length front + INDEX_ROOM + 1 + below item ≤ LONGEST_PATH
 
   -- The lines of the elements of an array.
   abbrev pub elements_lines : Item → Elements → List ℕ → List ℕ
@@ -180,7 +129,7 @@ module _ (shown : Shown) where
     pub reaches : uses_below (length (described shown.set.now).structs) item ≡ true
     pub room : k + size_in (described shown.set.now) item ≤ length shown.image.now.numbers
     pub few : length shown.image.now.numbers ≤ MOST_ITEMS
-    pub short : length front + NUMBER_ROOM + below item ≤ LONGEST
+    pub short : length front + 1 + below item ≤ LONGEST_PATH
 
   -- The lines of one element.
   abbrev pub item_lines : Item → ℕ → List ℕ → List ℕ
@@ -191,7 +140,7 @@ module _ (shown : Shown) where
     pub reaches : j < length (described shown.set.now).structs
     pub room : k + size_in (described shown.set.now) (items.Struct j) ≤ length shown.image.now.numbers
     pub few : length shown.image.now.numbers ≤ MOST_ITEMS
-    pub short : length front + NUMBER_ROOM + PART_ROOM * (j + 1) ≤ LONGEST
+    pub short : length front + 1 + PART_ROOM * (j + 1) ≤ LONGEST_PATH
 
 -- ---- what is read: the lines of parts
 
@@ -221,7 +170,7 @@ module _ (set : DescSet) where
   pub record CanReadUnder (at : PartAt) (image : Typed) (front : List ℕ) : Type 0 where
     pub spot : HasSpot (described set) at image.numbers
     pub kinds : AreKinds image.kinds at.base (part_cells (described set) at.part)
-    pub short : length front + below_part (described set) at.part ≤ LONGEST
+    pub short : length front + below_part (described set) at.part ≤ LONGEST_PATH
 
   -- What is read of a part's lines, under the path before them.
   abbrev pub part_read : PartAt → List ℕ → Bool → Standing → Read
@@ -243,7 +192,7 @@ module _ (set : DescSet) where
     pub fits : IsRun (described set) (field_of run.field.now) run.first run.count image.numbers
     pub kinds : ElementKinds (cells_in (table (described set))) run.field.now.item image.kinds run.first run.count
     pub name : length (field_of run.field.now).name ≤ 32
-    pub short : length front + PART_ROOM + below run.field.now.item ≤ LONGEST
+    pub short : length front + PART_ROOM + below run.field.now.item ≤ LONGEST_PATH
 
   -- What is read of a field's lines.
   abbrev pub field_read : Run → List ℕ → Standing → Read
@@ -255,7 +204,7 @@ module _ (set : DescSet) where
   pub record CanReadElements (run : Run) (image : Typed) (front : List ℕ) : Type 0 where
     pub fits : IsRun (described set) (field_of run.field.now) run.first run.count image.numbers
     pub kinds : ElementKinds (cells_in (table (described set))) run.field.now.item image.kinds run.first run.count
-    pub short : length front + INDEX_ROOM + NUMBER_ROOM + below run.field.now.item ≤ LONGEST
+    pub short : length front + INDEX_ROOM + 1 + below run.field.now.item ≤ LONGEST_PATH
 
   -- What is read of an array's lines.
   abbrev pub elements_read : Run → List ℕ → Standing → Read
@@ -269,7 +218,7 @@ module _ (set : DescSet) where
     pub room : run.first + size_in (described set) run.field.now.item ≤ length image.numbers
     pub few : length image.numbers ≤ MOST_ITEMS
     pub kinds : AreKinds image.kinds run.first (element_cells (cells_in (table (described set))) run.field.now.item)
-    pub short : length front + NUMBER_ROOM + below run.field.now.item ≤ LONGEST
+    pub short : length front + 1 + below run.field.now.item ≤ LONGEST_PATH
 
   -- What is read of one element's lines.
   abbrev pub item_read : Run → List ℕ → Standing → Read
@@ -364,42 +313,3 @@ module _ (set : DescSet) where
   pub record ReadsText (text : List ℕ) (result : Result Given LineFault) : Type 0 where
     pub read : ReadsBy (described set) (reading.values_read (described set) text) result
     pub of : IfOk result (λ v. AreImagesOf (described set) v.images.items)
-
--- ---- what is judged
-
-module _ (set : DescSet) where
-  -- The part's cells are among the image's.
-  abbrev pub HasRules : PartAt → Typed → Type 0
-  HasRules at image = HasSpot (described set) at image.numbers
-
-  -- Whether the validations of a part hold.
-  abbrev pub hold_rules : PartAt → Typed → Bool
-  hold_rules at image = rules_are_true (spot_slots (described set) at image.numbers)
-
-  -- The image is one of device i, which has subsection j.
-  pub record HasSub (i j : ℕ) (image : Typed) : Type 0 where
-    pub device : IsOfDevice (described set) i (state_of image)
-    pub is_sub : j < length (device_at (described set) i).subs
-
-  -- Whether all cells of subsection j are at their defaults.
-  abbrev pub has_defaults : ℕ → ℕ → Typed → Bool
-  has_defaults i j image = judged.sub_defaults (described set) i j image.numbers
-
-  -- Whether the validations of subsection j hold, if it came.
-  abbrev pub holds_sub : ℕ → ℕ → Typed → Option ℕ → Bool
-  holds_sub i j image came =
-      not (sub_fails (described set) (sub_at (device_at (described set) i) j) came image.numbers (first_cell (described set) (parts.Sub i j)))
-
-  -- Why subsection j is refused, if it is.
-  abbrev pub judge_sub : ℕ → ℕ → Typed → Option ValuesReason
-  judge_sub i j image = judged.sub_judged (described set) i j (state_of image)
-
-  -- The image is one of device i, and there is a line number for each subsection.
-  pub record HasLines (i : ℕ) (image : Typed) (sub_lines : List ℕ) : Type 0 where
-    pub device : IsOfDevice (described set) i (state_of image)
-    pub lines : length sub_lines ≡ length (device_at (described set) i).subs
-
-  -- The first bad line of device i, if there is one.
-  abbrev pub judge_device : ℕ → Typed → ℕ → List ℕ → Option BadLine
-  judge_device i image line sub_lines =
-      reading.judge_device (described set) (device_at (described set) i) (read_of (state_of image) line sub_lines)

@@ -1,5 +1,5 @@
 -- What is judged of sections and subsections.
-use Rattle.std.specs.Prelude.{◌≡◌, ℕ, Bool, true, false, not, ◌&&◌, if◌then◌else◌, List, [], ◌∷◌, ◌++◌, get_or, drop, Option, Some, None, ℤ}
+use Rattle.std.specs.Prelude.{◌≡◌, ℕ, Bool, true, false, not, ◌&&◌, if◌then◌else◌, List, [], ◌∷◌, ◌++◌, get_or, drop, Option, Some, None, ℤ, ◌<◌, length}
 use Rattle.std.proofs.Common.{refl, sym, ap, ◌∙◌}
 use Rattle.vms_spec.specs.declared.Part.TheVariants as parts
 use Rattle.vms_spec.specs.declared.ValuesReason.{ValuesReason}
@@ -9,11 +9,17 @@ use Rattle.vms_spec.specs.Layout.{desc_cells, struct_cells}
 use Rattle.vms_spec.specs.Images.{Image}
 use Rattle.vms_spec.specs.ValuesReading.{BadLine, ReadDevice, sub_fails, is_said_well, are_defaults}
 use Rattle.vms_desc.specs.Asks.{first_cell}
-use Rattle.vms_desc.specs.Described.{device_at}
+use Rattle.vms_desc.specs.Described.{device_at, described}
 use Rattle.vms_desc.specs.Parts.{sub_at}
 use Rattle.vms_walk.specs.declared.step.WalkStep.{WalkStep}
 use Rattle.vms_walk.specs.declared.step.WalkStep.TheVariants.{Number, Constant, Filler, Rule}
 use Rattle.vms_values.specs.declared.judge.BadLine.{BadLine as Found}
+use Rattle.vms_spec.specs.Readiness.{rules_are_true}
+use Rattle.vms_spec.specs.ValuesReading as reading
+use Rattle.vms_desc.specs.declared.set.DescSet.{DescSet}
+use Rattle.vms_image.specs.Typed.{IsOfDevice, Typed, state_of}
+use Rattle.vms_walk.specs.Steps.{HasSpot, spot_slots}
+use Rattle.vms_walk.specs.declared.fields.PartAt.{PartAt}
 
 -- A bad line as the definitions have it.
 abbrev pub bad_of : Option Found → Option BadLine
@@ -68,3 +74,40 @@ hold_then xs ys b e f = hold_append xs ys ∙ ap (λ (c : Bool). c && steps_hold
 
 pub fail_before : (xs ys : List WalkStep) → steps_hold xs ≡ false → steps_hold (xs ++ ys) ≡ false
 fail_before xs ys e = hold_append xs ys ∙ ap (λ (c : Bool). c && steps_hold ys) e
+
+module _ (set : DescSet) where
+  -- The part's cells are among the image's.
+  abbrev pub HasRules : PartAt → Typed → Type 0
+  HasRules at image = HasSpot (described set) at image.numbers
+
+  -- Whether the validations of a part hold.
+  abbrev pub hold_rules : PartAt → Typed → Bool
+  hold_rules at image = rules_are_true (spot_slots (described set) at image.numbers)
+
+  -- The image is one of device i, which has subsection j.
+  pub record HasSub (i j : ℕ) (image : Typed) : Type 0 where
+    pub device : IsOfDevice (described set) i (state_of image)
+    pub is_sub : j < length (device_at (described set) i).subs
+
+  -- Whether all cells of subsection j are at their defaults.
+  abbrev pub has_defaults : ℕ → ℕ → Typed → Bool
+  has_defaults i j image = sub_defaults (described set) i j image.numbers
+
+  -- Whether the validations of subsection j hold, if it came.
+  abbrev pub holds_sub : ℕ → ℕ → Typed → Option ℕ → Bool
+  holds_sub i j image came =
+      not (sub_fails (described set) (sub_at (device_at (described set) i) j) came image.numbers (first_cell (described set) (parts.Sub i j)))
+
+  -- Why subsection j is refused, if it is.
+  abbrev pub judge_sub : ℕ → ℕ → Typed → Option ValuesReason
+  judge_sub i j image = sub_judged (described set) i j (state_of image)
+
+  -- The image is one of device i, and there is a line number for each subsection.
+  pub record HasLines (i : ℕ) (image : Typed) (sub_lines : List ℕ) : Type 0 where
+    pub device : IsOfDevice (described set) i (state_of image)
+    pub lines : length sub_lines ≡ length (device_at (described set) i).subs
+
+  -- The first bad line of device i, if there is one.
+  abbrev pub judge_device : ℕ → Typed → ℕ → List ℕ → Option BadLine
+  judge_device i image line sub_lines =
+      reading.judge_device (described set) (device_at (described set) i) (read_of (state_of image) line sub_lines)

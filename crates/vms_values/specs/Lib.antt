@@ -1,6 +1,7 @@
 pub mod Calls
 pub mod DevicesRead
 pub mod Judging
+pub mod Lines
 pub mod Machines
 pub mod Naming
 pub mod Paths

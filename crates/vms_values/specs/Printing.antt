@@ -47,16 +47,15 @@ pub record IsRun (set : Set) (f : Field) (first count : ℕ) (numbers : List ℤ
 
 -- ---- how long lines grow
 
--- The most bytes after the path of an item, besides those of its own line: 128 for each structure that it may
--- go into.
+-- The most bytes after the path of an item, in the paths below it: 45 for each structure that it may go into.
 abbrev pub below : Item → ℕ
-below (Struct j) = 128 * (j + 1)
+below (Struct j) = 45 * (j + 1)
 below item = 0
 
 -- The most bytes after the path of a part's fields.
 abbrev pub below_part : Set → Part → ℕ
-below_part set (parts.Struct j) = 128 * (j + 1)
-below_part set part = 128 * (length set.structs + 1)
+below_part set (parts.Struct j) = 45 * (j + 1)
+below_part set part = 45 * (length set.structs + 1)
 
 -- The line still begins with `front`.
 abbrev pub Stays : List ℕ → List ℕ → Type 0

@@ -1,8 +1,7 @@
 // Judges the sections and subsections that were read.
 ghost use Rattle.std.specs.Prelude.{◌≡◌, ◌==◌, length};
 ghost use Rattle.std.specs.List.{list_all};
-ghost use Rattle.vms_values.specs.Calls.{HasLines, HasRules, HasSub, has_defaults, hold_rules, holds_sub, judge_device, judge_sub};
-ghost use Rattle.vms_values.specs.Judging.{bad_of};
+ghost use Rattle.vms_values.specs.Judging.{HasLines, HasRules, HasSub, bad_of, has_defaults, hold_rules, holds_sub, judge_device, judge_sub};
 
 use vms_desc::{Cells, Desc, DescSet, Part};
 use vms_image::Image;

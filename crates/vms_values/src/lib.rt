@@ -5,6 +5,7 @@ mod cursor;
 mod devices;
 mod fault;
 mod judge;
+mod laws;
 mod line;
 mod lines;
 mod machine;
@@ -20,6 +21,7 @@ mod text;
 mod whole;
 
 pub use fault::{Values, ValuesFault};
+pub use laws::line_law;
 pub use name::print_path;
 pub use print::print_values;
 pub use vms_io::WriteFault;

@@ -6,18 +6,21 @@ ghost use Rattle.vms_values.specs.declared.line.TheConstants.{INDEX_ROOM};
 use itoa::Buffer;
 use std::marker::Model;
 
-/// The most bytes of a line: the names of 65 fields, one in the other, their elements and a number.
-const LONGEST: usize = 8320;
+/// The most bytes of a line: the longest path and a number.
+const LONGEST: usize = 2969;
+
+/// The most bytes of a path: the names of 65 fields, one in the other, with their elements and
+/// dots.
+pub(crate) const LONGEST_PATH: usize = 2925;
 
 /// The most bytes after a path: a number of 128 bits with its sign, and what is around it.
-pub(crate) const NUMBER_ROOM: usize = 54;
+pub(crate) const NUMBER_ROOM: usize = 44;
 
 /// The most bytes of an element's number with its brackets.
-pub(crate) const INDEX_ROOM: usize = 42;
+pub(crate) const INDEX_ROOM: usize = 12;
 
-/// The most bytes of a field in a structure before what follows its path: its name, an element's
-/// number and the dots.
-pub(crate) const PART_ROOM: usize = 128;
+/// The most bytes of a field in a path: its name, an element's number and a dot.
+pub(crate) const PART_ROOM: usize = 45;
 
 /// A line, from its first byte on. The next line keeps the front that both share.
 #[derive(Drop)]
@@ -76,6 +79,21 @@ impl Line {
 
     /// Appends the element number `index` in brackets.
     pub(crate) fn push_index(&mut self, index: u32)
+        requires { length self.old + INDEX_ROOM ≤ LONGEST }
+        ensures text { self.new ≡ self.old ++ codes "[" ++ decimal index ++ codes "]" }
+        ensures long { length self.new ≤ length self.old + INDEX_ROOM }
+    {
+        if index < 10 {
+            self.push(&[b'[', b'0' + index as u8, b']']);
+        } else {
+            self.push_long_index(index);
+        }
+    }
+
+    // Appends the element number `index` in brackets. The room for its digits is in this function,
+    // which is inlined, so that a number of one digit needs none.
+    #[inline(always)]
+    fn push_long_index(&mut self, index: u32)
         requires { length self.old + INDEX_ROOM ≤ LONGEST }
         ensures text { self.new ≡ self.old ++ codes "[" ++ decimal index ++ codes "]" }
         ensures long { length self.new ≤ length self.old + INDEX_ROOM }

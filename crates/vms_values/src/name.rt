@@ -5,7 +5,7 @@ ghost use Rattle.vms_io.specs.Writing.{Wrote};
 ghost use Rattle.vms_spec.specs.Layout.{device_cells};
 ghost use Rattle.vms_desc.specs.Described.{described, device_at};
 ghost use Rattle.vms_elements.specs.Parts.{cell_name};
-ghost use Rattle.vms_values.specs.Calls.{HasCell, HasElement, HasInside, HasName, IsOwn, element_name, inside_name, name_at};
+ghost use Rattle.vms_values.specs.Naming.{HasCell, HasElement, HasInside, HasName, IsOwn, element_name, inside_name, name_at};
 ghost use Rattle.vms_values.specs.Paths.{path_text};
 
 use crate::path::{Path, write_path};

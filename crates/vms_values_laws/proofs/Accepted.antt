@@ -1,19 +1,15 @@
 -- A text that was accepted is the one of its machine and images.
+use Rattle.vms_values_laws.proofs.{AllCome.images_of, AllCome.short_are, BadLines.fine_text, BadLines.NoneBad, Meeting.named_is, Meeting.Ends}
+use Rattle.vms_values_laws.proofs.{ReadyParts.device_ready, Rights.AreGood, Rights.fine_both, SaidLaws.all_both, SaidLaws.all_from, SaidLaws.all_parts}
 use Rattle.vms_values_laws.proofs.Facade.{◌≡◌, ℕ, suc, ◌+◌, Bool, true, false, ◌==◌, List, [], ◌∷◌, ◌++◌, length, get_or, map, Option, Some, None, ℤ, pos}
 use Rattle.vms_values_laws.proofs.Facade.{append_cancel_left, refl, sym, ap, ◌∙◌, arith, codes, zero, ◌≤◌, AllByRecursion, slice_get, eqb-true, leb-true}
 use Rattle.vms_values_laws.proofs.Facade.{ext_get_or, Sub, Device, Set, desc_cells, struct_cells, Image, own_cells, version_text, Element, elements_in, printed}
 use Rattle.vms_values_laws.proofs.Facade.{sub_line, Entry, OfMachine, OfSub, OfNumber, number_entries, subs_entries, devices_entries, entry_line}
 use Rattle.vms_values_laws.proofs.Facade.{device_entries, entries, part_reason, is_of_cell, has_line, IsShaped, AreShaped, AreUnsaid, AllUnsaid, IsAtVersion}
 use Rattle.vms_values_laws.proofs.Facade.{AreAtVersions, IsMachineOf, AreFine, Says, Demand, ForSection, ForNumber, demand_of, Taken, lines_of, Follows, Along}
-use Rattle.vms_values_laws.proofs.Facade.{ValuesReason, first_line, IsReady, AreReady, BadLine, ReadDevice, ValuesRead, Values, Bad, machine_named, answer_of}
+use Rattle.vms_values_laws.proofs.Facade.{ValuesReason, first_line, IsReady, AreReady, BadLine, ValuesRead, Values, Bad, machine_named}
 use Rattle.vms_values_laws.proofs.Facade.{or_bad, WellFormed, IsGood, device_parts, sub_clean, OfSection, DefaultsFit, device_cells}
 use Rattle.vms_values_laws.proofs.SecondPass.{AreShort, of_numbers, number_same, as_bad, parts_from}
-use Rattle.vms_values_laws.proofs.AllCome.{images_of, short_are}
-use Rattle.vms_values_laws.proofs.BadLines.{fine_text, NoneBad}
-use Rattle.vms_values_laws.proofs.Meeting.{named_is, Ends}
-use Rattle.vms_values_laws.proofs.ReadyParts.{device_ready}
-use Rattle.vms_values_laws.proofs.Rights.{AreGood, fine_both, good_both}
-use Rattle.vms_values_laws.proofs.SaidLaws.{all_both, all_from}
 
 -- ---- Two states with the same lines, and with defaults where there is no line, are the same.
 
@@ -79,8 +75,7 @@ module _ (set : Set) (d : Device) (image : Image) where
 
   subs_own : (j at : ℕ) (subs : List Sub) (came : List (Option ℕ)) → AreAtVersions subs came
       → AreOwn image.numbers (subs_entries set d image j at subs came)
-  subs_own j at (s ∷ subs) (o ∷ came) h =
-      (h.0, all_both _ (number_entries set s.desc image.numbers at) _ (numbers_own _) (subs_own (suc j) _ subs came h.1))
+  subs_own j at (s ∷ subs) (o ∷ came) h = (h.0, all_both _ (number_entries set s.desc image.numbers at) _ (numbers_own _) (subs_own (suc j) _ subs came h.1))
   subs_own j at _ _ h = tt
 
   whole_own : AreAtVersions d.subs image.came → AreOwn image.numbers (inside_of set d image)
@@ -206,12 +201,9 @@ abbrev pub answer_by : Option (List ℕ) → List Image → Option BadLine → V
 answer_by machine images (Some b) = Bad b.line b.reason
 answer_by machine images None = Values machine images
 
-answer_same : (machine : Option (List ℕ)) (read : List ReadDevice) (o : Option BadLine) → answer_of machine read o ≡ answer_by machine (images_of read) o
-answer_same machine read _ = refl
-
 pub none_answers : (set : Set) (text : List ℕ) (v : ValuesRead) (n : NoneBad set text v)
     → v ≡ answer_by n.machine (images_of n.all.devices) (parts_from set 1 (entries set n.machine (images_of n.all.devices)))
-none_answers set text v n = n.is ∙ answer_same n.machine n.all.devices _ ∙ ap (λ o. answer_by n.machine (images_of n.all.devices) o) n.judged
+none_answers set text v n = n.is ∙ ap (λ o. answer_by n.machine (images_of n.all.devices) o) n.judged
 
 -- no part is bad
 pub none_good : (set : Set) (line : ℕ) (es : List Entry) → parts_from set line es ≡ None → AreGood set es
@@ -247,7 +239,7 @@ module _ (set : Set) (well : WellFormed set) (good : IsGood set) where
   ready_from (d ∷ devices) [] known shaped unsaid fine goods = absurd shaped
   ready_from (d ∷ devices) (image ∷ images) known shaped unsaid fine goods =
       let f = fine_both (device_entries set d image) (devices_entries set devices images) fine in
-      let g = good_both set (device_entries set d image) (devices_entries set devices images) goods in
+      let g = all_parts _ (device_entries set d image) (devices_entries set devices images) goods in
       let short = short_are image.numbers shaped.0.short in
       let mine = device_ready set d image short shaped.0 unsaid.0 f.0 g.0 known.0.0 known.0.1 known.0.2 in
       let others = ready_from devices images known.1 shaped.1 unsaid.1 f.1 g.1 in

@@ -8,11 +8,10 @@ use Rattle.vms_values_laws.proofs.Facade.{is_line, IsSound, AreSound, section_li
 use Rattle.vms_values_laws.proofs.Facade.{Follows, Along, Begins, Moved, either_of, no_cell, Cell, ReadDevice, ReadAll, read_devices, device_read, with_device}
 use Rattle.vms_values_laws.proofs.Facade.{IsShort, devices_entries, is_short, IsShaped, AreShaped, AreUnsaid, AllUnsaid, put_all, Demand, IsGood, DefaultsFit}
 use Rattle.vms_values_laws.proofs.Facade.{ranged, in_range, I64, U64, nat_le, and_from, le-leb}
-use Rattle.vms_spec.specs.declared.ValuesReason.TheVariants as reasons
-use Rattle.vms_values_laws.proofs.SecondPass.{moved_none, moved_one, moved_then, AreShort, numbers_come, follows_then, along_then, short_within, IsLined}
-use Rattle.vms_values_laws.proofs.SecondPass.{AreLined}
-use Rattle.vms_values_laws.proofs.SubsCome.{line_taken, AreSoundSubs, cells_long, none_at, subs_come, Went, Come, stopped_first, behind_numbers, numbers_first}
 use Rattle.vms_values_laws.proofs.SaidLaws.{all_from, unsaid_kept, AreShortSaid, short}
+use Rattle.vms_values_laws.proofs.SecondPass.{moved_none, moved_one, moved_then, AreShort, numbers_come, follows_then, along_then, short_within, AreLined}
+use Rattle.vms_values_laws.proofs.SubsCome.{line_taken, AreSoundSubs, cells_long, none_at, subs_come, Went, Come, stopped_first, behind_numbers, numbers_first}
+use Rattle.vms_spec.specs.declared.ValuesReason.TheVariants as reasons
 
 abbrev pub default_numbers : Set → Device → List ℤ
 default_numbers set d = (default_image set d).numbers
@@ -72,8 +71,7 @@ module _ (set : Set) (d : Device) (line : ℕ) (text : List ℕ) where
       heard = λ image agrees c. x.heard (state_of d r.came image.numbers) agrees c;
       lines = λ image agrees. x.lines (state_of d r.came image.numbers) agrees;
     }
-    device_comes (Err e) x =
-        record { demand = x.demand; came = x.came; numbers = x.numbers; rest = x.rest; before = with_head x.before; wrong = x.wrong }
+    device_comes (Err e) x = record { demand = x.demand; came = x.came; numbers = x.numbers; rest = x.rest; before = with_head x.before; wrong = x.wrong }
 
   cells_are : length (default_numbers set d) ≡ own_cells set d + cells_long set d d.subs
   cells_are = length-map (device_cells set d) (λ c. c.default) ∙ length-append (desc_cells (struct_cells set) d.desc) _
@@ -122,12 +120,10 @@ pub are_short : (n : List ℤ) → AreShort n → list_all is_short n ≡ true
 are_short [] h = refl
 are_short (z ∷ n) h = let e = is_short_one z (h 0) in let f = are_short n (λ c. h (suc c)) in rw (e, f) refl
 
-short_one : (z : ℤ) → is_short z ≡ true → IsShort z
-short_one z e = either_of (in_range I64 z) (in_range U64 z) e (short I64 z) (short U64 z)
-
 pub short_are : (n : List ℤ) → list_all is_short n ≡ true → AreShort n
 short_are [] e c = omega arith
-short_are (z ∷ n) e zero = short_one z (and_parts (is_short z) (list_all is_short n) e).0
+short_are (z ∷ n) e zero =
+    either_of (in_range I64 z) (in_range U64 z) (and_parts (is_short z) (list_all is_short n) e).0 (short I64 z) (short U64 z)
 short_are (z ∷ n) e (suc c) = short_are n (and_parts (is_short z) (list_all is_short n) e).1 c
 
 -- what reading requires of a device
@@ -256,9 +252,6 @@ module _ (set : Set) (d : Device) (devices : List Device) (line : ℕ) (text : L
         rw (x.told.numbers, unsaid_kept (default_numbers set d) x.said c (sym (x.heard image x.told.agrees c) ∙ bare))
         (get_or-map (λ c. c.default) (device_cells set d) c no_cell (pos 0) (omega (arith, length-map (device_cells set d) (λ c. c.default))))
 
-    image_lined : IsLined set d line (record { image = image; line = line; sub_lines = r.lines })
-    image_lined = record { own = refl; subs = x.lines image x.told.agrees }
-
     after_it : r.place.line ≡ line + length (device_entries set d image)
     after_it =
         let along = along_long x.taken (device_entries set d image ++ []) (x.along image [] x.told.agrees) in
@@ -266,7 +259,11 @@ module _ (set : Set) (d : Device) (devices : List Device) (line : ℕ) (text : L
 
     others_come : (o : Result ReadAll BadLine) → AllCome set devices r.place.line r.place.rest o
         → AllCome set (d ∷ devices) line text (with_device (record { image = image; line = line; sub_lines = r.lines }) o)
-    others_come (Ok all) a = record { whole = all_behind a.whole; unsaid = (image_unsaid, a.unsaid); lined = (image_lined, rw after_it at a.lined) }
+    others_come (Ok all) a = record {
+      whole = all_behind a.whole;
+      unsaid = (image_unsaid, a.unsaid);
+      lined = (record { own = refl; subs = x.lines image x.told.agrees }, rw after_it at a.lined);
+    }
     others_come (Err e) a = record { demand = a.demand; images = image ∷ a.images; rest = a.rest; before = all_behind a.before; wrong = a.wrong }
 
   by_device : (r : Result ReadSubs BadLine) (go : ℕ → List ℕ → Result ReadAll BadLine) → AreGoodDevices set devices → DeviceComes set d line text r

@@ -1,15 +1,12 @@
 -- The first bad line of a text.
+use Rattle.vms_values_laws.proofs.{Facade.Moved, Facade.is_one_of, Facade.AreSound, Facade.begun, SaidLaws.some_if, SubsCome.line_taken, Meeting.Ends}
+use Rattle.vms_values_laws.proofs.AllCome.{images_of, AllRead, AreGoodDevices, AllCome, devices_come, AllWent}
 use Rattle.vms_values_laws.proofs.Facade.{◌≡◌, ℕ, suc, ◌+◌, List, [], ◌∷◌, ◌++◌, length, map, Option, Some, None, refl, sym, ap, ◌∙◌, arith, append-nil, codes}
 use Rattle.vms_values_laws.proofs.Facade.{and_parts, ◌⊎◌, inl, inr, ◌&&◌, drop, Ok, Err, Result, bytes_eq-Decides, ValuesReason, Set, Image, first_line}
 use Rattle.vms_values_laws.proofs.Facade.{begins_with, BadLine, ReadAll, machine_named, judge_devices, rest_of, after_machine, ended, judged, answer_of}
 use Rattle.vms_values_laws.proofs.Facade.{ValuesRead, Bad, values_read, text_of, Entry, entries, devices_entries, entry_line, front_reason, AreShaped}
-use Rattle.vms_values_laws.proofs.Facade.{AllUnsaid, AreFine, IsBadLine, Demand, ForMachine, reason_for, Taken, lines_of, AreFineTaken, Follows, Along, Begins}
-use Rattle.vms_values_laws.proofs.Facade.{Moved, is_one_of, AreSound, begun}
-use Rattle.vms_values_laws.proofs.SaidLaws.{some_if}
+use Rattle.vms_values_laws.proofs.Facade.{AllUnsaid, AreFine, IsBadLine, ForMachine, reason_for, Taken, lines_of, AreFineTaken, Follows, Along}
 use Rattle.vms_values_laws.proofs.SecondPass.{follows_then, along_then, reason_same, moved_then, moved_none, moved_one, parts_from, devices_judged}
-use Rattle.vms_values_laws.proofs.AllCome.{images_of, AllRead, AreGoodDevices, AllCome, devices_come, AllWent}
-use Rattle.vms_values_laws.proofs.SubsCome.{line_taken}
-use Rattle.vms_values_laws.proofs.Meeting.{Ends}
 use Rattle.vms_spec.specs.declared.ValuesReason.TheVariants as reasons
 
 -- ---- What the first pass finds in a whole text.
@@ -87,31 +84,21 @@ fine_text set text v n =
       n.moved.texts ∙ append-nil (text_of (lines_of n.taken)) ∙ ap text_of (sym s.lines) ∙ ap (λ l. text_of (map entry_line l)) (sym whole),
     )
 
-front_of : (demand : Demand) (rest : List ℕ) (reason : ValuesReason) (es : List Entry) → reason_for demand (first_line rest) ≡ Some reason → Begins demand es
-    → front_reason es rest ≡ Some reason
-front_of demand rest reason es wrong b = rw (b.is) (reason_same b.first (first_line rest) ∙ rw (b.demands) wrong)
-
 pub follows_ends : (taken : List Taken) (P Q : List Entry → Type 0) (es : List Entry) → Follows taken P es → ((xs : List Entry) → P xs → Q xs)
     → Follows taken Q es
 follows_ends taken P Q es f h = rw (append-nil taken) at (follows_then taken [] P Q es f h)
-
-pub along_ends : (taken : List Taken) (P Q : List Entry → Type 0) (es : List Entry) → Along taken P es → ((xs : List Entry) → P xs → Q xs) → Along taken Q es
-along_ends taken P Q es f h = rw (append-nil taken) at (along_then taken [] P Q es f h)
 
 -- the line of the machine, if one is named
 abbrev machine_taken : Option (List ℕ) → List Taken
 machine_taken None = []
 machine_taken (Some name) = record { demand = ForMachine name; line = codes "machine " ++ name } ∷ []
 
-follows_machine : (set : Set) (machine : Option (List ℕ)) (images : List Image) (taken : List Taken) (P : List Entry → Type 0)
-    → Follows taken P (devices_entries set set.devices images) → Follows (machine_taken machine ++ taken) P (entries set machine images)
-follows_machine set None images taken P f = f
-follows_machine set (Some name) images taken P f = (refl, λ e. f)
-
-along_machine : (set : Set) (machine : Option (List ℕ)) (images : List Image) (taken : List Taken) (P : List Entry → Type 0)
-    → Along taken P (devices_entries set set.devices images) → Along (machine_taken machine ++ taken) P (entries set machine images)
-along_machine set None images taken P f = f
-along_machine set (Some name) images taken P f = (refl, f)
+-- after the line of the machine, as after none
+behind_machine : (set : Set) (machine : Option (List ℕ)) (images : List Image) (taken : List Taken) (P : List Entry → Type 0)
+    → (Follows taken P (devices_entries set set.devices images) → Follows (machine_taken machine ++ taken) P (entries set machine images))
+    × (Along taken P (devices_entries set set.devices images) → Along (machine_taken machine ++ taken) P (entries set machine images))
+behind_machine set None images taken P = (λ f. f, λ f. f)
+behind_machine set (Some name) images taken P = (λ f. (refl, λ e. f), λ f. (refl, f))
 
 -- the machine is no part
 parts_machine : (set : Set) (machine : Option (List ℕ)) (line : ℕ) (images : List Image) → line ≡ 1 + length (machine_taken machine)
@@ -129,9 +116,9 @@ module _ (set : Set) (text : List ℕ) (machine : Option (List ℕ)) (line : ℕ
       let all = machine_taken machine ++ a.taken in
       let passed : Moved 1 text all at rest = moved_then headed a.moved in
       let its : (images : List Image) → AreShaped set set.devices images → Follows all P (entries set machine images) =
-      λ images shaped. follows_machine set machine images a.taken P (follows_ends a.taken Q P _ (a.follows images shaped) bad) in
+      λ images shaped. (behind_machine set machine images a.taken P).0 (follows_ends a.taken Q P _ (a.follows images shaped) bad) in
       let s = split all P P (entries set machine images) passed.fine (its images a.shaped)
-      (along_machine set machine images a.taken P (along_ends a.taken Q P _ a.along bad)) in
+      ((behind_machine set machine images a.taken P).1 (rw (append-nil a.taken) at (along_then a.taken [] Q P _ a.along bad))) in
       record {
         line = at;
         reason = reason;
@@ -163,14 +150,14 @@ module _ (set : Set) (text : List ℕ) (machine : Option (List ℕ)) (line : ℕ
     taken = machine_taken machine ++ a.taken;
     took = record {
       named = named;
-      follows = λ images shaped. follows_machine set machine images a.taken (λ es. Ends None [] es)
+      follows = λ images shaped. (behind_machine set machine images a.taken (λ es. Ends None [] es)).0
           (follows_ends a.taken (λ es. es ≡ []) (λ es. Ends None [] es) _ (a.follows images shaped) (λ es e. (e, refl)));
       moved = moved_then headed (rw e at a.moved);
     };
     shaped = a.shaped;
     unsaid = a.unsaid;
     judged = devices_judged set line set.devices all.devices a.lined a.shaped ∙ parts_machine set machine line (images_of all.devices) headed.further;
-    along = along_machine set machine (images_of all.devices) a.taken (λ es. es ≡ []) a.along;
+    along = (behind_machine set machine (images_of all.devices) a.taken (λ es. es ≡ [])).1 a.along;
     is = refl;
   })
   -- something comes after the last line
@@ -178,7 +165,7 @@ module _ (set : Set) (text : List ℕ) (machine : Option (List ℕ)) (line : ℕ
 
   by_end : (o : Result ReadAll BadLine) → AllCome set set.devices line after o → FirstPass set text (ended set machine o)
   by_end (Ok all) a = by_rest all all.rest refl a
-  by_end (Err e) a = inl (first_bad e.reason a.before (λ es b. front_of a.demand a.rest e.reason es a.wrong b))
+  by_end (Err e) a = inl (first_bad e.reason a.before (λ es b. rw b.is (reason_same b.first (first_line a.rest) ∙ rw b.demands a.wrong)))
 
 -- ---- The first pass over a text: a bad line, or what its lines say.
 
@@ -198,8 +185,7 @@ name_moved set text name e =
 
 by_machine : (set : Set) (text : List ℕ) → AreSound set.structs → AreGoodDevices set set.devices → (machine : Option (List ℕ))
     → machine_named set.machines (first_line text) ≡ machine → FirstPass set text (after_machine set text machine)
-by_machine set text structs good None e =
-    by_end set text None 1 text (sym e) (moved_none 1 text) _ (devices_come set structs set.devices good 1 text)
+by_machine set text structs good None e = by_end set text None 1 text (sym e) (moved_none 1 text) _ (devices_come set structs set.devices good 1 text)
 by_machine set text structs good (Some name) e =
     let after = rest_of (first_line text) in
     by_end set text (Some name) 2 after (sym e) (name_moved set text name e) _ (devices_come set structs set.devices good 2 after)

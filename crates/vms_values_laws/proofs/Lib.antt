@@ -1,6 +1,7 @@
 pub mod Accepted
 pub mod AllCome
 pub mod BadLines
+pub mod EachElement
 pub mod Meeting
 pub mod SaidLaws
 pub mod Facade

@@ -1,4 +1,5 @@
 -- Lines without a line feed: a text leads along one list of lines, and the entries of a fit set have no other.
+use Rattle.vms_values_laws.proofs.{Facade.IsMachineOf, SecondPass.reason_same}
 use Rattle.vms_values_laws.proofs.Facade.{◌≡◌, ℕ, zero, suc, ◌+◌, ◌%◌, ◌/◌, Bool, true, false, ◌==◌, nat_lt, if◌then◌else◌, List, ◌∷◌, ◌++◌, length, drop}
 use Rattle.vms_values_laws.proofs.Facade.{Option, Some, None, ℤ, pos, negsuc, refl, sym, ap, ◌∙◌, arith, codes, [], map, append_assoc, ne_eqb, decimal}
 use Rattle.vms_values_laws.proofs.Facade.{signed_decimal, digits, digits_onto, digit_glyph, bytes_eq, bytes_eq-Decides, some_pair_parts, AllByRecursion, ◌&&◌}
@@ -6,15 +7,13 @@ use Rattle.vms_values_laws.proofs.Facade.{get_or, nat_le, take, slice_get, list_
 use Rattle.vms_values_laws.proofs.Facade.{either_of, Cell, first_line, longer_line, begins_with, number_spelled, spelled_holds, begun, What, Number, Element}
 use Rattle.vms_values_laws.proofs.Facade.{section_line, sub_line, text_of, if_not, element_reason, spelled_reason, Entry, entry_line, line_reason, front_reason}
 use Rattle.vms_values_laws.proofs.Facade.{Demand, ForMachine, ForSection, ForSub, ForNumber, reason_for, demand_of, Taken, lines_of, AreFineTaken, Follows}
-use Rattle.vms_values_laws.proofs.Facade.{ValuesReason, AreFine, or_else, Item, Struct, Count, One, Field, Desc, Sub, Device, Set, no_desc, first, counted}
-use Rattle.vms_values_laws.proofs.Facade.{capacity_of, item_size, field_cells, desc_cells, numbers_of, struct_cells, Image, own_cells, Shape, no_shape, shape}
-use Rattle.vms_values_laws.proofs.Facade.{shapes, cells_in, dotted, behind, item_elements, Stand, stand_of, array_elements, field_elements, elements_from}
-use Rattle.vms_values_laws.proofs.Facade.{desc_elements, index_text, is_number, elements_in, printed, OfNumber, number_entries, subs_entries, device_entries}
-use Rattle.vms_values_laws.proofs.Facade.{devices_entries, entries, one_more, Place, first_answer, is_name_byte, is_name, is_sub_name, is_one_of, machine_named}
-use Rattle.vms_values_laws.proofs.Facade.{WellFormed, first_fault, failing, here, set_rules, struct_fault, struct_rules, device_fault, device_rules, sub_rules}
-use Rattle.vms_values_laws.proofs.Facade.{size_rules, Clean, struct_clean, device_parts, sub_clean, get_none, name_byte_high, IsMachineOf}
+use Rattle.vms_values_laws.proofs.Facade.{ValuesReason, AreFine, or_else, Count, One, Field, Desc, Sub, Device, Set, no_desc, counted, desc_cells, struct_cells}
+use Rattle.vms_values_laws.proofs.Facade.{Image, own_cells, index_text, is_number, elements_in, printed, OfNumber, number_entries, subs_entries, device_entries}
+use Rattle.vms_values_laws.proofs.Facade.{devices_entries, entries, Place, first_answer, is_name_byte, is_name, is_sub_name, is_one_of, machine_named}
+use Rattle.vms_values_laws.proofs.Facade.{WellFormed, first_fault, failing, here, set_rules, struct_fault, struct_rules, device_fault}
+use Rattle.vms_values_laws.proofs.Facade.{device_rules, sub_rules, size_rules, Clean, struct_clean, device_parts, sub_clean, get_none, name_byte_high}
+use Rattle.vms_values_laws.proofs.EachElement.{elements_each}
 use Rattle.vms_values_laws.proofs.SaidLaws.{all_both, all_from, if_holds, if_none, some_if, short}
-use Rattle.vms_values_laws.proofs.SecondPass.{reason_same}
 use Rattle.vms_spec.specs.declared.ValuesReason.TheVariants as reasons
 use Rattle.vms_spec.specs.declared.Part.TheVariants as parts
 
@@ -159,55 +158,9 @@ AreNamed = AllByRecursion (λ (x : Element). NoFeed x.name)
 abbrev pub AreCleanFields : List Field → Type 0
 AreCleanFields = AllByRecursion (λ (f : Field). NoFeed f.name)
 
-named_behind : (step : ℕ × ℕ) (text : List ℕ) (c p : Bool) (xs : List Element) → NoFeed text → AreNamed xs → AreNamed (map (behind step text c p) xs)
-named_behind step text c p [] h n = tt
-named_behind step text c p (x ∷ xs) h n = (feed_append text x.name h n.0, named_behind step text c p xs h n.1)
-
-named_dotted : (xs : List Element) → AreNamed xs → AreNamed (map dotted xs)
-named_dotted [] n = tt
-named_dotted (x ∷ xs) n = ((refl, n.0), named_dotted xs n.1)
-
 index_feed : (count : Count) (e : ℕ) → NoFeed (index_text count e)
 index_feed One e = tt
 index_feed _ e = (refl, feed_append (decimal e) (codes "]") (decimal_feed e) (refl, tt))
-
-pub record NamesShape (s : Shape) : Type 0 where
-  pub named : (n : List ℤ) (at : ℕ) → AreNamed (s.elements n at)
-
-module _ (ss : List Shape) (good : (j : ℕ) → NamesShape (get_or ss j no_shape)) where
-  item_named : (item : Item) (caps : List ℕ) (z : ℤ) (n : List ℤ) (at : ℕ) → AreNamed (item_elements ss item caps z n at)
-  item_named (Struct j) caps z n at = named_dotted ((get_or ss j no_shape).elements n at) ((good j).named n at)
-  item_named _ caps z n at = (tt, tt)
-
-  array_named : (f : Field) (stand : Stand) (part : ℕ → List Element) → NoFeed f.name → ((at : ℕ) → AreNamed (part at)) → (step e n at : ℕ)
-      → AreNamed (array_elements f stand part step e n at)
-  array_named f stand part h p step e zero at = tt
-  array_named f stand part h p step e (suc n) at =
-      all_both _ (map (behind _ _ _ _) (part at)) _
-      (named_behind _ _ _ _ (part at) (feed_append f.name (index_text f.count e) h (index_feed f.count e)) (p at))
-      (array_named f stand part h p step (suc e) n (at + step))
-
-  fields_named : (fields : List Field) (v : ℕ) (own : ℕ → ℕ) (n : List ℤ) (i at : ℕ) (fs : List Field) → AreCleanFields fs
-      → AreNamed (elements_from ss fields v own n i at fs)
-  fields_named fields v own n i at [] h = tt
-  fields_named fields v own n i at (f ∷ fs) h =
-      let next = at + length (field_cells (cells_in ss) fields i f) in
-      all_both _ (field_elements ss fields v own n i at f) (elements_from ss fields v own n (suc i) next fs)
-      (array_named f (stand_of i f v own) (item_elements ss f.item (counted i fields) f.default n) h.0
-      (λ at. item_named f.item (counted i fields) f.default n at)
-      (item_size (cells_in ss) f.item) 0 (capacity_of f.count) at) (fields_named fields v own n (suc i) next fs h.1)
-
-  pub desc_named : (d : Desc) (v : ℕ) (n : List ℤ) (at : ℕ) → AreCleanFields d.fields → AreNamed (desc_elements ss d v n at)
-  desc_named d v n at h =
-      all_both _ (elements_from ss d.fields v (numbers_of (cells_in ss) d n at) n 0 at d.fields) _ (fields_named d.fields v _ n 0 at d.fields h) (tt, tt)
-
-shapes_named : (ds : List Desc) → ((j : ℕ) → AreCleanFields (get_or ds j no_desc).fields) → (k : ℕ) → (j : ℕ)
-    → NamesShape (get_or (first shape ds k) j no_shape)
-unfolding first
-shapes_named ds clean zero j = record { named = λ n at. tt }
-shapes_named ds clean (suc k) j =
-    one_more NamesShape no_shape (record { named = λ n at. tt }) (first shape ds k) (shapes_named ds clean k) (shape (first shape ds k) (get_or ds k no_desc))
-    (record { named = λ n at. desc_named (first shape ds k) (shapes_named ds clean k) (get_or ds k no_desc) (get_or ds k no_desc).version n at (clean k) }) j
 
 clean_numbers : (n : List ℤ) (xs : List Element) → AreNamed xs → AreClean (map (λ x. OfNumber x n) (printed xs))
 clean_numbers n [] h = tt
@@ -224,7 +177,10 @@ AreCleanDevices = AllByRecursion (λ (d : Device). NoFeed d.desc.name × AreClea
 module _ (set : Set) (structs : (j : ℕ) → AreCleanFields (get_or set.structs j no_desc).fields) where
   clean_part : (d : Desc) (n : List ℤ) (at : ℕ) → AreCleanFields d.fields → AreClean (number_entries set d n at)
   clean_part d n at h =
-      clean_numbers n (elements_in set d d.version n at) (desc_named (shapes set) (shapes_named set.structs structs (length set.structs)) d d.version n at h)
+      clean_numbers n (elements_in set d d.version n at)
+      (elements_each (λ f. NoFeed f.name) (λ x. NoFeed x.name) (λ x. NoFeed x.name) (λ f good caps at. tt) (λ x h. (refl, h))
+      (λ f good number e c p x h. feed_append (f.name ++ index_text f.count e) x.name (feed_append f.name _ good (index_feed f.count e)) h)
+      (λ at b. tt) (λ x h. h) set structs d d.version h n at)
 
   clean_subs : (d : Device) (image : Image) (j at : ℕ) (subs : List Sub) (came : List (Option ℕ)) → AreCleanSubs subs
       → AreClean (subs_entries set d image j at subs came)

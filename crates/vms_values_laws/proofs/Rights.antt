@@ -7,7 +7,7 @@ use Rattle.vms_values_laws.proofs.Facade.{no_cell, Slot, FitsCell, has_cell, beg
 use Rattle.vms_values_laws.proofs.Facade.{not_exceeds, IsShort, number_holds, Number, Element, What, number_line, printed, OfNumber, if_not, number_reason}
 use Rattle.vms_values_laws.proofs.Facade.{element_reason, line_reason, have_defaults, DefaultsFit, names_append, cells_of, slots_of, numbers_in, CountsUp}
 use Rattle.vms_values_laws.proofs.Facade.{AreFine, has_line, Set, AllByRecursion, part_reason, none_joined, is_number, cells_with, slot_of, has_default}
-use Rattle.vms_values_laws.proofs.SaidLaws.{if_none, if_holds, lines_both, all_both}
+use Rattle.vms_values_laws.proofs.SaidLaws.{if_none, if_holds, lines_both, all_both, all_parts}
 use Rattle.vms_values_laws.proofs.SecondPass.{AreShort, of_numbers}
 use Rattle.vms_spec.specs.declared.ValuesReason.TheVariants as reasons
 use Rattle.vms_spec.specs.Layout as slots
@@ -115,10 +115,6 @@ none_in es fs k a b = lines_both es fs k ∙ or_from _ _ a b
 abbrev pub AreGood : Set → List Entry → Type 0
 AreGood set = AllByRecursion (λ (e : Entry). part_reason set e ≡ None)
 
-pub good_both : (set : Set) (es fs : List Entry) → AreGood set (es ++ fs) → AreGood set es × AreGood set fs
-good_both set [] fs h = (tt, h)
-good_both set (e ∷ es) fs h = let p = good_both set es fs h.1 in ((h.0, p.0), p.1)
-
 pub numbers_good : (set : Set) (n : List ℤ) (xs : List Element) → AreGood set (of_numbers n xs)
 numbers_good set n [] = tt
 numbers_good set n (x ∷ xs) = (refl, numbers_good set n xs)
@@ -158,7 +154,7 @@ known_both {set} {n} {at} {next} {es} {fs} {xs} {ys} {ss} {ts} to from is a b = 
       let p = or_parts (has_line es k) _ (sym (lines_both es fs k) ∙ e) in none_joined k ss ts (a.unsaid k p.0) (b.unsaid k p.1);
   said = λ f g d bare.
       let f' = fine_both es fs f in
-      let g' = good_both set es fs g in
+      let g' = all_parts _ es fs g in
       let d' = fit_parts xs ys d in
       let p = a.said f'.0 g'.0 d'.0 (λ c k lt e none.
       bare c k (omega (arith, length-append xs ys)) e (none_in es fs k none (b.outside k (λ low. omega arith)).0)

@@ -1,14 +1,13 @@
 -- What is known of a state that agrees with what lines said, and what was said in two parts.
 use Rattle.vms_values_laws.proofs.Facade.{◌≡◌, ℕ, ◌≤◌, List, [], ◌∷◌, ◌++◌, get_or, map, slice_set, ℤ, pos, refl, sym, ap, ◌∙◌, arith, append_assoc, true}
 use Rattle.vms_values_laws.proofs.Facade.{false, if◌then◌else◌, Some, None, same_Some, slice_get, suc, get_or-set_other, Bool, ◌==◌, ◌||◌, length, map-append}
-use Rattle.vms_values_laws.proofs.Facade.{length-append, eq-eqb, or_parts, or_assoc, AllByRecursion, ValuesReason, if_not, Standing, Element, text_of}
-use Rattle.vms_values_laws.proofs.Facade.{text_append, Said, said_line, Agrees, Meets, AreBelow, AreFrom, put_all, Entry, OfNumber, is_of_cell, has_line}
+use Rattle.vms_values_laws.proofs.Facade.{length-append, eq-eqb, or_parts, or_assoc, AllByRecursion, ValuesReason, if_not, Standing, Element, text_of, ranges}
+use Rattle.vms_values_laws.proofs.Facade.{text_append, Said, said_line, Agrees, Meets, AreBelow, AreFrom, put_all, Entry, OfNumber, is_of_cell, has_line, ints}
 use Rattle.vms_values_laws.proofs.Facade.{IsShort, ◌<◌, drop, Option, negsuc, Ok, Err, codes, ◌+◌, get_or-set_same, length-set, signed_decimal, Read, BadLine}
 use Rattle.vms_values_laws.proofs.Facade.{CellLine, put_number, put_line, ◌>>=◌, Number, number_reason, spelled_reason, line_reason, wanted_reason, Kind, U8}
-use Rattle.vms_values_laws.proofs.Facade.{I8, I16, I32, I64, same_number, exceeds, in_range, Cell, first_line, begins_with, number_spelled, spelled_holds}
-use Rattle.vms_values_laws.proofs.Facade.{line_splits, begun, nat_le, and_parts, leb-true, U16, U32, ForNumber, Moved, Taken, lines_of, reason_for}
+use Rattle.vms_values_laws.proofs.Facade.{same_number, exceeds, in_range, Cell, first_line, begins_with, number_spelled, spelled_holds}
+use Rattle.vms_values_laws.proofs.Facade.{line_splits, begun, ForNumber, Moved, Taken, lines_of, reason_for}
 use Rattle.vms_spec.specs.declared.ValuesReason.TheVariants as reasons
-use Rattle.vms_kinds.specs.declared.Kind.TheVariants.{Bool as Truth}
 
 -- either choice has it
 pub if_holds : {A : Type 0} (P : A → Type 0) (b : Bool) (x y : A) → P x → P y → P (if b then x else y)
@@ -26,6 +25,14 @@ if_none false reason e = cc
 pub all_from : {A : Type 0} (P : A → Type 0) (xs : List A) → ((k : ℕ) (x : A) → slice_get xs k ≡ Some x → P x) → AllByRecursion P xs
 all_from P [] h = tt
 all_from P (x ∷ xs) h = (h 0 x refl, all_from P xs (λ k y e. h (suc k) y e))
+
+pub all_more : {A : Type 0} {P Q : A → Type 0} (xs : List A) → AllByRecursion P xs → ((x : A) → P x → Q x) → AllByRecursion Q xs
+all_more [] a f = tt
+all_more (x ∷ xs) a f = (f x a.0, all_more xs a.1 f)
+
+pub all_parts : {A : Type 0} (P : A → Type 0) (xs ys : List A) → AllByRecursion P (xs ++ ys) → AllByRecursion P xs × AllByRecursion P ys
+all_parts P [] ys a = (tt, a)
+all_parts P (x ∷ xs) ys a = let p = all_parts P xs ys a.1 in ((a.0, p.0), p.1)
 
 pub all_both : {A : Type 0} (P : A → Type 0) (xs ys : List A) → AllByRecursion P xs → AllByRecursion P ys → AllByRecursion P (xs ++ ys)
 all_both P [] ys a b = b
@@ -51,28 +58,16 @@ meets_all [] left n xs a h = h
 meets_all (s ∷ said) left n [] a h = absurd h
 meets_all (s ∷ said) left n (x ∷ xs) a h = rw (h.0, meets_all said left n xs a.1 (h.1 a.0)) refl
 
-pub agrees_parts : (said more : List Said) (n : List ℤ) → Agrees (said ++ more) n → Agrees said n × Agrees more n
-agrees_parts [] more n a = (tt, a)
-agrees_parts (s ∷ said) more n a = let p = agrees_parts said more n a.1 in ((a.0, p.0), p.1)
-
 -- a further number
 pub agrees_put : (said : List Said) (cell : ℕ) (n : List ℤ) (z : ℤ) → AreBelow cell said → Agrees said n → Agrees said (slice_set n cell z)
 agrees_put [] cell n z b a = tt
 agrees_put (s ∷ said) cell n z b a = (get_or-set_other n cell s.element.cell z (pos 0) (λ e. omega arith) ∙ a.0, agrees_put said cell n z b.1 a.1)
 
-pub below_less : (cell further : ℕ) (said : List Said) → cell ≤ further → AreBelow cell said → AreBelow further said
-below_less cell further [] le b = tt
-below_less cell further (s ∷ said) le b = (omega arith, below_less cell further said le b.1)
-
-pub from_less : (cell further : ℕ) (said : List Said) → cell ≤ further → AreFrom further said → AreFrom cell said
-from_less cell further [] le b = tt
-from_less cell further (s ∷ said) le b = (omega arith, from_less cell further said le b.1)
-
 -- what is said of cells above leaves what was said below
 pub agrees_kept : (said more : List Said) (cell : ℕ) (n : List ℤ) → AreBelow cell said → AreFrom cell more → Agrees said n → Agrees said (put_all n more)
 agrees_kept said [] cell n b f a = a
 agrees_kept said (s ∷ more) cell n b f a =
-    agrees_kept said more cell _ b f.1 (agrees_put said s.element.cell n s.number (below_less cell s.element.cell said f.0 b) a)
+    agrees_kept said more cell _ b f.1 (agrees_put said s.element.cell n s.number (all_more said b (λ t lt. omega arith)) a)
 
 pub put_more : (n : List ℤ) (said more : List Said) → put_all n (said ++ more) ≡ put_all (put_all n said) more
 put_more n [] more = refl
@@ -120,7 +115,7 @@ pub told_both : {low high : ℕ} {n m k : List ℤ} {said more : List Said} → 
     → Told low n (said ++ more) k
 told_both {low = low} {high = high} {n = n} {m = m} {k = k} {said = said} {more = more} f g le below = record {
   agrees = all_both _ said more (rw (g.numbers) (agrees_kept said more high m below g.from f.agrees)) g.agrees;
-  from = all_both _ said more f.from (from_less low high more le g.from);
+  from = all_both _ said more f.from (all_more more g.from (λ s ge. omega arith));
   numbers = rw (g.numbers, f.numbers) (sym (put_more n said more));
   long = g.long ∙ f.long;
   short = all_both _ said more f.short g.short;
@@ -182,20 +177,10 @@ Stepped x p o (Err e) = NotPut x p o e
 
 -- a number in the range of a kind has at most 64 bits
 pub short : (kind : Kind) (z : ℤ) → in_range kind z ≡ true → IsShort z
-short U8 (pos n) e = omega (arith, leb-true n 0xff (and_parts (nat_le 0 n) (nat_le n 0xff) e).1)
-short U16 (pos n) e = omega (arith, leb-true n 0xffff (and_parts (nat_le 0 n) (nat_le n 0xffff) e).1)
-short U32 (pos n) e = omega (arith, leb-true n 0xffff_ffff (and_parts (nat_le 0 n) (nat_le n 0xffff_ffff) e).1)
-short I8 (pos n) e = omega (arith, leb-true n 0x7f e)
-short I16 (pos n) e = omega (arith, leb-true n 0x7fff e)
-short I32 (pos n) e = omega (arith, leb-true n 0x7fff_ffff e)
-short I64 (pos n) e = omega (arith, leb-true n 0x7fff_ffff_ffff_ffff e)
-short Truth (pos n) e = omega (arith, leb-true n 1 (and_parts (nat_le 0 n) (nat_le n 1) e).1)
-short I8 (negsuc n) e = omega (arith, leb-true n 0x7f (and_parts (nat_le n 0x7f) true e).0)
-short I16 (negsuc n) e = omega (arith, leb-true n 0x7fff (and_parts (nat_le n 0x7fff) true e).0)
-short I32 (negsuc n) e = omega (arith, leb-true n 0x7fff_ffff (and_parts (nat_le n 0x7fff_ffff) true e).0)
-short I64 (negsuc n) e = omega (arith, leb-true n 0x7fff_ffff_ffff_ffff (and_parts (nat_le n 0x7fff_ffff_ffff_ffff) true e).0)
-short _ (negsuc n) e = cc
-short _ (pos n) e = omega (arith, leb-true n 0xffff_ffff_ffff_ffff (and_parts (nat_le 0 n) (nat_le n 0xffff_ffff_ffff_ffff) e).1)
+short U8 (pos n) e = let r = ranges U8 (pos n) e in omega (arith, ints)
+short U8 (negsuc n) e = let r = ranges U8 (negsuc n) e in omega (arith, ints)
+short kind (pos n) e = let r = ranges kind (pos n) e in omega (arith, ints)
+short kind (negsuc n) e = let r = ranges kind (negsuc n) e in omega (arith, ints)
 
 module _ (steps : List (ℕ × ℕ)) (path : List ℕ) (present : Bool) (at : ℕ) (c : Cell) (p : Standing) where
   abbrev here : Element
@@ -266,9 +251,6 @@ abbrev pub AllKnown : List ℕ → List Said → Type 0
 AllKnown [] said = Unit {0}
 AllKnown (c ∷ cells) said = Knows said c × AllKnown cells said
 
-pub knows_grows : (said more : List Said) (c : ℕ) → ((m : List ℤ) → Agrees more m → Agrees said m) → Knows said c → Knows more c
-knows_grows said more c g k = record { known = λ m n a b. k.known m n (g m a) (g n b) }
-
 abbrev said_of : (x : Element) (p q : Standing) → Put x p q → Said
 said_of x p q put = record { element = x; number = put.number }
 
@@ -327,7 +309,7 @@ module _ (total : List ℤ → List Element) (start : Standing) (low : ℕ) wher
   pub stay : {cell further : ℕ} {p : Standing} {said : List Said} {left : List ℤ → List Element} → cell ≤ further → At cell p said left
       → Comes further [] said left (Ok p)
   stay {cell = cell} {further = further} {p = p} {said = said} {left = left} le a =
-      let below = below_less cell further said le a.below in
+      let below : AreBelow further said = all_more said a.below (λ s lt. omega arith) in
       let stands : At further p said left = record { meets = a.meets; below = below; up = omega arith; told = a.told; moved = a.moved } in
       record { comes = record { said = said; stands = stands; grows = λ m g. g; knows = tt } }
 
@@ -350,28 +332,23 @@ module _ (total : List ℤ → List Element) (start : Standing) (low : ℕ) wher
         let s = said_of x p q put in
         record {
           meets = λ m. meets_more said s (left m) m (total m) (a.meets m);
-          below = all_both _ said (s ∷ []) (below_less x.cell (x.cell + 1) said (omega arith) a.below) (omega arith, tt);
+          below = all_both _ said (s ∷ []) (all_more said a.below (λ t lt. omega arith)) (omega arith, tt);
           up = omega arith;
           told = told_both a.told (told_one x p q put (omega arith)) a.up a.below;
           moved = rw (map-append (λ (s : Said). taken_of s) said (s ∷ []), put.line)
               (moved_then a.moved (moved_one p.line p.rest (taken_of s) q.rest put.rest put.fine));
         }
 
-    by_read : (r : Read) → Stepped x p (first_line p.rest) r → Comes (x.cell + 1) (x.cell ∷ []) said left r
+    pub by_read : (r : Read) → Stepped x p (first_line p.rest) r → Comes (x.cell + 1) (x.cell ∷ []) said left r
     by_read (Ok q) put =
         let s = said_of x p q put in
         record {
           comes = record {
             said = said ++ s ∷ [];
             stands = after_line q put;
-            grows = λ m g. (agrees_parts said (s ∷ []) m g).0;
-            knows = (record { known = λ m n g h. (agrees_parts said (s ∷ []) m g).1.0 ∙ sym (agrees_parts said (s ∷ []) n h).1.0 }, tt);
+            grows = λ m g. (all_parts _ said (s ∷ []) g).0;
+            knows = (record { known = λ m n g h. (all_parts _ said (s ∷ []) g).1.0 ∙ sym (all_parts _ said (s ∷ []) h).1.0 }, tt);
           };
         }
     by_read (Err e) not =
         record { comes = record { cell = x.cell; place = p; said = said; element = x; after = left; stood = a; line = not.line; wrong = not.bad } }
-
-  pub line_comes : (steps : List (ℕ × ℕ)) (path : List ℕ) (present : Bool) (cell : ℕ) (c : Cell) (p : Standing) (said : List Said)
-      → (left : List ℤ → List Element) → cell < length start.numbers → At cell p said (λ m. spot steps path present cell c ∷ left m)
-      → Comes (cell + 1) (cell ∷ []) said left (put_line path (cell_line present cell c) p (first_line p.rest))
-  line_comes steps path present cell c p said left room a = by_read (spot steps path present cell c) p said left room a _ (one_line steps path present cell c p)

@@ -5,7 +5,7 @@ use Rattle.vms_values_laws.proofs.Facade.{Sub, Device, Set, desc_cells, struct_c
 use Rattle.vms_values_laws.proofs.Facade.{is_needed, BadLine, ReadDevice, or_bad, if_bad, are_defaults, sub_fails, is_said_well, judge_subs, judge_device}
 use Rattle.vms_values_laws.proofs.Facade.{judge_devices, Number, Rule, Element, What, is_number, cells_with, cells_of, slots_of, numbers_in, CountsUp}
 use Rattle.vms_values_laws.proofs.Facade.{elements_in, slot_of, printed, Entry, OfSub, OfNumber, subs_entries, device_entries, devices_entries, if_not}
-use Rattle.vms_values_laws.proofs.Facade.{rules_hold, has_default, have_defaults, sub_holds, has_come, came_well, part_reason, rule_holds, AreShaped, walks}
+use Rattle.vms_values_laws.proofs.Facade.{rules_hold, has_default, have_defaults, sub_holds, came_well, part_reason, rule_holds, AreShaped, walks}
 use Rattle.vms_values_laws.proofs.Facade.{elements_slots, ◌<◌, same_Some, append_cancel_left, map-id, get_or, Ok, Err, append-nil, codes, length-map}
 use Rattle.vms_values_laws.proofs.Facade.{signed_decimal, ⊎_elim, cases_lt, get_or-eq_default, OfMachine, wanted_reason, number_entries, demand_of}
 use Rattle.vms_values_laws.proofs.Facade.{reason_for, Taken, Follows, Along, Moved, ForNumber, Begins, first_line, number_spelled, Standing, Read, readers}
@@ -89,12 +89,9 @@ module _ (set : Set) where
   sub_same s None n at = refl
   sub_same s (Some v) n at = ap not (sym (desc_rules s.desc v n at))
 
-  come_same : (o : Option ℕ) → reading.came o ≡ has_come o
-  come_same _ = refl
-
   well_same : (needed : Bool) (o : Option ℕ) (a b : Bool) → a ≡ b → (if needed then reading.came o else (not (reading.came o) && a)) ≡ came_well needed o b
-  well_same true o a b e = come_same o
-  well_same false o a b e = rw (come_same o, e)
+  well_same true o a b e = refl
+  well_same false o a b e = rw e
 
   one_part : (a b : Bool) (line : ℕ) (o : Option BadLine)
       → or_bad (if_bad (not a) line reasons.Invalid) (or_bad (if_bad (not b) line reasons.Needed) o) ≡ or_bad
@@ -141,7 +138,7 @@ module _ (set : Set) where
   section_judged : (a : Bool) (line : ℕ) (o : Option BadLine)
       → or_bad (if_bad (not a) line reasons.Invalid) o ≡ or_bad (as_bad line (if_not a reasons.Invalid)) o
   section_judged true line o = refl
-  section_judged false line o = refl
+  section_judged _ line o = refl
 
   device_judged : (d : Device) (line : ℕ) (r : ReadDevice) → IsLined d line r → length r.image.numbers ≡ length (device_cells set d)
       → judge_device set d r ≡ parts_from set line (device_entries set d r.image)
@@ -255,15 +252,14 @@ module _ {set : Set} {d : Desc} {at : ℕ} {p q : Standing} (n : NumbersRead set
   heard_on numbers es said c agrees h =
       rw (lines_both (number_entries set d numbers at), n.heard numbers agrees, lines_said numbers n.said c, said_both n.said said c, h) refl
 
-  line_on : (numbers : List ℤ) → Agrees n.said numbers → q.line ≡ p.line + length (printed (elements_in set d d.version numbers at))
-  line_on numbers agrees =
-      omega (arith, ap length (n.heard numbers agrees) ∙ length-map n.said (λ (s : Said). s.element), length-map n.said (λ (s : Said). taken_of s))
-
   -- the lines of subsections after them
   pub lines_on : (numbers : List ℤ) (es : List Entry) → Agrees n.said numbers
       → sub_numbers p.line (number_entries set d numbers at ++ es) ≡ sub_numbers q.line es
   lines_on numbers es agrees =
-      subs_past p.line numbers (printed (elements_in set d d.version numbers at)) es ∙ ap (λ l. sub_numbers l es) (sym (line_on numbers agrees))
+      let xs = printed (elements_in set d d.version numbers at) in
+      let on : p.line + length xs ≡ q.line =
+      omega (arith, ap length (n.heard numbers agrees) ∙ length-map n.said (λ (s : Said). s.element), length-map n.said (λ (s : Said). taken_of s)) in
+      subs_past p.line numbers xs es ∙ ap (λ l. sub_numbers l es) on
 
 abbrev pub NumbersCome : Set → Desc → ℕ → Standing → Read → Type 0
 NumbersCome set d at p (Ok q) = NumbersRead set d at p q

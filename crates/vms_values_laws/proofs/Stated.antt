@@ -1,50 +1,20 @@
 -- The laws of values texts, as they are stated.
+use Rattle.vms_values_laws.proofs.{SaidLaws.if_holds, Meeting.clean_named, SecondPass.parts_from, AllCome.images_of, AllCome.good_devices}
+use Rattle.vms_values_laws.proofs.Accepted.{Match, inside_of, matched, devices_same, answer_by, none_answers, none_says, none_good, says_ready, named_machine}
+use Rattle.vms_values_laws.proofs.BadLines.{FirstPass, NoneBad, first_pass, TakenOf}
 use Rattle.vms_values_laws.proofs.Facade.{◌≡◌, inl, inr, ℕ, List, ◌++◌, Option, Some, None, sym, ap, ◌∙◌, subst, arith, ◌∷◌, map, refl, codes, append-nil, []}
 use Rattle.vms_values_laws.proofs.Facade.{◌+◌, length, suc, ◌≤◌, sum_by, ℤ, length-append, length-map, sum_by-cons, ValuesReason, Set, Device, Desc, Sub}
 use Rattle.vms_values_laws.proofs.Facade.{ValuesRead, Bad, machine_named, BadLine, Values, values_read, Entry, entries, devices_entries, entry_line, OfNumber}
-use Rattle.vms_values_laws.proofs.Facade.{number_entries, subs_entries, device_entries, IsBadLine, IsMachineOf, Says, IsText, IsBadPart, Refused, Reads, Taken}
+use Rattle.vms_values_laws.proofs.Facade.{number_entries, subs_entries, device_entries, IsBadLine, IsMachineOf, Says, IsText, Refused, Reads, Taken}
 use Rattle.vms_values_laws.proofs.Facade.{Image, own_cells, first_line, IsConfiguration, IsTrailer, optional, configuration, trailer, written, AreReady}
 use Rattle.vms_values_laws.proofs.Facade.{WellFormed, text_of, section_line, printed, values_text, IsFit, well_good, entry_law, text_is, ReadLaw, OnlyLaw}
 use Rattle.vms_values_laws.proofs.Facade.{AcceptedLaw, PrintedLaw, device_lines, most_lines, LineLaw, machine_short, few_devices, Takes, one_stream_holds}
 use Rattle.vms_values_laws.proofs.Facade.{written_holds, FitsText, WrittenLaw, PackedLaw, ShownLaw, desc_cells, struct_cells, Element, cells_of, elements_in}
 use Rattle.vms_values_laws.proofs.Facade.{walks, AreShaped, AreFine, is_number, cells_with, Number, What, and-true, and-false, if◌then◌else◌, ◌&&◌}
-use Rattle.vms_values_laws.proofs.SaidLaws.{if_holds}
-use Rattle.vms_values_laws.proofs.BadLines.{FirstPass, NoneBad, first_pass, TakenOf}
 use Rattle.vms_values_laws.proofs.Meeting.{AreClean, Ends, Same, meet, NoFeed, line_first, section_feed, AreCleanDevices, clean_entries, clean_devices}
-use Rattle.vms_values_laws.proofs.Meeting.{clean_named}
-use Rattle.vms_values_laws.proofs.SecondPass.{parts_from}
-use Rattle.vms_values_laws.proofs.AllCome.{images_of, good_devices}
-use Rattle.vms_values_laws.proofs.Accepted.{Match, inside_of, matched, devices_same, answer_by, none_answers, none_says, none_good, says_ready, named_machine}
-use Rattle.vms_values_laws.proofs.ReadyParts.{sub_cells, FirstPart, first_part, bad_part_found, good_none, text_says}
-use Rattle.vms_values_laws.proofs.Rights.{AreGood}
+use Rattle.vms_values_laws.proofs.ReadyParts.{sub_cells, first_part, bad_part_found, good_none, text_says}
 
--- ---- A bad line by the relation is the one that is found.
-
--- what was taken, beside a state that has these lines and then ends like this
-beside : {set : Set} {text : List ℕ} {machine' : Option (List ℕ)} {taken : List Taken} {at : ℕ} {rest : List ℕ} {o : Option ValuesReason}
-    → TakenOf set text machine' taken at rest o → (machine : Option (List ℕ)) (images : List Image) (before after : List Entry) (rest' : List ℕ)
-    → (o' : Option ValuesReason) → machine ≡ machine_named set.machines (first_line text) → AreShaped set set.devices images
-    → entries set machine images ≡ before ++ after → AreClean (before ++ after) → AreFine before → text ≡ text_of (map entry_line before) ++ rest'
-    → Ends o' rest' after → Same taken before o o'
-beside {taken = taken} {rest = rest} {o = o} t machine images before after rest' o' named shaped state clean fine begins ends =
-    meet taken before after rest rest' o o' (rw (← state, named, ← t.named) (t.follows images shaped)) clean t.moved.fine fine (sym t.moved.texts ∙ begins) ends
-
-module _ (set : Set) (text : List ℕ) (line : ℕ) (reason : ValuesReason) (x : IsBadLine set text line reason)
-    (clean : AreClean (entries set x.machine x.images)) where
-  against : {machine : Option (List ℕ)} {taken : List Taken} {at : ℕ} {rest : List ℕ} {o : Option ValuesReason} → TakenOf set text machine taken at rest o
-      → Same taken x.before o (Some reason)
-  against t =
-      beside t x.machine x.images x.before x.after x.rest (Some reason) x.named x.shaped x.state (rw (x.state) at clean) x.fine x.begins x.bad
-
-  bad_back : (v : ValuesRead) → FirstPass set text v → v ≡ Bad line reason
-  bad_back v (inl b) =
-      let same = against b.took in
-      let reasons : b.reason ≡ reason = (let e = same.reason in cc) in
-      let lines : b.line ≡ line = omega (arith, b.took.moved.further, same.long, x.number) in
-      rw (← lines, ← reasons) b.is
-  bad_back v (inr n) = let e = (against n.took).reason in cc
-
--- ---- What a text says, if no line is bad, is what is read of it.
+-- ---- the machine that a text names
 
 -- the first line of a text that has this line first
 first_is : (text line : List ℕ) (lines : List (List ℕ)) → NoFeed line → text ≡ text_of (line ∷ lines) → first_line text ≡ Some (line, text_of lines)
@@ -66,18 +36,42 @@ named_by set well text (Some name) images named e =
     (first_is text (codes "machine " ++ name) lines (refl, (refl, (refl, (refl, (refl, (refl, (refl, (refl, clean_named set well name named)))))))) e)
     ∙ rw named refl
 
-module _ (set : Set) (well : WellFormed set) (text : List ℕ) (machine : Option (List ℕ)) (images : List Image) (says : Says set text machine images) where
-  its_machine : machine_named set.machines (first_line text) ≡ machine
-  its_machine = named_by set well text machine images says.named says.printed
+-- ---- What was taken, beside what is stated: a bad line by the relation is the one that is found, and so are the lines of a state.
 
-  -- what was taken are the lines of the state
-  its_lines : {machine' : Option (List ℕ)} {taken : List Taken} {at : ℕ} {rest : List ℕ} {o : Option ValuesReason} → TakenOf set text machine' taken at rest o
+module _ {set : Set} {text : List ℕ} {machine' : Option (List ℕ)} {taken : List Taken} {at : ℕ} {rest : List ℕ} {o : Option ValuesReason}
+    (t : TakenOf set text machine' taken at rest o) where
+  -- a state that has these lines and then ends like this
+  beside : (machine : Option (List ℕ)) (images : List Image) (before after : List Entry) (rest' : List ℕ) (o' : Option ValuesReason)
+      → machine ≡ machine_named set.machines (first_line text) → AreShaped set set.devices images → entries set machine images ≡ before ++ after
+      → AreClean (before ++ after) → AreFine before → text ≡ text_of (map entry_line before) ++ rest' → Ends o' rest' after → Same taken before o o'
+  beside machine images before after rest' o' named shaped state clean fine begins ends =
+      meet taken before after rest rest' o o' (rw (← state, named, ← t.named) (t.follows images shaped)) clean t.moved.fine fine
+      (sym t.moved.texts ∙ begins) ends
+
+  against : {line : ℕ} {reason : ValuesReason} (x : IsBadLine set text line reason) → AreClean (entries set x.machine x.images)
+      → Same taken x.before o (Some reason)
+  against x clean = beside x.machine x.images x.before x.after x.rest _ x.named x.shaped x.state (rw (x.state) at clean) x.fine x.begins x.bad
+
+  its_lines : WellFormed set → (machine : Option (List ℕ)) (images : List Image) → Says set text machine images
       → Same taken (entries set machine images) o None
-  its_lines t =
+  its_lines well machine images says =
       let es = entries set machine images in
       let clean : AreClean (es ++ []) = subst AreClean (sym (append-nil es)) (clean_entries set well machine images says.named) in
-      beside t machine images es [] [] None (sym its_machine) says.shaped (sym (append-nil es)) clean says.fine (says.printed ∙ sym (append-nil _)) (refl, refl)
+      beside machine images es [] [] None (sym (named_by set well text machine images says.named says.printed)) says.shaped (sym (append-nil es)) clean
+      says.fine (says.printed ∙ sym (append-nil _)) (refl, refl)
 
+bad_back : (set : Set) (text : List ℕ) (line : ℕ) (reason : ValuesReason) (x : IsBadLine set text line reason) → AreClean (entries set x.machine x.images)
+    → (v : ValuesRead) → FirstPass set text v → v ≡ Bad line reason
+bad_back set text line reason x clean v (inl b) =
+    let same = against b.took x clean in
+    let reasons : b.reason ≡ reason = (let e = same.reason in cc) in
+    let lines : b.line ≡ line = omega (arith, b.took.moved.further, same.long, x.number) in
+    rw (← lines, ← reasons) b.is
+bad_back set text line reason x clean v (inr n) = let e = (against n.took x clean).reason in cc
+
+-- ---- What a text says, if no line is bad, is what is read of it.
+
+module _ (set : Set) (well : WellFormed set) (text : List ℕ) (machine : Option (List ℕ)) (images : List Image) (says : Says set text machine images) where
   same_devices : (machine : Option (List ℕ)) (i j : List Image) → Match (entries set machine i) (entries set machine j)
       → Match (devices_entries set set.devices i) (devices_entries set set.devices j)
   same_devices None i j m = m
@@ -85,18 +79,18 @@ module _ (set : Set) (well : WellFormed set) (text : List ℕ) (machine : Option
 
   module _ (v : ValuesRead) (n : NoneBad set text v) where
     same_machine : n.machine ≡ machine
-    same_machine = n.named ∙ its_machine
+    same_machine = n.named ∙ named_by set well text machine images says.named says.printed
 
     same_images : images_of n.all.devices ≡ images
     same_images =
         let read = images_of n.all.devices in
         let m : Match (entries set n.machine read) (entries set n.machine images) =
         matched n.taken (entries set n.machine read) (entries set n.machine images) (n.follows read n.shaped) n.along (n.follows images says.shaped)
-        ((its_lines n.took).lines ∙ ap (λ m. map entry_line (entries set m images)) (sym same_machine)) in
+        ((its_lines n.took well machine images says).lines ∙ ap (λ m. map entry_line (entries set m images)) (sym same_machine)) in
         devices_same set set.devices read images n.shaped says.shaped n.unsaid says.unsaid (same_devices n.machine read images m)
 
   pub says_answers : (v : ValuesRead) → FirstPass set text v → v ≡ answer_by machine images (parts_from set 1 (entries set machine images))
-  says_answers v (inl b) = let e = (its_lines b.took).reason in cc
+  says_answers v (inl b) = let e = (its_lines b.took well machine images says).reason in cc
   says_answers v (inr n) = none_answers set text v n ∙ rw (same_machine v n, same_images v n) refl
 
 -- ---- The laws of reading, as they are stated.
@@ -104,19 +98,11 @@ module _ (set : Set) (well : WellFormed set) (text : List ℕ) (machine : Option
 its_first_pass : (set : Set) (text : List ℕ) → IsFit set → FirstPass set text (values_read set text)
 its_first_pass set text fit = let good = well_good set fit.well fit.heads in first_pass set text good.structs (good_devices set good)
 
-text_of_ready : (set : Set) (text : List ℕ) (machine : Option (List ℕ)) (images : List Image) → IsFit set → Says set text machine images
-    → AreGood set (entries set machine images) → IsText set text machine images
-text_of_ready set text machine images fit says good =
-    record {
-      named = says.named;
-      ready = says_ready set fit.well (well_good set fit.well fit.heads) text machine images says good;
-      printed = says.printed ∙ ap text_of (entry_law set machine images) ∙ text_is set machine images;
-    }
-
-bad_part : (set : Set) (text : List ℕ) (machine : Option (List ℕ)) (images : List Image) (b : BadLine) → Says set text machine images
-    → FirstPart set 1 (entries set machine images) b → IsBadPart set text b.line b.reason
-bad_part set text machine images b says p =
-    record {
+by_parts : (set : Set) (text : List ℕ) (machine : Option (List ℕ)) (images : List Image) (o : Option BadLine) → IsFit set → Says set text machine images
+    → parts_from set 1 (entries set machine images) ≡ o → Reads set text (answer_by machine images o)
+by_parts set text machine images (Some b) fit says e =
+    let p = first_part set 1 (entries set machine images) b e in
+    inr (record {
       machine = machine;
       images = images;
       before = p.before;
@@ -127,12 +113,12 @@ bad_part set text machine images b says p =
       good = p.good;
       number = p.number ∙ omega arith;
       bad = p.bad;
-    }
-
-by_parts : (set : Set) (text : List ℕ) (machine : Option (List ℕ)) (images : List Image) (o : Option BadLine) → IsFit set → Says set text machine images
-    → parts_from set 1 (entries set machine images) ≡ o → Reads set text (answer_by machine images o)
-by_parts set text machine images (Some b) fit says e = inr (bad_part set text machine images b says (first_part set 1 (entries set machine images) b e))
-by_parts set text machine images None fit says e = text_of_ready set text machine images fit says (none_good set 1 (entries set machine images) e)
+    })
+by_parts set text machine images None fit says e = record {
+  named = says.named;
+  ready = says_ready set fit.well (well_good set fit.well fit.heads) text machine images says (none_good set 1 (entries set machine images) e);
+  printed = says.printed ∙ ap text_of (entry_law set machine images) ∙ text_is set machine images;
+}
 
 by_pass : (set : Set) (text : List ℕ) (v : ValuesRead) → IsFit set → FirstPass set text v → Reads set text v
 by_pass set text v fit (inl b) = rw (b.is) (inl b.is_bad)
@@ -144,16 +130,6 @@ read_holds set text fit = by_pass set text (values_read set text) fit (its_first
 pub accepted_holds : AcceptedLaw
 accepted_holds set text machine images fit e = rw e at (read_holds set text fit)
 
-line_back : (set : Set) (text : List ℕ) (line : ℕ) (reason : ValuesReason) → IsFit set → IsBadLine set text line reason → values_read set text ≡ Bad line reason
-line_back set text line reason fit x =
-    bad_back set text line reason x (clean_entries set fit.well x.machine x.images (named_machine set text x.machine x.named)) _ (its_first_pass set text fit)
-
-part_back : (set : Set) (text : List ℕ) (line : ℕ) (reason : ValuesReason) → IsFit set → IsBadPart set text line reason → values_read set text ≡ Bad line reason
-part_back set text line reason fit x =
-    let here : 1 + length x.before ≡ line = omega (arith, x.number) in
-    says_answers set fit.well text x.machine x.images x.says (values_read set text) (its_first_pass set text fit)
-    ∙ rw (x.state, bad_part_found set 1 x.before x.entry x.after reason x.good x.bad, here) refl
-
 text_back : (set : Set) (text : List ℕ) (machine : Option (List ℕ)) (images : List Image) → IsFit set → IsText set text machine images
     → values_read set text ≡ Values machine images
 text_back set text machine images fit t =
@@ -163,8 +139,12 @@ text_back set text machine images fit t =
 
 refused_back : (set : Set) (text : List ℕ) (line : ℕ) (reason : ValuesReason) → IsFit set → Refused set text line reason
     → values_read set text ≡ Bad line reason
-refused_back set text line reason fit (inl x) = line_back set text line reason fit x
-refused_back set text line reason fit (inr x) = part_back set text line reason fit x
+refused_back set text line reason fit (inl x) =
+    bad_back set text line reason x (clean_entries set fit.well x.machine x.images (named_machine set text x.machine x.named)) _ (its_first_pass set text fit)
+refused_back set text line reason fit (inr x) =
+    let here : 1 + length x.before ≡ line = omega (arith, x.number) in
+    says_answers set fit.well text x.machine x.images x.says (values_read set text) (its_first_pass set text fit)
+    ∙ rw (x.state, bad_part_found set 1 x.before x.entry x.after reason x.good x.bad, here) refl
 
 pub only_holds : OnlyLaw
 only_holds set text (Values machine images) fit r = text_back set text machine images fit r

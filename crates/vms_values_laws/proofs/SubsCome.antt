@@ -8,7 +8,7 @@ use Rattle.vms_values_laws.proofs.Facade.{Demand, ForSub, ForNumber, reason_for,
 use Rattle.vms_spec.specs.declared.ValuesReason.TheVariants as reasons
 use Rattle.vms_values_laws.proofs.SecondPass.{moved_none, moved_one, moved_then, AreShort, all_taken, NumbersRead, NumbersStop, NumbersCome, numbers_come}
 use Rattle.vms_values_laws.proofs.SecondPass.{heard_on, lines_on, sub_numbers, follows_then, along_then}
-use Rattle.vms_values_laws.proofs.SaidLaws.{agrees_parts, Told, told_none, told_both, has_said}
+use Rattle.vms_values_laws.proofs.SaidLaws.{all_parts, Told, told_none, told_both, has_said}
 
 pub line_taken : (text line rest : List ℕ) → first_line text ≡ Some (line, rest) → text ≡ line ++ 10 ∷ rest_of (first_line text)
 line_taken text line rest e = line_splits text line rest e ∙ rw e refl
@@ -154,7 +154,7 @@ module _ (set : Set) (d : Device) where
           rw append_assoc (follows_then (all_taken n.said) r.taken (λ l. l ≡ later) (Then more) _ (n.follows image.numbers later short)
           (λ l is. rw is (r.follows image came more long short)));
       along = λ image more agrees.
-          let all = agrees_parts n.said r.said image.numbers agrees in
+          let all = all_parts _ n.said r.said agrees in
           let later = those j next subs image came ++ more in
           rw append_assoc (along_then (all_taken n.said) r.taken (λ l. l ≡ later) (Then more) _ (n.along image.numbers later all.0)
           (λ l is. rw is (r.along image more all.1)));
@@ -166,12 +166,11 @@ module _ (set : Set) (d : Device) where
     behind q (Ok r) n x = record {
       whole = went_behind n x.whole;
       heard = λ image agrees c.
-          let all = agrees_parts n.said x.said image.numbers agrees in heard_on n image.numbers _ x.said c all.0 (x.heard image all.1 c);
+          let all = all_parts _ n.said x.said agrees in heard_on n image.numbers _ x.said c all.0 (x.heard image all.1 c);
       lines = λ image agrees.
-          let all = agrees_parts n.said x.said image.numbers agrees in x.lines image all.1 ∙ sym (lines_on n image.numbers _ all.0);
+          let all = all_parts _ n.said x.said agrees in x.lines image all.1 ∙ sym (lines_on n image.numbers _ all.0);
     }
-    behind q (Err e) n x =
-        record { demand = x.demand; came = x.came; numbers = x.numbers; rest = x.rest; before = went_behind n x.before; wrong = x.wrong }
+    behind q (Err e) n x = record { demand = x.demand; came = x.came; numbers = x.numbers; rest = x.rest; before = went_behind n x.before; wrong = x.wrong }
 
     -- the numbers of a description, and subsections after them
     pub numbers_first : (r : Read) (go : Standing → Result ReadSubs BadLine) → NumbersCome set desc at p r
@@ -218,8 +217,7 @@ module _ (set : Set) (d : Device) where
 
       sub_comes : (o : Result ReadSubs BadLine) → Come own subs at (next_line p) o → Come (those j at (s ∷ subs)) (s ∷ subs) at p (also came p.line o)
       sub_comes (Ok r) x = record { whole = headed x.whole; heard = x.heard; lines = λ image agrees. rw (x.lines image agrees) }
-      sub_comes (Err e) x =
-          record { demand = x.demand; came = came ∷ x.came; numbers = x.numbers; rest = x.rest; before = headed x.before; wrong = x.wrong }
+      sub_comes (Err e) x = record { demand = x.demand; came = came ∷ x.came; numbers = x.numbers; rest = x.rest; before = headed x.before; wrong = x.wrong }
 
   by_head : (s : Sub) (subs : List Sub) (j at : ℕ) (p : Standing) (o : Option (Option ℕ)) → AreSound set.structs → IsSound s.desc
       → SubLine s (first_line p.rest) o → at + size_of s ≤ length p.numbers

@@ -10,7 +10,7 @@ use Rattle.vms_values_laws.proofs.Facade.{read_elements, read_array, read_field,
 use Rattle.vms_values_laws.proofs.Facade.{IsSoundField, AreSoundFields, IsSound, AreSound, there_same, elements_same, place_next, drop_next, zero_plus}
 use Rattle.vms_values_laws.proofs.Facade.{place_first, first_long, readers_cells, two_more, shapes_cells, Said, Agrees}
 use Rattle.vms_spec.specs.ValuesReading.{cells_of}
-use Rattle.vms_values_laws.proofs.SaidLaws.{Knows, AllKnown, knows_grows, At, Comes, at_left, stay, then_comes, line_comes}
+use Rattle.vms_values_laws.proofs.SaidLaws.{Knows, AllKnown, At, Comes, at_left, stay, then_comes, spot, one_line, by_read}
 
 -- ---- The printed elements under a path.
 
@@ -96,7 +96,9 @@ known_next : (cs : List (List Cell)) (d : Desc) (base i at : ℕ) (f : Field) (f
     → ((j : ℕ) → IsEarlier d.fields i j → Knows said (place_of cs d.fields 0 base d.fields j)) → AllKnown (known_cell f.count f.item at) more
     → (j : ℕ) → IsEarlier d.fields (suc i) j → Knows more (place_of cs d.fields 0 base d.fields j)
 known_next cs d base i at f fs said more is here grows known k j x =
-    ⊎_elim (λ (lt : j < i). knows_grows said more _ grows (known j (record { earlier = lt; there = x.there; number = x.number; one = x.one })))
+    ⊎_elim (λ (lt : j < i).
+    let before = known j (record { earlier = lt; there = x.there; number = x.number; one = x.one }) in
+    record { known = λ m n a b. before.known m n (grows m a) (grows n b) })
     (λ (ge : i ≤ j).
     let same : j ≡ i = omega arith in
     let this : get_or d.fields j no_field ≡ f = rw same (dropped d.fields i f fs is) in
@@ -129,8 +131,10 @@ module _ (total : List ℤ → List Element) (start : Standing) (low : ℕ) wher
         → Here at p said (λ m. wrapped steps path present (item_elements ss item caps f.default m at) ++ left m)
         → Came end (single_cell item at) said left (read_item rs f caps path present at item p)
     item_comes f (Num kind) caps steps path present at end p said left e room a =
-        rw e (line_comes total start low steps path present at (record { kind = kind; capacities = caps; default = f.default }) p said left (omega arith)
-        (at_left total start low (λ m g. ap (λ x. x ∷ left m) (rw (append-nil steps, append-nil path, and-true present) refl)) a))
+        let c : Cell = record { kind = kind; capacities = caps; default = f.default } in
+        rw e (by_read total start low (spot steps path present at c) p said left (omega arith)
+        (at_left total start low (λ m g. ap (λ x. x ∷ left m) (rw (append-nil steps, append-nil path, and-true present) refl)) a) _
+        (one_line steps path present at c p))
     item_comes f (Struct j) caps steps path present at end p said left e room a =
         (reads j).shape_comes steps (path ++ codes ".") present at end p said left (omega (arith, ap length (cells_get rs j))) room
         (at_left total start low (λ m g. rw (wrapped_dotted steps path present ((get_or ss j no_shape).elements m at))) a)

@@ -1,9 +1,7 @@
 -- Numbers of one kind whose cells follow one another are the elements of an array.
+use Rattle.vms_walk.proofs.{Facade.item_slots, Going.Laws, Walking.times_split, Walking.left_within}
 use Rattle.vms_walk.proofs.Facade.{◌≡◌, ℕ, zero, suc, ◌+◌, ◌-◌, ◌*◌, ◌<◌, ◌≤◌, List, [], ◌∷◌, ◌++◌, ℤ, Option, None, refl, ap, ◌∙◌, arith, append_assoc}
 use Rattle.vms_walk.proofs.Facade.{append-nil, Kind, Item, Num, Set, WalkStep, Number, run_of, MayRun, steps_of, elements_slots, table, capacities_of}
-use Rattle.vms_walk.proofs.Facade.{item_slots}
-use Rattle.vms_walk.proofs.Going.{Laws}
-use Rattle.vms_walk.proofs.Walking.{times_split, left_within}
 
 run_is : (set : Set) (kind : Kind) (n : List ℤ) (first count : ℕ) → steps_of (elements_slots set (Num kind) None n count first) ≡ run_of first count kind
 run_is set kind n first zero = refl

@@ -1,4 +1,5 @@
 -- What the judging walk finds fine is ready, and what is ready it finds fine.
+use Rattle.vms_write.proofs.{Facade.subs_fine, StepsFine.IsBelow, StepsFine.fine_parts, StepsFine.desc_below}
 use Rattle.vms_write.proofs.Facade.{OnTrue_from, OnFalse_from, get_or_from_slice_get, slice_get_within, ◌≡◌, ℕ, zero, suc, ◌+◌, ◌<◌, ◌≤◌, List, [], ◌∷◌, ◌++◌}
 use Rattle.vms_write.proofs.Facade.{length, length-append, get_or, map, Option, Some, None, ℤ, pos, refl, sym, ap, ◌∙◌, subst, arith, Bool, true, false, not}
 use Rattle.vms_write.proofs.Facade.{◌&&◌, ◌||◌, ◌==◌, OnTrue, OnFalse, flat_map, slice_get, and_parts, leb-true, eqb-true, eq-eqb, and_from, slice_get-get_or}
@@ -9,9 +10,7 @@ use Rattle.vms_write.proofs.Facade.{IsGood, DefaultsFit, IsAbove, above_none, ab
 use Rattle.vms_write.proofs.Facade.{constants_append, own_constants, part_constants, image_are, named_fits, parts_together, same_number_is, ranged}
 use Rattle.vms_write.proofs.Facade.{counted_well, is_same, needed_are, are_needed, AreConstants, fit_slots, FitSlots, ranges, within, or_second, and_swap}
 use Rattle.vms_write.proofs.Facade.{form_of, CellForm, device_at, is_well_formed, sub_at, device_clean, sub_clean, no_form, are_fit, settle, is_fine, sub_size}
-use Rattle.vms_write.proofs.Facade.{subs_fine}
 use Rattle.std.proofs.Math.ListN.{get_or-map}
-use Rattle.vms_write.proofs.StepsFine.{IsBelow, fine_parts, desc_below}
 
 -- ---- slots that fit
 

@@ -1,27 +1,15 @@
 -- Names of a well-formed set are short; the forms of a device's cells, by the numbers that a set keeps of it.
 use Rattle.vms_write.proofs.Facade.{AllPass-from_list_all, ◌≡◌, ℕ, zero, suc, ◌+◌, ◌<◌, ◌≤◌, List, [], ◌∷◌, length, length-drop, get_or, drop, sym, arith, true}
-use Rattle.vms_write.proofs.Facade.{◌&&◌, nat_le, map, ℤ, pos, refl, ap, ◌∙◌, list_all, and_parts, leb-true, length-map, or_else, first_answer, Set, is_name}
-use Rattle.vms_write.proofs.Facade.{is_name_byte, failing, here, set_rules, size_rules, struct_fault, device_fault, first_fault, is_well_formed, device_at}
-use Rattle.vms_write.proofs.Facade.{sub_at, AllTrue, all_true, or_else_none, none_is, device_clean, sub_clean, Kind, Cell, device_cells, form_of, CellForm}
-use Rattle.vms_write.proofs.Facade.{Held, defaults_at, no_form, formed_of, formed, forms_of}
+use Rattle.vms_write.proofs.Facade.{map, ℤ, pos, refl, ap, ◌∙◌, and_parts, length-map, Set, is_name, first_fault, is_well_formed, device_at, sub_at, none_is}
+use Rattle.vms_write.proofs.Facade.{device_clean, sub_clean, Kind, Cell, device_cells, form_of, Held, defaults_at, no_form, formed_of, formed, forms_of}
+use Rattle.vms_spec.proofs.Faultless.{name_short, set_clean}
 use Rattle.vms_parts.specs.Devices.{device_at as device_in}
-use Rattle.vms_spec.specs.declared.Part.TheVariants as parts
-
-name_short : (most : ℕ) (name : List ℕ) → is_name most name ≡ true → length name ≤ most
-name_short most name e =
-    let p = and_parts (nat_le 1 (length name) && nat_le (length name) most) (list_all is_name_byte name) e in
-    leb-true (length name) most (and_parts (nat_le 1 (length name)) (nat_le (length name) most) p.0).1
 
 module _ (set : Set) (well : is_well_formed set ≡ true) where
-  set_clean : AllTrue (set_rules set)
-  unfolding first_fault
-  set_clean =
-      let devices = or_else (first_answer (device_fault set) 0 set.devices) (failing 1 (size_rules set) (here parts.Set)) in
-      let a = or_else_none (failing 1 (set_rules set) (here parts.Set)) (or_else (first_answer (struct_fault set.structs) 0 set.structs) devices) (none_is (first_fault set) well) in
-      all_true 1 (set_rules set) (here parts.Set) a.0
-
   pub machine_short : (m : ℕ) (name : List ℕ) → m < length set.machines → name ≡ get_or set.machines m name → length name ≤ 64
-  machine_short m name lt e = name_short 64 name (rw e (AllPass-from_list_all (is_name 64) set.machines set_clean.0 m name lt))
+  machine_short m name lt e =
+      let clean = set_clean set (none_is (first_fault set) well) in
+      name_short 64 name (rw e (AllPass-from_list_all (is_name 64) set.machines clean.own.0 m name lt))
 
   pub device_short : (i : ℕ) → i < length set.devices → length (device_at set i).desc.name ≤ 100
   device_short i lt = name_short 100 (device_at set i).desc.name (device_clean set well i lt).own.0

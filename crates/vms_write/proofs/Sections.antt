@@ -1,9 +1,9 @@
 -- The bytes of steps, runs of numbers, subsections and sections, one after the other.
-use Rattle.vms_write.proofs.Facade.{◌≡◌, ℕ, List, [], ◌∷◌, ◌++◌, get_or, replicate, ℤ, pos, refl, ap, subst, zero, suc, ◌+◌, ◌≤◌, length, take, drop, Ok, Err}
-use Rattle.vms_write.proofs.Facade.{OnOk, IfErr, ◌∙◌, arith, ◌<◌, Option, Some, None, sym, ◌&&◌, drop_more, Result, code, Slot, Number, Constant, Filler, Rule}
+use Rattle.vms_write.proofs.Facade.{◌≡◌, ℕ, List, [], ◌∷◌, ◌++◌, get_or, ℤ, pos, refl, ap, zero, suc, ◌+◌, ◌≤◌, length, take, drop, Ok, Err}
+use Rattle.vms_write.proofs.Facade.{OnOk, IfErr, ◌∙◌, arith, ◌<◌, Option, Some, None, sym, ◌&&◌, drop_more, Result, Slot, Number, Constant, Filler, Rule}
 use Rattle.vms_write.proofs.Facade.{no_desc, desc_cells, struct_cells, zeroed, Image, own_cells, steps_of, WalkStep, Kind, CanWrite, CanStep, bytes_of, Outlet}
 use Rattle.vms_write.proofs.Facade.{Wrote, Puts, Stops, codes_of, run_of, Set, Device, Sub, AtLeast, written_subs, written_section, written_sections}
-use Rattle.vms_write.proofs.Facade.{first_cell, device_at, sub_at, sub_next, CellForm, sub_fine, subs_fine, sub_size, written_sub}
+use Rattle.vms_write.proofs.Facade.{first_cell, device_at, sub_at, sub_next, CellForm, sub_fine, subs_fine, written_sub}
 use Rattle.vms_spec.specs.declared.Part.TheVariants as parts
 
 pub bytes_zeroed : (n : List ℤ) (xs : List Slot) → bytes_of n (steps_of xs) ≡ zeroed n xs
@@ -50,38 +50,34 @@ wrote_err a b xs (Err e) f h = f e h
 
 -- ---- Subsections one after the other.
 
--- the rest of the subsections, at one of them
-pub subs_next : (set : Set) (i : ℕ) (image : Image) (j : ℕ) → j < length (device_at set i).subs → j < length image.came
-    → written_subs set (device_at set i) image (first_cell set (parts.Sub i j)) (drop j (device_at set i).subs) (drop j image.came)
-    ≡ written_sub set i image j (get_or image.came j None)
-    ++ written_subs set (device_at set i) image (first_cell set (parts.Sub i (j + 1))) (drop (j + 1) (device_at set i).subs) (drop (j + 1) image.came)
-subs_next set i image j lt lt' =
-    let d = device_at set i in
-    let at = first_cell set (parts.Sub i j) in
-    ap (λ xs. written_subs set d image at xs (drop j image.came)) (drop_more d.subs j _ lt)
-    ∙ ap (λ ys. written_subs set d image at (sub_at d j ∷ drop (j + 1) d.subs) ys) (drop_more image.came j None lt') ∙ one (get_or image.came j None)
-    ∙ ap (λ x. written_sub set i image j (get_or image.came j None) ++ written_subs set d image x (drop (j + 1) d.subs) (drop (j + 1) image.came)) (sym (sub_next set (own_cells set d) d.subs j _ lt))
-  where
-    one : (o : Option ℕ) → written_subs set (device_at set i) image (first_cell set (parts.Sub i j)) (sub_at (device_at set i) j ∷ drop (j + 1) (device_at set i).subs) (o ∷ drop (j + 1) image.came)
-        ≡ written_sub set i image j o
-        ++ written_subs set (device_at set i) image (first_cell set (parts.Sub i j) + length (desc_cells (struct_cells set) (sub_at (device_at set i) j).desc)) (drop (j + 1) (device_at set i).subs) (drop (j + 1) image.came)
-    one None = refl
-    one (Some v) = refl
+module _ (set : Set) (i : ℕ) (image : Image) (j : ℕ) (lt : j < length (device_at set i).subs) (lt' : j < length image.came) where
+  abbrev d : Device
+  d = device_at set i
 
--- the same for the walk that judges
-pub subs_fine_next : (set : Set) (i : ℕ) (forms : List CellForm) (image : Image) (j : ℕ) → j < length (device_at set i).subs → j < length image.came
-    → subs_fine set (device_at set i) forms image j (first_cell set (parts.Sub i j)) (drop j (device_at set i).subs) (drop j image.came)
-    ≡ (sub_fine set (device_at set i) forms image j (first_cell set (parts.Sub i j)) (sub_at (device_at set i) j) (get_or image.came j None)
-    && subs_fine set (device_at set i) forms image (j + 1) (first_cell set (parts.Sub i (j + 1))) (drop (j + 1) (device_at set i).subs) (drop (j + 1) image.came))
-subs_fine_next set i forms image j lt lt' =
-    let d = device_at set i in
-    let none : Sub = record { desc = no_desc; needed = AtLeast 0 } in
-    let at = first_cell set (parts.Sub i j) in
-    let here = sub_fine set d forms image j at (sub_at d j) (get_or image.came j None) in
-    ap (λ xs. subs_fine set d forms image j at xs (drop j image.came)) (drop_more d.subs j none lt)
-    ∙ ap (λ ys. subs_fine set d forms image j at (sub_at d j ∷ drop (j + 1) d.subs) ys) (drop_more image.came j None lt')
-    ∙ ap (λ k. here && subs_fine set d forms image k (at + sub_size set (sub_at d j)) (drop (j + 1) d.subs) (drop (j + 1) image.came)) (omega arith)
-    ∙ ap (λ x. here && subs_fine set d forms image (j + 1) x (drop (j + 1) d.subs) (drop (j + 1) image.came)) (sym (sub_next set (own_cells set d) d.subs j none lt))
+  abbrev none : Sub
+  none = record { desc = no_desc; needed = AtLeast 0 }
+
+  -- the rest of the subsections, at one of them
+  pub subs_next : written_subs set d image (first_cell set (parts.Sub i j)) (drop j d.subs) (drop j image.came)
+      ≡ written_sub set i image j (get_or image.came j None)
+      ++ written_subs set d image (first_cell set (parts.Sub i (j + 1))) (drop (j + 1) d.subs) (drop (j + 1) image.came)
+  subs_next =
+      rw (drop_more d.subs j none lt, drop_more image.came j None lt', sub_next set (own_cells set d) d.subs j none lt) (one (get_or image.came j None))
+    where
+      one : (o : Option ℕ) → written_subs set d image (first_cell set (parts.Sub i j)) (sub_at d j ∷ drop (j + 1) d.subs) (o ∷ drop (j + 1) image.came)
+          ≡ written_sub set i image j o
+          ++ written_subs set d image (first_cell set (parts.Sub i j) + length (desc_cells (struct_cells set) (sub_at d j).desc)) (drop (j + 1) d.subs)
+          (drop (j + 1) image.came)
+      one None = refl
+      one (Some v) = refl
+
+  -- the same for the walk that judges
+  pub subs_fine_next : (forms : List CellForm) → subs_fine set d forms image j (first_cell set (parts.Sub i j)) (drop j d.subs) (drop j image.came)
+      ≡ (sub_fine set d forms image j (first_cell set (parts.Sub i j)) (sub_at d j) (get_or image.came j None)
+      && subs_fine set d forms image (j + 1) (first_cell set (parts.Sub i (j + 1))) (drop (j + 1) d.subs) (drop (j + 1) image.came))
+  subs_fine_next forms =
+      let one : j + 1 ≡ suc j = omega arith in
+      rw (drop_more d.subs j none lt, drop_more image.came j None lt', sub_next set (own_cells set d) d.subs j none lt, one)
 
 -- ---- The sections of a stream, one after the other.
 

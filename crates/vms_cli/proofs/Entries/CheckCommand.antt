@@ -1,18 +1,12 @@
 -- `check` has one outcome, and what is compatible is checked so.
-use Rattle.vms_cli.proofs.Facade.{ℕ, List, Option, Some, refl, sym, subst, inl, inr, Held, Mismatch, done, SetWord, Step, Both, HasText, next, one_text}
-use Rattle.vms_cli.proofs.Facade.{checked, compared, compatible_text, verdict, check_entry, Set}
-use Rattle.vms_cli.proofs.CheckLemmas.{sound_check}
-use Rattle.vms_cli.proofs.RowFacts.{IsDone, IsRow, spares_none, spares_text}
+use Rattle.vms_cli.proofs.{CheckLemmas.sound_check, RowFacts.IsDone, RowFacts.IsRow, RowFacts.spares_none, RowFacts.spares_text}
+use Rattle.vms_cli.proofs.Facade.{ℕ, List, Option, Some, refl, inl, inr, Held, done, SetWord, one_text, checked, compatible_text, check_entry}
 
 accepted : (old new : SetWord) (input : Option (List ℕ)) (held : Option Held) → (check_entry old new).needs input held
     → IsDone (check_entry old new).task input held
 accepted old new input held can =
     let outcome = done compatible_text held 0 in
-    record {
-      outcome = outcome;
-      is = rw can.1 (rw can.2 refl);
-      status = refl;
-    }
+    record { outcome = outcome; is = rw can.1 (rw can.2 refl); status = refl }
 
 pub check_row : (old new : SetWord) → IsRow (check_entry old new)
 check_row old new = record {

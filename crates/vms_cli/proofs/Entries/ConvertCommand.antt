@@ -1,5 +1,5 @@
 -- `convert` has one outcome, and what can be converted is.
-use Rattle.vms_cli.proofs.Facade.{◌≡◌, ◌⊎◌, ℕ, ◌+◌, List, Option, Some, None, inl, inr, refl, sym, ap, ◌∙◌, subst, arith, none-some, Held, IsBytes, IsFit}
+use Rattle.vms_cli.proofs.Facade.{◌≡◌, ◌⊎◌, ℕ, ◌+◌, List, Option, Some, None, inl, inr, refl, sym, subst, arith, none-some, Held, IsBytes, IsFit}
 use Rattle.vms_cli.proofs.Facade.{Image, Set, Answer, Taken, Faulty, Takes, either_holds, taken_kept, Compatible, first_mismatch, Mismatch, IsStreamFor}
 use Rattle.vms_cli.proofs.Facade.{LosesFirst, word_set, refused_line, done, ended, SetWord, Step, Untold, Gives, Ends, next, FitStep, fit_word, IsSound}
 use Rattle.vms_cli.proofs.Facade.{sound_next, sound_word_set, ConvertsBy, Rewrites, WouldLose, agreed, agrees, lost_line, newest, target, CanBeConverted}

@@ -1,6 +1,6 @@
 -- `counter` has one outcome, and two sets have an answer.
-use Rattle.vms_cli.proofs.Facade.{ℕ, List, Option, Some, refl, sym, subst, inl, inr, Held, Set, named_sets, done, SetWord, Step, Both, Gives, next, one_text}
-use Rattle.vms_cli.proofs.Facade.{computed, CountersBy, counted, counter_text, counter_entry}
+use Rattle.vms_cli.proofs.Facade.{ℕ, List, Option, Some, refl, subst, inl, inr, Held, named_sets, done, SetWord, Gives, next, one_text}
+use Rattle.vms_cli.proofs.Facade.{computed, counted, counter_text, counter_entry}
 use Rattle.vms_cli.proofs.RowFacts.{IsDone, IsRow, spares_none, spares_text}
 use Rattle.vms_cli.proofs.ShowLemmas.{AreFit, counters_text, fit_sets, sound_counter, text_counters}
 

@@ -1,5 +1,5 @@
 -- `load` has one outcome, and a board goes on if its stream and a script can be read.
-use Rattle.vms_cli.proofs.Facade.{ℕ, List, Option, Some, None, refl, sym, subst, inl, inr, none-some, Held, IsBytes, FitsHeads, WellFormed, done, ended, Step}
+use Rattle.vms_cli.proofs.Facade.{ℕ, List, Option, Some, None, refl, sym, inl, inr, none-some, Held, IsBytes, FitsHeads, WellFormed, done, ended, Step}
 use Rattle.vms_cli.proofs.Facade.{Untold, Gives, Ends, IsSound, clock, clock_stands, Family, isa, isa_stands, Back, Restores, script_gives, sound_script}
 use Rattle.vms_cli.proofs.Facade.{loads_one, LoadsBy, Traces, scripted, answers_to, trace_of, events_of, ScriptLine, IsaBoard, BoardWord, ClockBoard, HasOne}
 use Rattle.vms_cli.proofs.Facade.{CanBeRead, load_entry}

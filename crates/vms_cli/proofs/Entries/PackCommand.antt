@@ -1,5 +1,5 @@
 -- `pack` has one outcome, and what can be packed is.
-use Rattle.vms_cli.proofs.Facade.{◌≡◌, ℕ, List, Option, Some, None, refl, sym, ap, subst, inl, inr, Held, longest_file, done, SetWord, Step, Gives, HasText}
+use Rattle.vms_cli.proofs.Facade.{◌≡◌, ℕ, List, Option, Some, None, refl, ap, inl, inr, Held, longest_file, done, SetWord, Gives}
 use Rattle.vms_cli.proofs.Facade.{fetched_gives, one_text, CanBePacked, described_stream, packed_by, packs, pack_entry}
 use Rattle.vms_cli.proofs.PackLemmas.{pack_gives, sound_pack}
 use Rattle.vms_cli.proofs.RowFacts.{IsDone, IsRow, spares_none, spares_text}
@@ -16,11 +16,7 @@ packed : (word : SetWord) (name : List ℕ) (input : Option (List ℕ)) (held : 
 packed word name input None can = absurd can
 packed word name input (Some map) can =
     let outcome = done (described_stream can.set can.machine can.images) (Some map) 0 in
-    record {
-      outcome = outcome;
-      is = rw (packs_give word name map can) refl;
-      status = refl;
-    }
+    record { outcome = outcome; is = rw (packs_give word name map can) refl; status = refl }
 
 pub pack_row : (word : SetWord) (name : List ℕ) → IsRow (pack_entry word name)
 pack_row word name = record {

@@ -1,7 +1,7 @@
 -- `play` has one outcome, and a script that can be read is played.
-use Rattle.vms_cli.proofs.Facade.{ℕ, List, ◌∷◌, [], Option, Some, None, IfSome, refl, sym, ap, subst, inl, inr, none-some, Held, HoldsAll, Outcome, ended, Step}
+use Rattle.vms_cli.proofs.Facade.{ℕ, List, ◌∷◌, [], Option, Some, None, IfSome, refl, sym, inl, inr, none-some, Held, HoldsAll, ended, Step}
 use Rattle.vms_cli.proofs.Facade.{Untold, Gives, Ends, IsSound, AreStepLines, script_gives, scripted_lines, sound_script, IsLevel, has_end, one_outcome}
-use Rattle.vms_cli.proofs.Facade.{PlaysBy, scripted, reads_exactly, AreLines, ScriptLine, HasOne, play_entry}
+use Rattle.vms_cli.proofs.Facade.{PlaysBy, scripted, reads_exactly, ScriptLine, HasOne, play_entry}
 use Rattle.vms_cli.proofs.RowFacts.{IsDone, IsRow, Spares}
 
 abbrev OnePlays : ℕ → Step (List ScriptLine) → Held → Type 0

@@ -1,6 +1,6 @@
 -- `save` has one outcome, and a board after a script that can be read is saved.
-use Rattle.vms_cli.proofs.Facade.{ℕ, List, Option, Some, None, refl, sym, subst, inl, inr, Held, done, Step, Gives, HasText, next, one_text, clock, Family, isa}
-use Rattle.vms_cli.proofs.Facade.{IsSound, saved_stream, script_gives, sound_saved, saved_after, after_events, events_of, ScriptLine, saved_on, IsaBoard}
+use Rattle.vms_cli.proofs.Facade.{ℕ, List, Option, Some, None, refl, inl, inr, Held, done, HasText, one_text, clock, Family, isa}
+use Rattle.vms_cli.proofs.Facade.{IsSound, saved_stream, script_gives, sound_saved, saved_after, after_events, events_of, saved_on, IsaBoard}
 use Rattle.vms_cli.proofs.Facade.{BoardWord, ClockBoard, CanBeRead, save_entry}
 use Rattle.vms_cli.proofs.RowFacts.{IsDone, IsRow, spares_none, spares_text}
 

@@ -1,5 +1,5 @@
 -- `show` has one outcome, and what can be shown is.
-use Rattle.vms_cli.proofs.Facade.{ℕ, ◌+◌, List, Option, Some, None, refl, sym, subst, inl, inr, none-some, Held, IsBytes, values_text, Set, IsFit, Answer}
+use Rattle.vms_cli.proofs.Facade.{ℕ, ◌+◌, List, Option, Some, None, refl, sym, inl, inr, none-some, Held, IsBytes, values_text, Set, IsFit, Answer}
 use Rattle.vms_cli.proofs.Facade.{Taken, Faulty, either_holds, word_set, refused_line, done, ended, SetWord, Step, Untold, Gives, Ends, FitStep, fit_word}
 use Rattle.vms_cli.proofs.Facade.{IsSound, sound_word_set, CanBeShown, ShowsBy, Refuses, HasOne, show_entry}
 use Rattle.vms_cli.specs.Commands.ShowCommand.{Values as Printed}
@@ -32,11 +32,7 @@ shown word None held can = absurd can.2
 shown word (Some bytes) held can =
     let takes = can.2 in
     let outcome = done (values_text can.0 takes.1 takes.2) held takes.0 in
-    record {
-      outcome = outcome;
-      is = rw can.1 (Printed takes.0 takes.1 takes.2 takes.3);
-      status = refl;
-    }
+    record { outcome = outcome; is = rw can.1 (Printed takes.0 takes.1 takes.2 takes.3); status = refl }
 
 pub show_row : (word : SetWord) → IsRow (show_entry word)
 show_row word = record {

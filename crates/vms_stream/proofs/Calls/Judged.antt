@@ -1,13 +1,13 @@
 -- What a cursor's call sees, and what the judge says; a unit between sections after the fields.
-use Rattle.vms_stream.proofs.{Facade.NextLaw, Facade.SeenLaw, Finding.There.next_at}
-use Rattle.vms_stream.proofs.Facade.{◌≡◌, if_both, if_so, ℕ, ◌+◌, List, ◌∷◌, length, get_or, Option, Some, None, refl, ap, ◌∙◌, Bool, true, false, not, nat_lt}
-use Rattle.vms_stream.proofs.Facade.{◌==◌, ◌&&◌, if◌then◌else◌, [], ◌||◌, zero, suc, ◌++◌, take, both_ways, not-true, or-not_self, LONGEST_NAME, Reason, Set}
-use Rattle.vms_stream.proofs.Facade.{Image, number_at, bytes_at, Verdict, Faulty, Over, Piece, Configuration, Long, Head, End, Start, Mark, Number, Constant}
-use Rattle.vms_stream.proofs.Facade.{Filler, SubHead, Foot, if_true, Tail, Unknown, Footed, Bare, Known, Due, Between, AfterFields, begins_next, rules_hold}
-use Rattle.vms_stream.proofs.Facade.{AMagic, AVersion, Field, AfterEnd, Nothing, is_foot, is_next, due_field, Found, Whole, Cut, needs, between_at, unit_at}
-use Rattle.vms_stream.proofs.Facade.{sub_at, behind_at, cut_in, first_of, is_between, wants_foot, is_ram, Row, first_row, alone, asking, other_constant}
-use Rattle.vms_stream.proofs.Facade.{large_count, bad_foot, judge, judge_found, by_row, owes, State, Free, Inside, due_by, known_at, slots_at, after, by_state}
-use Rattle.vms_stream.proofs.Facade.{Spot, Before, Headed, Ended, open_at, width, Slot, Bad, seen_in, seen_by, judge_seen, ask, begins_section, JudgedLaw}
+use Rattle.vms_stream.proofs.{Facade.JudgedLaw, Finding.There.next_at}
+use Rattle.vms_stream.proofs.Facade.{NextLaw, SeenLaw, ◌≡◌, if_both, if_so, ℕ, ◌+◌, List, ◌∷◌, length, get_or, Option, Some, None, refl, ap, ◌∙◌, Bool, true}
+use Rattle.vms_stream.proofs.Facade.{false, not, nat_lt, ◌==◌, ◌&&◌, if◌then◌else◌, [], ◌||◌, zero, suc, ◌++◌, take, both_ways, not-true, or-not_self}
+use Rattle.vms_stream.proofs.Facade.{LONGEST_NAME, Reason, Set, Image, number_at, bytes_at, Verdict, Faulty, Over, Piece, Configuration, Long, Head, End, Start}
+use Rattle.vms_stream.proofs.Facade.{Mark, Number, Constant, Filler, SubHead, Foot, if_true, Tail, Unknown, Footed, Bare, Known, Due, Between, AfterFields}
+use Rattle.vms_stream.proofs.Facade.{begins_next, rules_hold, AMagic, AVersion, Field, AfterEnd, Nothing, is_foot, is_next, due_field, Found, Whole, Cut, needs}
+use Rattle.vms_stream.proofs.Facade.{between_at, unit_at, sub_at, behind_at, cut_in, first_of, is_between, wants_foot, is_ram, Row, first_row, alone, asking}
+use Rattle.vms_stream.proofs.Facade.{other_constant, large_count, bad_foot, judge, judge_found, by_row, owes, State, Free, Inside, due_by, known_at, slots_at}
+use Rattle.vms_stream.proofs.Facade.{after, by_state, Spot, Before, Headed, Ended, open_at, width, Slot, Bad, seen_in, seen_by, judge_seen, ask, begins_section}
 use Rattle.vms_stream.specs.{State.Over as IsOver}
 use Rattle.vms_spec.specs.Layout.{Number as NumberSlot, Constant as ConstantSlot, Filler as FillerSlot, Rule as RuleSlot}
 use Rattle.vms_spec.specs.declared.Reason.TheVariants as reasons

@@ -5,7 +5,6 @@ use Rattle.vms_stream.proofs.Facade.{longest_text, number_at, bytes_at, Verdict,
 use Rattle.vms_stream.proofs.Facade.{Filler, Foot, End, Description, Mark, opened, slots, Due, is_foot, AMagic, AVersion, Between, Field, AfterFields}
 use Rattle.vms_stream.proofs.Facade.{AfterEnd, due, due_field, Advances, width_positive, Found, Whole, Cut, needs, text_at, between_at, behind_at, trailer_at}
 use Rattle.vms_stream.proofs.Facade.{unit_at, Grammar, judge, judge_found, by_row, owes, Tail, passed, tail}
-use Rattle.vms_spec.specs.declared.Reason.TheVariants as reasons
 use Rattle.vms_spec.specs.Layout.{Number as NumberSlot, Constant as ConstantSlot, Filler as FillerSlot, Rule as RuleSlot}
 
 abbrev Stays : List ℕ → Found → Type 0

@@ -1,10 +1,10 @@
 -- Refusals of worked rows as faults: the units before the place, and why nothing goes on there.
-use Rattle.vms_stream.proofs.{Facade.subsection_set, Facade.tested_set, Facade.unit_at, Finding.There.only}
-use Rattle.vms_stream.proofs.Facade.{◌≡◌, ap, ◌∙◌, ℕ, ◌<◌, List, [], ◌∷◌, ◌++◌, length, take, drop, Option, Some, None, pos, refl, arith, codes, Bool, true}
-use Rattle.vms_stream.proofs.Facade.{false, ints, U8, U64, code, InRange, Reason, Set, first, magic, set_0, Piece, Magic, Version, Configuration, Long, Head}
-use Rattle.vms_stream.proofs.Facade.{Number, Constant, SubHead, Foot, End, Start, Mark, spell, spelled, Between, AfterFields, May, AtMagic, AtVersion}
-use Rattle.vms_stream.proofs.Facade.{AtConfiguration, AtStart, AtHead, AtEnd, AtMark, AtNumber, AtConstant, AtSubHead, AtFoot, AtLongText, AtTrailing, due}
-use Rattle.vms_stream.proofs.Facade.{holds, Unknown, reason_of, Front, Fails, Wrong, Fault, hex, head, smallest, box_head, counted_set, constant_set}
+use Rattle.vms_stream.proofs.{Facade.counted_set, Facade.constant_set, Finding.There.only}
+use Rattle.vms_stream.proofs.Facade.{subsection_set, tested_set, unit_at, ◌≡◌, ap, ◌∙◌, ℕ, ◌<◌, List, [], ◌∷◌, ◌++◌, length, take, drop, Option, Some, None}
+use Rattle.vms_stream.proofs.Facade.{pos, refl, arith, codes, Bool, true, false, ints, U8, U64, code, InRange, Reason, Set, first, magic, set_0, Piece, Magic}
+use Rattle.vms_stream.proofs.Facade.{Version, Configuration, Long, Head, Number, Constant, SubHead, Foot, End, Start, Mark, spell, spelled, Between}
+use Rattle.vms_stream.proofs.Facade.{AfterFields, May, AtMagic, AtVersion, AtConfiguration, AtStart, AtHead, AtEnd, AtMark, AtNumber, AtConstant, AtSubHead}
+use Rattle.vms_stream.proofs.Facade.{AtFoot, AtLongText, AtTrailing, due, holds, Unknown, reason_of, Front, Fails, Wrong, Fault, hex, head, smallest, box_head}
 use Rattle.vms_stream.specs.{Faults.Cut}
 use Rattle.vms_kinds.specs.declared.Kind.TheVariants.{Bool as Truth}
 use Rattle.vms_spec.specs.declared.Reason.TheVariants as reasons

@@ -1,14 +1,14 @@
 -- In a section whose slots are all passed: what an accepted reading finds after the fields. The subsections are spelled, in any
 -- order and each once; the image stays normal and valid.
-use Rattle.vms_stream.proofs.{Facade.fine_next, Facade.sub_front, Bodies.Body.Reads, Bodies.Body.body_read}
-use Rattle.vms_stream.proofs.Facade.{◌≡◌, ℕ, ◌+◌, ◌<◌, List, ◌++◌, length, drop, slice_set, Option, Some, None, refl, ap, ◌∙◌, subst, arith, Bool, true, false}
-use Rattle.vms_stream.proofs.Facade.{if◌then◌else◌, ◌==◌, [], zero, suc, ◌∷◌, Ok, Err, ℤ, sym, append_assoc, length-append, slice_get, slice_get_within}
-use Rattle.vms_stream.proofs.Facade.{both_ways, not-true, or-not_self, add-zero, IsBytes, bytes_rest, at_option, Set, Device, Sub, Image, IsVersionOf}
-use Rattle.vms_stream.proofs.Facade.{sub_slots, Spells, sub_head, foot, ComesOnce, SubsSpell, subs_of, part_slots, find_sub, Piece, spell, SubHead, Mark}
-use Rattle.vms_stream.proofs.Facade.{at_set, set_twice, Tail, Unknown, Footed, Bare, Known, AfterFields, due_field, rules_hold, is_foot, is_next, first_byte}
-use Rattle.vms_stream.proofs.Facade.{May, AtSubHead, AtFoot, AtOther, AtNext, first_of, is_between, State, Free, Inside, slots_at, due_by, known_at, after}
-use Rattle.vms_stream.proofs.Facade.{device_cells, desc_cells, Taken, Progress, take_desc, takers, cells_of, IsGood, versions_long, same_refl, body_found}
-use Rattle.vms_stream.proofs.Facade.{its_spelled, sub_are, Beside, beside_back, beside_done, part_place, Fine, Stays, stays_refl, stays_on, stays_next}
+use Rattle.vms_stream.proofs.Bodies.Body.{Reads, body_read}
+use Rattle.vms_stream.proofs.Facade.{stays_next, fine_next, sub_front, ◌≡◌, ℕ, ◌+◌, ◌<◌, List, ◌++◌, length, drop, slice_set, Option, Some, None, refl, ap, ◌∙◌}
+use Rattle.vms_stream.proofs.Facade.{subst, arith, Bool, true, false, if◌then◌else◌, ◌==◌, [], zero, suc, ◌∷◌, Ok, Err, ℤ, sym, append_assoc, length-append}
+use Rattle.vms_stream.proofs.Facade.{slice_get, slice_get_within, both_ways, not-true, or-not_self, add-zero, IsBytes, bytes_rest, at_option, Set, Device, Sub}
+use Rattle.vms_stream.proofs.Facade.{Image, IsVersionOf, sub_slots, Spells, sub_head, foot, ComesOnce, SubsSpell, subs_of, part_slots, find_sub, Piece, spell}
+use Rattle.vms_stream.proofs.Facade.{SubHead, Mark, at_set, set_twice, Tail, Unknown, Footed, Bare, Known, AfterFields, due_field, rules_hold, is_foot, is_next}
+use Rattle.vms_stream.proofs.Facade.{first_byte, May, AtSubHead, AtFoot, AtOther, AtNext, first_of, is_between, State, Free, Inside, slots_at, due_by, known_at}
+use Rattle.vms_stream.proofs.Facade.{after, device_cells, desc_cells, Taken, Progress, take_desc, takers, cells_of, IsGood, versions_long, same_refl}
+use Rattle.vms_stream.proofs.Facade.{body_found, its_spelled, sub_are, Beside, beside_back, beside_done, part_place, Fine, Stays, stays_refl, stays_on}
 use Rattle.vms_stream.proofs.Streams.Steps.{Run, Goes, steps, Opening, opening, free_opens}
 use Rattle.vms_stream.proofs.Streams.UnitRows.{foot_is, foot_mark_never, sub_is_one, none_from}
 
@@ -199,39 +199,38 @@ module _ (r : Run) (good : IsGood r.set) (c : Section r.set) (long : length c.st
               (omega (arith, length-append (head ++ body) q.tail, length-append head body)) q.opens;
         }
 
-    -- its body
-    body_goes : (more : List ℕ) → IsBytes rest → Fine r.set c.device v so_far n → rest ≡ head ++ more → IsVersionOf s.desc w → FindsSubs (length rest)
-        → (q : Taken)
-        → take_desc (takers r.set.structs (length r.set.structs)) s.desc w base (record { numbers = n; place = place + length head; rest = more }) ≡ q
-        → Reads r.set r.names c.state c.device (image_so v next n) c.k c.id (Some j) c.there c.room 0
-        (record { numbers = n; place = place + length head; rest = more }) q
-        → Accepts next n (Some j) 0 (place + length head) more → SubsRead r c v so_far n place rest
-    body_goes more ok fine spelled version on (Err e) is reads h = let f = sym reads ∙ h.is in cc
-    body_goes more ok fine spelled version on (Ok q) is reads h =
-        let p : Progress = record { numbers = n; place = place + length head; rest = more } in
-        let sound = good.subs c.k j c.device s c.there there in
-        let okm : IsBytes more = bytes_rest head more (subst IsBytes spelled ok) in
-        let b = body_found (device_cells r.set c.device) r.set.structs good.structs s.desc w base p q sound okm (omega arith)
-        (λ m. sub_are r.set c.device j s w m there) is in
-        let last : IsBytes q.rest = bytes_rest b.bytes q.rest (subst IsBytes b.front okm) in
-        let same = same_refl (base + length (desc_cells (cells_of (takers r.set.structs (length r.set.structs))) s.desc)) q.numbers in
-        let kept = b.kept q.numbers same in
-        let fine' = fine_next r.set c.device v so_far n q.numbers j w s good.structs (good.devices c.k c.device c.there)
-        (λ j s e. good.subs c.k j c.device s c.there e) there new version b.long (b.fits q.numbers same) (b.rules q.numbers same) kept fine in
-        let spelled' : rest ≡ head ++ (b.bytes ++ q.rest) = cc in
-        let later = on (Some j) reads.0 next q.numbers q.place q.rest reads.1
-        (omega (arith, ap length spelled', length-append head (b.bytes ++ q.rest), length-append b.bytes q.rest)) last fine'
-        (record { is = sym reads.2 ∙ h.is }) in
-        sub_before q.numbers b.bytes q.rest spelled' (b.spells q.numbers same) (stays_next r.set c.device so_far j w s n q.numbers there new kept)
-        (rw (← b.place) later)
+    module _ (more : List ℕ) (ok : IsBytes rest) (fine : Fine r.set c.device v so_far n) (spelled : rest ≡ head ++ more) (version : IsVersionOf s.desc w)
+        (on : FindsSubs (length rest)) where
+      abbrev start : Progress
+      start = record { numbers = n; place = place + length head; rest = more }
 
-    sub_goes : (more : List ℕ) → IsBytes rest → Fine r.set c.device v so_far n → rest ≡ head ++ more → IsVersionOf s.desc w → FindsSubs (length rest)
-        → Accepts next n (Some j) 0 (place + length head) more → SubsRead r c v so_far n place rest
-    sub_goes more ok fine spelled version on h =
-        body_goes more ok fine spelled version on _ refl
-        (body_read r.set r.names c.state c.device (image_so v next n) c.k c.id (Some j) c.there c.room good.structs s.desc w base
-        (good.subs c.k j c.device s c.there there) (λ m. rw (there, set_at))
-        (record { numbers = n; place = place + length head; rest = more })) h
+      -- its body
+      body_goes : (q : Taken) → take_desc (takers r.set.structs (length r.set.structs)) s.desc w base start ≡ q
+          → Reads r.set r.names c.state c.device (image_so v next n) c.k c.id (Some j) c.there c.room 0 start q
+          → Accepts next n (Some j) 0 (place + length head) more → SubsRead r c v so_far n place rest
+      body_goes (Err e) is reads h = let f = sym reads ∙ h.is in cc
+      body_goes (Ok q) is reads h =
+          let sound = good.subs c.k j c.device s c.there there in
+          let okm : IsBytes more = bytes_rest head more (subst IsBytes spelled ok) in
+          let b = body_found (device_cells r.set c.device) r.set.structs good.structs s.desc w base start q sound okm (omega arith)
+          (λ m. sub_are r.set c.device j s w m there) is in
+          let last : IsBytes q.rest = bytes_rest b.bytes q.rest (subst IsBytes b.front okm) in
+          let same = same_refl (base + length (desc_cells (cells_of (takers r.set.structs (length r.set.structs))) s.desc)) q.numbers in
+          let kept = b.kept q.numbers same in
+          let fine' = fine_next r.set c.device v so_far n q.numbers j w s good.structs (good.devices c.k c.device c.there)
+          (λ j s e. good.subs c.k j c.device s c.there e) there new version b.long (b.fits q.numbers same) (b.rules q.numbers same) kept fine in
+          let spelled' : rest ≡ head ++ (b.bytes ++ q.rest) = cc in
+          let later = on (Some j) reads.0 next q.numbers q.place q.rest reads.1
+          (omega (arith, ap length spelled', length-append head (b.bytes ++ q.rest), length-append b.bytes q.rest)) last fine'
+          (record { is = sym reads.2 ∙ h.is }) in
+          sub_before q.numbers b.bytes q.rest spelled' (b.spells q.numbers same) (stays_next r.set c.device so_far j w s n q.numbers there new kept)
+          (rw (← b.place) later)
+
+      sub_goes : Accepts next n (Some j) 0 (place + length head) more → SubsRead r c v so_far n place rest
+      sub_goes h =
+          body_goes _ refl
+          (body_read r.set r.names c.state c.device (image_so v next n) c.k c.id (Some j) c.there c.room good.structs s.desc w base
+          (good.subs c.k j c.device s c.there there) (λ m. rw (there, set_at)) start) h
 
   pub subs_found : (most : ℕ) → FindsSubs most
   subs_found zero part i so_far n place rest done less ok fine h = absurd (omega arith)

@@ -74,61 +74,60 @@ module _ (r : Run) (good : IsGood r.set) where
     abbrev start : Progress
     start = record { numbers = (default_image r.set d).numbers; place = place + length head; rest = more }
 
-    by_taken : {rest : List ℕ} → length s.came ≡ length r.set.devices → IsBytes rest → id < 4294967296 → rest ≡ head ++ more → IsVersionOf d.desc v
-        → Goes r (opened r.set s k id d v) (place + length head) more
-        → (q : Taken) → take_desc (takers r.set.structs (length r.set.structs)) d.desc v 0 start ≡ q
-        → Reads r.set r.names c.state d (record (default_image r.set d) { version = v }) k id None there room 0 start q → HasRead r s k d place rest
-    by_taken long ok id_fits spelled version h (Err e) is reads = let f = sym reads ∙ h.is in cc
-    by_taken long ok id_fits spelled version h (Ok q) is reads =
-        let all = device_cells r.set d in
-        let none = none_of d.subs in
-        let okm : IsBytes more = bytes_rest head more (subst IsBytes spelled ok) in
-        let sound = good.devices k d there in
-        let b = body_found all r.set.structs good.structs d.desc v 0 start q sound okm (omega (arith, defaults_long all)) (own_are r.set d v) is in
-        let m = same_refl (0 + length (desc_cells (cells_of (takers r.set.structs (length r.set.structs))) d.desc)) q.numbers in
-        let so_far : Fine r.set d v none q.numbers = record {
-          versions = none_versions d.subs;
-          long = cc (defaults_long all);
-          own_fits = b.fits q.numbers m;
-          own_rules = b.rules q.numbers m;
-          fits = λ j s w e f. absurd (none_came d.subs j w f);
-          rules = λ j s w e f. absurd (none_came d.subs j w f);
-          absent = λ c e f. b.kept q.numbers m c e ∙ defaults_at all c;
-        } in
-        let q' =
-        subs_found r good c (length-set s.came k true ∙ long) v (suc (length q.rest)) None reads.0 none q.numbers q.place q.rest reads.1
-        (omega arith) (bytes_rest b.bytes q.rest (subst IsBytes b.front okm)) so_far (record { is = sym reads.2 ∙ h.is }) in
-        let close = closing q'.footed id in
-        record {
-          id = id;
-          image = image_so v q'.all q'.numbers;
-          footed = q'.footed;
-          agrees = q'.agrees;
-          bytes = ((head ++ b.bytes) ++ q'.tail) ++ close;
-          after = q'.after;
-          is = record {
-            fits = id_fits;
-            normal = fine_normal r.set d v q'.all q'.numbers version (good.defaults k d there) q'.fine;
-            valid = fine_valid r.set d v q'.all q'.numbers q'.fine;
-            body = b.bytes;
-            own = its_spelled r.set d.desc v 0 good.structs sound q.numbers q'.numbers b.bytes q'.stays.own (b.spells q.numbers m);
-            order = q'.order;
-            each_once = rw (← beside_start d.subs q'.left q'.all q'.beside) q'.once;
-            tail = q'.tail;
-            subs = q'.subs;
-            whole = refl;
-          };
-          spelled = cc (regrouped head b.bytes q'.tail close q'.after);
-          opens = subst (λ (x : ℕ). Opening r false (came_to s k (image_so v q'.all q'.numbers) q'.footed) x q'.after)
-              (omega (arith, b.place, four_long head b.bytes q'.tail close)) q'.opens;
-        }
+    module _ {rest : List ℕ} (long : length s.came ≡ length r.set.devices) (ok : IsBytes rest) (id_fits : id < 4294967296) (spelled : rest ≡ head ++ more)
+        (version : IsVersionOf d.desc v) (h : Goes r (opened r.set s k id d v) (place + length head) more) where
+      by_taken : (q : Taken) → take_desc (takers r.set.structs (length r.set.structs)) d.desc v 0 start ≡ q
+          → Reads r.set r.names c.state d (record (default_image r.set d) { version = v }) k id None there room 0 start q → HasRead r s k d place rest
+      by_taken (Err e) is reads = let f = sym reads ∙ h.is in cc
+      by_taken (Ok q) is reads =
+          let all = device_cells r.set d in
+          let none = none_of d.subs in
+          let okm : IsBytes more = bytes_rest head more (subst IsBytes spelled ok) in
+          let sound = good.devices k d there in
+          let b = body_found all r.set.structs good.structs d.desc v 0 start q sound okm (omega (arith, defaults_long all)) (own_are r.set d v) is in
+          let m = same_refl (0 + length (desc_cells (cells_of (takers r.set.structs (length r.set.structs))) d.desc)) q.numbers in
+          let so_far : Fine r.set d v none q.numbers = record {
+            versions = none_versions d.subs;
+            long = cc (defaults_long all);
+            own_fits = b.fits q.numbers m;
+            own_rules = b.rules q.numbers m;
+            fits = λ j s w e f. absurd (none_came d.subs j w f);
+            rules = λ j s w e f. absurd (none_came d.subs j w f);
+            absent = λ c e f. b.kept q.numbers m c e ∙ defaults_at all c;
+          } in
+          let q' =
+          subs_found r good c (length-set s.came k true ∙ long) v (suc (length q.rest)) None reads.0 none q.numbers q.place q.rest reads.1
+          (omega arith) (bytes_rest b.bytes q.rest (subst IsBytes b.front okm)) so_far (record { is = sym reads.2 ∙ h.is }) in
+          let close = closing q'.footed id in
+          record {
+            id = id;
+            image = image_so v q'.all q'.numbers;
+            footed = q'.footed;
+            agrees = q'.agrees;
+            bytes = ((head ++ b.bytes) ++ q'.tail) ++ close;
+            after = q'.after;
+            is = record {
+              fits = id_fits;
+              normal = fine_normal r.set d v q'.all q'.numbers version (good.defaults k d there) q'.fine;
+              valid = fine_valid r.set d v q'.all q'.numbers q'.fine;
+              body = b.bytes;
+              own = its_spelled r.set d.desc v 0 good.structs sound q.numbers q'.numbers b.bytes q'.stays.own (b.spells q.numbers m);
+              order = q'.order;
+              each_once = rw (← beside_start d.subs q'.left q'.all q'.beside) q'.once;
+              tail = q'.tail;
+              subs = q'.subs;
+              whole = refl;
+            };
+            spelled = cc (regrouped head b.bytes q'.tail close q'.after);
+            opens = subst (λ (x : ℕ). Opening r false (came_to s k (image_so v q'.all q'.numbers) q'.footed) x q'.after)
+                (omega (arith, b.place, four_long head b.bytes q'.tail close)) q'.opens;
+          }
 
-    pub section_found : {rest : List ℕ} → length s.came ≡ length r.set.devices → IsBytes rest → id < 4294967296 → rest ≡ head ++ more → IsVersionOf d.desc v
-        → Goes r (opened r.set s k id d v) (place + length head) more → HasRead r s k d place rest
-    section_found long ok id_fits spelled version h =
-        by_taken long ok id_fits spelled version h (take_desc (takers r.set.structs (length r.set.structs)) d.desc v 0 start) refl
-        (body_read r.set r.names c.state d (record (default_image r.set d) { version = v }) k id None there room good.structs d.desc v 0
-        (good.devices k d there) (λ m. refl) start)
+      pub section_found : HasRead r s k d place rest
+      section_found =
+          by_taken (take_desc (takers r.set.structs (length r.set.structs)) d.desc v 0 start) refl
+          (body_read r.set r.names c.state d (record (default_image r.set d) { version = v }) k id None there room good.structs d.desc v 0
+          (good.devices k d there) (λ m. refl) start)
 
   sections_next : {s : State} {place : ℕ} {rest : List ℕ} {k : ℕ} {d : Device} → length s.came ≡ length r.set.devices → length s.images ≡ length r.set.devices
       → slice_get r.set.devices k ≡ Some d → slice_get s.came k ≡ Some false
@@ -192,8 +191,7 @@ module _ (r : Run) (good : IsGood r.set) where
       (omega (arith, ap length h.spelled, length-append h.bytes h.after, has_bytes h.is)) (bytes_rest h.bytes h.after (subst IsBytes h.spelled ok)) h.opens)
     where
       has_bytes : {image : Image} {footed : Bool} {bytes : List ℕ} {id : ℕ} → IsSection r.set d image id footed bytes → 0 < length bytes
-      has_bytes {image = image} {footed = footed} {bytes = bytes} {id = id} s =
-          omega (arith, simp length-append at (ap length s.whole))
+      has_bytes {image = image} {footed = footed} {bytes = bytes} {id = id} s = omega (arith, simp length-append at (ap length s.whole))
 
 -- what ends a stream: nothing, or a description
 record Ending (r : Run) (s : State) (place : ℕ) (rest : List ℕ) : Type 0 where

@@ -2,7 +2,7 @@
 use Rattle.vms_stream.proofs.Facade.{◌≡◌, ℕ, zero, suc, ◌+◌, ◌<◌, ◌≤◌, List, [], ◌∷◌, ◌++◌, length, drop, map, Bool, true, false, Option, Some, None, refl, sym}
 use Rattle.vms_stream.proofs.Facade.{arith, append_assoc, append-nil, length-append, slice_get, set-append_seam, drop-append_seam, Sub, Device, Set, desc_cells}
 use Rattle.vms_stream.proofs.Facade.{struct_cells, Image, zeroed, own_slots, sub_slots, sub_place, own_cells, AreVersionsOf, sub_front, drop_next}
-use Rattle.vms_stream.proofs.Facade.{zeroed_spells}
+use Rattle.vms_stream.proofs.Facade.{zeroed_spells, sub_first}
 use Rattle.vms_spec.specs.Streams
 use Rattle.vms_stream.specs.Streams as units
 
@@ -23,15 +23,11 @@ drop_head [] (suc j) x more e = cc
 drop_head (y ∷ xs) zero x more e = cc
 drop_head (y ∷ xs) (suc j) x more e = drop_head xs j x more e
 
-place_first : (set : Set) (at : ℕ) (subs : List Sub) → sub_place set at subs 0 ≡ at
-place_first set at [] = refl
-place_first set at (s ∷ subs) = refl
-
 place_next : (set : Set) (at : ℕ) (subs : List Sub) (j : ℕ) (x : Sub) (more : List Sub) → drop j subs ≡ x ∷ more
     → sub_place set at subs (suc j) ≡ sub_place set at subs j + length (desc_cells (struct_cells set) x.desc)
 place_next set at [] zero x more e = cc
 place_next set at [] (suc j) x more e = cc
-place_next set at (y ∷ subs) zero x more e = let same : y ≡ x = cc in rw same (place_first set (at + length (desc_cells (struct_cells set) x.desc)) subs)
+place_next set at (y ∷ subs) zero x more e = let same : y ≡ x = cc in rw same (sub_first set (at + length (desc_cells (struct_cells set) x.desc)) subs)
 place_next set at (y ∷ subs) (suc j) x more e = place_next set (at + length (desc_cells (struct_cells set) y.desc)) subs j x more e
 
 -- the subsections that came, from j on
@@ -85,7 +81,7 @@ written_section_is set d image id fits r = record {
   order = those_come 0 image.came;
   each_once = in_order image.came [] 0 refl tt;
   tail = Streams.written_subs set d image (own_cells set d) d.subs image.came;
-  subs = subs_spell set d image d.subs image.came (own_cells set d) 0 r.normal.subs refl refl (place_first set (own_cells set d) d.subs);
+  subs = subs_spell set d image d.subs image.came (own_cells set d) 0 r.normal.subs refl refl (sub_first set (own_cells set d) d.subs);
   whole = refl;
 }
 

@@ -1,5 +1,4 @@
-use Rattle.vms_board.proofs.Facade.{arith, described, device_at}
-use Rattle.vms_board.proofs.Imaging.{marked_all}
+use Rattle.vms_board.proofs.{Facade.arith, Facade.described, Facade.device_at, Imaging.marked_all}
 use Rattle.vms_board.proofs.images.mark_needed.Goals as goal
 
 pub returns : goal.returns

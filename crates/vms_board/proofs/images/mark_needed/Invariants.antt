@@ -1,5 +1,4 @@
-use Rattle.vms_board.proofs.Facade.{described, device_at}
-use Rattle.vms_board.proofs.Imaging.{Marked}
+use Rattle.vms_board.proofs.{Facade.described, Facade.device_at, Imaging.Marked}
 use Rattle.vms_board.proofs.images.mark_needed.Given as goal
 
 abbrev pub invariant-loop-sub : goal.invariant-loop-sub

@@ -1,5 +1,4 @@
-use Rattle.vms_board.proofs.Facade.{arith}
-use Rattle.vms_board.proofs.Imaging.{put_all}
+use Rattle.vms_board.proofs.{Facade.arith, Imaging.put_all}
 use Rattle.vms_board.proofs.images.put_numbers.Goals as goal
 
 pub returns : goal.returns

@@ -65,7 +65,6 @@ compare_structs-returns t c =
     let new = described c.args.new.now in
     let s = c.at_own_version.result in
     let r = c.at_own_version-2.result in
-    c.compare_descs.ensures
-    ∙ ap (λ (x : Side). desc_mismatch x r) c.at_own_version.ensures
+    c.compare_descs.ensures ∙ ap (λ (x : Side). desc_mismatch x r) c.at_own_version.ensures
     ∙ ap (λ (x : Side). desc_mismatch (own_side c.args.old (parts.Struct c.args.in_old)) x) c.at_own_version-2.ensures
     ∙ sym (structs_are old new c.args.new.now.well_formed c.args.in_old c.args.in_new _ _ c.requires.new refl refl)

@@ -7,6 +7,5 @@ returns-then-most-from c =
     let few : c.bound-most.result ≤ c.in-Some.capacity = omega (arith, c.if-most-from.true, c.from.ensures) in
     let holds : nat_le c.bound-most.result c.from.result ≡ true = grind (arith, nat_tests, c.if-most-from.true) in
     let fields = (desc_on c.args.new).fields in
-    holds
-    ∙ room_some fields c.args.new.version c.args.other.number c.bound-most.result c.in-Some.capacity (sym c.in-Some.is ∙ c.most.ensures) few
+    holds ∙ room_some fields c.args.new.version c.args.other.number c.bound-most.result c.in-Some.capacity (sym c.in-Some.is ∙ c.most.ensures) few
     ∙ ap (λ (n : ℕ). absent_hold c.args.new.version c.args.other.number n fields) c.bound-most.ensures

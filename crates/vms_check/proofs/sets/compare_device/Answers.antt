@@ -11,7 +11,6 @@ compare_found-requires c = record {
 pub returns-in-Some : goal.returns-in-Some
 returns-in-Some c =
     let old = described c.args.old.now in
-    c.compare_found.ensures
-    ∙ device_found old (described c.args.new.now) c.args.number (device_at old c.args.number) _ _ _ c.in-Some.found
+    c.compare_found.ensures ∙ device_found old (described c.args.new.now) c.args.number (device_at old c.args.number) _ _ _ c.in-Some.found
     (c.as_bytes.ensures ∙ ap (λ (d : Device). d.desc.name) c.device-device.ensures)
     (ap (λ (d : Device). d.instance) c.device-device.ensures) c.find.ensures c.in-Some.is

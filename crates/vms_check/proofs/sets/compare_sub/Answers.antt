@@ -1,8 +1,6 @@
+use Rattle.vms_check.proofs.{Facade.Side, WholeLaws.sub_in, WholeLaws.sub_found, sets.compare_sub.Goals.After-as_slice}
 use Rattle.vms_check.proofs.Facade.{◌≡◌, length, map, ap, ◌∙◌, arith, length-map, Desc, Device, sub_of, described, device_at, sub_at, few_subs, part_mismatch}
-use Rattle.vms_check.proofs.Facade.{Side}
 use Rattle.vms_spec.specs.declared.Part.TheVariants as parts
-use Rattle.vms_check.proofs.WholeLaws.{sub_in, sub_found}
-use Rattle.vms_check.proofs.sets.compare_sub.Goals.{After-as_slice}
 use Rattle.vms_check.proofs.sets.compare_sub.Goals as goal
 
 subs : (c : After-as_slice) → map sub_of c.as_slice.result.now ≡ (device_at (described c.args.new.now) c.args.in_new).subs
@@ -32,7 +30,6 @@ returns-in-Some c =
     let old = described c.args.old.now in
     let new = described c.args.new.now in
     let same = subs (goal.at.returns-in-Some c).After-as_slice in
-    c.compare_parts.ensures
-    ∙ ap (λ (s : Side). part_mismatch 14 s new (parts.Sub c.args.in_new c.in-Some.found)) c.at_own_version.ensures
+    c.compare_parts.ensures ∙ ap (λ (s : Side). part_mismatch 14 s new (parts.Sub c.args.in_new c.in-Some.found)) c.at_own_version.ensures
     ∙ sub_found old new c.args.in_old c.args.in_new c.args.number (device_at new c.args.in_new) (sub_at (device_at old c.args.in_old) c.args.number) _ _ _
     (c.as_bytes-name.ensures ∙ ap (λ (d : Desc). d.name) c.desc.ensures) (rw same at c.find_sub.ensures) c.in-Some.is

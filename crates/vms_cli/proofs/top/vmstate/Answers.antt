@@ -9,8 +9,7 @@ returns-in-Ok g c =
     let notes = outlet g.N.Sink c.args.notes.now in
     answers (intake g.I.Source c.args.input.now) (intake g.I.Source c.run.new.input) (outlet g.O.Sink c.args.out.now) (outlet g.O.Sink c.run.new.out)
     notes notes (stock g.H.Shelf c.args.shelf.now) (stock g.H.Shelf c.run.new.shelf)
-    c.args.words.now (ending_of c.run.result) 0 run.runs run.unnamed
-    (rw c.in-Ok.is (refl, refl)) (serves_none notes) (g.met.H.Shelf.octets c.args.shelf.now)
+    c.args.words.now (ending_of c.run.result) 0 run.runs run.unnamed (rw c.in-Ok.is (refl, refl)) (serves_none notes) (g.met.H.Shelf.octets c.args.shelf.now)
 
 pub returns-in-Err : goal.returns-in-Err
 returns-in-Err g c =

@@ -82,8 +82,7 @@ pair_present-returns-in_ok-put_unpaired t c =
     alone_pairs c.args.old c.args.new c.args.number c.requires.field c.requires.few c.args.partners.now.items c.put_unpaired.new.partners.items c.args.found
     c.args.found c.requires.found (omega arith) c.requires.there (rw c.field_cells.ensures at c.in_ok-put_unpaired.ensures)
 
--- ---- structures
-
+-- structures
 pub pair_structs-pair_descs-requires : goal.pair_structs-pair_descs-requires
 pair_structs-pair_descs-requires t c =
     let less : 7 * reach (described c.at_own_version.result.set.now) c.at_own_version.result.part + 6 < 7 * c.args.in_old + 7 =

@@ -1,5 +1,4 @@
-use Rattle.vms_counter.proofs.Facade.{ap, arith, sym, ◌∙◌, is_one_of}
-use Rattle.vms_counter.proofs.FoundLemmas.{lacks_here}
+use Rattle.vms_counter.proofs.{Facade.ap, Facade.arith, Facade.sym, Facade.◌∙◌, Facade.is_one_of, FoundLemmas.lacks_here}
 use Rattle.vms_counter.proofs.candidates.lacking.Goals as goal
 
 pub returns-then-not-is_one_of : goal.returns-then-not-is_one_of

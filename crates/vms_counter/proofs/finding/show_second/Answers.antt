@@ -1,5 +1,4 @@
-use Rattle.vms_counter.proofs.Facade.{refl, described, loads}
-use Rattle.vms_counter.proofs.FoundLemmas.{none_found}
+use Rattle.vms_counter.proofs.{Facade.refl, Facade.described, Facade.loads, FoundLemmas.none_found}
 use Rattle.vms_counter.proofs.finding.show_second.Goals as goal
 
 pub returns-in-None : goal.returns-in-None

@@ -1,6 +1,5 @@
+use Rattle.vms_counter.proofs.{ByteLaws.read_bytes, ByteLaws.sections_are, RoomLaws.has_room}
 use Rattle.vms_counter.proofs.Facade.{ℕ, ◌+◌, map, ap, ◌∙◌, arith, Set, desc_of, device_of, described, BESIDE_SECTIONS}
-use Rattle.vms_counter.proofs.ByteLaws.{read_bytes, sections_are}
-use Rattle.vms_counter.proofs.RoomLaws.{has_room}
 use Rattle.vms_counter.proofs.room.room.Goals as goal
 
 pub overflow_add-result : goal.overflow_add-result
@@ -8,8 +7,7 @@ overflow_add-result c =
     let set = c.args.set.now in
     let few = (sections_are (described set) set.well_formed c.all_bytes.result
     (read_bytes (described set) c.as_slice.result.now c.as_slice-2.result.now c.deref.result.now c.in_ok-structs.structs.items c.all_bytes.result
-    c.all_bytes.ensures c.deref.ensures.value c.in_ok-structs.ensures
-    (ap (map desc_of) c.as_slice.ensures ∙ ap (λ (s : Set). s.structs) c.parts.ensures)
+    c.all_bytes.ensures c.deref.ensures.value c.in_ok-structs.ensures (ap (map desc_of) c.as_slice.ensures ∙ ap (λ (s : Set). s.structs) c.parts.ensures)
     (ap (map device_of) c.as_slice-2.ensures ∙ ap (λ (s : Set). s.devices) c.parts-2.ensures))).1 in
     omega (arith, few)
 
@@ -18,7 +16,6 @@ returns c =
     let set = c.args.set.now in
     let bytes = ap (λ (n : ℕ). BESIDE_SECTIONS + n) (sections_are (described set) set.well_formed c.all_bytes.result
     (read_bytes (described set) c.as_slice.result.now c.as_slice-2.result.now c.deref.result.now c.in_ok-structs.structs.items c.all_bytes.result
-    c.all_bytes.ensures c.deref.ensures.value c.in_ok-structs.ensures
-    (ap (map desc_of) c.as_slice.ensures ∙ ap (λ (s : Set). s.structs) c.parts.ensures)
+    c.all_bytes.ensures c.deref.ensures.value c.in_ok-structs.ensures (ap (map desc_of) c.as_slice.ensures ∙ ap (λ (s : Set). s.structs) c.parts.ensures)
     (ap (map device_of) c.as_slice-2.ensures ∙ ap (λ (s : Set). s.devices) c.parts-2.ensures))).0 in
     record { bytes = bytes; room = rw bytes (has_room (described set) set.well_formed) }

@@ -1,5 +1,4 @@
-use Rattle.vms_counter.proofs.Facade.{map-set, described, state_of}
-use Rattle.vms_counter.proofs.FoundLemmas.{put_are}
+use Rattle.vms_counter.proofs.{Facade.map-set, Facade.described, Facade.state_of, FoundLemmas.put_are}
 use Rattle.vms_counter.proofs.second.put_image.Goals as goal
 
 pub returns : goal.returns

@@ -1,5 +1,4 @@
-use Rattle.vms_counter.proofs.Facade.{map, at_option, described, state_of}
-use Rattle.vms_counter.proofs.FoundLemmas.{named}
+use Rattle.vms_counter.proofs.{Facade.map, Facade.at_option, Facade.described, Facade.state_of, FoundLemmas.named}
 use Rattle.vms_counter.proofs.trying.tried.Goals as goal
 
 pub stream_of-requires : goal.stream_of-requires

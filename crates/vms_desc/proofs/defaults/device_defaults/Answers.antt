@@ -1,10 +1,8 @@
+use Rattle.vms_desc.proofs.{AskLaws.few_cells, defaults.device_defaults.Goals.In_ok-forms}
 use Rattle.vms_desc.proofs.Facade.{◌≡◌, ◌<◌, ◌∙◌, ◌++◌, ◌∷◌, [], ap, sym, get_or, List, length, map, take, arith, refl, length-map, map_more, device_at, set_of}
 use Rattle.vms_desc.proofs.Facade.{desc_of, device_of, form_of, device_cells, Held, device_forms, forms_to, form_numbers}
-use Rattle.vms_parts.specs.declared.types.Desc.{Desc}
-use Rattle.vms_parts.specs.declared.types.Device.{Device}
-use Rattle.vms_desc.proofs.AskLaws.{few_cells}
 use Rattle.vms_desc.proofs.FormLaws.{forms_are, forms_in, form_count, kinds_long, defaults_long, numbers_seen, kept_fit, defaults_made}
-use Rattle.vms_desc.proofs.defaults.device_defaults.Goals.{In_ok-forms}
+use Rattle.vms_parts.specs.{declared.types.Desc.Desc, declared.types.Device.Device}
 use Rattle.vms_desc.proofs.defaults.device_defaults.Goals as goal
 
 -- the device of this number, and the forms that are made of it

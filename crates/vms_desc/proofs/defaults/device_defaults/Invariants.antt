@@ -1,5 +1,4 @@
-use Rattle.vms_desc.proofs.Facade.{◌≡◌, map, take, form_numbers}
-use Rattle.vms_desc.proofs.FormLaws.{forms_in}
+use Rattle.vms_desc.proofs.{Facade.◌≡◌, Facade.map, Facade.take, Facade.form_numbers, FormLaws.forms_in}
 use Rattle.vms_desc.proofs.defaults.device_defaults.Given as goal
 
 abbrev pub invariant-loop-device : goal.invariant-loop-device

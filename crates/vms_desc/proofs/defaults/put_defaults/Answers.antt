@@ -1,5 +1,4 @@
-use Rattle.vms_desc.proofs.Facade.{pos}
-use Rattle.vms_desc.proofs.FormLaws.{filled_with, same_held}
+use Rattle.vms_desc.proofs.{Facade.pos, FormLaws.filled_with, FormLaws.same_held}
 use Rattle.vms_desc.proofs.defaults.put_defaults.Goals as goal
 
 pub returns : goal.returns

@@ -1,7 +1,6 @@
+use Rattle.vms_desc.proofs.{Facade.device_of, Facade.FitsSub, TablesMade.at_mapped, TablesMade.tables_next}
 use Rattle.vms_desc.proofs.Facade.{◌≡◌, ap, map, ◌∷◌, ◌<◌, length, get_or, arith, ℕ, Some, below_more, [], slice_get, length-map, slice_get_within, sub_of}
-use Rattle.vms_desc.proofs.Facade.{device_of, FitsSub}
 use Rattle.vms_spec.specs.Sets as sets
-use Rattle.vms_desc.proofs.TablesMade.{at_mapped, tables_next}
 use Rattle.vms_desc.proofs.table.part_tables.Goals as goal
 
 pub loop-sub-preserved : goal.loop-sub-preserved

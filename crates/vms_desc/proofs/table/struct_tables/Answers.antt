@@ -1,6 +1,5 @@
-use Rattle.vms_desc.proofs.Facade.{[], desc_of}
+use Rattle.vms_desc.proofs.{Facade.[], Facade.desc_of, TablesMade.tables_next}
 use Rattle.vms_spec.specs.Sets as sets
-use Rattle.vms_desc.proofs.TablesMade.{tables_next}
 use Rattle.vms_desc.proofs.table.struct_tables.Goals as goal
 
 pub loop-desc-preserved : goal.loop-desc-preserved

@@ -1,7 +1,6 @@
-use Rattle.vms_frames.proofs.Facade.{rules, arith, ap, sym, ◌∙◌, ◌≡◌, ◌+◌, ◌<◌, ◌≤◌, true, false, ℕ, List, length, drop, length-drop, Ok, Err, length-take-le}
+use Rattle.vms_frames.proofs.Facade.{rules, arith, ap, sym, ◌∙◌, ◌≡◌, ◌+◌, ◌≤◌, true, false, length, drop, length-drop, Ok, Err, length-take-le}
 use Rattle.vms_frames.proofs.Facade.{err_from_is_err_and, LONGEST_NAME, number_at, bytes_at, configuration_in, Good, nothing_known, configuration_seen}
 use Rattle.vms_spec.specs.declared.Reason.TheVariants as reasons
-use Rattle.vms_marks.specs.declared.configuration.Configuration.{Configuration as AConfiguration}
 use Rattle.vms_frames.specs.declared.units.Step.TheVariants.{Configuration}
 use Rattle.vms_spec.specs.Units.{Configuration as AUnit}
 use Rattle.vms_stream.specs.Dues.{Between as IsBetween}

@@ -1,5 +1,5 @@
 use Rattle.vms_frames.proofs.Facade.{arith, ap, sym, ◌∙◌, ◌≡◌, ◌+◌, ◌<◌, rules, length, get_or, Ok, Err, err_from_is_err_and, head_in, Section, Good, step_long}
-use Rattle.vms_frames.proofs.Facade.{unit_of_step, head_seen, Head}
+use Rattle.vms_frames.proofs.Facade.{unit_of_step, head_seen}
 use Rattle.vms_frames.proofs.HeadLemmas.{kept_byte, head_begins, head_cut, head_whole, head_long}
 use Rattle.vms_frames.proofs.ReadsUnits.{a_step, unit_on, unit_whole, unit_short}
 use Rattle.vms_frames.proofs.read.section.Goals as goal

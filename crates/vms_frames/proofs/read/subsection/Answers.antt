@@ -1,8 +1,7 @@
-use Rattle.vms_frames.proofs.Facade.{rules, arith, ap, sym, ◌∙◌, ◌≡◌, ◌+◌, ◌<◌, length, get_or, Ok, Err, err_from_is_err_and, sub_head_in, SubHead, Good}
-use Rattle.vms_frames.proofs.Facade.{sub_long}
-use Rattle.vms_spec.specs.Units.{SubHead as ASub}
+use Rattle.vms_frames.proofs.Facade.{rules, arith, ap, sym, ◌∙◌, ◌≡◌, ◌+◌, ◌<◌, length, get_or, Ok, Err, err_from_is_err_and, sub_head_in, Good, sub_long}
 use Rattle.vms_frames.proofs.HeadLemmas.{kept_byte, sub_begins, sub_cut, sub_whole_long, sub_whole}
 use Rattle.vms_frames.proofs.ReadsUnits.{a_sub, unit_on, unit_whole, unit_short}
+use Rattle.vms_spec.specs.Units.{SubHead as ASub}
 use Rattle.vms_frames.proofs.read.subsection.Goals as goal
 
 pub of-requires : goal.of-requires

@@ -1,5 +1,4 @@
-use Rattle.vms_image.proofs.Facade.{arith}
-use Rattle.vms_image.proofs.Filled.{cleared}
+use Rattle.vms_image.proofs.{Facade.arith, Filled.cleared}
 use Rattle.vms_image.proofs.image.clear.Goals as goal
 
 pub returns : goal.returns

@@ -1,8 +1,6 @@
-use Rattle.vms_load.proofs.Facade.{w128, to_z-of_z, err_from_is_err_and, rules, SFits, ◌≡◌, ℕ, ◌+◌, Some, Result, Ok, Err, OnOk, sym, subst, arith, Kind}
-use Rattle.vms_load.proofs.Facade.{InRange, WalkStep, capacities_of, take_slot, intake, reads_as, IsLong, FrameFault, IsOfKind, TakesOn, HasMoved, progress}
-use Rattle.vms_load.proofs.Facade.{slot_of, step_long}
-use Rattle.vms_walk.specs.Inside.{IsInside}
 use Rattle.vms_load.proofs.BodyLemmas.{reads_rule, number_ok, number_err, constant_taken, filler_taken}
+use Rattle.vms_load.proofs.Facade.{w128, to_z-of_z, err_from_is_err_and, rules, SFits, ◌≡◌, ℕ, ◌+◌, Some, Result, Ok, Err, OnOk, sym, subst, arith, WalkStep}
+use Rattle.vms_load.proofs.Facade.{capacities_of, take_slot, intake, reads_as, IsLong, FrameFault, TakesOn, HasMoved, progress, slot_of, step_long}
 use Rattle.vms_load.proofs.body.read_step.Goals as goal
 
 -- all bytes of an item, by which the cursor moves

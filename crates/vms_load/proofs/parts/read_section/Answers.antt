@@ -1,5 +1,5 @@
-use Rattle.vms_load.proofs.Facade.{rules, refl, subst, ◌≡◌, ℕ, List, ◌+◌, ◌<◌, ◌≤◌, Option, Some, None, Err, length, ap, ◌∙◌, arith, err_from_is_err_and, Set}
-use Rattle.vms_load.proofs.Facade.{Device, intake, Stand, held_long, described, device_at, Open, GoesSoFar, Onward, reach, IsMoved, part_due, subs_due}
+use Rattle.vms_load.proofs.Facade.{rules, refl, ◌≡◌, ℕ, List, ◌+◌, ◌<◌, ◌≤◌, Option, Some, None, Err, length, ap, ◌∙◌, arith, err_from_is_err_and, Set}
+use Rattle.vms_load.proofs.Facade.{Device, intake, Stand, held_long, described, device_at, Open, Onward, reach, IsMoved, part_due, subs_due}
 use Rattle.vms_load.proofs.Facade.{bytes_of_part, in_fields, after_fields, after_part, section_due, FOOT_LENGTH, LONGEST_SUB_HEAD, LONGEST_HEAD}
 use Rattle.vms_load.proofs.ReadLemmas.{goes_here, goes_further, goes_on, goes_still}
 use Rattle.vms_image.specs.Typed.{state_of as untyped}

@@ -1,4 +1,4 @@
-use Rattle.vms_load.proofs.Facade.{rules, arith, ap, length, Set, described, few_machines}
+use Rattle.vms_load.proofs.Facade.{rules, arith, ap, length, described, few_machines}
 use Rattle.vms_load.proofs.staged.configure.Goals as goal
 
 pub machine_of-requires : goal.machine_of-requires

@@ -1,5 +1,5 @@
-use Rattle.vms_load.proofs.Facade.{rules, Option, Some, None, Err, ap, arith, ◌+◌, subst, err_from_is_err_and, judge, by_state, reading_on, described, intake, Between}
-use Rattle.vms_load.proofs.Facade.{First, Onward, GoesSoFar, accepted_of, state_of, spot_at, stream_due, LONGEST_HEAD}
+use Rattle.vms_load.proofs.Facade.{rules, Option, Some, None, Err, ap, arith, ◌+◌, err_from_is_err_and, judge, by_state, reading_on, described, Between}
+use Rattle.vms_load.proofs.Facade.{First, Onward, accepted_of, state_of, spot_at, stream_due, LONGEST_HEAD}
 use Rattle.vms_load.proofs.ReadLemmas.{goes_here, goes_further, goes_on, goes_still}
 use Rattle.vms_load.proofs.stream.sections.Goals as goal
 

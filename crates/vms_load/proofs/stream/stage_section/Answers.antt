@@ -1,12 +1,10 @@
-use Rattle.vms_load.proofs.Facade.{rules, ◌≡◌, map, List, [], Some, Bool, false, Ok, Err, length, slice_set, sym, ap, ◌∙◌, subst, arith, err_from_is_err_and}
-use Rattle.vms_load.proofs.Facade.{length-set, length-map, Typed, IsImageOf, no_desc, judge, ask, Free, by_state, reading_on, described, device_at, opened_at}
-use Rattle.vms_load.proofs.Facade.{section_opened, subs_due, AreShaped, begun_at, name_of, state_of, sections_due, tail_of, intake, reads_as, Onward}
-use Rattle.vms_image.specs.Typed.{state_of as untyped}
-use Rattle.vms_load.proofs.ReadLemmas.{read_behind, behind_here}
+use Rattle.vms_load.proofs.{ReadLemmas.read_behind, ReadLemmas.behind_here, stream.stage_section.Given.Over, stream.stage_section.Goals.After-index_mut-image}
 use Rattle.vms_load.proofs.AfterReads.{head_unit, head_long, begun, section_refused, section_reads, ended_in, ends_later}
+use Rattle.vms_load.proofs.Facade.{rules, ◌≡◌, map, [], Some, false, Ok, Err, length, slice_set, sym, ap, ◌∙◌, subst, arith, err_from_is_err_and, length-set}
+use Rattle.vms_load.proofs.Facade.{length-map, no_desc, judge, ask, Free, by_state, reading_on, described, device_at, opened_at, section_opened, subs_due}
+use Rattle.vms_load.proofs.Facade.{AreShaped, begun_at, name_of, state_of, sections_due, tail_of, intake, reads_as, Onward}
 use Rattle.vms_load.proofs.StagedLemmas.{image_begun, begun_here, shaped_put, still_fresh, default_shaped, sections_taken}
-use Rattle.vms_load.proofs.stream.stage_section.Given.{Over}
-use Rattle.vms_load.proofs.stream.stage_section.Goals.{After-index_mut-image}
+use Rattle.vms_image.specs.Typed.{state_of as untyped}
 use Rattle.vms_load.proofs.stream.stage_section.Goals as goal
 
 -- the images once the section has begun, and the image of its device

@@ -1,9 +1,8 @@
-use Rattle.vms_load.proofs.Facade.{ℕ, ◌+◌, Some, None, Ok, Err, true, false, sym, subst, ap, arith, err_from_is_err_and, intake, reads_as, reads_both, judge}
-use Rattle.vms_load.proofs.Facade.{reading, Before, Free, by_state, at_start, reading_on, described, Stand, held_long, Onward, reach, GoesThrough, accepted_of}
+use Rattle.vms_load.proofs.{SetFacts.most_small, SetFacts.start_due, StreamReads.refused_before, StreamReads.closed}
+use Rattle.vms_load.proofs.Facade.{◌+◌, Some, None, Ok, Err, true, false, sym, subst, ap, arith, err_from_is_err_and, intake, reads_as, reads_both, judge}
+use Rattle.vms_load.proofs.Facade.{reading, Before, Free, by_state, at_start, reading_on, described, held_long, Onward, reach, GoesThrough, accepted_of}
 use Rattle.vms_load.proofs.Facade.{state_of, spot_at, stream_due, most_given, First, LONGEST_HEAD}
-use Rattle.vms_load.proofs.SetFacts.{most_small, start_due}
 use Rattle.vms_load.proofs.ReadLemmas.{goes_further, goes_on, same_course}
-use Rattle.vms_load.proofs.StreamReads.{refused_before, closed}
 use Rattle.vms_load.proofs.stream.stream.Goals as goal
 
 pub read_head-requires : goal.read_head-requires

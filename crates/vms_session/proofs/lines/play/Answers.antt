@@ -1,6 +1,6 @@
-use Rattle.vms_session.proofs.Facade.{ℕ, Some, ◌+◌, ◌<◌, length, drop, refl, sym, subst, ◌∙◌, arith, drop_all, outlet, stock, reaches_both, reaches_none}
-use Rattle.vms_session.proofs.Facade.{serves_both, serves_none, IsLine, line_view, lines_view}
-use Rattle.vms_session.proofs.CourseLemmas.{lines_next, in_course, next_course, stop_course, course_ends, goes_since}
+use Rattle.vms_session.proofs.Facade.{◌+◌, drop, refl, ◌∙◌, arith, drop_all, outlet, stock, reaches_both, reaches_none}
+use Rattle.vms_session.proofs.Facade.{serves_both, serves_none, line_view, lines_view}
+use Rattle.vms_session.proofs.CourseLemmas.{lines_next, in_course, course_goes, course_stops, course_ends, goes_since}
 use Rattle.vms_session.proofs.lines.play.Goals as goal
 
 pub loop-line-init : goal.loop-line-init
@@ -32,10 +32,10 @@ loop-line-preserved g c =
       lines = (rw split at c.loop-line.invariant.lines).1;
       sets = c.in-Ok.ensures.sets;
       course = λ held parts new told plays.
-          next_course i (line_view c.line-item.result) left (lines_view (drop i lines)) split parts new c.loop-line.board.state c.play_line.new.board.state
+          course_goes i (line_view c.line-item.result) left parts new c.loop-line.board.state c.play_line.new.board.state
           (outlet g.K.Sink c.args.out.now) (outlet g.K.Sink c.loop-line.out) (outlet g.K.Sink c.play_line.new.out)
           (stock g.H.Shelf c.args.shelf.now) (stock g.H.Shelf c.loop-line.shelf) (stock g.H.Shelf c.play_line.new.shelf)
-          (c.loop-line.invariant.course held parts new told plays) c.in-Ok.ensures.content;
+          (rw split at (c.loop-line.invariant.course held parts new told plays)) c.in-Ok.ensures.content;
       serves = serves_both c.loop-line.invariant.serves c.in-Ok.ensures.goes.serves;
       reaches = reaches_both c.loop-line.invariant.reaches c.in-Ok.ensures.goes.reaches;
     }
@@ -44,12 +44,11 @@ pub returns-in-Err-clause-content : goal.returns-in-Err-clause-content
 returns-in-Err-clause-content g c = λ held parts new told plays.
     let lines = c.args.lines.now in
     let i = c.loop-line.line-index in
-    stop_course i (line_view c.line-item.result) (lines_view (drop (i + 1) lines)) (lines_view (drop i lines))
-    (lines_next lines i c.line-item.result (omega arith) c.line-item.is)
-    parts new c.loop-line.board.state c.play_line.new.board.state
+    let split = lines_next lines i c.line-item.result (omega arith) c.line-item.is in
+    course_stops i (line_view c.line-item.result) (lines_view (drop (i + 1) lines)) parts new c.loop-line.board.state c.play_line.new.board.state
     (outlet g.K.Sink c.args.out.now) (outlet g.K.Sink c.loop-line.out) (outlet g.K.Sink c.play_line.new.out)
     (stock g.H.Shelf c.args.shelf.now) (stock g.H.Shelf c.loop-line.shelf) (stock g.H.Shelf c.play_line.new.shelf)
-    (c.loop-line.invariant.course held parts new told plays) c.in-Err.fault c.loop-line.invariant.reaches.later c.in-Err.ensures.content
+    (rw split at (c.loop-line.invariant.course held parts new told plays)) c.in-Err.fault c.loop-line.invariant.reaches.later c.in-Err.ensures.content
 
 pub returns-in-Err-clause-goes : goal.returns-in-Err-clause-goes
 returns-in-Err-clause-goes g c = goes_since c.loop-line.invariant.serves c.loop-line.invariant.reaches c.in-Err.ensures.goes

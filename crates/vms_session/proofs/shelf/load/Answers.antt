@@ -1,4 +1,4 @@
-use Rattle.vms_session.proofs.Facade.{ap, ◌∙◌, sym, Standing, State, Set, refused_line, restored_line, session_of, Session, Back, Refused}
+use Rattle.vms_session.proofs.Facade.{ap, ◌∙◌, sym, Set, refused_line, restored_line, session_of, Back, Refused}
 use Rattle.vms_session.proofs.RefusalLaws.{comes}
 use Rattle.vms_session.proofs.shelf.load.Goals as goal
 
@@ -16,8 +16,7 @@ returns-in-Ok-clause-board c = λ held text new loads.
 
 pub returns-in-Err-clause-text : goal.returns-in-Err-clause-text
 returns-in-Err-clause-text c = λ held text new loads.
-    c.refused_mark.ensures
-    ∙ ap (λ (s : Set). refused_line s c.in-Err.refusal.at c.in-Err.refusal.section c.in-Err.refusal.reason) c.set.ensures
+    c.refused_mark.ensures ∙ ap (λ (s : Set). refused_line s c.in-Err.refusal.at c.in-Err.refusal.section c.in-Err.refusal.reason) c.set.ensures
     ∙ sym (comes c.args.stream.items (session_of c.args.board.now.state held) text new
     (Refused c.in-Err.refusal.at c.in-Err.refusal.section c.in-Err.refusal.reason)
     c.in-Err.ensures.octets c.requires c.in-Err.ensures.refused loads).text_is

@@ -1,4 +1,3 @@
-use Rattle.vms_session.proofs.Facade.{◌≡◌, ℕ, List, Option, Some, IfSome, subst, Held, LoadsHeld, session_of}
 use Rattle.vms_session.proofs.shelf.restore.Goals as goal
 
 pub returns-in-Ok-clause-loaded : goal.returns-in-Ok-clause-loaded

@@ -1,5 +1,4 @@
-use Rattle.vms_spots.proofs.Facade.{arith, sym, ◌∙◌, kinds_of}
-use Rattle.vms_spots.proofs.LayoutLaws.{IsLast, last_is}
+use Rattle.vms_spots.proofs.{Facade.arith, Facade.sym, Facade.◌∙◌, LayoutLaws.last_is}
 use Rattle.vms_spots.proofs.layout.size.Goals as goal
 
 pub end-requires : goal.end-requires

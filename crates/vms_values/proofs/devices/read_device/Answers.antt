@@ -1,7 +1,6 @@
-use Rattle.vms_values.proofs.Facade.{rules, length, ap, ◌∙◌, described, IsImageOf, Typed, sym}
+use Rattle.vms_values.proofs.{Naming.own_kinds, devices.read_device.Goals.In_ok-read_subs}
 use Rattle.vms_values.proofs.DeviceLemmas.{default_of, own_spot, alike_kept, of_alike, subs_alike}
-use Rattle.vms_values.proofs.Naming.{own_kinds}
-use Rattle.vms_values.proofs.devices.read_device.Goals.{In_ok-read_subs}
+use Rattle.vms_values.proofs.Facade.{rules, length, ap, ◌∙◌, described, IsImageOf, Typed}
 use Rattle.vms_values.proofs.devices.read_device.Goals as goal
 
 pub read_part-requires : goal.read_part-requires

@@ -1,5 +1,5 @@
 use Rattle.vms_values.proofs.Facade.{◌≡◌, ◌<◌, ◌∷◌, ◌++◌, [], length, map, ap, ◌∙◌, arith, err_from_is_err_and, length-map, map-append, device_of, described}
-use Rattle.vms_values.proofs.Facade.{state_of, Typed, sym}
+use Rattle.vms_values.proofs.Facade.{state_of, sym}
 use Rattle.vms_values.proofs.DeviceLemmas.{gathered_next, gathered_refused, gathered_all, first_more}
 use Rattle.vms_values.proofs.devices.read_images.Goals as goal
 

@@ -1,10 +1,8 @@
+use Rattle.vms_values.proofs.{DeviceLemmas.top, DeviceLemmas.said_so, ReadLemmas.some_of}
 use Rattle.vms_values.proofs.Facade.{length, eqb-true, nil_from_length, Err, Option, Some, None, Result, IfOk, rules, ap, refl, sym, ◌∙◌, arith}
 use Rattle.vms_values.proofs.Facade.{err_from_is_err_and, Set, described, AreImagesOf, ToldAs, LineFault, few_machines}
-use Rattle.vms_values.specs.declared.judge.BadLine.{BadLine}
-use Rattle.vms_values.specs.declared.fault.Values.{Values as Given}
-use Rattle.vms_values.proofs.DeviceLemmas.{top, said_so}
-use Rattle.vms_values.proofs.ReadLemmas.{some_of}
 use Rattle.vms_values.proofs.JudgeLemmas.{text_told, text_longer, text_refused}
+use Rattle.vms_values.specs.{declared.judge.BadLine.BadLine, declared.fault.Values.Values as Given}
 use Rattle.vms_values.proofs.devices.read_lines.Goals as goal
 
 pub read_machine-start-requires : goal.read_machine-start-requires

@@ -1,5 +1,4 @@
-use Rattle.vms_values.proofs.Facade.{◌∙◌, arith, described, sub_inside}
-use Rattle.vms_values.proofs.JudgeLemmas.{bare_defaults}
+use Rattle.vms_values.proofs.{Facade.◌∙◌, Facade.arith, Facade.described, Facade.sub_inside, JudgeLemmas.bare_defaults}
 use Rattle.vms_values.proofs.judge.has_defaults.Goals as goal
 
 pub is_bare-requires : goal.is_bare-requires

@@ -1,5 +1,4 @@
-use Rattle.vms_values.proofs.Facade.{◌≡◌, described, state_of}
-use Rattle.vms_values.proofs.JudgeLemmas.{judged_from}
+use Rattle.vms_values.proofs.{Facade.◌≡◌, Facade.described, Facade.state_of, JudgeLemmas.judged_from}
 use Rattle.vms_values.proofs.judge.judge_device.Given as goal
 
 abbrev pub invariant-loop-sub : goal.invariant-loop-sub

@@ -1,5 +1,4 @@
-use Rattle.vms_values.proofs.Facade.{ap, sym, ◌∙◌, described, spot_slots}
-use Rattle.vms_values.proofs.JudgeLemmas.{steps_true}
+use Rattle.vms_values.proofs.{Facade.ap, Facade.sym, Facade.◌∙◌, Facade.described, Facade.spot_slots, JudgeLemmas.steps_true}
 use Rattle.vms_values.proofs.judge.walk_rules.Goals as goal
 
 pub returns-in-Ok : goal.returns-in-Ok

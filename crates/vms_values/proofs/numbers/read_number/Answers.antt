@@ -1,5 +1,4 @@
-use Rattle.vms_values.proofs.Facade.{rules, sym, ◌∙◌}
-use Rattle.vms_values.proofs.ReadLemmas.{spelled_is}
+use Rattle.vms_values.proofs.{Facade.rules, Facade.sym, Facade.◌∙◌, ReadLemmas.spelled_is}
 use Rattle.vms_values.proofs.numbers.read_number.Goals as goal
 
 pub returns-in-Some-read_natural-2 : goal.returns-in-Some-read_natural-2

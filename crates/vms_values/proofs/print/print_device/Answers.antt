@@ -1,8 +1,6 @@
+use Rattle.vms_values.proofs.{Printers.own_spot, Printers.device_is, print.print_device.Given.Over, print.print_device.Goals.After-device}
 use Rattle.vms_values.proofs.Facade.{◌≡◌, [], ap, ◌∙◌, err_from_is_err_and, puts_as, puts_both, stops_as, stops_front, stops_behind, wrote_as, wrote_behind}
 use Rattle.vms_values.proofs.Facade.{own_cells, printers, desc_lines, sub_lines, described, device_at, device_of, state_of, section_text}
-use Rattle.vms_values.proofs.Printers.{own_spot, device_is}
-use Rattle.vms_values.proofs.print.print_device.Given.{Over}
-use Rattle.vms_values.proofs.print.print_device.Goals.{After-device}
 use Rattle.vms_values.proofs.print.print_device.Goals as goal
 
 line_is : (g : Over) (c : goal.After-device g)

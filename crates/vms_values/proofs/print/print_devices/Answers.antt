@@ -1,8 +1,7 @@
+use Rattle.vms_values.proofs.{print.print_devices.Given.Over, print.print_devices.Goals.After-print_device-arg-1}
 use Rattle.vms_values.proofs.Facade.{◌≡◌, ◌+◌, ◌<◌, ◌++◌, length, drop, sym, ap, ◌∙◌, arith, map, err_from_is_err_and, length-map, device_lines, devices_lines}
 use Rattle.vms_values.proofs.Facade.{device_of, described, device_at, state_of, states_long, state_at, IsOf, AreOf, leaves_rest, leaves_stop}
 use Rattle.vms_values.proofs.Printers.{device_left, images_at, of_next, of_room, devices_next}
-use Rattle.vms_values.proofs.print.print_devices.Given.{Over}
-use Rattle.vms_values.proofs.print.print_devices.Goals.{After-print_device-arg-1}
 use Rattle.vms_values.proofs.print.print_devices.Goals as goal
 
 pub bounds-images-device : goal.bounds-images-device

@@ -1,9 +1,7 @@
+use Rattle.vms_values.proofs.{Facade.leaves_stop, Facade.leaves_none, print.print_subs.Given.Over, print.print_subs.Goals.In-loop-sub}
 use Rattle.vms_values.proofs.Facade.{◌≡◌, ◌<◌, length, drop, arith, err_from_is_err_and, first_cell, described, device_at, state_of, leaves_all, leaves_rest}
-use Rattle.vms_values.proofs.Facade.{leaves_stop, leaves_none}
-use Rattle.vms_spec.specs.declared.Part.TheVariants as parts
 use Rattle.vms_values.proofs.Printers.{subs_left, no_subs, first_sub}
-use Rattle.vms_values.proofs.print.print_subs.Given.{Over}
-use Rattle.vms_values.proofs.print.print_subs.Goals.{In-loop-sub}
+use Rattle.vms_spec.specs.declared.Part.TheVariants as parts
 use Rattle.vms_values.proofs.print.print_subs.Goals as goal
 
 pub loop-sub-init : goal.loop-sub-init

@@ -1,5 +1,4 @@
-use Rattle.vms_values.proofs.Facade.{codes}
-use Rattle.vms_values.proofs.ReadLemmas.{strips_then, strips_not, strip_is}
+use Rattle.vms_values.proofs.{Facade.codes, ReadLemmas.strips_then, ReadLemmas.strips_not, ReadLemmas.strip_is}
 use Rattle.vms_values.proofs.read.number_text.Goals as goal
 
 pub returns-in-Some : goal.returns-in-Some

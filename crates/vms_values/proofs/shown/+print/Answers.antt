@@ -1,10 +1,8 @@
-use Rattle.vms_values.proofs.Facade.{rules, arith, ◌≡◌, ◌+◌, ◌*◌, ◌-◌, ◌<◌, ◌≤◌, ◌++◌, ℕ, length, length-append, codes, sym, ap, ◌∙◌, err_from_is_err_and}
-use Rattle.vms_values.proofs.Facade.{ltb-true, decimal, printers, element_lines, item_lines, field_of, described, desc_at, size_in, size_code, start_code}
-use Rattle.vms_values.proofs.Facade.{struct_size, room_at, run_lines, below, wrote_as, leaves_all, leaves_rest, leaves_stop, leaves_none, LONGEST, NUMBER_ROOM}
-use Rattle.vms_values.proofs.Facade.{INDEX_ROOM, PART_ROOM}
+use Rattle.vms_values.proofs.{Facade.LONGEST_PATH, Printers.stays_is, Printers.stays_then, Printers.stays_element, Printers.cut_is, Printers.field_short}
+use Rattle.vms_values.proofs.Facade.{INDEX_ROOM, PART_ROOM, rules, arith, ◌≡◌, ◌+◌, ◌*◌, ◌-◌, ◌<◌, ◌≤◌, ◌++◌, ℕ, length, length-append, codes, sym, ap, ◌∙◌}
+use Rattle.vms_values.proofs.Facade.{err_from_is_err_and, ltb-true, decimal, printers, element_lines, item_lines, field_of, described, desc_at, size_in}
+use Rattle.vms_values.proofs.Facade.{size_code, start_code, struct_size, room_at, run_lines, below, wrote_as, leaves_all, leaves_rest, leaves_stop, leaves_none}
 use Rattle.vms_values.proofs.Printers.{struct_lines, FoundRun, array_run, elements_left, no_elements, fields_left, fields_whole, no_fields, found_run, stays}
-use Rattle.vms_values.proofs.Printers.{stays_is, stays_then, stays_element, cut_is, field_short}
-use Rattle.vms_values.proofs.shown.+print.Given.{Over}
 use Rattle.vms_values.proofs.shown.+print.Goals.{print_elements-After-print_item-arg-in-loop-index-1, print_part-After-print_field-arg-in-loop-field-1}
 use Rattle.vms_values.proofs.shown.+print.Goals as goal
 
@@ -93,14 +91,14 @@ print_field-print_item-requires g t c =
     let size = size_in (described c.args.shown.set.now) c.args.field.now.item in
     let room : c.args.run.first + 1 * size ≤ length c.args.shown.image.now.numbers = rw (fits.single c.in-One.is) at fits.room in
     let same : 1 * size ≡ size = grind arith in
-    let short : length c.push.new.self + NUMBER_ROOM + below c.args.field.now.item ≤ LONGEST =
+    let short : length c.push.new.self + 1 + below c.args.field.now.item ≤ LONGEST_PATH =
     omega (arith, ap length (c.push.ensures ∙ ap (λ l. c.args.line.now ++ l) c.as_bytes.ensures), length-append c.args.line.now c.args.field.now.name) in
     λ κs h. (search rules, (search rules, record { reaches = fits.reaches; room = omega arith; few = fits.few; short = short }))
 
 pub print_field-print_elements-requires : goal.print_field-print_elements-requires
 print_field-print_elements-requires g t c =
     let fits = c.requires.fits in
-    let short : length c.push.new.self + INDEX_ROOM + NUMBER_ROOM + below c.args.field.now.item ≤ LONGEST =
+    let short : length c.push.new.self + INDEX_ROOM + 1 + below c.args.field.now.item ≤ LONGEST_PATH =
     omega (arith, ap length (c.push.ensures ∙ ap (λ l. c.args.line.now ++ l) c.as_bytes.ensures), length-append c.args.line.now c.args.field.now.name) in
     λ κs h. (search rules, (search rules, record { reaches = fits.reaches; small = fits.small; room = fits.room; few = fits.few; short = short }))
 
@@ -134,7 +132,7 @@ print_struct-print_part-requires g t c =
     let j = c.args.number in
     let lt = c.requires.reaches in
     let size = struct_size set c.args.shown.set.now.well_formed j lt in
-    let grown : length c.push.new.self + PART_ROOM * (j + 1) ≤ LONGEST = omega (arith, ap length c.push.ensures, length-append c.args.line.now (codes ".")) in
+    let grown : length c.push.new.self + PART_ROOM * (j + 1) ≤ LONGEST_PATH = omega (arith, ap length c.push.ensures, length-append c.args.line.now (codes ".")) in
     λ κs h. (search rules, (search rules, record { spot = record { part = lt; few = c.requires.few; room = omega arith }; short = grown }))
 
 pub print_struct-returns : goal.print_struct-returns

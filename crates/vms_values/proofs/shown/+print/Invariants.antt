@@ -1,6 +1,5 @@
+use Rattle.vms_values.proofs.{Facade.Leaves, Printers.fields_left}
 use Rattle.vms_values.proofs.Facade.{◌≡◌, ◌+◌, ◌-◌, ◌*◌, printers, desc_lines, element_lines, described, desc_at, size_in, item_rank, part_rank, Stays, outlet}
-use Rattle.vms_values.proofs.Facade.{Leaves}
-use Rattle.vms_values.proofs.Printers.{fields_left}
 use Rattle.vms_values.proofs.shown.+print.Given as goal
 
 abbrev pub decreases-print_elements : goal.decreases-print_elements

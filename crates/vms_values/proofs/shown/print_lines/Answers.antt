@@ -1,5 +1,4 @@
-use Rattle.vms_values.proofs.Facade.{arith, ap, length, described}
-use Rattle.vms_values.proofs.Printers.{part_short}
+use Rattle.vms_values.proofs.{Facade.arith, Facade.ap, Facade.length, Facade.described, Printers.part_short}
 use Rattle.vms_values.proofs.shown.print_lines.Goals as goal
 
 pub print_part-requires : goal.print_part-requires

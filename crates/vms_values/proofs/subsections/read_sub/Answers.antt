@@ -1,5 +1,4 @@
-use Rattle.vms_values.proofs.Facade.{◌≡◌, length, arith, described, sub_inside}
-use Rattle.vms_values.proofs.Naming.{sub_kinds}
+use Rattle.vms_values.proofs.{Facade.◌≡◌, Facade.length, Facade.arith, Facade.described, Facade.sub_inside, Naming.sub_kinds}
 use Rattle.vms_values.proofs.subsections.read_sub.Goals as goal
 
 pub read_part-requires : goal.read_part-requires

@@ -2,7 +2,7 @@ use Rattle.vms_values.proofs.Facade.{rules, ◌≡◌, ℕ, ◌+◌, ◌*◌, �
 use Rattle.vms_values.proofs.Facade.{err_from_is_err_and, decimal, Item, elements_fit, Field, Desc, no_desc, cells_from, capacity_of, place_first, readers}
 use Rattle.vms_values.proofs.Facade.{read_item, read_elements, read_fields, read_desc, field_of, field_at, own_numbers, described, desc_at, HasSpot, size_in}
 use Rattle.vms_values.proofs.Facade.{table, cell_of, cells_in, capacities_of, size_code, start_after, start_code, struct_size, room_at, fields_at, below}
-use Rattle.vms_values.proofs.Facade.{AreKinds, element_cells, place_of, LONGEST, NUMBER_ROOM, INDEX_ROOM, PART_ROOM}
+use Rattle.vms_values.proofs.Facade.{AreKinds, element_cells, place_of, LONGEST_PATH, INDEX_ROOM, PART_ROOM}
 use Rattle.vms_spec.specs.declared.Part.TheVariants as parts
 use Rattle.vms_values.proofs.Printers.{stays, stays_is, stays_then, stays_element, cut_is, field_short, FoundRun, found_run}
 use Rattle.vms_values.proofs.Naming.{FieldKinds, field_kinds, number_kind, struct_kinds}
@@ -83,7 +83,7 @@ read_field-read_item-requires t c =
     let item = c.args.run.field.now.item in
     let width : c.args.run.count * size_in set item ≡ 1 * size_in set item = rw (c.requires.fits.single c.in-One.is) in
     let named : c.push.new.self ≡ c.args.path.now ++ (field_of c.args.run.field.now).name = c.push.ensures ∙ ap (λ l. c.args.path.now ++ l) c.as_bytes.ensures in
-    let short : length c.push.new.self + NUMBER_ROOM + below c.args.run.field.now.item ≤ LONGEST =
+    let short : length c.push.new.self + 1 + below c.args.run.field.now.item ≤ LONGEST_PATH =
     omega (arith, ap length named, length-append c.args.path.now (field_of c.args.run.field.now).name) in
     let zero_on : c.args.run.first + 0 * size_in set item ≡ c.args.run.first = omega arith in (
       omega arith,
@@ -130,7 +130,7 @@ read_item-read_under-requires t c =
     let spot : HasSpot set (record { part = parts.Struct j; version = c.desc.result.now.version; base = c.args.run.first }) c.args.taken.now.image.numbers =
     record { part = lt; few = c.requires.few; room = omega arith } in
     let short = rw c.in-Struct.is at c.requires.short in
-    let grown : length c.push.new.self + PART_ROOM * (j + 1) ≤ LONGEST = omega (arith, ap length c.push.ensures, length-append c.args.path.now (codes ".")) in (
+    let grown : length c.push.new.self + PART_ROOM * (j + 1) ≤ LONGEST_PATH = omega (arith, ap length c.push.ensures, length-append c.args.path.now (codes ".")) in (
       search rules,
       record {
         spot = spot;

@@ -1,5 +1,4 @@
-use Rattle.vms_values.proofs.Facade.{length, ap, arith, described}
-use Rattle.vms_values.proofs.Printers.{part_short}
+use Rattle.vms_values.proofs.{Facade.length, Facade.ap, Facade.arith, Facade.described, Printers.part_short}
 use Rattle.vms_values.proofs.taken.read_part.Goals as goal
 
 pub read_under-requires : goal.read_under-requires

@@ -1,6 +1,4 @@
-use Rattle.vms_values.proofs.Facade.{◌+◌, drop, joined}
-use Rattle.vms_values.proofs.Printers.{joined_at}
-use Rattle.vms_values.proofs.ReadLemmas.{joined_on, joined_off}
+use Rattle.vms_values.proofs.{Facade.◌+◌, Facade.drop, Facade.joined, Printers.joined_at, ReadLemmas.joined_on, ReadLemmas.joined_off}
 use Rattle.vms_values.proofs.text.is_joined.Goals as goal
 
 pub returns-in-None : goal.returns-in-None

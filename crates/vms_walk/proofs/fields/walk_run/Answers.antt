@@ -1,8 +1,5 @@
+use Rattle.vms_walk.proofs.{Going.Laws, Kept.err_takes, Runs.run_next, Runs.run_stop, Runs.run_may, fields.walk_run.Given.Over}
 use Rattle.vms_walk.proofs.Facade.{rules, ◌≡◌, ◌+◌, ◌-◌, ◌≤◌, refl, ◌∙◌, arith, zero, run_of}
-use Rattle.vms_walk.proofs.Going.{Laws}
-use Rattle.vms_walk.proofs.Kept.{err_takes}
-use Rattle.vms_walk.proofs.Runs.{run_next, run_stop, run_may}
-use Rattle.vms_walk.proofs.fields.walk_run.Given.{Over}
 use Rattle.vms_walk.proofs.fields.walk_run.Goals as goal
 
 laws_of : (g : Over) → Laws g.W.Cells.numbers g.W.Walker.goes g.W.Walker.stops
@@ -18,12 +15,7 @@ laws_of g =
 pub loop-cell-init : goal.loop-cell-init
 loop-cell-init g c =
     let none : zero ≡ c.args.first - c.args.first = omega arith in
-    record {
-      way = rw (← none) (g.met.W.Walker.none c.args.walker.now);
-      long = refl;
-      from = omega arith;
-      within = omega arith;
-    }
+    record { way = rw (← none) (g.met.W.Walker.none c.args.walker.now); long = refl; from = omega arith; within = omega arith }
 
 pub loop-cell-preserved : goal.loop-cell-preserved
 loop-cell-preserved g c =

@@ -1,5 +1,4 @@
-use Rattle.vms_write.proofs.Facade.{◌≡◌, ℕ, suc, ◌+◌, ◌-◌, ◌&&◌, [], List, ℤ, get_or, pos, ap, sym, ◌∙◌, arith, Bool, same_number, CellForm, no_form, formed}
-use Rattle.vms_write.proofs.Facade.{settle}
+use Rattle.vms_write.proofs.Facade.{◌≡◌, ℕ, suc, ◌+◌, ◌-◌, ◌&&◌, [], List, ℤ, get_or, pos, ap, sym, ◌∙◌, arith, same_number, CellForm, no_form, formed, settle}
 use Rattle.vms_write.proofs.fine.are_default.Goals as goal
 
 one_more : (f : List CellForm) (n : List ℤ) (at left more : ℕ) → left ≡ suc more

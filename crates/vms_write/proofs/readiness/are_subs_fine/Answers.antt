@@ -1,7 +1,6 @@
-use Rattle.vms_write.proofs.Facade.{◌<◌, ◌+◌, ◌&&◌, ℕ, length, drop, ap, sym, ◌∙◌, arith, Bool, own_cells, first_cell, described, device_at, state_of}
-use Rattle.vms_write.proofs.Facade.{sub_first, subs_fine, forms_of}
-use Rattle.vms_spec.specs.declared.Part.TheVariants as parts
+use Rattle.vms_write.proofs.Facade.{◌+◌, ◌&&◌, drop, ap, sym, ◌∙◌, arith, own_cells, first_cell, described, device_at, state_of, sub_first, subs_fine, forms_of}
 use Rattle.vms_write.proofs.Sections.{subs_fine_next}
+use Rattle.vms_spec.specs.declared.Part.TheVariants as parts
 use Rattle.vms_write.proofs.readiness.are_subs_fine.Goals as goal
 
 pub loop-sub-init : goal.loop-sub-init
@@ -20,4 +19,4 @@ loop-sub-preserved c =
     let j = c.loop-sub.sub in
     let rest = subs_fine set d (forms_of set d) image (j + 1) (first_cell set (parts.Sub i (j + 1))) (drop (j + 1) d.subs) (drop (j + 1) image.came) in
     ap (λ b. b && rest) (sym c.if-not-is_sub_fine.false ∙ c.is_sub_fine.ensures)
-    ∙ sym (subs_fine_next set i (forms_of set d) image j (omega arith) (omega (arith, c.requires.device.subs))) ∙ c.loop-sub.invariant
+    ∙ sym (subs_fine_next set i image j (omega arith) (omega (arith, c.requires.device.subs)) (forms_of set d)) ∙ c.loop-sub.invariant

@@ -1,5 +1,4 @@
-use Rattle.vms_write.proofs.Facade.{◌≡◌, ℕ, ap, ◌∙◌, arith, [], List, ◌+◌, ◌-◌, own_cell_count, in_u32, CellForm, described, device_at, sub_at, sub_inside}
-use Rattle.vms_write.proofs.Facade.{settle, forms_of}
+use Rattle.vms_write.proofs.Facade.{◌≡◌, ap, ◌∙◌, arith, [], ◌+◌, ◌-◌, own_cell_count, described, device_at, sub_at, sub_inside, settle, forms_of}
 use Rattle.vms_write.proofs.Formed.{formed_defaults, formed_long}
 use Rattle.vms_write.proofs.readiness.is_bare.Goals as goal
 

@@ -1,4 +1,4 @@
-use Rattle.vms_write.proofs.Facade.{◌≡◌, ◌&&◌, arith, ap, sym, ◌∙◌, refl, Bool, true, false, OnTrue, OnFalse, IsReady, described, device_at, state_of}
+use Rattle.vms_write.proofs.Facade.{◌≡◌, ◌&&◌, arith, sym, ◌∙◌, refl, Bool, true, false, OnTrue, OnFalse, IsReady, described, device_at, state_of}
 use Rattle.vms_write.proofs.Facade.{IsOfDevice, few_cells, good_of, forms_of, all_subs_fine}
 use Rattle.vms_write.proofs.FineReady.{device_fine, ready_by, other_by}
 use Rattle.vms_write.proofs.readiness.ready.Goals.{After-is_own_fine, Start}

@@ -1,4 +1,4 @@
-use Rattle.vms_write.proofs.Facade.{◌≡◌, List, ℕ, length, ap, ◌∙◌, arith, wrote_as, Device, section_head, described, device_at}
+use Rattle.vms_write.proofs.Facade.{◌≡◌, length, ap, ◌∙◌, arith, wrote_as, section_head, described, device_at}
 use Rattle.vms_write.proofs.Formed.{device_short}
 use Rattle.vms_write.proofs.section.write_head.Goals as goal
 

@@ -1,9 +1,7 @@
+use Rattle.vms_write.proofs.{Sections.sections_at, stream.write_sections.Given.Over, stream.write_sections.Goals.After-write_section-arg-1}
 use Rattle.vms_write.proofs.Facade.{◌≡◌, ◌+◌, ◌<◌, ◌++◌, length, drop, map, arith, refl, Some, slice_get, err_from_is_err_and, slice_get-get_or, described}
 use Rattle.vms_write.proofs.Facade.{device_at, state_of, states_long, state_at, at_state, image_at, leaves_all, leaves_rest, leaves_stop, wrote_fault}
 use Rattle.vms_write.proofs.Facade.{written_section, written_sections}
-use Rattle.vms_write.proofs.Sections.{sections_at}
-use Rattle.vms_write.proofs.stream.write_sections.Given.{Over}
-use Rattle.vms_write.proofs.stream.write_sections.Goals.{After-write_section-arg-1}
 use Rattle.vms_write.proofs.stream.write_sections.Goals as goal
 
 pub loop-device-init : goal.loop-device-init

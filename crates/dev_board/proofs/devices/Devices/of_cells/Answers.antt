@@ -1,4 +1,4 @@
-use Rattle.dev_board.proofs.Facade.{◌≡◌, ◌∙◌, sym, ap, subst, Err, Ok, timed, IsSound}
+use Rattle.dev_board.proofs.Facade.{◌∙◌, sym, ap, subst, Ok, timed, IsSound}
 use Rattle.std.proofs.Common.{rules}
 use Rattle.dev_board.proofs.RestoredLaws.{pit-refused, port-refused, lines-taken, lines-refused, found-devices, found-sound}
 use Rattle.dev_board.proofs.devices.Devices.of_cells.Goals as goal

@@ -1,9 +1,8 @@
-use Rattle.dev_board.proofs.Facade.{ℕ, sym, ap, subst, ◌∙◌, int_of, lines_of, IsCalm, IsSound, State, names_wire, settled, wires_after, calm_after, parts_view}
-use Rattle.dev_board.proofs.Facade.{wires_of, Wire, Before}
-use Rattle.dev_board.proofs.KeepLaws.{after-ack}
-use Rattle.dev_board.proofs.KeptLaws.{calm-read, calm-write}
+use Rattle.dev_board.proofs.{Facade.wires_of, Facade.Wire, Facade.Before, KeepLaws.after-ack, KeptLaws.calm-read, KeptLaws.calm-write}
+use Rattle.dev_board.proofs.Facade.{◌≡◌, ℕ, sym, ap, subst, ◌∙◌, int_of, lines_of, IsCalm, IsSound, State, names_wire, settled, wires_after, calm_after, parts_view}
 use Rattle.dev_board.proofs.StayLaws.{after-ack as ack-stays, after-read, after-write}
 use Rattle.dev_board.proofs.WireBits.{named-bound, wires_of-are, wires_after-are}
+use Rattle.dev_board.specs.{Kept.IsKept, declared.kept.Kept.Kept}
 use Rattle.dev_board.proofs.parts.Parts.event.Goals as goal
 
 pub settle-kept-requires-clause-stays : goal.settle-kept-requires-clause-stays
@@ -36,13 +35,15 @@ settle-kept-requires-in-Ack-clause-stays c =
     (record { lines = c.lines-lines.ensures; int = cc (c.requires.kept.int, c.self.view_is) })
     c.ack-value.result c.ack-value.new.self _ c.ack_touches.ensures c.ack-value.ensures
 
+-- What is known of a board whose lines were updated.
+kept-by : (known : Kept) (m n : State) → n ≡ m → known.int ≡ int_of n.pair → IsCalm known.calm m → IsKept known n
+kept-by known m n e int calm = record { int = int; calm = rw e calm }
+
 pub returns-in-Read-clause-kept : goal.returns-in-Read-clause-kept
 unfolding settled
-returns-in-Read-clause-kept c = record {
-  int = c.settle-kept.ensures.int;
-  calm = subst (IsCalm c.args.kept.now.calm) (sym c.settle-kept.ensures.state)
-      (calm-read c.args.kept.now.calm c.args.self.now c.requires.kept.calm c.in-Read.port _ _ c.read-value.ensures.step);
-}
+returns-in-Read-clause-kept c =
+    kept-by _ _ _ c.settle-kept.ensures.state c.settle-kept.ensures.int
+    (calm-read c.args.kept.now.calm c.args.self.now c.requires.kept.calm c.in-Read.port _ _ c.read-value.ensures.step)
 
 pub returns-in-Write-clause-kept : goal.returns-in-Write-clause-kept
 unfolding settled
@@ -56,23 +57,16 @@ returns-in-Write-clause-kept c =
 
 pub returns-in-Byte-clause-kept : goal.returns-in-Byte-clause-kept
 unfolding settled
-returns-in-Byte-clause-kept c = record {
-  int = c.settle-kept-in-Byte.ensures.int;
-  calm = subst (IsCalm c.args.kept.now.calm) (sym c.settle-kept-in-Byte.ensures.state)
-      (subst (IsCalm c.args.kept.now.calm) (sym c.byte_in.ensures) c.requires.kept.calm);
-}
+returns-in-Byte-clause-kept c =
+    kept-by _ _ _ c.settle-kept-in-Byte.ensures.state c.settle-kept-in-Byte.ensures.int
+    (subst (IsCalm c.args.kept.now.calm) (sym c.byte_in.ensures) c.requires.kept.calm)
 
 pub returns-in-Wire-clause-kept : goal.returns-in-Wire-clause-kept
 unfolding settled
-returns-in-Wire-clause-kept c = record {
-  int = c.settle-kept-in-Wire.ensures.int;
-  calm = subst (IsCalm c.args.kept.now.calm) (sym c.settle-kept-in-Wire.ensures.state) c.requires.kept.calm;
-}
+returns-in-Wire-clause-kept c = kept-by _ _ _ c.settle-kept-in-Wire.ensures.state c.settle-kept-in-Wire.ensures.int c.requires.kept.calm
 
 pub returns-in-Ack-clause-kept : goal.returns-in-Ack-clause-kept
 unfolding settled
-returns-in-Ack-clause-kept c = record {
-  int = c.settle-kept-in-Ack.ensures.int;
-  calm = subst (IsCalm c.args.kept.now.calm) (sym c.settle-kept-in-Ack.ensures.state)
-      (subst (IsCalm c.args.kept.now.calm) (sym c.self.view_is) c.requires.kept.calm);
-}
+returns-in-Ack-clause-kept c =
+    kept-by _ _ _ c.settle-kept-in-Ack.ensures.state c.settle-kept-in-Ack.ensures.int
+    (subst (IsCalm c.args.kept.now.calm) (sym c.self.view_is) c.requires.kept.calm)

@@ -1,5 +1,4 @@
-use Rattle.dev_board.proofs.Facade.{power_on}
-use Rattle.dev_board.proofs.SoundLaws.{on-devices, power_on-sound}
+use Rattle.dev_board.proofs.{Facade.power_on, SoundLaws.on-devices, SoundLaws.power_on-sound}
 use Rattle.dev_board.proofs.parts.Parts.new.Goals as goal
 
 pub invariant_of-result : goal.invariant_of-result

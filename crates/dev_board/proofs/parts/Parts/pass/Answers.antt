@@ -1,6 +1,5 @@
+use Rattle.dev_board.proofs.{KeptLaws.calm-wait, StayLaws.after-time}
 use Rattle.dev_board.proofs.Facade.{◌<◌, arith, sym, ap, subst, ◌∙◌, nat_tests, lines_of, IsCalm, State, settled, Stays, Before, Touch}
-use Rattle.dev_board.proofs.KeptLaws.{calm-wait}
-use Rattle.dev_board.proofs.StayLaws.{after-time}
 use Rattle.dev_board.proofs.parts.Parts.pass.Goals as goal
 
 pub settle-kept-requires-clause-stays : goal.settle-kept-requires-clause-stays

@@ -1,5 +1,4 @@
-use Rattle.dev_board.proofs.Facade.{parts_view}
-use Rattle.dev_board.proofs.QuickLaws.{queue-written, queue-devices}
+use Rattle.dev_board.proofs.{Facade.parts_view, QuickLaws.queue-written, QuickLaws.queue-devices}
 use Rattle.dev_board.proofs.parts.Parts.queue.Goals as goal
 
 pub invariant_of-self : goal.invariant_of-self

@@ -1,6 +1,5 @@
+use Rattle.dev_board.proofs.{QuietLaws.quiet-settled, QuietLaws.untouched-settled, SoundLaws.settled-sound}
 use Rattle.dev_board.proofs.Facade.{sym, ap, subst, ◌∙◌, State, IsSound, settled, inputs_of, parts_view}
-use Rattle.dev_board.proofs.QuietLaws.{quiet-settled, untouched-settled}
-use Rattle.dev_board.proofs.SoundLaws.{settled-sound}
 use Rattle.dev_board.proofs.parts.Parts.settle.Goals as goal
 
 pub returns-clause-sound : goal.returns-clause-sound

@@ -2,4 +2,4 @@ use Rattle.dev_pit.proofs.{Facade.rules, Moments.asked_keeps}
 use Rattle.dev_pit.proofs.pit.Pit.ask_back.Goals as goal
 
 pub returns-clause-keeps : goal.returns-clause-keeps
-returns-clause-keeps c = asked_keeps _ _ c.args.k c.args.now c.read_back.new.self _ c.args.self.now (search rules) c.read_back.ensures c.requires.loaded
+returns-clause-keeps c = asked_keeps c.args.k c.args.now c.read_back.new.self _ c.args.self.now (search rules) c.requires.loaded _ _ c.read_back.ensures

@@ -1,4 +1,4 @@
-use Rattle.dev_serial.proofs.Facade.{◌≡◌, ap, sym, ◌∙◌, true, Port, queues, line_of}
+use Rattle.dev_serial.proofs.Facade.{◌≡◌, ap, ◌∙◌, true, queues, line_of}
 use Rattle.std.proofs.Common.{rules}
 use Rattle.dev_serial.specs.View.{port_view}
 use Rattle.dev_serial.proofs.QueueLaws.{queued-by, queue-line}

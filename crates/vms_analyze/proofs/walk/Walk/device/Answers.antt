@@ -1,9 +1,9 @@
-use Rattle.vms_analyze.proofs.{Facade.device_of, Parts.device_parts}
-use Rattle.vms_analyze.proofs.Walks.{device_short, head_stops, elements_stop, subs_stop, device_walks}
+use Rattle.vms_analyze.proofs.{Facade.device_of, Facade.LONGEST_NAME, Parts.device_parts}
+use Rattle.vms_analyze.proofs.Walks.{path_short, head_stops, elements_stop, subs_stop, device_walks}
 use Rattle.vms_analyze.proofs.walk.Walk.device.Goals as goal
 
 pub head-requires-clause-short : goal.head-requires-clause-short
-head-requires-clause-short c = device_short (device_of c.args.device.now) c.requires.good
+head-requires-clause-short c = path_short LONGEST_NAME _ (device_parts (device_of c.args.device.now) c.requires.good).name
 
 pub subs-requires-clause-good : goal.subs-requires-clause-good
 subs-requires-clause-good c = rw (c.deref-2.ensures.value) ((device_parts (device_of c.args.device.now) c.requires.good).subs)

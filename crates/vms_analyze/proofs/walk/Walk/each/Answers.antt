@@ -1,4 +1,4 @@
-use Rattle.vms_analyze.proofs.{Facade.AllPass-from_list_all, Walks.more_goes, Walks.one_stops}
+use Rattle.vms_analyze.proofs.{Facade.AllPass-from_list_all, Walks.more_of, Walks.goes_then, Walks.one_stops}
 use Rattle.vms_analyze.proofs.walk.Walk.each.Goals as goal
 
 pub seek-requires-clause-inside : goal.seek-requires-clause-inside
@@ -13,8 +13,8 @@ seek-requires-clause-good g c =
 
 pub loop-item-preserved : goal.loop-item-preserved
 loop-item-preserved g c =
-    more_goes g.T.Sought.wants c.args.items.now c.loop-item.item-index c.item-item.result
-    c.args.self.now c.loop-item.self c.seek.new.walk c.loop-item-test.true c.loop-item.invariant (rw c.item-item.is at c.in_default.ensures)
+    rw (more_of g.T.Sought.wants c.args.items.now c.loop-item.item-index c.item-item.result c.loop-item-test.true)
+    (goes_then c.loop-item.invariant (rw c.item-item.is at c.in_default.ensures))
 
 pub returns-in-Err : goal.returns-in-Err
 returns-in-Err g c =

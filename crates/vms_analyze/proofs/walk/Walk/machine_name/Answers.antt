@@ -1,5 +1,6 @@
-use Rattle.vms_analyze.proofs.Facade.{◌≤◌, ◌+◌, ◌-◌, length, length-take, take, drop, sym, ap, ◌∙◌, arith, list_all, and-false, LONGEST_NAME, is_name_byte}
-use Rattle.vms_analyze.proofs.Walks.{name_there, is_name_of}
+use Rattle.vms_analyze.proofs.Facade.{le-leb, ◌≤◌, ◌+◌, ◌-◌, length, length-take, take, drop, sym, ap, ◌∙◌, arith, list_all, and-false, LONGEST_NAME}
+use Rattle.vms_analyze.proofs.Facade.{is_name_byte}
+use Rattle.vms_analyze.proofs.Walks.{name_there}
 use Rattle.vms_analyze.proofs.walk.Walk.machine_name.Goals as goal
 
 pub returns-then-are_name_bytes : goal.returns-then-are_name_bytes
@@ -10,7 +11,7 @@ returns-then-are_name_bytes c =
     let few : n ≤ LONGEST_NAME = omega arith in
     record {
       there = name_there w n c.in_ok-long.ensures.1;
-      good = is_name_of (take n rest) (omega (arith, length-take n rest)) (sym c.if-are_name_bytes.ensures);
+      good = rw (le-leb (length (take n rest)) LONGEST_NAME (omega (arith, length-take n rest))) (sym c.if-are_name_bytes.ensures);
     }
 
 pub returns-else-are_name_bytes : goal.returns-else-are_name_bytes

@@ -1,5 +1,4 @@
-use Rattle.vms_cli.proofs.Facade.{Err, sym, subst, Some, AnalyzeFault, EndsLike, IsRefused, FailsReading, FailsWriting}
-use Rattle.vms_commands.specs.declared.ending.Ending.TheVariants as endings
+use Rattle.vms_cli.proofs.Facade.{IsRefused, FailsReading, FailsWriting}
 use Rattle.vms_cli.specs.Commands.AnalyzeCommand.{LacksMemory}
 use Rattle.vms_cli.proofs.commands.analyze.fault_ending.Goals as goal
 

@@ -11,8 +11,7 @@ with_line-requires g c =
       newest = search rules;
       path = search rules;
       named = names_cell (described to) (fit_of (described to) to.well_formed to.heads) (intake g.I.Source c.args.input.now)
-          (intake g.I.Source c.convert_with-converted.new.source)
-          (outlet g.O.Sink c.args.out.now)
+          (intake g.I.Source c.convert_with-converted.new.source) (outlet g.O.Sink c.args.out.now)
           (outlet g.O.Sink c.convert_with-converted.new.sink) c.convert_with-converted.result c.convert_with-converted.ensures.converts;
     }
 

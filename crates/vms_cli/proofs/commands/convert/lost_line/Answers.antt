@@ -1,4 +1,4 @@
-use Rattle.vms_cli.proofs.Facade.{Some, ap, ◌∙◌, ◌<◌, length, sym, subst, codes, device_at, cell_name, IsInNewest, lost_line, newest}
+use Rattle.vms_cli.proofs.Facade.{Some, ap, ◌∙◌, ◌<◌, length, sym, subst, codes, device_at, cell_name, IsInNewest, newest}
 use Rattle.vms_cli.specs.Commands.ConvertCommand.{line_of}
 use Rattle.vms_spec.specs.Layout.{device_cells}
 use Rattle.vms_cli.proofs.PathRoom.{path_short}

@@ -1,6 +1,5 @@
-use Rattle.vms_cli.proofs.Facade.{◌∙◌, subst, outlet, IsFit, Set, described, well_of, answer_of, WrittenAs, computed, counter_text, ending_of}
+use Rattle.vms_cli.proofs.Facade.{◌∙◌, outlet, IsFit, described, well_of, answer_of, ending_of}
 use Rattle.vms_load.specs.Kept.{loads}
-use Rattle.vms_counter_laws.specs.Counters.{Answer}
 use Rattle.vms_cli.proofs.ShowLemmas.{answered}
 use Rattle.vms_cli.proofs.commands.counter.find.Goals as goal
 
@@ -14,4 +13,5 @@ returns-clause-ends g c =
     let found = answer_of old c.in_ok-finding.finding in
     let fit : IsFit old = record { well = well_of old c.args.sets.old.well_formed; heads = c.args.sets.old.heads } in
     let fit' : IsFit new = record { well = well_of new c.in_ok-loader.loader.set.well_formed; heads = c.in_ok-loader.loader.set.heads } in
-    rw c.in_ok-loader.ensures.set at (rw (answered old new fit fit' found c.in_ok-finding.ensures.found) at (rw (c.set.ensures ∙ c.in_ok-finding.ensures.set) at c.write_finding.ensures.ends))
+    let ends = rw (c.set.ensures ∙ c.in_ok-finding.ensures.set) at c.write_finding.ensures.ends in
+    rw c.in_ok-loader.ensures.set at (rw (answered old new fit fit' found c.in_ok-finding.ensures.found) at ends)

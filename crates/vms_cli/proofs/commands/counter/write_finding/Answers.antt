@@ -1,4 +1,4 @@
-use Rattle.vms_cli.proofs.Facade.{List, ℕ, ◌∙◌, subst, Appends, AppendsPrefix, outlet, described, writes_end, ending_passed, ending_of, WrittenAs}
+use Rattle.vms_cli.proofs.Facade.{◌∙◌, subst, AppendsPrefix, outlet, described, writes_end, ending_passed, ending_of}
 use Rattle.vms_cli.proofs.ShowLemmas.{no_state_is, state_is}
 use Rattle.vms_cli.proofs.commands.counter.write_finding.Goals as goal
 

@@ -1,5 +1,5 @@
-use Rattle.vms_cli.proofs.{Facade.machine_of, ShowLemmas.printed_of, PackLemmas.named}
-use Rattle.vms_cli.proofs.Facade.{ℕ, ◌<◌, List, ◌++◌, length, map, Option, IfSome, sym, subst, outlet, Wrote, wrote_behind, values_text, described, state_of}
+use Rattle.vms_cli.proofs.{ShowLemmas.printed_of, PackLemmas.named}
+use Rattle.vms_cli.proofs.Facade.{machine_of, ℕ, ◌<◌, length, map, Option, IfSome, subst, outlet, wrote_behind, values_text, described, state_of}
 use Rattle.vms_cli.proofs.commands.counter.write_state.Goals as goal
 
 pub print_values-requires-clause-named : goal.print_values-requires-clause-named
@@ -15,4 +15,5 @@ returns-in-Ok g c =
     let d = outlet g.O.Sink c.print_values.new.sink in
     let r = c.print_values.result in
     let states = map state_of c.args.images.now in
-    rw (named set c.args.machine (λ m e. subst (λ (x : Option ℕ). IfSome x (λ k. k < length set.machines)) e c.requires.machine)) (wrote_behind r d (values_text set (machine_of set c.args.machine) states) c.in-Ok.ensures c.print_values.ensures)
+    rw (named set c.args.machine (λ m e. subst (λ (x : Option ℕ). IfSome x (λ k. k < length set.machines)) e c.requires.machine))
+    (wrote_behind r d (values_text set (machine_of set c.args.machine) states) c.in-Ok.ensures c.print_values.ensures)

@@ -1,5 +1,5 @@
-use Rattle.vms_cli.proofs.{Facade.ending_of, Facade.ending_passed, RowLemmas.lacks_so, RowLemmas.pack_ends, StepsOfTwo.had_text, StepsOfTwo.lacks_text}
-use Rattle.vms_cli.proofs.Facade.{List, ℕ, [], ◌∷◌, refl, subst, outlet, stock, described, set_asked, TextEnds, named_parts, packed, packed_parts, parts_of}
+use Rattle.vms_cli.proofs.{RowLemmas.lacks_so, RowLemmas.pack_ends, StepsOfTwo.had_text, StepsOfTwo.lacks_text}
+use Rattle.vms_cli.proofs.Facade.{ending_passed, [], ◌∷◌, refl, outlet, stock, set_asked, named_parts, packed_parts, parts_of}
 use Rattle.vms_cli.proofs.commands.pack.pack.Goals as goal
 
 pub returns : goal.returns

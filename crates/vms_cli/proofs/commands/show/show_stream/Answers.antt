@@ -1,4 +1,4 @@
-use Rattle.vms_cli.proofs.Facade.{None, Ok, Err, ap, ◌∙◌, refl, subst, Some, Keeps-refl, outlet, Set, values_text, machine_of, within, loads, has, taken_by}
+use Rattle.vms_cli.proofs.Facade.{None, Ok, Err, ap, ◌∙◌, refl, subst, Some, Keeps-refl, outlet, values_text, machine_of, within, loads, has, taken_by}
 use Rattle.vms_cli.proofs.Facade.{accepted_of, ending_of, WritesAs, refused_line, draws_took, comes_to_nothing, ReadFault, Refused, refused_so, traced_so}
 use Rattle.vms_cli.proofs.Facade.{unread_so, content_seen, other_seen, Shows, fit_of}
 use Rattle.vms_cli.proofs.ShowLemmas.{refusal_seen, shows_same, text_seen, well_seen}

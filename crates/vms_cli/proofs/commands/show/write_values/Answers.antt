@@ -1,4 +1,4 @@
-use Rattle.vms_cli.proofs.Facade.{map, sym, subst, Set, loads, state_of, AreOf}
+use Rattle.vms_cli.proofs.Facade.{map, sym, subst, loads, state_of, AreOf}
 use Rattle.vms_cli.proofs.ShowLemmas.{are_of}
 use Rattle.vms_cli.proofs.commands.show.write_values.Goals as goal
 

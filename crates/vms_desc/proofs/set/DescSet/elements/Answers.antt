@@ -1,8 +1,6 @@
-use Rattle.vms_desc.proofs.Facade.{◌≡◌, ◌∙◌, sym, ap, get_or, Count, Field, elements_of, no_field, field_of, own_numbers, described, desc_at}
-use Rattle.vms_desc.proofs.EvalLaws.{own_inside}
+use Rattle.vms_desc.proofs.{EvalLaws.own_inside, set.DescSet.elements.Given.Over, set.DescSet.elements.Goals.After-index-as_slice-field}
 use Rattle.vms_desc.proofs.AskLaws.{here_fields, found_field, field_counts, same_number}
-use Rattle.vms_desc.proofs.set.DescSet.elements.Given.{Over}
-use Rattle.vms_desc.proofs.set.DescSet.elements.Goals.{After-index-as_slice-field}
+use Rattle.vms_desc.proofs.Facade.{◌≡◌, ◌∙◌, sym, ap, get_or, Count, Field, elements_of, no_field, field_of, own_numbers, described, desc_at}
 use Rattle.vms_desc.proofs.set.DescSet.elements.Goals as goal
 
 -- the field that the code found is that of the set

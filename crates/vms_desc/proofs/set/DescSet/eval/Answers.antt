@@ -1,5 +1,5 @@
 use Rattle.vms_desc.proofs.Facade.{◌∙◌, option_copied, described, desc_at, IsParent, formula}
-use Rattle.vms_desc.proofs.EvalLaws.{placed, own_inside, parent_inside, truth_is}
+use Rattle.vms_desc.proofs.EvalLaws.{placed, own_inside, parent_is, truth_is}
 use Rattle.vms_desc.proofs.set.DescSet.eval.Goals as goal
 
 pub holds-requires : goal.holds-requires
@@ -12,7 +12,7 @@ holds-requires g c =
     record {
       names = placed set c.args.desc c.args.base own parent (formula c.args.test.now) c.scope-own.ensures is c.requires.placed;
       own = own_inside set (desc_at set c.args.desc) c.args.base own numbers c.scope-own.ensures c.requires.few c.requires.own;
-      parent = parent_inside set c.args.desc parent numbers is c.requires.few c.requires.parent;
+      parent = (parent_is set c.args.desc parent numbers is c.requires.few c.requires.parent).0;
       few = c.requires.few;
     }
 

@@ -1,6 +1,5 @@
+use Rattle.vms_desc.proofs.{EvalLaws.own_inside, AskLaws.rules_name, AskLaws.same_rules}
 use Rattle.vms_desc.proofs.Facade.{◌≡◌, ◌∙◌, ap, List, map, Formula, Desc, all_hold, formula, own_numbers, described, desc_at}
-use Rattle.vms_desc.proofs.EvalLaws.{own_inside}
-use Rattle.vms_desc.proofs.AskLaws.{rules_name, same_rules}
 use Rattle.vms_desc.proofs.set.DescSet.holds_rules.Goals as goal
 
 pub all_hold-requires : goal.all_hold-requires

@@ -1,6 +1,4 @@
-use Rattle.vms_desc.proofs.Facade.{◌∙◌, formula, described, desc_at}
-use Rattle.vms_desc.proofs.EvalLaws.{own_inside}
-use Rattle.vms_desc.proofs.AskLaws.{same_truth}
+use Rattle.vms_desc.proofs.{Facade.◌∙◌, Facade.formula, Facade.described, Facade.desc_at, EvalLaws.own_inside, AskLaws.same_truth}
 use Rattle.vms_desc.proofs.set.DescSet.holds_test.Goals as goal
 
 pub holds-requires : goal.holds-requires

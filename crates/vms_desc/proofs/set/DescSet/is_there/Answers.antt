@@ -1,8 +1,6 @@
-use Rattle.vms_desc.proofs.Facade.{◌≡◌, ◌∙◌, sym, ap, Option, Some, option_map, Field, Formula, is_there, no_parent, field_of, formula, formula_in, field_at}
-use Rattle.vms_desc.proofs.Facade.{own_numbers, described, desc_at}
+use Rattle.vms_desc.proofs.{Facade.own_numbers, Facade.described, Facade.desc_at, set.DescSet.is_there.Given.Over, set.DescSet.is_there.Goals.After-deref}
 use Rattle.vms_desc.proofs.AskLaws.{here_fields, found_field, field_names}
-use Rattle.vms_desc.proofs.set.DescSet.is_there.Given.{Over}
-use Rattle.vms_desc.proofs.set.DescSet.is_there.Goals.{After-deref}
+use Rattle.vms_desc.proofs.Facade.{◌≡◌, ◌∙◌, sym, ap, Option, Some, option_map, Field, Formula, is_there, no_parent, field_of, formula, formula_in, field_at}
 use Rattle.vms_desc.proofs.set.DescSet.is_there.Goals as goal
 
 -- the field that the code found is that of the set, and has the test that the code found

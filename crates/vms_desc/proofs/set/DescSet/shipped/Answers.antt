@@ -1,5 +1,4 @@
-use Rattle.vms_desc.proofs.Facade.{ap, ◌∙◌, is_well_formed}
-use Rattle.vms_desc.proofs.Formed.{formed}
+use Rattle.vms_desc.proofs.{Facade.ap, Facade.◌∙◌, Facade.is_well_formed, Formed.formed}
 use Rattle.vms_desc.proofs.set.DescSet.shipped.Goals as goal
 
 pub assemble-requires : goal.assemble-requires

@@ -1,7 +1,6 @@
-use Rattle.vms_desc.proofs.Facade.{described, sizes_of, HasPart}
+use Rattle.vms_desc.proofs.{Facade.described, Facade.sizes_of, Facade.HasPart, TablesMade.sub_table}
+use Rattle.vms_desc.specs.{Described.device_at}
 use Rattle.vms_spec.specs.declared.Part.TheVariants as parts
-use Rattle.vms_desc.specs.Described.{device_at}
-use Rattle.vms_desc.proofs.TablesMade.{sub_table}
 use Rattle.vms_desc.proofs.set.DescSet.table.Goals as goal
 
 pub returns-in-Sub : goal.returns-in-Sub

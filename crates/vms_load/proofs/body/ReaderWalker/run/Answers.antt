@@ -1,5 +1,5 @@
 use Rattle.vms_load.proofs.Facade.{rules, ◌≡◌, ℕ, ◌*◌, ◌/◌, ◌+◌, ◌<◌, ◌≤◌, [], take, drop, None, refl, sym, ap, ◌∙◌, subst, arith, err_from_is_err_and}
-use Rattle.vms_load.proofs.Facade.{intake, takes_as, width, Typed, run_of, run_each, IsOfKind, Took, Failed, told, took_none}
+use Rattle.vms_load.proofs.Facade.{intake, takes_as, width, run_of, run_each, IsOfKind, Took, Failed, told, took_none}
 use Rattle.vms_spec.specs.declared.Reason.TheVariants as reasons
 use Rattle.vms_walk.specs.declared.step.WalkStep.TheVariants.{Number}
 use Rattle.vms_frames.specs.declared.fault.FrameFault.TheVariants as faults

@@ -1,7 +1,6 @@
-use Rattle.vms_load.proofs.Facade.{err_from_is_err_and, map, described, accepted_of}
-use Rattle.vms_image.specs.Typed.{state_of as untyped}
-use Rattle.vms_load.proofs.SetFacts.{well_of}
+use Rattle.vms_load.proofs.{Facade.err_from_is_err_and, Facade.map, Facade.described, Facade.accepted_of, SetFacts.well_of}
 use Rattle.vms_load.proofs.ExactLoads.{loads_taken, loads_refused, loads_kept}
+use Rattle.vms_image.specs.Typed.{state_of as untyped}
 use Rattle.vms_load.proofs.loader.Loader.load.Goals as goal
 
 pub returns-in_err-taken-clause-reads : goal.returns-in_err-taken-clause-reads

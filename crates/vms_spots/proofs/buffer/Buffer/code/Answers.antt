@@ -1,4 +1,4 @@
-use Rattle.vms_spots.proofs.Facade.{◌≡◌, ◌∙◌, ap, pos, arith, rules, ℕ, List, get_or, take, drop, ◌-◌, width, code, U8, Held}
+use Rattle.vms_spots.proofs.Facade.{◌∙◌, ap, pos, arith, rules, ℕ, List, get_or, take, drop, width, code, U8, Held}
 use Rattle.vms_spots.proofs.BufferLaws.{at_cell, AtSpot}
 use Rattle.vms_spots.proofs.buffer.Buffer.code.Goals as goal
 

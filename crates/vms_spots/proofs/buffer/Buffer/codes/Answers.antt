@@ -1,4 +1,4 @@
-use Rattle.vms_spots.proofs.Facade.{rules, ◌≡◌, ◌+◌, ◌-◌, ◌*◌, ◌<◌, ◌≤◌, length, take, drop, ap, ◌∙◌, arith, ℕ, List, width}
+use Rattle.vms_spots.proofs.Facade.{rules, ◌≡◌, ◌+◌, ◌*◌, ◌<◌, ◌≤◌, length, take, drop, ap, ◌∙◌, arith, ℕ, List, width}
 use Rattle.vms_spots.proofs.RunLaws.{codes_seen}
 use Rattle.vms_spots.proofs.buffer.Buffer.codes.Goals as goal
 

@@ -1,5 +1,5 @@
 use Rattle.vms_spots.proofs.{LayoutLaws.laid_again, LayoutLaws.kinds_again, BufferLaws.begun}
-use Rattle.vms_spots.proofs.Facade.{◌≡◌, ◌∙◌, List, ap, arith, length, length-map, Spot, spots_of, kinds_of, bytes_of}
+use Rattle.vms_spots.proofs.Facade.{◌∙◌, List, ap, arith, length, length-map, Spot, kinds_of, bytes_of}
 use Rattle.vms_spots.proofs.buffer.Buffer.new.Goals as goal
 
 pub size-requires-clause-few : goal.size-requires-clause-few

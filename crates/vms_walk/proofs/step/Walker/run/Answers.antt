@@ -1,8 +1,5 @@
+use Rattle.vms_walk.proofs.{Going.Laws, Kept.err_is, Runs.run_next, Runs.run_stop, Runs.run_may, step.Walker.run.Given.Over}
 use Rattle.vms_walk.proofs.Facade.{[], ◌≡◌, ◌-◌, refl, ◌∙◌, arith, zero, run_of}
-use Rattle.vms_walk.proofs.Going.{Laws}
-use Rattle.vms_walk.proofs.Kept.{err_is}
-use Rattle.vms_walk.proofs.Runs.{run_next, run_stop, run_may}
-use Rattle.vms_walk.proofs.step.Walker.run.Given.{Over}
 use Rattle.vms_walk.proofs.step.Walker.run.Goals as goal
 
 laws_of : (g : Over) → Laws g.Self.Cells.numbers g.Self.Walker.goes g.Self.Walker.stops
@@ -17,11 +14,7 @@ laws_of g = record {
 pub loop-cell-init : goal.loop-cell-init
 loop-cell-init g c =
     let none : zero ≡ c.args.first - c.args.first = omega arith in
-    record {
-      way = rw (← none) (g.met.Self.Walker.none c.args.self.now);
-      long = refl;
-      within = omega arith;
-    }
+    record { way = rw (← none) (g.met.Self.Walker.none c.args.self.now); long = refl; within = omega arith }
 
 pub loop-cell-preserved : goal.loop-cell-preserved
 loop-cell-preserved g c =
