@@ -4,6 +4,8 @@ use Rattle.vms_values.proofs.Facade.{here_fields, size_in, size_code, width_code
 use Rattle.vms_values.proofs.Facade.{part_names, item_names, wrote_as, field_name, List}
 use Rattle.vms_values.proofs.Naming.{NextNames, next_names, all_names, names_from, part_long, struct_name, positive, single_is, element_is}
 use Rattle.vms_spec.specs.declared.Part.TheVariants as parts
+use Rattle.vms_values.proofs.name.+name.Given.{Over}
+use Rattle.vms_values.proofs.name.+name.Goals.{print_element-After-item_cells-size, print_name-After-field_cells-size}
 use Rattle.vms_values.proofs.name.+name.Goals as goal
 
 -- the element has cells, and the cell is one of its
