@@ -174,8 +174,13 @@ impl Kind {
         Some(self.read(bytes))
     }
 
-    // Returns the number with these bytes.
-    fn read(self, bytes: &[u8]) -> i128
+    /// Returns the number with these `bytes`, those of a `Bool` too. [`Kind::take`] refuses what is
+    /// no number of this kind.
+    ///
+    /// # Requires
+    ///
+    /// `bytes` is exactly this kind's width long.
+    pub fn read(self, bytes: &[u8]) -> i128
         requires { length bytes.now ≡ width self }
         ensures { result ≡ value_of self bytes.now }
     {

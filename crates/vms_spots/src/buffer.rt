@@ -107,10 +107,7 @@ impl Buffer {
         let spot = self.spots[cell as usize];
         let offset = spot.offset as usize;
         let end = spot.end() as usize;
-        match spot.kind.take(&self.bytes[offset..end]) {
-            Some(number) => number,
-            None => unreachable!(),
-        }
+        spot.kind.read(&self.bytes[offset..end])
     }
 
     /// Returns the code of the number of cell `cell`: its bytes, big-endian.
