@@ -94,10 +94,10 @@ fn is_true<C: Cells>(test: &Test, asked: &Asked<'_, C>) -> bool
         result ≡ truth_by (formula test.now)
         asked.now.version asked.now.own asked.now.parent numbers }
 {
-    if let Some(held) = plain_holds(test, asked) {
-        return held;
-    }
     match test {
+        Test::AtLeast(_) | Test::Below(_) | Test::Cell { .. } => {
+            plain_holds(test, asked) == Some(true)
+        }
         Test::Not(inner) => !is_true(inner, asked),
         Test::And(first, second) => {
             let front = match plain_holds(first, asked) {
@@ -113,7 +113,6 @@ fn is_true<C: Cells>(test: &Test, asked: &Asked<'_, C>) -> bool
             };
             front || is_true(second, asked)
         }
-        Test::AtLeast(_) | Test::Below(_) | Test::Cell { .. } => unreachable!(),
     }
 }
 
