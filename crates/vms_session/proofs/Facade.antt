@@ -20,7 +20,7 @@ pub use Rattle.vms_io.proofs.WritingLemmas.{leaves_all, leaves_none, leaves_rest
 pub use Rattle.vms_io.specs.{Causes.Rose, Shelving.Reaches, Told.Outlet, Told.Stock, Told.outlet, Told.stock, Writing.Serves}
 pub use Rattle.vms_io.specs.Shelves.{Held, HoldsAll, HoldsBytes, PutsUnder}
 pub use Rattle.vms_script.specs.{Grammar.AreLines, Grammar.IsLine, Trace.trace_line, declared.line.Line.Line, Lines.Happens, Lines.Saves, Lines.ScriptLine}
-pub use Rattle.vms_script.specs.{Lines.is_set_of, Views.event_lines, Views.line_view, Views.lines_view}
+pub use Rattle.vms_script.specs.{Lines.is_set_of, Views.event_lines, Views.line_view, Views.lines_view, Views.session_view}
 pub use Rattle.vms_session.specs.{Events.events_of, Events.trace_from, Parts.Plays, Parts.part_of, declared.line.PlayFault.PlayFault}
 pub use Rattle.vms_session.specs.Laws.{BringsNone, GoesOnWithout, HasAnEnd, IsLarge, IsMissing, IsOneCourse, IsOneEnd, IsRefused, LevelStays, LinesAreOne}
 pub use Rattle.vms_session.specs.Laws.{ReadsBytes, RefusalsLeave, SessionsAreOne, SessionsEnd, SessionsStaySound}

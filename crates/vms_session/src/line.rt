@@ -6,7 +6,7 @@ ghost use Rattle.vms_io.specs.Shelves.{Held};
 ghost use Rattle.vms_io.specs.Told.{outlet, stock};
 ghost use Rattle.vms_script.specs.Grammar.{IsLine};
 ghost use Rattle.vms_script.specs.Trace.{trace_line};
-ghost use Rattle.vms_script.specs.Views.{line_view};
+ghost use Rattle.vms_script.specs.Views.{line_view, session_view};
 ghost use Rattle.vms_session.specs.Parts.{part_of};
 ghost use Rattle.vms_session.specs.Session.{Does, Session};
 ghost use Rattle.vms_session.specs.Playing.{Goes, LinesEnd, WritesText, session_of};
@@ -57,16 +57,39 @@ pub(crate) fn play_line<K: Sink, H: Shelf>(
 {
     match line {
         Line::Event(event) => write_answer(&board.event(*event), out),
-        Line::Session(line) => match &**line {
-            SessionLine::Save { set, name } => {
-                let count = save(board, *set, name.as_str(), sets, shelf)?;
-                write(&saved_mark(count), out)
-            }
-            SessionLine::Restore { name } => {
-                let mark = restore(sets.alloc(), board, name.as_str(), shelf)?;
-                write(&mark, out)
-            }
-        },
+        Line::Session(line) => play_session(line, board, sets, out, shelf),
+    }
+}
+
+// Runs a line that only a session has and appends its text.
+fn play_session<K: Sink, H: Shelf>(
+    line: &SessionLine,
+    board: &mut Board,
+    sets: &mut KeptSets,
+    out: &mut K,
+    shelf: &mut H,
+) -> Result<(), PlayFault>
+    requires line { IsLine (Some board.old.state.level) (session_view line.now) }
+    requires sets { AreOf isa sets.old }
+    ensures content { (held : Held) (text : List ℕ) (new : Session) → H.held shelf.old ≡ Some held
+        → Does (session_view line.now) (session_of board.old.state held) text new
+        → LinesEnd (part_of (session_view line.now) text new ∷ []) new
+        (outlet K.Sink out.old) (outlet K.Sink out.new)
+        (stock H.Shelf shelf.old) (stock H.Shelf shelf.new) board.new.state result }
+    ensures goes { Goes (outlet K.Sink out.old) (outlet K.Sink out.new)
+        (stock H.Shelf shelf.old) (stock H.Shelf shelf.new) result }
+    ensures level { board.new.state.level ≡ board.old.state.level }
+    ensures sets { AreOf isa sets.new }
+{
+    match line {
+        SessionLine::Save { set, name } => {
+            let count = save(board, *set, name.as_str(), sets, shelf)?;
+            write(&saved_mark(count), out)
+        }
+        SessionLine::Restore { name } => {
+            let mark = restore(sets.alloc(), board, name.as_str(), shelf)?;
+            write(&mark, out)
+        }
     }
 }
 

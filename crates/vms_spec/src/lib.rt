@@ -6,7 +6,7 @@
 #![tactic(auto)]
 
 ghost use Rattle.std.specs.Prelude.{◌≡◌, ◌≤◌, length};
-ghost use Rattle.vms_spec.specs.Reasons.{reason_word, rule_of};
+ghost use Rattle.vms_spec.specs.Reasons.{reason_number, reason_word, rule_of};
 
 /// The greatest number of items that the devices of a well-formed set have together. An item of an
 /// array counts once for each element of its full length or capacity.
@@ -169,6 +169,40 @@ impl Reason {
             Reason::LinesDisagree => "LinesDisagree",
             Reason::Trailing => "Trailing",
             Reason::DescriptionTooLong => "DescriptionTooLong",
+        }
+    }
+
+    /// Returns the number of this reason, its place among all from 1 on, by which C learns it.
+    pub fn number(self) -> u8
+        ensures { result ≡ reason_number self }
+    {
+        match self {
+            Reason::Truncated => 1,
+            Reason::BadMagic => 2,
+            Reason::OldStream => 3,
+            Reason::BadVersion => 4,
+            Reason::BadMark => 5,
+            Reason::Ram => 6,
+            Reason::Iterative => 7,
+            Reason::Command => 8,
+            Reason::ConfigurationExtra => 9,
+            Reason::WrongMachine => 10,
+            Reason::UnknownSection => 11,
+            Reason::RepeatedSection => 12,
+            Reason::TooNew => 13,
+            Reason::TooOld => 14,
+            Reason::BadBool => 15,
+            Reason::NotEqual => 16,
+            Reason::CountTooLarge => 17,
+            Reason::UnknownSubsection => 18,
+            Reason::RepeatedSubsection => 19,
+            Reason::Invalid => 20,
+            Reason::Unsound(_) => 21,
+            Reason::BadFooter => 22,
+            Reason::MissingSection => 23,
+            Reason::LinesDisagree => 24,
+            Reason::Trailing => 25,
+            Reason::DescriptionTooLong => 26,
         }
     }
 

@@ -1,5 +1,4 @@
 pub mod Answers
 pub mod Kinds
-pub mod Reasons
 pub mod Seals
 pub mod Streams

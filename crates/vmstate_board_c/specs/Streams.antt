@@ -11,7 +11,7 @@ use Rattle.vms_board.specs.declared.restore.RestoreFault.TheVariants as faults
 use Rattle.vms_frames.specs.declared.fault.Refusal.{Refusal}
 use Rattle.vms_io.specs.Told.{Intake}
 use Rattle.vmstate_board_c.specs.Answers.{no_number}
-use Rattle.vmstate_board_c.specs.Reasons.{reason_number, rule_of}
+use Rattle.vms_spec.specs.Reasons.{reason_number, rule_of}
 use Rattle.vmstate_board_c.specs.declared.answer.CNumber.{CNumber}
 use Rattle.vmstate_board_c.specs.declared.held.AnyBoard.{AnyBoard}
 use Rattle.vmstate_board_c.specs.declared.held.AnyBoard.TheVariants.{Isa, Clock}
@@ -67,6 +67,11 @@ abbrev pub device_said : Option ℕ → ℕ
 device_said None = 4294967295
 device_said (Some device) = device
 
+-- The number of the device's rule that fails, or 0 if no rule does.
+abbrev pub rule_said : Option ℕ → ℕ
+rule_said None = 0
+rule_said (Some rule) = rule
+
 -- The result of a call that restores nothing.
 abbrev pub nothing_restored : ℕ → CRestored
 nothing_restored status = record { status = status; device = 0; offset = 0; reason = 0; rule = 0 }
@@ -78,7 +83,7 @@ refused_said refusal = record {
   device = device_said refusal.section;
   offset = refusal.at;
   reason = reason_number refusal.reason;
-  rule = rule_of refusal.reason;
+  rule = rule_said (rule_of refusal.reason);
 }
 
 -- The result of a restore, whose stream has `taken` bytes. No read from memory fails.

@@ -11,7 +11,6 @@ mod held;
 mod kinds;
 mod parts;
 mod question;
-mod reason;
 mod seal;
 mod status;
 mod stream;

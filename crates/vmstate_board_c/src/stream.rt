@@ -6,7 +6,6 @@ ghost use Rattle.vmstate_board_c.specs.Streams.{HasRestored, HasSaved, IsRestore
 use crate::answer::{CNumber, no_number};
 use crate::handle::Handle;
 use crate::held::AnyBoard;
-use crate::reason::{reason_number, rule_of};
 use crate::status::{DONE, NO_BOARD, NO_MEMORY, NONE_SUCH, REFUSED, TOO_SMALL};
 use std::alloc::Global;
 use vms_board::{Machine, MachineBoard, Refusal, RestoreFault};
@@ -166,8 +165,11 @@ fn refused(refusal: Refusal) -> CRestored
             None => u32::MAX,
         },
         offset: refusal.at,
-        reason: reason_number(refusal.reason),
-        rule: rule_of(refusal.reason),
+        reason: u32::from(refusal.reason.number()),
+        rule: match refusal.reason.rule() {
+            Some(rule) => u32::from(rule),
+            None => 0,
+        },
     }
 }
 
