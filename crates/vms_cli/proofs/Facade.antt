@@ -23,7 +23,7 @@ pub use Rattle.vms_analyze.proofs.{One.one_holds, Total.total_holds}
 pub use Rattle.vms_analyze.specs.{Laws.HasListing, declared.fault.AnalyzeFault.AnalyzeFault, declared.fault.AnalyzeReason.AnalyzeReason}
 pub use Rattle.vms_analyze.specs.Calls.{Analyzes, IsListed, IsTooMuch, ListsTaken}
 pub use Rattle.vms_analyze.specs.Listing.{HasNoShape, HasNone, IsRead, IsTooLong, Listing, Lists, Text, longest_input}
-pub use Rattle.vms_board.specs.{Clock.clock, ClockStands.clock_stands, Family.Family, Family.IsNumber, Family.images_saved, Family.lists_in, Isa.cells_of}
+pub use Rattle.vms_board.specs.{Family.Family, Family.IsNumber, Family.images_saved, Family.lists_in, Isa.cells_of}
 pub use Rattle.vms_board.specs.{Isa.isa, IsaStands.isa_stands, Restoring.Back, Restoring.Restores, Saving.stream_with}
 unfoldable pub use Rattle.vms_board.specs.Saving.{saved_stream}
 pub use Rattle.vms_board_commands.proofs.{LoadOutcome.loads_one, PlayOutcome.has_end, PlayOutcome.one_outcome, SeenLemmas.seen_refused, SeenLemmas.seen_written}
@@ -40,7 +40,7 @@ pub use Rattle.vms_check_laws.proofs.Streaming.{upgrade_stands}
 pub use Rattle.vms_cli.specs.{Answers.HasOutcome, Answers.Verdict, Causes.WriteCause, Causes.WritesBy, ClockSets.ClockSetsLaw, Entry.Entry, Limits.LimitsLaw}
 pub use Rattle.vms_cli.specs.{TwoSets.sets_of, declared.commands.pack.PackParts.PackParts, declared.two_sets.TwoSets.TwoSets, Commands.LoadCommand.load_entry}
 pub use Rattle.vms_cli.specs.AnalyzeLaws.{PackThenAnalyzeLaw, PrintsAlike, SaveThenAnalyzeLaw, ShowThenAnalyzeLaw}
-pub use Rattle.vms_cli.specs.Boards.{BoardWord, CanBeRead, ClockBoard, IsBoard, IsaBoard, board_word, isa_level, number_word}
+pub use Rattle.vms_cli.specs.Boards.{CanBeRead, IsBoard, isa_level, number_word}
 pub use Rattle.vms_cli.specs.Commands.{Analyze, Asked, Check, Convert, Counter, Drill, Load, Pack, Play, Save, Show, asked_of, drill_of, entry_of, of_both}
 pub use Rattle.vms_cli.specs.Commands.{save_of, save_on, task_of, with_file, PackCommand.packed_parts, PackCommand.packs, PlayCommand.play_entry}
 pub use Rattle.vms_cli.specs.Commands.AnalyzeCommand.{EndsLike, FailsReading, FailsWriting, GivesListed, IsListing, IsRefused, analyze_course, analyze_entry}
@@ -56,6 +56,7 @@ pub use Rattle.vms_cli.specs.Commands.SaveCommand.{MaySaveOn, save_entry, saved_
 pub use Rattle.vms_cli.specs.Commands.ShowCommand.{CanBeShown, GivesWithin, Refuses, Shows, ShowsBy, ShowsWell, show_entry}
 pub use Rattle.vms_cli.specs.Continuation.{Continuation, ContinuesBy, goes_on}
 pub use Rattle.vms_cli.specs.ConvertLaws.{ConvertAgainLaw, ConvertThenAnalyzeLaw, ConvertThenLoadLaw, StandsFor}
+pub use Rattle.vms_cli.specs.Kinds.{IsSoundOf, StateOf, family_of}
 pub use Rattle.vms_cli.specs.Laws.{AmpleLaw, AskedLaw, CanBeAsked, CanBeDone, CheckThenShowLaw, CompleteLaw, HasOne, HasOneOutcome, HasRoom, IsAmple, NoneRises}
 pub use Rattle.vms_cli.specs.Laws.{OutcomeLaw, PackThenShowLaw, PromisesKept, ShowThenPackLaw}
 pub use Rattle.vms_cli.specs.Program.{OutFlushed, OutLate}
@@ -76,7 +77,11 @@ pub use Rattle.vms_commands.specs.Fetching.{SetText, fetched, fetched_set, is_on
 pub use Rattle.vms_commands.specs.Lines.{bad_words, out_of_memory, read_fault, refused_line, shelf_fault, too_large_line, write_fault}
 pub use Rattle.vms_commands.specs.Outcomes.{ComesTo, Does, DoesOrStops, FailsToStore, HasPart, NotesFault, OutFault, Outcome, Outside, Part, ShelfFault}
 pub use Rattle.vms_commands.specs.Outcomes.{TellsShelfFault, WantsMemory, done, ended, text_begun}
-pub use Rattle.vms_commands.specs.SetWords.{Clock, Isa, SetWord, Shipped, ShippedSet, named_set, number_after, set_word, shipped_word}
+pub use Rattle.vms_commands.specs.Kinds.{board_front, first_kind, first_set, kinds, newest_of, same_kind, set_front}
+pub use Rattle.vms_commands.specs.SetWords.{BoardOf, BoardWord, SetOf, SetWord, Shipped, ShippedSet, board_word, named_set, number_after, set_word}
+pub use Rattle.vms_commands.specs.SetWords.{shipped_word}
+pub use Rattle.vms_commands.specs.declared.kinds.BoardKind.{BoardKind}
+pub use Rattle.vms_commands.specs.declared.kinds.BoardKind.TheVariants.{Clock, Isa}
 pub use Rattle.vms_commands.specs.StepEndings.{AsksIf, HadCause, StepAs, TextEnds, WrittenAs, text_of}
 pub use Rattle.vms_commands.specs.Steps.{Both, Ends, Gives, HasBy, HasText, Step, Untold, both, next}
 pub use Rattle.vms_commands.specs.declared.ending.Ending.TheVariants.{WriteFault, BadText, BadWords, NoMemory, NotCompatible, NotThere, ReadFault, Refused}
