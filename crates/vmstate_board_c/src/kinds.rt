@@ -1,16 +1,27 @@
-// The calls of boards of both kinds.
+// The boards of each kind, and their calls.
 ghost use Rattle.std.specs.Prelude.{◌≡◌, ◌-◌, ◌<◌, ◌≤◌, [], IsTrue, IfOk, IfSome, MatchOption, Some, None, true, false};
 ghost use Rattle.dev_board.specs.Touch.{saying};
 ghost use Rattle.dev_board.specs.declared.event.Event.TheVariants.{Wait};
 ghost use Rattle.dev_board.specs.Step.{names_wire};
 ghost use Rattle.vmstate_board_c.specs.Answers.{MayAct, Reaches, event_at, said, time_to};
-ghost use Rattle.vmstate_board_c.specs.declared.held.AnyBoard.TheVariants.{Isa};
+ghost use Rattle.vmstate_board_c.specs.declared.kinds.AnyBoard.TheVariants.{Isa};
+ghost use Rattle.vmstate_board_c.specs.Streams.{RestoredTo, SavedIf, may_save, stream_of};
 ghost use Rattle.vmstate_board_c.specs.Kinds.{IsDueAt, character_of, has_port_of, int_of, is_made, level_of, now_of, output_of, power_on_of, room_of, step_of};
 
-use crate::held::AnyBoard;
+use crate::answer::CNumber;
+use crate::stream::{CRestored, restore, save};
 use dev_board::{Answer, Event};
 use std::alloc::Global;
 use vms_board::{Board, ClockBoard, NoMemory};
+
+/// A board of one of the kinds.
+#[derive(Drop)]
+pub enum AnyBoard {
+    /// A board `isa-1` to `isa-4`.
+    Isa(Board),
+    /// A board `clk-1` or `clk-2`.
+    Clock(ClockBoard),
+}
 
 /// The number of the kind of `isa-1` to `isa-4`.
 const ISA: u8 = 0;
@@ -195,6 +206,27 @@ impl AnyBoard {
         match self {
             AnyBoard::Isa(board) => board.due(),
             AnyBoard::Clock(board) => board.due(),
+        }
+    }
+
+    /// Writes the board's stream under set `set` to `room`, as the call of C does.
+    pub(crate) fn save(&self, alloc: Global, set: u8, describe: bool, room: &mut [u8]) -> CNumber
+        ensures { SavedIf (may_save set self.now) (stream_of set describe self.now)
+            room.old room.new result }
+    {
+        match self {
+            AnyBoard::Isa(board) => save(alloc, board, set, describe, room),
+            AnyBoard::Clock(board) => save(alloc, board, set, describe, room),
+        }
+    }
+
+    /// Restores the board from `stream`, as the call of C does.
+    pub(crate) fn restore(&mut self, stream: &[u8]) -> CRestored
+        ensures { RestoredTo stream.now self.old self.new result }
+    {
+        match self {
+            AnyBoard::Isa(board) => restore(board, stream),
+            AnyBoard::Clock(board) => restore(board, stream),
         }
     }
 }
