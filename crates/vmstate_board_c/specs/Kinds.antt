@@ -1,5 +1,5 @@
 -- The boards of each kind.
-use Rattle.std.specs.Prelude.{⊥, ℕ, ◌==◌, Bool, false, ◌&&◌, ◌||◌, nat_le, if◌then◌else◌, Option}
+use Rattle.std.specs.Prelude.{ℕ, ◌==◌, Bool, false, ◌&&◌, ◌||◌, nat_le, if◌then◌else◌, Option}
 use Rattle.dev_board.specs.State.{State}
 use Rattle.dev_board.specs.declared.event.Answer.{Answer}
 use Rattle.dev_board.specs.declared.event.Event.{Event}
@@ -26,72 +26,59 @@ on f level = record { state = f.power_on level; taken = 0 }
 abbrev pub power_on_of : (kind level : ℕ) → AnyBoard
 power_on_of kind level = if kind == 0 then Isa (on isa level) else Clock (on clock level)
 
--- ---- what a board is of its kind
-
--- The states of the boards of its kind.
-abbrev pub StateIn : AnyBoard → Type 0
-StateIn (Isa board) = State
-StateIn (Clock board) = ClockState
-
--- The family of its kind.
-abbrev pub family_in : (board : AnyBoard) → Family (StateIn board)
-family_in (Isa board) = isa
-family_in (Clock board) = clock
-
--- The board as one of its kind.
-abbrev pub standing_in : (board : AnyBoard) → Standing (StateIn board)
-standing_in (Isa board) = board
-standing_in (Clock board) = board
-
--- Another board of its kind.
-abbrev pub another : (board : AnyBoard) → Standing (StateIn board) → AnyBoard
-another (Isa board) new = Isa new
-another (Clock board) new = Clock new
-
--- Two boards are of one kind, and in this relation.
-abbrev pub Between : ({S : Type 0} → Family S → Standing S → Standing S → Type 0) → AnyBoard → AnyBoard → Type 0
-Between R (Isa old) (Isa new) = R isa old new
-Between R (Clock old) (Clock new) = R clock old new
-Between R _ _ = ⊥
-
--- ---- the calls
-
 -- The answer and the board after an event.
 abbrev pub step_in : {S : Type 0} → Family S → Event → Standing S → Answer × Standing S
 step_in f event board = let done = f.step event board.state in (done.0, record board { state = done.1 })
 
 -- The answer and the board, of any kind, after an event.
 abbrev pub step_of : Event → AnyBoard → Answer × AnyBoard
-step_of event board = let done = step_in (family_in board) event (standing_in board) in (done.0, another board done.1)
+step_of event (Isa board) = let done = step_in isa event board in (done.0, Isa done.1)
+step_of event (Clock board) = let done = step_in clock event board in (done.0, Clock done.1)
+
+-- What a family says of a board of its kind, said of a board of any kind.
+abbrev pub by_kind : {X : Type 0} → ((S : Type 0) → Family S → Standing S → X) → AnyBoard → X
+by_kind says (Isa board) = says State isa board
+by_kind says (Clock board) = says ClockState clock board
+
+-- What holds in a family of a board of its kind holds of a board of any kind.
+abbrev pub HoldsOf : ((S : Type 0) → Family S → Standing S → Type 0) → AnyBoard → Type 0
+HoldsOf P (Isa board) = P State isa board
+HoldsOf P (Clock board) = P ClockState clock board
+
+-- Two boards are of one kind, and this holds of them in its family.
+abbrev pub HoldsBetween : ((S : Type 0) → Family S → (old new : Standing S) → Type 0) → (old new : AnyBoard) → Type 0
+HoldsBetween R (Isa old) (Isa new) = R State isa old new
+HoldsBetween R (Clock old) (Clock new) = R ClockState clock old new
+HoldsBetween R _ _ = ⊥
 
 -- The present moment.
 abbrev pub now_of : AnyBoard → ℕ
-now_of board = (family_in board).moment (standing_in board).state
+now_of board = by_kind (λ S f b. f.moment b.state) board
 
 -- The level, or the version of the clock chip.
 abbrev pub level_of : AnyBoard → ℕ
-level_of board = (family_in board).number (standing_in board).state
+level_of board = by_kind (λ S f b. f.number b.state) board
 
 -- Whether the interrupt output is high.
 abbrev pub int_of : AnyBoard → Bool
-int_of board = (family_in board).int (standing_in board).state
+int_of board = by_kind (λ S f b. f.int b.state) board
 
 -- Whether OUT of the counter is high.
 abbrev pub output_of : ℕ → AnyBoard → Bool
-output_of counter board = (family_in board).output counter (standing_in board).state
+output_of counter board = by_kind (λ S f b. f.output counter b.state) board
 
 -- Whether a device uses the port.
 abbrev pub has_port_of : ℕ → AnyBoard → Bool
-has_port_of port board = (family_in board).has_port port (standing_in board).state
+has_port_of port board = by_kind (λ S f b. f.has_port port b.state) board
 
 -- The number of bytes that may arrive on the serial line before one is lost.
 abbrev pub room_of : AnyBoard → ℕ
-room_of board = (family_in board).room (standing_in board).state
+room_of board = by_kind (λ S f b. f.room b.state) board
 
 -- The time of one character on the serial line.
 abbrev pub character_of : AnyBoard → ℕ
-character_of board = (family_in board).character (standing_in board).state
+character_of board = by_kind (λ S f b. f.character b.state) board
 
 -- `due`, if there is one, is the least wait of the board that shows something.
 abbrev pub IsDueAt : AnyBoard → Option ℕ → Type 0
-IsDueAt board due = IsDue (family_in board).step (family_in board).int (standing_in board).state due
+IsDueAt board due = HoldsOf (λ S f b. IsDue f.step f.int b.state due) board

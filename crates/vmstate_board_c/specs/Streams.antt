@@ -9,7 +9,7 @@ use Rattle.vms_board.specs.declared.restore.RestoreFault.TheVariants as faults
 use Rattle.vms_frames.specs.declared.fault.Refusal.{Refusal}
 use Rattle.vms_io.specs.Told.{Intake}
 use Rattle.vmstate_board_c.specs.Answers.{no_number}
-use Rattle.vmstate_board_c.specs.Kinds.{Between, family_in, standing_in}
+use Rattle.vmstate_board_c.specs.Kinds.{HoldsBetween, by_kind}
 use Rattle.vms_spec.specs.Reasons.{reason_number, rule_of}
 use Rattle.vmstate_board_c.specs.declared.answer.CNumber.{CNumber}
 use Rattle.vmstate_board_c.specs.declared.kinds.AnyBoard.{AnyBoard}
@@ -23,7 +23,7 @@ may_save_in f set board = nat_le (f.number board.state) set && nat_le set f.newe
 
 -- Whether a board of any kind may be saved under this set.
 abbrev pub may_save : ℕ → AnyBoard → Bool
-may_save set board = may_save_in (family_in board) set (standing_in board)
+may_save set board = by_kind (λ S f b. may_save_in f set b) board
 
 -- The board's stream under this set, with or without its description.
 abbrev pub stream_in : {S : Type 0} → Family S → ℕ → Bool → Standing S → List ℕ
@@ -32,7 +32,7 @@ stream_in f set describe board =
 
 -- The stream of a board of any kind.
 abbrev pub stream_of : ℕ → Bool → AnyBoard → List ℕ
-stream_of set describe board = stream_in (family_in board) set describe (standing_in board)
+stream_of set describe board = by_kind (λ S f b. stream_in f set describe b) board
 
 -- The bytes are at the beginning of the buffer, or it is too small for them and unchanged.
 pub record Lands (bytes old new : List ℕ) (answer : CNumber) : Type 0 where
@@ -98,7 +98,7 @@ pub record IsRestored {S : Type 0} (f : Family S) (stream : List ℕ) (old new :
 
 -- The same for a board of any kind, which stays of its kind.
 abbrev pub RestoredTo : List ℕ → AnyBoard → AnyBoard → CRestored → Type 0
-RestoredTo stream old new answer = Between (λ f old new. IsRestored f stream old new answer) old new
+RestoredTo stream old new answer = HoldsBetween (λ S f before after. IsRestored f stream before after answer) old new
 
 -- The same for a board, if there is one. Otherwise the status is 3.
 abbrev pub HasRestored : List ℕ → (old new : Option AnyBoard) → CRestored → Type 0
