@@ -1,6 +1,8 @@
 -- The kinds of boards: the words that name their boards and sets, and their sets.
 use Rattle.std.specs.Prelude.{ℕ, Bool, true, false, List, [], ◌∷◌, Option, None, codes}
+use Rattle.dev_base.specs.declared.limits.TheConstants.{NEWEST}
 use Rattle.vms_desc.specs.Formed.{shipped_set, clock_set}
+use Rattle.vms_rtc.specs.declared.limits.TheConstants.{NEWEST_CLOCK}
 use Rattle.vms_spec.specs.Lists.{or_else}
 use Rattle.vms_spec.specs.Sets.{Set}
 use Rattle.vms_commands.specs.declared.kinds.BoardKind.{BoardKind}
@@ -18,8 +20,8 @@ same_kind _ _ = false
 
 -- The number of the newest set, which is also the highest number of a board.
 abbrev pub newest_of : BoardKind → ℕ
-newest_of Isa = 4
-newest_of Clock = 2
+newest_of Isa = NEWEST
+newest_of Clock = NEWEST_CLOCK
 
 -- The number of the first set. The boards of each kind begin with 1.
 abbrev pub first_set : BoardKind → ℕ
