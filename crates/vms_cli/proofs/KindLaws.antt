@@ -1,6 +1,5 @@
 -- The laws of the kinds of boards.
 use Rattle.std.proofs.Common.{◌≡◌, ℕ, suc, ◌+◌, ◌-◌, ◌≤◌, List, ℤ, refl, arith}
-use Rattle.dev_base.specs.Levels.{IsUpTo, ReachesSet}
 use Rattle.dev_board.proofs.{SoundLaws.sound_stays_on}
 use Rattle.dev_board.specs.{Laws.AreEvents, Sound.Alike, declared.event.Event.Event}
 use Rattle.dev_clock.proofs.SoundLaws.{sound_stays_on as clock_stays_on}
@@ -23,17 +22,16 @@ abbrev pub AlikeOf : (kind : BoardKind) → StateOf kind → StateOf kind → Ty
 AlikeOf Isa = Alike
 AlikeOf Clock = AlikeClocks
 
--- the set and the numbers of a kind are those of its family
+-- a kind has the sets and the numbers of its family
 pub record Numbers (kind : BoardKind) : Type 0 where
-  pub set : (number : ℕ) → (family_of kind).set number ≡ set_of kind number
-  pub board : (number : ℕ) → IsUpTo (newest_of kind) number → IsNumber (family_of kind) number
-  pub reaches : (number set : ℕ) → ReachesSet (newest_of kind) number set → ReachesSet (family_of kind).newest number set
+  pub newest : newest_of kind ≡ (family_of kind).newest
+  pub set : (number : ℕ) → set_of kind number ≡ (family_of kind).set number
   -- the words of its sets have one digit
   pub few : first_set kind + (suc (newest_of kind) - first_set kind) ≤ 10
 
 pub numbers_of : (kind : BoardKind) → Numbers kind
-numbers_of Isa = record { set = λ number. refl; board = λ number is. is; reaches = λ number set may. may; few = omega arith }
-numbers_of Clock = record { set = λ number. refl; board = λ number is. is; reaches = λ number set may. may; few = omega arith }
+numbers_of Isa = record { newest = refl; set = λ number. refl; few = omega arith }
+numbers_of Clock = record { newest = refl; set = λ number. refl; few = omega arith }
 
 pub stands_of : (kind : BoardKind) → Stands (family_of kind) (IsSoundOf kind) (AreToldOf kind)
 stands_of Isa = isa_stands

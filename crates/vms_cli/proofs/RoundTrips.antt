@@ -14,6 +14,7 @@ use Rattle.vms_cli.proofs.Facade.{SetWord, Shipped, ScriptLine, after_number, li
 use Rattle.vms_cli.proofs.Facade.{Counters, Finds, always_holds, named_holds, machine_known, Answers, AlwaysNamedLaw, Prints}
 use Rattle.vms_cli.specs.{Commands.ShowCommand.Values as Printed}
 use Rattle.vms_analyze.proofs.Shown.{shown_holds as shown_listing}
+use Rattle.dev_base.specs.Levels.{IsUpTo}
 use Rattle.vms_cli.proofs.KindLaws.{numbers_of, sound_of, stands_of}
 use Rattle.vms_board.specs.Family.{Stands}
 use Rattle.vms_check.proofs.SelfLaws.{is_among}
@@ -220,7 +221,7 @@ save_then_analyze words (BoardOf kind number) set script stream input held asked
     let can = subst CanBeAsked asked (words_ask words) in
     let of = numbers_of kind in
     saved_prints (family_of kind) (stands_of kind) (sound_of kind).power_on (sound_of kind).events held (Shipped (SetOf kind set)) number set
-    (ap Gives (sym (of.set set))) (of.board number can.0) (of.reaches number set can.1) script stream has
+    (ap Gives (of.set set)) (subst (λ (n : ℕ). IsUpTo n number) of.newest can.0) (subst (λ (n : ℕ). ReachesSet n number set) of.newest can.1) script stream has
 
 -- ---- What follows where `counter` names a state.
 
