@@ -1,10 +1,8 @@
 -- `check @c1 @c2` accepts.
+use Rattle.vms_cli.proofs.{Facade.Check, Facade.asked_of, Facade.of_both, Facade.pair_of, KindLaws.numbers_of}
 use Rattle.vms_cli.proofs.Facade.{◌≡◌, ℕ, zero, suc, ◌+◌, ◌≤◌, ◌++◌, if◌then◌else◌, List, [], ◌∷◌, Option, Some, None, codes, ap, sym, subst, refl, arith}
-use Rattle.vms_cli.proofs.Facade.{option_map, bytes_eq, decimal_digit, sets_are_compatible, Mismatch, done, BoardKind, Clock, SetOf, Shipped, ◌-◌}
-use Rattle.vms_cli.proofs.Facade.{first_kind, first_set, kinds, newest_of, set_front}
-use Rattle.vms_cli.proofs.KindLaws.{numbers_of}
-use Rattle.vms_cli.proofs.Facade.{named_set, number_after, set_word, HasText, compatible_text, verdict, ClockSetsLaw}
-use Rattle.vms_cli.proofs.Facade.{Check, asked_of, of_both, pair_of}
+use Rattle.vms_cli.proofs.Facade.{option_map, bytes_eq, decimal_digit, sets_are_compatible, Mismatch, done, BoardKind, Clock, SetOf, Shipped, ◌-◌, first_kind}
+use Rattle.vms_cli.proofs.Facade.{first_set, kinds, newest_of, set_front, named_set, number_after, set_word, HasText, compatible_text, verdict, ClockSetsLaw}
 
 -- ---- numbers of one digit, whose words are computed
 

@@ -1,13 +1,12 @@
 -- From how a call ends and why to what it answers.
-use Rattle.vms_cli.proofs.{Entries.fits_of, RowLemmas.caused_so, RowLemmas.row_so, CheckLemmas.verdict_so}
-use Rattle.vms_cli.proofs.Facade.{ℕ, List, length, Option, None, Some, subst, ◌≡◌, [], append-nil, refl, ap, ◌∙◌, IfSome, Family, LoadsBy}
-use Rattle.vms_cli.proofs.Facade.{Traces, scripted, stream_with, BoardsGoOn, Outcome, Outside, DoesOrStops, Step, Gives, Both, both, next}
-use Rattle.vms_cli.proofs.Facade.{ScriptLine, events_of, HasOutcome, Asked, BoardOf, IsSoundOf, family_of, Load, Show, asked_of, Continuation, ContinuesBy, goes_on}
-use Rattle.vms_cli.proofs.Facade.{Held, HoldsAll, Image, Set, written, WellFormed, Compatible, carried, Takes, upgrade_stands, SetText, fetched_set, named_sets}
-use Rattle.vms_cli.proofs.Facade.{set_in, sets_in, word_set, SetWord, FitStep, fit_word, AreCompatible, CheckThenShowLaw, ShowsBy, IsWritten, Upgrade}
-use Rattle.vms_cli.proofs.Facade.{UpgradesTo, shown_newer, Intake, Outlet, Stock, Serves, Ending, Tells, around, outcome_so, Runs, moment, task_of, IsFit}
+use Rattle.vms_cli.proofs.{Entries.fits_of, RowLemmas.caused_so, RowLemmas.row_so, CheckLemmas.verdict_so, KindLaws.AlikeOf, KindLaws.goes_on_of}
+use Rattle.vms_cli.proofs.Facade.{ℕ, List, length, Option, None, Some, subst, ◌≡◌, [], append-nil, refl, ap, ◌∙◌, IfSome, Family, LoadsBy, Traces, scripted}
+use Rattle.vms_cli.proofs.Facade.{stream_with, BoardsGoOn, Outcome, Outside, DoesOrStops, Step, Gives, Both, both, next, ScriptLine, events_of, HasOutcome}
+use Rattle.vms_cli.proofs.Facade.{Asked, BoardOf, IsSoundOf, family_of, Load, Show, asked_of, Continuation, ContinuesBy, goes_on, Held, HoldsAll, Image, Set}
+use Rattle.vms_cli.proofs.Facade.{written, WellFormed, Compatible, carried, Takes, upgrade_stands, SetText, fetched_set, named_sets, set_in, sets_in, word_set}
+use Rattle.vms_cli.proofs.Facade.{SetWord, FitStep, fit_word, AreCompatible, CheckThenShowLaw, ShowsBy, IsWritten, Upgrade, UpgradesTo, shown_newer, Intake}
+use Rattle.vms_cli.proofs.Facade.{Outlet, Stock, Serves, Ending, Tells, around, outcome_so, Runs, moment, task_of, IsFit}
 use Rattle.vms_cli.specs.{Answers.Answers, Commands.ShowCommand.Values as Printed}
-use Rattle.vms_cli.proofs.KindLaws.{AlikeOf, goes_on_of}
 
 -- ---- A stream that a board wrote is loaded as that board going on.
 

@@ -8,8 +8,7 @@ use Rattle.vms_board.specs.{Clock.AreTold as AreToldClocks, ClockStands.clock_st
 use Rattle.vms_board_streams.proofs.{ClockLaws.boards_go_on as clocks_go_on, IsaLaws.boards_go_on}
 use Rattle.vms_board_streams.specs.Streams.{BoardsGoOn, after_events}
 use Rattle.vms_commands.specs.Kinds.{first_set, newest_of, set_of}
-use Rattle.vms_commands.specs.declared.kinds.BoardKind.{BoardKind}
-use Rattle.vms_commands.specs.declared.kinds.BoardKind.TheVariants.{Isa, Clock}
+use Rattle.vms_commands.specs.declared.kinds.BoardKind.{BoardKind, TheVariants.Isa, TheVariants.Clock}
 use Rattle.vms_cli.specs.Kinds.{IsSoundOf, StateOf, family_of}
 
 -- the numbers of cells that a restore takes

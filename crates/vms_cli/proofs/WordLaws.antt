@@ -1,5 +1,5 @@
 -- Words name boards that there are.
-use Rattle.vms_cli.proofs.Facade.{◌≡◌, ℕ, zero, suc, ◌+◌, ◌<◌, ◌≤◌, ◌++◌, Bool, true, false, if◌then◌else◌, List, Option, Some, None, IfSome, codes, arith}
+use Rattle.vms_cli.proofs.Facade.{◌≡◌, ℕ, zero, suc, ◌+◌, ◌<◌, ◌≤◌, ◌++◌, Bool, true, false, if◌then◌else◌, List, Option, Some, None, IfSome, arith}
 use Rattle.vms_cli.proofs.Facade.{refl, sym, ap, ◌∙◌, decimal, option_map, nat_tests, bytes_eq, IsLevel, ReachesSet, or_else, Isa}
 use Rattle.vms_cli.proofs.Facade.{ShippedSet, SetWord, number_after, is_set_of, is_shelf_name, Asked, BoardWord, BoardOf, SetOf, Save, board_word}
 use Rattle.vms_cli.proofs.Facade.{[], ◌∷◌, ◌&&◌, BoardKind, board_front, first_kind, kinds, newest_of, same_kind}

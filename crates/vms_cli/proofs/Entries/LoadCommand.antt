@@ -1,10 +1,8 @@
 -- `load` has one outcome, and a board goes on if its stream and a script can be read.
-use Rattle.vms_cli.proofs.Facade.{ℕ, List, Option, Some, None, refl, sym, inl, inr, none-some, Held, IsBytes, FitsHeads, WellFormed, done, ended, Step}
-use Rattle.vms_cli.proofs.Facade.{Untold, Gives, Ends, IsSound, clock, clock_stands, Family, isa, isa_stands, Back, Restores, script_gives, sound_script}
-use Rattle.vms_cli.proofs.Facade.{loads_one, LoadsBy, Traces, scripted, answers_to, trace_of, events_of, ScriptLine, BoardOf, BoardWord, HasOne, family_of}
-use Rattle.vms_cli.proofs.KindLaws.{stands_of}
-use Rattle.vms_cli.proofs.Facade.{CanBeRead, load_entry}
-use Rattle.vms_cli.proofs.RowFacts.{IsDone, IsRow, spares_none, spares_text}
+use Rattle.vms_cli.proofs.{KindLaws.stands_of, RowFacts.IsDone, RowFacts.IsRow, RowFacts.spares_none, RowFacts.spares_text}
+use Rattle.vms_cli.proofs.Facade.{ℕ, List, Option, Some, None, refl, sym, inl, inr, none-some, Held, IsBytes, FitsHeads, WellFormed, done, ended, Step, Untold}
+use Rattle.vms_cli.proofs.Facade.{Gives, Ends, IsSound, Family, Back, Restores, script_gives, sound_script, loads_one, LoadsBy, Traces, scripted, answers_to}
+use Rattle.vms_cli.proofs.Facade.{trace_of, events_of, ScriptLine, BoardOf, BoardWord, HasOne, family_of, CanBeRead, load_entry}
 
 abbrev OneLoads : {S : Type 0} → Family S → ℕ → Step (List ScriptLine) → List ℕ → Held → Type 0
 OneLoads f number step input held = HasOne (λ o. LoadsBy f number step (Some input) (Some held) o)

@@ -1,7 +1,6 @@
 -- `save` has one outcome, and a board after a script that can be read is saved.
-use Rattle.vms_cli.proofs.Facade.{ℕ, List, Option, Some, None, refl, inl, inr, Held, done, HasText, one_text, clock, Family, isa}
-use Rattle.vms_cli.proofs.Facade.{IsSound, saved_stream, script_gives, sound_saved, saved_after, after_events, events_of, saved_on, BoardOf}
-use Rattle.vms_cli.proofs.Facade.{BoardWord, CanBeRead, family_of, save_entry}
+use Rattle.vms_cli.proofs.Facade.{ℕ, List, Option, Some, None, refl, inl, inr, Held, done, HasText, one_text, Family, IsSound, saved_stream, script_gives}
+use Rattle.vms_cli.proofs.Facade.{sound_saved, saved_after, after_events, events_of, saved_on, BoardOf, BoardWord, CanBeRead, family_of, save_entry}
 use Rattle.vms_cli.proofs.RowFacts.{IsDone, IsRow, spares_none, spares_text}
 
 sound_on : (board : BoardWord) (set : ℕ) (held : Option Held) (script : List ℕ) → IsSound held (saved_on board set held script)

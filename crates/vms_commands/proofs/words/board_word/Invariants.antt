@@ -1,5 +1,4 @@
-use Rattle.std.specs.Prelude.{◌≡◌, drop}
-use Rattle.std.specs.Option.{option_map}
+use Rattle.std.specs.{Prelude.◌≡◌, Prelude.drop, Option.option_map}
 use Rattle.vms_commands.specs.{Kinds.board_front, Kinds.first_kind, Kinds.kinds, Kinds.newest_of, SetWords.BoardOf, SetWords.board_word, SetWords.number_after}
 use Rattle.vms_commands.proofs.words.board_word.Given as goal
 

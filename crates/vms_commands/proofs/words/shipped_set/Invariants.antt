@@ -1,7 +1,6 @@
-use Rattle.std.specs.Prelude.{◌≡◌, ◌-◌, suc, drop}
-use Rattle.std.specs.Option.{option_map}
-use Rattle.vms_commands.specs.{Kinds.first_kind, Kinds.first_set, Kinds.kinds, Kinds.newest_of, Kinds.set_front, SetWords.SetOf, SetWords.number_after}
-use Rattle.vms_commands.specs.SetWords.{shipped_word}
+use Rattle.std.specs.{Prelude.◌≡◌, Prelude.◌-◌, Prelude.suc, Prelude.drop, Option.option_map}
+use Rattle.vms_commands.specs.Kinds.{first_kind, first_set, kinds, newest_of, set_front}
+use Rattle.vms_commands.specs.SetWords.{SetOf, number_after, shipped_word}
 use Rattle.vms_commands.proofs.words.shipped_set.Given as goal
 
 abbrev pub invariant-loop-kind : goal.invariant-loop-kind
