@@ -3,7 +3,7 @@ pub use Rattle.std.proofs.{KnownBytes.Keeps-refl, lemmas.Bool.ltb-true, lemmas.B
 pub use Rattle.std.proofs.{lemmas.Result.err_from_is_err_and, lemmas.Slice.Eq.bytes_eq-Decides, Math.Nat.le-max_left, Math.Nat.le-max_right}
 pub use Rattle.std.proofs.Common.{Bool, Err, IfSome, IsErrAnd, IsSomeAnd, List, None, Ok, Option, Result, Some, [], ap, append-nil, arith, codes, false, get_or}
 pub use Rattle.std.proofs.Common.{if◌then◌else◌, inl, inr, le_refl, length, length-append, map, max, nat_le, nat_lt, refl, rules, subst, suc, sym, take}
-pub use Rattle.std.proofs.Common.{take_all, true, zero, ℕ, ℤ, ◌++◌, ◌+◌, ◌-◌, ◌<◌, ◌^◌, ◌||◌, ◌∙◌, ◌∷◌, ◌≡◌, ◌≤◌, ◌⊎◌}
+pub use Rattle.std.proofs.Common.{take_all, true, zero, ℕ, ℤ, ◌&&◌, ◌++◌, ◌+◌, ◌-◌, ◌<◌, ◌^◌, ◌||◌, ◌∙◌, ◌∷◌, ◌≡◌, ◌≤◌, ◌⊎◌}
 pub use Rattle.std.proofs.lemmas.List.{drop_at, get_or-map, length-map, length-take}
 pub use Rattle.std.proofs.lemmas.Option.{none-some, slice_get-get_or}
 pub use Rattle.std.specs.{Fmt.decimal, Io.KnownBytes.Appends, Io.KnownBytes.Keeps, List.list_all, Option.ForSome, Option.option_map, Prelude.string_bytes}
