@@ -1,13 +1,14 @@
 -- A normal image of the newest set's serial port has the cells that a restore of a port requires.
 use Rattle.dev_images.proofs.Facade.{◌≡◌, ℕ, zero, suc, ◌+◌, ◌<◌, ◌≤◌, true, false, ◌&&◌, ◌==◌, List, ◌∷◌, ◌++◌, length, get_or, take, drop, min, map, Option}
 use Rattle.dev_images.proofs.Facade.{Some, None, ℤ, pos, negsuc, ◌≤ℤ◌, refl, sym, ◌∙◌, subst, arith, [], and_parts, ltb-true, or_from, ints, nat_le, nat_lt}
-use Rattle.dev_images.proofs.Facade.{same_number, Set, Device, Sub, serial_at_4, InRange, residue, Kind, U8, Image, has_cell, image_slots, own_slots, sub_slots}
+use Rattle.dev_images.proofs.Facade.{same_number, Set, Device, Sub, InRange, residue, Kind, U8, Image, has_cell, image_slots, own_slots, sub_slots}
 use Rattle.dev_images.proofs.Facade.{came_slots, IsNormal, IsVersionOf, AreVersionsOf, Cell, no_cell, first, device_cells, times, Slot, Number, Rule, NEWEST}
 use Rattle.dev_images.proofs.Facade.{shipped_set, thr_ipending, fifo, timeout, ring, same_number_is, AreOf, kind_at, nat_of, IsPortCells, THR_IPENDING}
 use Rattle.dev_images.proofs.Facade.{RX_COUNT, RX, TX_COUNT, TX, TIMEOUT_AT, RX_DATA}
 use Rattle.dev_images.proofs.SerialReady.{byte, second_slots, inner_slots, fifo_slots, elements}
 use Rattle.dev_images.proofs.NormalCells.{of-kinds}
 use Rattle.dev_images.proofs.ReadyOf.{has-none, neq, all_within, before-none, element, sub_cells, zero_defaults}
+use Rattle.dev_images.proofs.ShippedDevices.{serial_at_4}
 
 within-none : (low high : ℕ) (slots : List Slot) (c : ℕ) → all_within low high slots ≡ true → high ≤ c → has_cell slots c ≡ false
 within-none low high [] c e h = refl
