@@ -1,7 +1,7 @@
 -- What is saved of a sound board is carried to the newest set as its devices' tables say, and can
 -- be restored.
 use Rattle.dev_images.proofs.{Carried.timer_is_carried, Carried.chip_is_carried, PitCarried.pit_is_carried, Places.places_are, SerialCarried.serial_is_carried, ShippedDevices.five_devices}
-use Rattle.dev_images.proofs.Facade.{◌≡◌, ℕ, zero, suc, ◌≤◌, refl, sym, ap, subst, ◌∙◌, arith, NEWEST, saved_are_cells, saved_comes_back, saved_goes_on, saved}
+use Rattle.dev_images.proofs.Facade.{◌≡◌, ℕ, ◌≤◌, refl, sym, ap, subst, ◌∙◌, arith, NEWEST, saved_are_cells, saved_comes_back, saved_goes_on, saved}
 use Rattle.dev_images.proofs.Facade.{MaySaveUnder, AreSavedCells, restored, ComesBack, IsSound, State, BoardCells, carried, shipped_set, saved_images, cells_in}
 use Rattle.dev_images.proofs.Facade.{List, Some, get_or, slice_get, Set, Device, Image, find_device, index, no_image, carried_at, carried_device, images_of}
 use Rattle.dev_images.proofs.Facade.{lists_of, timer_in, chip_in, pit_in, serial_in, SavedIsCarried, ImagesComeBack, five, same-five}

@@ -1,7 +1,7 @@
 -- The cells of the moment and of the chips are carried as their own tables say.
 use Rattle.dev_images.proofs.ChipReady.{mode_place, mode_in, needs, unneeded}
 use Rattle.dev_images.proofs.Facade.{◌≡◌, ℕ, Bool, true, false, List, [], ◌∷◌, length, get_or, ℤ, pos, refl, arith, AreOf, timer_kinds, carried_by, places}
-use Rattle.dev_images.proofs.Facade.{cell_count, first, Set, set_1, set_2, set_3, timer, i8259_at_1, i8259_at_2, i8259_at_4, carried_numbers, TimerIsCarried, ChipIsCarried, Device, Kind, zero, suc, sym, subst, ap, ◌∙◌}
+use Rattle.dev_images.proofs.Facade.{cell_count, first, Set, timer, i8259_at_4, carried_numbers, TimerIsCarried, ChipIsCarried, Device, Kind, zero, suc, sym, subst, ap, ◌∙◌}
 use Rattle.dev_images.proofs.Facade.{shipped_set, newest_set, AreTimerCells, AreChipCells, CarriedWhere, NEWEST, ◌≤◌, timer_in, chip_in}
 use Rattle.dev_images.proofs.ShippedDevices.{is_timer, is_chip, chip_kinds, chip_origins}
 use Rattle.dev_pic.specs.Cells.{carried as pic_carried}

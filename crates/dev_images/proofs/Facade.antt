@@ -31,7 +31,7 @@ pub use Rattle.dev_board.specs.Saved.{AreBoardCells, AreSavedCells, MaySaveUnder
 pub use Rattle.dev_images.specs.{Kinds.KindsLaw, Kinds.kinds_in, Kinds.kinds_saved, Places.PlacesLaw, Places.chip_in, Places.pit_in, Places.serial_in, Places.timer_in}
 pub use Rattle.dev_images.specs.Images.{bare, cells_in, image_of, images_of, lists_of, needed_from, saved_images}
 pub use Rattle.dev_images.specs.Laws.{ChipIsCarried, ChipIsReady, ImagesComeBack, NormalMayBeRestored, PitIsCarried, PitIsReady, ReadyOf, SavedAreReady}
-pub use Rattle.dev_images.specs.Laws.{SavedIsCarried, SerialIsCarried, SerialIsReady, TimerIsCarried, TimerIsReady, carried_numbers, AreChipCells, AreTimerCells, CarriedWhere, InEachSet, ReadyWhere}
+pub use Rattle.dev_images.specs.Laws.{SavedIsCarried, SerialIsCarried, SerialIsReady, TimerIsCarried, TimerIsReady, carried_numbers, AreChipCells, AreTimerCells, CarriedWhere, ReadyWhere}
 pub use Rattle.dev_pic.specs.Cells.{cell_count}
 pub use Rattle.dev_pit.specs.Cells.{AreCellsOf, channel_place, latched_place, status_place}
 pub use Rattle.dev_serial.specs.{Cells.IsArray, Cells.IsPortCells, Laws.AreSaved}

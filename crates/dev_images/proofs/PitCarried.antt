@@ -1,14 +1,13 @@
 -- The cells of the timer chip are carried as its own table says.
-use Rattle.dev_images.proofs.{ChipReady.needs, ChipReady.unneeded, Channels.behind, Channels.second_at, Channels.third_at, Channels.IsKeptAt}
+use Rattle.dev_images.proofs.{ChipReady.needs, ChipReady.unneeded, Channels.behind, Channels.second_at, Channels.third_at, Channels.IsKeptAt, Facade.pit_in}
 use Rattle.dev_images.proofs.Facade.{same_kind, ◌≡◌, ℕ, zero, suc, ◌+◌, ◌==◌, Bool, true, false, cond, List, [], ◌∷◌, ◌++◌, get_or, ℤ, pos, negsuc, ◌≤ℤ◌, refl}
 use Rattle.dev_images.proofs.Facade.{sym, ap, arith, COUNTERS, WLOW_HELD, WLOW, LATCHED, LATCH, STATUS_LATCHED, STATUS, InRange, Num, Kind, U8, U16, carriers}
-use Rattle.dev_images.proofs.Facade.{carry_items, no_carrier, first, struct_cells, Set, NEWEST, shipped_set, set_1, set_2, nat_of, AreCellsOf, PitIsCarried, Device, Desc, subst, i8254_at_1}
-use Rattle.dev_images.proofs.Facade.{i8254_at_2, carried_numbers, AreOf, ◌≤◌, ◌∙◌, carried_by}
+use Rattle.dev_images.proofs.Facade.{carry_items, no_carrier, first, struct_cells, Set, NEWEST, shipped_set, set_1, set_2, nat_of, AreCellsOf, PitIsCarried}
+use Rattle.dev_images.proofs.Facade.{Device, Desc, subst, i8254_at_1, i8254_at_2, carried_numbers, AreOf, ◌≤◌, ◌∙◌, carried_by, CarriedWhere, newest_set}
 use Rattle.dev_images.proofs.ShippedDevices.{is_pit, later_structs, pit_kinds, pit_origins}
 use Rattle.dev_base.specs.Tables.{Origin}
 use Rattle.dev_pit.specs.Cells.{carried as pit_carried}
 use Rattle.vms_kinds.specs.declared.Kind.TheVariants.{Bool as Truth}
-use Rattle.dev_images.proofs.Facade.{CarriedWhere, newest_set, pit_in}
 
 -- A channel of the newest set from one of older sets.
 abbrev channel_in : Set → List ℤ → ℕ → List ℤ

@@ -1,11 +1,11 @@
 -- The image of the timer chip is ready.
-use Rattle.dev_images.proofs.{Facade.PitIsReady, Facade.rules_append, PitCarried.IsKept, PitCarried.absent-kept, PitCarried.as-2, ShippedDevices.is_pit, ShippedDevices.later_structs}
+use Rattle.dev_images.proofs.{PitCarried.IsKept, PitCarried.absent-kept, PitCarried.as-2, ShippedDevices.is_pit, ShippedDevices.later_structs}
 use Rattle.dev_images.proofs.Channels.{channel_cells, second_at, third_at, slots_in, channel-fine}
-use Rattle.dev_images.proofs.Facade.{◌≡◌, ℕ, true, List, ◌∷◌, ◌++◌, ℤ, pos, refl, arith, [], STATUS_LATCHED, U8, RulesHold, first, Cell, Slot, Number, Constant}
-use Rattle.dev_images.proofs.Facade.{Filler, Rule, set_1, set_2, Set, Device, Desc, zero, suc, sym, subst, shipped_set, i8254_at_1, i8254_at_2, AreCellsOf, latched_place, status_place, ReadyOf}
+use Rattle.dev_images.proofs.Facade.{PitIsReady, rules_append, ◌≡◌, ℕ, true, List, ◌∷◌, ◌++◌, ℤ, pos, refl, arith, [], STATUS_LATCHED, U8, RulesHold, first}
+use Rattle.dev_images.proofs.Facade.{Cell, Slot, Number, Constant, Filler, Rule, set_1, set_2, Set, Device, Desc, zero, suc, sym, subst, shipped_set}
+use Rattle.dev_images.proofs.Facade.{i8254_at_1, i8254_at_2, AreCellsOf, latched_place, status_place, ReadyOf, ◌≤◌, NEWEST, ReadyWhere, pit_in}
 use Rattle.dev_images.proofs.ReadyOf.{are_kept, ready-plain, kept-left, kept-right, kept-both}
 use Rattle.vms_kinds.specs.declared.Kind.TheVariants.{Bool as Truth}
-use Rattle.dev_images.proofs.Facade.{◌≤◌, NEWEST, ReadyWhere, pit_in}
 
 -- Three channels with what follows them.
 abbrev pub chip_slots : List Slot → List Slot → List Slot → List Slot → List Slot

@@ -2,14 +2,13 @@
 use Rattle.dev_images.proofs.Facade.{◌≡◌, ℕ, ◌+◌, ◌-◌, ◌%◌, ◌^◌, ◌<◌, ◌≤◌, ◌==◌, Bool, true, false, not, List, ◌∷◌, ◌++◌, get_or, take, drop, replicate, ℤ, pos}
 use Rattle.dev_images.proofs.Facade.{negsuc, refl, ap, arith, min, ◌||◌, [], eqb-true, not-false, or_parts, nat_tests, ints, and_le_l, bit_and, nat_le, codes}
 use Rattle.dev_images.proofs.Facade.{and_numeral, zero, suc, sym, ◌∙◌, InRange, residue, U8, U16, I8, Timer, first, device_cells, times, Cell, Slot, Number}
-use Rattle.dev_images.proofs.Facade.{Rule, RulesHold, counts_well, counted_well, rules_append, IsArray, Set, Device, Sub, set_1, set_2, set_3, never, subst, AreOf, Kind}
-use Rattle.dev_images.proofs.Facade.{number, serial, serial_fields, fcr, thr_ipending, fifo, timeout, ring, nat_of, AreSaved, ReadyOf, SerialIsReady}
+use Rattle.dev_images.proofs.Facade.{Rule, RulesHold, counts_well, counted_well, rules_append, IsArray, Set, Device, Sub, set_1, set_2, set_3, never, subst}
+use Rattle.dev_images.proofs.Facade.{AreOf, Kind, number, serial, serial_fields, fcr, thr_ipending, fifo, timeout, ring, nat_of, AreSaved, ReadyOf}
+use Rattle.dev_images.proofs.Facade.{SerialIsReady, place_under, serial_rows, THR_IPENDING, RX_COUNT, RX, TX_COUNT, TX, TIMEOUT_AT, RX_DATA, RX_NUMBER}
+use Rattle.dev_images.proofs.Facade.{TX_NUMBER, carried_sub, image_of, NEWEST, shipped_set, ReadyWhere, serial_in}
+use Rattle.dev_images.proofs.ReadyOf.{front, shape, IsFineSub, ready-parts, zeros-kept, element, array-kept, rules-times, are_kept, counts-none, counts-by}
+use Rattle.dev_images.proofs.ReadyOf.{kept-left, kept-right, kept-both}
 use Rattle.dev_images.proofs.ShippedDevices.{serial_at_1, serial_at_2, serial_at_3, serial_at_4, is_serial, port_kinds}
-use Rattle.dev_images.proofs.Facade.{place_under, serial_rows, THR_IPENDING, RX_COUNT, RX, TX_COUNT, TX}
-use Rattle.dev_images.proofs.Facade.{TIMEOUT_AT, RX_DATA, RX_NUMBER, TX_NUMBER, carried_sub, image_of, NEWEST, shipped_set}
-use Rattle.dev_images.proofs.ReadyOf.{front, shape, IsFineSub, ready-parts, zeros-kept, element, array-kept, rules-times, are_kept}
-use Rattle.dev_images.proofs.ReadyOf.{counts-none, counts-by, kept-left, kept-right, kept-both}
-use Rattle.dev_images.proofs.Facade.{ReadyWhere, serial_in}
 
 -- Whether a signed byte isn't -1, and whether a timer isn't "never".
 abbrev pub needs_sign : ℤ → Bool

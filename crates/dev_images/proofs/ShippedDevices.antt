@@ -1,5 +1,5 @@
 -- The devices and the structures that the shipped sets have.
-use Rattle.dev_images.proofs.Facade.{◌≡◌, ℕ, ◌≤◌, List, [], ◌∷◌, ◌++◌, refl, sym, Device, Desc, by_list, NEWEST, shipped_set, set_2, timer, i8259_at_4, i8254_at_2}
+use Rattle.dev_images.proofs.Facade.{◌≡◌, ℕ, ◌≤◌, List, [], ◌∷◌, ◌++◌, refl, sym, Device, Set, by_list, NEWEST, shipped_set, set_2, timer, i8259_at_4, i8254_at_2}
 use Rattle.dev_images.proofs.Facade.{serial, serial_fields, divider, divisor, fcr, thr_ipending, fifo, timeout, ring, timer_in, chip_in, pit_in, serial_in}
 use Rattle.dev_pic.specs.Cells.{kinds as pic_kinds, origins as pic_origins}
 use Rattle.dev_pit.specs.Cells.{kinds_of, origins as origins_of_pit}
@@ -23,9 +23,11 @@ serial_at_4 = serial 4 (divisor ∷ serial_fields ++ fcr ∷ []) (thr_ipending �
 
 -- ---- what the shipped sets have from a number on, by computation
 
-pub five_devices : (s : ℕ) → 1 ≤ s → s ≤ NEWEST
-    → (shipped_set s).devices ≡ timer_in (shipped_set s) ∷ chip_in 0 (shipped_set s) ∷ chip_in 1 (shipped_set s) ∷ pit_in (shipped_set s) ∷ serial_in (shipped_set s) ∷ []
-five_devices = by_list (λ set. set.devices) (λ s. timer_in (shipped_set s) ∷ chip_in 0 (shipped_set s) ∷ chip_in 1 (shipped_set s) ∷ pit_in (shipped_set s) ∷ serial_in (shipped_set s) ∷ []) 1 refl
+abbrev five_of : Set → List Device
+five_of set = timer_in set ∷ chip_in 0 set ∷ chip_in 1 set ∷ pit_in set ∷ serial_in set ∷ []
+
+pub five_devices : (s : ℕ) → 1 ≤ s → s ≤ NEWEST → (shipped_set s).devices ≡ five_of (shipped_set s)
+five_devices = by_list (λ set. set.devices) (λ s. five_of (shipped_set s)) 1 refl
 
 pub is_timer : (s : ℕ) → 1 ≤ s → s ≤ NEWEST → timer_in (shipped_set s) ≡ timer
 is_timer = by_list timer_in (λ s. timer) 1 refl
