@@ -4,7 +4,7 @@ pub use Rattle.std.proofs.Common.{Bool, List, None, Option, Some, [], ap, append
 pub use Rattle.std.proofs.Common.{length, map, nat_lt, negsuc, pos, refl, subst, suc, sym, take, true, zero, zero-add, ℕ, ℤ, ◌&&◌, ◌*◌, ◌++◌, ◌+◌, ◌-◌, ◌<◌}
 pub use Rattle.std.proofs.lemmas.Bool.{le-ltb, lt-ltb, ltb-false, ltb-true}
 pub use Rattle.std.proofs.lemmas.List.{get_or-append_right, get_or-map, get_or_append_left, get_or_past, length-map, map-append}
-pub use Rattle.std.specs.{Fmt.decimal, List.flat_map, List.slice_get}
+pub use Rattle.std.specs.{Fmt.decimal, List.AllByRecursion, List.flat_map, List.slice_get}
 unfoldable pub use Rattle.std.specs.Fmt.{digits}
 pub use Rattle.vms_kinds.specs.{declared.Item.Item, declared.Item.TheVariants.Num, declared.Item.TheVariants.Struct, declared.Kind.Kind}
 pub use Rattle.vms_spec.proofs.{Boxes.counted_set, Boxes.mixed_set, Boxes.sub_of, Boxes.subsection_set, Boxes.tested_set, ListLaws.pick_append}

@@ -5,7 +5,7 @@ use Rattle.vms_elements.proofs.Facade.{lt-ltb, slice_get-get_or, get_or_past, Ki
 use Rattle.vms_elements.proofs.Facade.{capacity_of, item_size, field_cells, desc_cells, place_of, numbers_of, all_hold, item_at, element_at, path_at, Element}
 use Rattle.vms_elements.proofs.Facade.{Shape, no_shape, shape, cells_in, dotted, behind, single, Number, Rule, item_elements, Stand, stand_of, array_elements}
 use Rattle.vms_elements.proofs.Facade.{field_elements, elements_from, desc_elements, index_text, is_number, elements_in, last_field, field_named, IsFieldOf}
-use Rattle.vms_elements.proofs.Members.{Each, each_append, each_map, Has, has_left, has_right, has_map}
+use Rattle.vms_elements.proofs.Members.{Each, all_both, all_map, Has, has_left, has_right, has_map}
 use Rattle.vms_elements.proofs.Tables.{shapes_cells}
 
 -- an element of a field that there is
@@ -58,7 +58,7 @@ module _ (set : Set) where
           let lt : j < below = ltb-true j below t in
           let d = get_or set.structs j no_desc in
           rw (first_at shape set.structs no_shape below j lt)
-          (each_map (Tells j d place) (TellsItem below f place) dotted (dotted_tells below f j place d is t (slice_get-get_or set.structs j no_desc (omega arith)))
+          (all_map (Tells j d place) (TellsItem below f place) dotted (dotted_tells below f j place d is t (slice_get-get_or set.structs j no_desc (omega arith)))
           (desc_elements (first shape set.structs j) d d.version n place) (earlier j lt d d.version n place))
       by_test false t = rw (get_or_past ss j no_shape (omega (arith, first_long shape set.structs below, ltb-false j below t))) tt
   item_tells below le earlier f caps n place _ is = (λ cell what. cc, tt)
@@ -78,8 +78,8 @@ module _ (set : Set) where
       → (e n place : ℕ) → e + n ≤ capacity_of f.count → place_of (sizes below) d.fields 0 base d.fields stand.number + e * step ≡ place → Each (Tells below d base) (array_elements f stand part step e n place)
   array_tells below d base f stand part step there size h e zero place le is = tt
   array_tells below d base f stand part step there size h e (suc n) place le is =
-      each_append (Tells below d base) (map (behind (stand.number, e) _ _ _) (part place)) _
-      (each_map (TellsItem below f place) (Tells below d base) (behind (stand.number, e) (f.name ++ index_text f.count e) _ _)
+      all_both (Tells below d base) (map (behind (stand.number, e) _ _ _) (part place)) _
+      (all_map (TellsItem below f place) (Tells below d base) (behind (stand.number, e) (f.name ++ index_text f.count e) _ _)
       (behind_tells below d base stand.number e place f (f.name ++ index_text f.count e) (nat_lt e stand.count) (stand.there && nat_lt e stand.count) there (lt-ltb e (capacity_of f.count) (omega arith)) (rw (← size) is)) (part place) (h place))
       (array_tells below d base f stand part step there size h (suc e) n (place + step) (omega arith) (grind (arith, is)))
 
@@ -94,7 +94,7 @@ module _ (set : Set) where
       let ss = first shape set.structs below in
       let cells : cells_in ss ≡ sizes below = shapes_cells set.structs below in
       let here = a i 0 (omega arith) in
-      each_append (Tells below d base) (field_elements ss d.fields v own n i place f) _
+      all_both (Tells below d base) (field_elements ss d.fields v own n i place f) _
       (array_tells below d base f (stand_of i f v own) (item_elements ss f.item (counted i d.fields) f.default n) (item_size (cells_in ss) f.item) here.0 (rw cells refl)
       (λ p. item_tells below le earlier f (counted i d.fields) n p f.item refl) 0 (capacity_of f.count) place (omega arith) (grind (arith, here.1)))
       (rw cells (fields_tell below le earlier d base v own n (suc i) (place + length (field_cells (sizes below) d.fields i f)) fs (λ j k at. a j (suc k) (omega arith))))
@@ -103,7 +103,7 @@ module _ (set : Set) where
   desc_tells below le earlier d v n base =
       let ss = first shape set.structs below in
       let own = numbers_of (cells_in ss) d n base in
-      each_append (Tells below d base) (elements_from ss d.fields v own n 0 base d.fields) (single (base + length (desc_cells (cells_in ss) d)) (Rule (all_hold d.validate v own)) ∷ [])
+      all_both (Tells below d base) (elements_from ss d.fields v own n 0 base d.fields) (single (base + length (desc_cells (cells_in ss) d)) (Rule (all_hold d.validate v own)) ∷ [])
       (fields_tell below le earlier d base v own n 0 base d.fields (λ j k at. let same : j ≡ k = omega arith in rw same (refl, refl))) (λ cell what. cc, tt)
 
   up_to : (most below : ℕ) → below ≤ most → below ≤ length set.structs → Complete below

@@ -1,6 +1,6 @@
 -- One walk over the elements of a description, in two states side by side: their cells, their names, that the numbers count up, and
 -- that what is in the bytes is counted.
-use Rattle.vms_elements.proofs.{Members.Each, Members.each_append, Members.each_map, Tables.shapes_cells, Tables.cells_at}
+use Rattle.vms_elements.proofs.{Members.Each, Members.all_both, Members.all_map, Tables.shapes_cells, Tables.cells_at}
 use Rattle.vms_elements.proofs.Facade.{◌≡◌, ℕ, zero, suc, ◌+◌, Bool, true, false, ◌&&◌, nat_lt, if◌then◌else◌, List, [], ◌∷◌, ◌++◌, length, get_or, map, ℤ}
 use Rattle.vms_elements.proofs.Facade.{refl, ap, ◌∙◌, subst, arith, append-nil, map-append, length-map, Item, Num, Struct, Field, Desc, Set, Cell, no_desc}
 use Rattle.vms_elements.proofs.Facade.{first, times, counted, item_cells, field_cells, cells_from, desc_cells, struct_cells, numbers_of, pick_append, size_same}
@@ -106,7 +106,7 @@ then_walks {c} {d} {at} {xs} {ys} {us} {vs} h g = record {
   cells_are = rw (cells_append, h.cells_are, g.cells_are);
   up = rw numbers_append (counts_append at _ _ h.up (rw (numbers_long xs, h.cells_are) g.up));
   names = rw (names_append xs us, names_append ys vs, h.names, g.names);
-  counted = each_append IsCounted xs us h.counted g.counted;
+  counted = all_both IsCounted xs us h.counted g.counted;
 }
 
 pub step_walks : {c : List Cell} {at : ℕ} {xs ys : List Element} {text : List ℕ} {f g : Element → Element} → IsStep text f → IsStep text g → Walks c at xs ys → Walks c at (map f xs) (map g ys)
@@ -114,7 +114,7 @@ step_walks {c} {at} {xs} {ys} {text} {f} {g} s t h = record {
   cells_are = cc (cells_map s xs);
   up = counts_map s at xs h.up;
   names = rw (names_map s xs, names_map t ys, h.names);
-  counted = each_map IsCounted IsCounted f s.counted xs h.counted;
+  counted = all_map IsCounted IsCounted f s.counted xs h.counted;
 }
 
 pub no_walk : (at : ℕ) → Walks [] at [] []
