@@ -2,7 +2,7 @@
 use Rattle.vms_elements.proofs.Facade.{◌≡◌, ◌⊎◌, inl, inr, ℕ, zero, suc, ◌+◌, Bool, true, List, [], ◌∷◌, ◌++◌, map, get_or, ℤ, Some, refl, subst, slice_get, Element}
 use Rattle.vms_elements.proofs.Facade.{Item, Field, Desc, Set, no_desc, first, counted, capacity_of, one_more, What, Rule, Shape, no_shape, AllByRecursion}
 use Rattle.vms_elements.proofs.Facade.{shape, shapes, dotted, behind, single, index_text, item_elements, Stand, stand_of, array_elements, field_elements}
-use Rattle.vms_elements.proofs.Facade.{elements_from, desc_elements, elements_in}
+use Rattle.vms_elements.proofs.Facade.{elements_from, desc_elements, elements_in, ◌<◌, ◌/◌, ◌%◌, ◌==◌, false, if◌then◌else◌, arith, decimal, digits, digits_onto, digit_glyph, lt-ltb}
 use Rattle.vms_kinds.specs.declared.Item.TheVariants as items
 use Rattle.vms_elements.specs.Elements as whats
 
@@ -33,6 +33,24 @@ all_at P (y ∷ xs) (suc i) x e h = all_at P xs i x e h.1
 pub all_from : {A : Type 0} (P : A → Type 0) (xs : List A) → ((i : ℕ) (x : A) → slice_get xs i ≡ Some x → P x) → AllByRecursion P xs
 all_from P [] h = tt
 all_from P (x ∷ xs) h = (h 0 x refl, all_from P xs (λ i. h (suc i)))
+
+-- the digits of a number
+module _ (P : ℕ → Type 0) (digit : (d : ℕ) → d < 10 → P (48 + d)) where
+  onto : (k n : ℕ) (acc : List ℕ) → AllByRecursion P acc → AllByRecursion P (digits_onto k 10 false n acc)
+  onto zero n acc h = h
+  onto (suc k) n acc h = go (n / 10 == 0) (onto k (n / 10) _ here)
+    where
+      here : AllByRecursion P (digit_glyph false (n % 10) ∷ acc)
+      here = (rw (lt-ltb (n % 10) 10 (omega arith)) (digit (n % 10) (omega arith)), h)
+
+      go : (b : Bool) → AllByRecursion P (digits_onto k 10 false (n / 10) (digit_glyph false (n % 10) ∷ acc))
+          → AllByRecursion P (if b then digit_glyph false (n % 10) ∷ acc else digits_onto k 10 false (n / 10) (digit_glyph false (n % 10) ∷ acc))
+      go true more = here
+      go false more = more
+
+  pub decimal_all : (n : ℕ) → AllByRecursion P (decimal n)
+  unfolding digits
+  decimal_all n = onto 64 n [] tt
 
 abbrev pub Has : (Element → Type 0) → List Element → Type 0
 Has P [] = ⊥
