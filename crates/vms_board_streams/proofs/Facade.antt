@@ -17,7 +17,7 @@ unfoldable pub use Rattle.vms_spec.specs.Layout.{first}
 pub use Rattle.vms_stream.proofs.Stated.{either_holds, never_both_holds, one_fault_holds, one_stream_holds}
 pub use Rattle.vms_stream.proofs.WrittenBytes.{AllParts, AllSubs, AreBytes, EachPart, all_parts, bytes_at, is_named, parts_named, written_are_bytes}
 pub use Rattle.vms_stream.specs.{StreamLaws.Answer, StreamLaws.Faulty, StreamLaws.IsWholeStream, StreamLaws.Taken, Streams.Takes}
-pub use Rattle.vms_elements.proofs.Members.{Each, each_append, each_map}
+pub use Rattle.vms_elements.proofs.Members.{all_both, all_from, elements_each}
 pub use Rattle.vms_elements.specs.Elements.{Constant, Element, Filler, Number, Rule, Shape, Stand, What, array_elements, behind, cells_in, desc_elements}
 pub use Rattle.vms_elements.specs.Elements.{dotted, elements_from, field_elements, index_text, item_elements, no_shape, shape, shapes, single, stand_of}
 pub use Rattle.vms_elements.specs.Parts.{elements_in}
@@ -37,7 +37,7 @@ pub use Rattle.vms_desc.proofs.{Bounds.none_is, Formed.clock_formed, Formed.form
 pub use Rattle.vms_desc.specs.Formed.{clock_set, shipped_set}
 pub use Rattle.vms_load.proofs.StreamLengths.{devices_long, stream_le}
 pub use Rattle.vms_selfdesc.proofs.Bounds.{clock_holds, shipped_holds}
-pub use Rattle.vms_selfdesc.proofs.JsonBytes.{Allows, AreSpelled, HasLetters, IsSpelled, ItemsHave, all_append, decimal_good, device_letters, devices_letters}
+pub use Rattle.vms_selfdesc.proofs.JsonBytes.{Allows, AreSpelled, HasLetters, IsSpelled, ItemsHave, decimal_good, device_letters, devices_letters}
 pub use Rattle.vms_selfdesc.proofs.JsonBytes.{kind_letters, sub_letters, text_good, word}
 pub use Rattle.vms_selfdesc.specs.Entries.{Entry, cell_entry, entries_of, entry_of, listed_if, part_entries, sent_entry}
 pub use Rattle.vms_selfdesc.specs.Tree.{described_text, described_tree, device_tree, device_trees, sub_trees}

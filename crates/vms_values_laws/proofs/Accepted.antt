@@ -1,7 +1,7 @@
 -- A text that was accepted is the one of its machine and images.
 use Rattle.vms_values_laws.proofs.{AllCome.images_of, AllCome.short_are, BadLines.fine_text, BadLines.NoneBad, Meeting.named_is, Meeting.Ends}
-use Rattle.vms_values_laws.proofs.{ReadyParts.device_ready, Rights.AreGood, Rights.fine_both, SaidLaws.all_both, SaidLaws.all_from, SaidLaws.all_parts}
-use Rattle.vms_values_laws.proofs.Facade.{◌≡◌, ℕ, suc, ◌+◌, Bool, true, false, ◌==◌, List, [], ◌∷◌, ◌++◌, length, get_or, map, Option, Some, None, ℤ, pos}
+use Rattle.vms_values_laws.proofs.{ReadyParts.device_ready, Rights.AreGood}
+use Rattle.vms_values_laws.proofs.Facade.{all_both, all_from, all_parts, ◌≡◌, ℕ, suc, ◌+◌, Bool, true, false, ◌==◌, List, [], ◌∷◌, ◌++◌, length, get_or, map, Option, Some, None, ℤ, pos}
 use Rattle.vms_values_laws.proofs.Facade.{append_cancel_left, refl, sym, ap, ◌∙◌, arith, codes, zero, ◌≤◌, AllByRecursion, slice_get, eqb-true, leb-true}
 use Rattle.vms_values_laws.proofs.Facade.{ext_get_or, Sub, Device, Set, desc_cells, struct_cells, Image, own_cells, version_text, Element, elements_in, printed}
 use Rattle.vms_values_laws.proofs.Facade.{sub_line, Entry, OfMachine, OfSub, OfNumber, number_entries, subs_entries, devices_entries, entry_line}
@@ -238,7 +238,7 @@ module _ (set : Set) (well : WellFormed set) (good : IsGood set) where
   ready_from [] (image ∷ images) known shaped unsaid fine goods = absurd shaped
   ready_from (d ∷ devices) [] known shaped unsaid fine goods = absurd shaped
   ready_from (d ∷ devices) (image ∷ images) known shaped unsaid fine goods =
-      let f = fine_both (device_entries set d image) (devices_entries set devices images) fine in
+      let f = all_parts _ (device_entries set d image) (devices_entries set devices images) fine in
       let g = all_parts _ (device_entries set d image) (devices_entries set devices images) goods in
       let short = short_are image.numbers shaped.0.short in
       let mine = device_ready set d image short shaped.0 unsaid.0 f.0 g.0 known.0.0 known.0.1 known.0.2 in

@@ -1,5 +1,5 @@
 -- All devices, read as entries, and which devices reading requires.
-use Rattle.vms_values_laws.proofs.Facade.{◌≡◌, ℕ, suc, ◌+◌, List, ◌∷◌, ◌++◌, length, map, true, false, Option, Some, None, ℤ, Ok, Err, Result, refl, sym, ap}
+use Rattle.vms_values_laws.proofs.Facade.{all_from, ◌≡◌, ℕ, suc, ◌+◌, List, ◌∷◌, ◌++◌, length, map, true, false, Option, Some, None, ℤ, Ok, Err, Result, refl, sym, ap}
 use Rattle.vms_values_laws.proofs.Facade.{◌∙◌, subst, arith, [], length-append, length-map, bytes_eq-Decides, zero, ◌<◌, get_or, slice_set, Bool, ⊎_elim}
 use Rattle.vms_values_laws.proofs.Facade.{AllByRecursion, or_right, cases_eq, if◌then◌else◌, pos, negsuc, get_or-set_other, append-nil, list_all, and_parts}
 use Rattle.vms_values_laws.proofs.Facade.{length-set, get_or-set_same, get_or-map, Device, Set, desc_cells, struct_cells, device_cells, Image, default_image}
@@ -8,8 +8,8 @@ use Rattle.vms_values_laws.proofs.Facade.{is_line, IsSound, AreSound, section_li
 use Rattle.vms_values_laws.proofs.Facade.{Follows, Along, Begins, Moved, either_of, no_cell, Cell, ReadDevice, ReadAll, read_devices, device_read, with_device}
 use Rattle.vms_values_laws.proofs.Facade.{IsShort, devices_entries, is_short, IsShaped, AreShaped, AreUnsaid, AllUnsaid, put_all, Demand, IsGood, DefaultsFit}
 use Rattle.vms_values_laws.proofs.Facade.{ranged, in_range, I64, U64, nat_le, and_from, le-leb}
-use Rattle.vms_values_laws.proofs.SaidLaws.{all_from, unsaid_kept, AreShortSaid, short}
-use Rattle.vms_values_laws.proofs.SecondPass.{moved_none, moved_one, moved_then, AreShort, numbers_come, follows_then, along_then, short_within, AreLined}
+use Rattle.vms_values_laws.proofs.SaidLaws.{moved_none, moved_one, moved_then, unsaid_kept, AreShortSaid, short}
+use Rattle.vms_values_laws.proofs.SecondPass.{AreShort, numbers_come, follows_then, along_then, short_within, AreLined}
 use Rattle.vms_values_laws.proofs.SubsCome.{line_taken, AreSoundSubs, cells_long, none_at, subs_come, Went, Come, stopped_first, behind_numbers, numbers_first}
 use Rattle.vms_spec.specs.declared.ValuesReason.TheVariants as reasons
 

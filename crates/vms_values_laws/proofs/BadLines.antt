@@ -1,12 +1,13 @@
 -- The first bad line of a text.
-use Rattle.vms_values_laws.proofs.{Facade.Moved, Facade.is_one_of, Facade.AreSound, Facade.begun, SaidLaws.some_if, SubsCome.line_taken, Meeting.Ends}
+use Rattle.vms_values_laws.proofs.{Facade.AreFineTaken, Facade.Follows, Facade.Along, SaidLaws.some_if, SubsCome.line_taken, Meeting.Ends}
 use Rattle.vms_values_laws.proofs.AllCome.{images_of, AllRead, AreGoodDevices, AllCome, devices_come, AllWent}
-use Rattle.vms_values_laws.proofs.Facade.{◌≡◌, ℕ, suc, ◌+◌, List, [], ◌∷◌, ◌++◌, length, map, Option, Some, None, refl, sym, ap, ◌∙◌, arith, append-nil, codes}
-use Rattle.vms_values_laws.proofs.Facade.{and_parts, ◌⊎◌, inl, inr, ◌&&◌, drop, Ok, Err, Result, bytes_eq-Decides, ValuesReason, Set, Image, first_line}
-use Rattle.vms_values_laws.proofs.Facade.{begins_with, BadLine, ReadAll, machine_named, judge_devices, rest_of, after_machine, ended, judged, answer_of}
-use Rattle.vms_values_laws.proofs.Facade.{ValuesRead, Bad, values_read, text_of, Entry, entries, devices_entries, entry_line, front_reason, AreShaped}
-use Rattle.vms_values_laws.proofs.Facade.{AllUnsaid, AreFine, IsBadLine, ForMachine, reason_for, Taken, lines_of, AreFineTaken, Follows, Along}
-use Rattle.vms_values_laws.proofs.SecondPass.{follows_then, along_then, reason_same, moved_then, moved_none, moved_one, parts_from, devices_judged}
+use Rattle.vms_values_laws.proofs.Facade.{Moved, is_one_of, AreSound, begun, ◌≡◌, ℕ, suc, ◌+◌, List, [], ◌∷◌, ◌++◌, length, map, Option, Some, None, refl, sym}
+use Rattle.vms_values_laws.proofs.Facade.{ap, ◌∙◌, arith, append-nil, codes, and_parts, ◌⊎◌, inl, inr, ◌&&◌, drop, Ok, Err, Result, bytes_eq-Decides}
+use Rattle.vms_values_laws.proofs.Facade.{ValuesReason, Set, Image, first_line, begins_with, BadLine, ReadAll, machine_named, judge_devices, rest_of}
+use Rattle.vms_values_laws.proofs.Facade.{after_machine, ended, judged, answer_of, ValuesRead, Bad, values_read, text_of, Entry, entries, devices_entries}
+use Rattle.vms_values_laws.proofs.Facade.{entry_line, front_reason, AreShaped, AllUnsaid, AreFine, IsBadLine, ForMachine, reason_for, Taken, lines_of}
+use Rattle.vms_values_laws.proofs.SaidLaws.{moved_then, moved_none, moved_one}
+use Rattle.vms_values_laws.proofs.SecondPass.{follows_then, along_then, reason_same, parts_from, devices_judged}
 use Rattle.vms_spec.specs.declared.ValuesReason.TheVariants as reasons
 
 -- ---- What the first pass finds in a whole text.

@@ -1,31 +1,27 @@
 -- Lines without a line feed: a text leads along one list of lines, and the entries of a fit set have no other.
-use Rattle.vms_values_laws.proofs.{Facade.IsMachineOf, SecondPass.reason_same}
-use Rattle.vms_values_laws.proofs.Facade.{◌≡◌, ℕ, zero, suc, ◌+◌, ◌%◌, ◌/◌, Bool, true, false, ◌==◌, nat_lt, if◌then◌else◌, List, ◌∷◌, ◌++◌, length, drop}
-use Rattle.vms_values_laws.proofs.Facade.{Option, Some, None, ℤ, pos, negsuc, refl, sym, ap, ◌∙◌, arith, codes, [], map, append_assoc, ne_eqb, decimal}
-use Rattle.vms_values_laws.proofs.Facade.{signed_decimal, digits, digits_onto, digit_glyph, bytes_eq, bytes_eq-Decides, some_pair_parts, AllByRecursion, ◌&&◌}
-use Rattle.vms_values_laws.proofs.Facade.{get_or, nat_le, take, slice_get, list_all, and_parts, get_or_from_slice_get, take-append-drop, or_else_none}
+use Rattle.vms_values_laws.proofs.{SecondPass.reason_same, SaidLaws.if_none, SaidLaws.some_if, SaidLaws.short}
+use Rattle.vms_values_laws.proofs.Facade.{IsMachineOf, decimal_all, if_both, elements_each, all_both, all_from, ◌≡◌, ℕ, suc, ◌+◌, Bool, true, false, ◌==◌}
+use Rattle.vms_values_laws.proofs.Facade.{if◌then◌else◌, List, ◌∷◌, ◌++◌, length, drop, Option, Some, None, ℤ, pos, negsuc, refl, sym, ap, ◌∙◌, arith, codes}
+use Rattle.vms_values_laws.proofs.Facade.{[], map, append_assoc, ne_eqb, decimal, signed_decimal, bytes_eq, bytes_eq-Decides, some_pair_parts, AllByRecursion}
+use Rattle.vms_values_laws.proofs.Facade.{◌&&◌, get_or, nat_le, take, slice_get, list_all, and_parts, get_or_from_slice_get, take-append-drop, or_else_none}
 use Rattle.vms_values_laws.proofs.Facade.{either_of, Cell, first_line, longer_line, begins_with, number_spelled, spelled_holds, begun, What, Number, Element}
 use Rattle.vms_values_laws.proofs.Facade.{section_line, sub_line, text_of, if_not, element_reason, spelled_reason, Entry, entry_line, line_reason, front_reason}
 use Rattle.vms_values_laws.proofs.Facade.{Demand, ForMachine, ForSection, ForSub, ForNumber, reason_for, demand_of, Taken, lines_of, AreFineTaken, Follows}
 use Rattle.vms_values_laws.proofs.Facade.{ValuesReason, AreFine, or_else, Count, One, Field, Desc, Sub, Device, Set, no_desc, counted, desc_cells, struct_cells}
 use Rattle.vms_values_laws.proofs.Facade.{Image, own_cells, index_text, is_number, elements_in, printed, OfNumber, number_entries, subs_entries, device_entries}
 use Rattle.vms_values_laws.proofs.Facade.{devices_entries, entries, Place, first_answer, is_name_byte, is_name, is_sub_name, is_one_of, machine_named}
-use Rattle.vms_values_laws.proofs.Facade.{WellFormed, first_fault, failing, here, set_rules, struct_fault, struct_rules, device_fault}
-use Rattle.vms_values_laws.proofs.Facade.{device_rules, sub_rules, size_rules, Clean, struct_clean, device_parts, sub_clean, get_none, name_byte_high}
-use Rattle.vms_values_laws.proofs.EachElement.{elements_each}
-use Rattle.vms_values_laws.proofs.SaidLaws.{all_both, all_from, if_holds, if_none, some_if, short}
+use Rattle.vms_values_laws.proofs.Facade.{WellFormed, first_fault, failing, here, set_rules, struct_fault, struct_rules, device_fault, device_rules, sub_rules}
+use Rattle.vms_values_laws.proofs.Facade.{size_rules, Clean, struct_clean, device_parts, sub_clean, get_none, name_byte_high}
 use Rattle.vms_spec.specs.declared.ValuesReason.TheVariants as reasons
 use Rattle.vms_spec.specs.declared.Part.TheVariants as parts
 
 -- ---- Lines without a line feed, and which lines meet a demand.
 
 abbrev pub NoFeed : List ℕ → Type 0
-NoFeed [] = Unit {0}
-NoFeed (b ∷ line) = ((b == 10) ≡ false) × NoFeed line
+NoFeed = AllByRecursion (λ b. (b == 10) ≡ false)
 
-pub feed_append : (a b : List ℕ) → NoFeed a → NoFeed b → NoFeed (a ++ b)
-feed_append [] b p q = q
-feed_append (x ∷ a) b p q = (p.0, feed_append a b p.1 q)
+feed_append : (a b : List ℕ) → NoFeed a → NoFeed b → NoFeed (a ++ b)
+feed_append = all_both _
 
 -- such a line is the first of a text
 pub line_first : (line rest : List ℕ) → NoFeed line → first_line (line ++ 10 ∷ rest) ≡ Some (line, rest)
@@ -33,17 +29,8 @@ line_first [] rest h = refl
 line_first (b ∷ line) rest h =
     ap (λ t. if t then Some ([], line ++ 10 ∷ rest) else longer_line b (first_line (line ++ 10 ∷ rest))) h.0 ∙ ap (longer_line b) (line_first line rest h.1)
 
-onto_feed : (k n : ℕ) (acc : List ℕ) → NoFeed acc → NoFeed (digits_onto k 10 false n acc)
-onto_feed zero n acc h = h
-onto_feed (suc k) n acc h =
-    let d = n % 10 in
-    let glyph = if_holds (λ g. (g == 10) ≡ false) (nat_lt d 10) _ _ (ne_eqb (48 + d) 10 (λ e. omega arith)) (ne_eqb (87 + d) 10 (λ e. omega arith)) in
-    let here : NoFeed (digit_glyph false d ∷ acc) = (glyph, h) in
-    if_holds NoFeed (n / 10 == 0) _ _ here (onto_feed k (n / 10) (digit_glyph false (n % 10) ∷ acc) here)
-
-pub decimal_feed : (n : ℕ) → NoFeed (decimal n)
-unfolding digits
-decimal_feed n = onto_feed 64 n [] tt
+decimal_feed : (n : ℕ) → NoFeed (decimal n)
+decimal_feed n = decimal_all _ (λ d lt. ne_eqb (48 + d) 10 (λ e. omega arith)) n
 
 pub signed_feed : (z : ℤ) → NoFeed (signed_decimal z)
 signed_feed (pos n) = decimal_feed n
@@ -166,7 +153,7 @@ clean_numbers : (n : List ℤ) (xs : List Element) → AreNamed xs → AreClean 
 clean_numbers n [] h = tt
 clean_numbers n (x ∷ xs) h =
     let more = clean_numbers n xs h.1 in
-    if_holds (λ l. AreClean (map (λ x. OfNumber x n) l)) (x.counted && is_number x.what) (x ∷ printed xs) (printed xs) (h.0, more) more
+    if_both (λ l. AreClean (map (λ x. OfNumber x n) l)) (x.counted && is_number x.what) (x ∷ printed xs) (printed xs) (h.0, more) more
 
 abbrev pub AreCleanSubs : List Sub → Type 0
 AreCleanSubs = AllByRecursion (λ (s : Sub). NoFeed s.desc.name × AreCleanFields s.desc.fields)

@@ -1,6 +1,6 @@
 -- Images that may be written, part by part, and the first bad part.
-use Rattle.vms_values_laws.proofs.{SaidLaws.if_none, SaidLaws.all_both, SaidLaws.short, AllCome.are_short}
-use Rattle.vms_values_laws.proofs.Facade.{◌≡◌, ℕ, suc, ◌+◌, ◌≤◌, Bool, true, false, List, ◌∷◌, ◌++◌, length, get_or, Option, Some, None, ℤ, refl, sym, ap, ◌∙◌}
+use Rattle.vms_values_laws.proofs.{SaidLaws.if_none, SaidLaws.short, AllCome.are_short}
+use Rattle.vms_values_laws.proofs.Facade.{all_both, ◌≡◌, ℕ, suc, ◌+◌, ◌≤◌, Bool, true, false, List, ◌∷◌, ◌++◌, length, get_or, Option, Some, None, ℤ, refl, sym, ap, ◌∙◌}
 use Rattle.vms_values_laws.proofs.Facade.{arith, [], map, flat_map, slice_get, printed, or_else_none, ValuesReason, or_else, Desc, Sub, Device, Set, Cell}
 use Rattle.vms_values_laws.proofs.Facade.{no_cell, Slot, desc_cells, struct_cells, device_cells, Image, own_cells, own_slots, sub_slots, came_slots}
 use Rattle.vms_values_laws.proofs.Facade.{image_slots, RulesHold, AreVersionsOf, is_needed, ComeAsNeeded, IsReady, DefaultsFit, rules_append, rules_decide}
@@ -8,7 +8,7 @@ use Rattle.vms_values_laws.proofs.Facade.{elements_in, Entry, OfSub, number_entr
 use Rattle.vms_values_laws.proofs.Facade.{part_reason, AreFine, IsShaped, AreUnsaid, AreAtVersions, walks, elements_slots, BadLine, or_bad, pos, codes, ranged}
 use Rattle.vms_values_laws.proofs.Facade.{text_of, devices_entries, entries, AreShaped, AllUnsaid, IsText, Says, entry_law, text_is, OfSection, bytes_eq}
 use Rattle.vms_values_laws.proofs.Facade.{bytes_eq-Decides, entry_line, is_of_cell, line_reason, or_right, rules_split, section_line, sub_line}
-use Rattle.vms_values_laws.proofs.Rights.{right_none, part, right_by, known_both, Known, defaults_are, AreGood, fine_then, IfDefaults}
+use Rattle.vms_values_laws.proofs.Rights.{right_none, part, right_by, known_both, Known, defaults_are, AreGood, IfDefaults}
 use Rattle.vms_values_laws.proofs.SecondPass.{of_numbers, AreShort, short_within, desc_rules, as_bad, parts_from}
 use Rattle.vms_spec.specs.declared.ValuesReason.TheVariants as reasons
 use Rattle.vms_spec.specs.Layout as slots
@@ -257,7 +257,7 @@ all_say set (d ∷ devices) (image ∷ images) long ready =
     record {
       shaped = (mine.shaped, others.shaped);
       unsaid = (mine.unsaid, others.unsaid);
-      fine = fine_then (device_entries set d image) (devices_entries set devices images) mine.fine others.fine;
+      fine = all_both _ (device_entries set d image) (devices_entries set devices images) mine.fine others.fine;
       good = all_both _ (device_entries set d image) (devices_entries set devices images) mine.good others.good;
     }
 all_say set _ _ long ready = absurd (omega arith)

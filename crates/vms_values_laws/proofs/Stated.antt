@@ -1,8 +1,8 @@
 -- The laws of values texts, as they are stated.
-use Rattle.vms_values_laws.proofs.{SaidLaws.if_holds, Meeting.clean_named, SecondPass.parts_from, AllCome.images_of, AllCome.good_devices}
+use Rattle.vms_values_laws.proofs.{Meeting.clean_named, SecondPass.parts_from, AllCome.images_of, AllCome.good_devices}
 use Rattle.vms_values_laws.proofs.Accepted.{Match, inside_of, matched, devices_same, answer_by, none_answers, none_says, none_good, says_ready, named_machine}
 use Rattle.vms_values_laws.proofs.BadLines.{FirstPass, NoneBad, first_pass, TakenOf}
-use Rattle.vms_values_laws.proofs.Facade.{◌≡◌, inl, inr, ℕ, List, ◌++◌, Option, Some, None, sym, ap, ◌∙◌, subst, arith, ◌∷◌, map, refl, codes, append-nil, []}
+use Rattle.vms_values_laws.proofs.Facade.{if_both, ◌≡◌, inl, inr, ℕ, List, ◌++◌, Option, Some, None, sym, ap, ◌∙◌, subst, arith, ◌∷◌, map, refl, codes, append-nil, []}
 use Rattle.vms_values_laws.proofs.Facade.{◌+◌, length, suc, ◌≤◌, sum_by, ℤ, length-append, length-map, sum_by-cons, ValuesReason, Set, Device, Desc, Sub}
 use Rattle.vms_values_laws.proofs.Facade.{ValuesRead, Bad, machine_named, BadLine, Values, values_read, Entry, entries, devices_entries, entry_line, OfNumber}
 use Rattle.vms_values_laws.proofs.Facade.{number_entries, subs_entries, device_entries, IsBadLine, IsMachineOf, Says, IsText, Refused, Reads, Taken}
@@ -204,7 +204,7 @@ few_printed (x ∷ xs) = by_what x.what (few_printed xs) where
   by_what : (w : What) → length (printed xs) ≤ length (cells_of xs)
       → length (if x.counted && is_number w then x ∷ printed xs else printed xs) ≤ length (cells_with w (cells_of xs))
   by_what (Number cell) h =
-      rw (and-true x.counted) (if_holds (λ l. length l ≤ suc (length (cells_of xs))) x.counted (x ∷ printed xs) (printed xs) (omega arith) (omega arith))
+      rw (and-true x.counted) (if_both (λ l. length l ≤ suc (length (cells_of xs))) x.counted (x ∷ printed xs) (printed xs) (omega arith) (omega arith))
   by_what _ h = rw (and-false x.counted) h
 
 few_numbers : (set : Set) (d : Desc) (n : List ℤ) (at : ℕ) → length (number_entries set d n at) ≤ length (desc_cells (struct_cells set) d)
