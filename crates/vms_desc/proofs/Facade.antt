@@ -4,12 +4,13 @@ pub use Rattle.std.proofs.Common.{Bool, List, None, Option, Some, [], ap, append
 pub use Rattle.std.proofs.Common.{length-append, length-drop, length-take-le, map, min, nat_le, pos, refl, replicate, rules, suc, sym, take, true, zero, ℕ, ℤ}
 pub use Rattle.std.proofs.Common.{◌&&◌, ◌*◌, ◌++◌, ◌+◌, ◌-◌, ◌<◌, ◌∙◌, ◌∷◌, ◌≡◌, ◌≤◌}
 pub use Rattle.std.proofs.lemmas.Bool.{and_parts, cases_lt, eqb-true, leb-true, lt-ltb, ltb-true, cases_Bool}
-pub use Rattle.std.proofs.lemmas.List.{drop_all, drop_at, ext_get_or, get_or_append_left, get_or_default, get_or_past, length-map, map-append, map_more}
+pub use Rattle.std.proofs.lemmas.List.{drop_all, drop_at, ext_get_or, get_or-drop, get_or_append_left, get_or_default, get_or_past, length-map, map-append, map_more}
 pub use Rattle.std.proofs.lemmas.List.{take-append-le, take-map, take_all, take_at, take_min}
 pub use Rattle.std.proofs.lemmas.Option.{get_or_from_slice_get, slice_get-get_or, slice_get_within}
 pub use Rattle.std.specs.{Option.option_copied, Option.option_map, Prelude.if◌then◌else◌, Prelude.nat_lt, Str.bytes_eq}
-pub use Rattle.std.specs.List.{flat_map, list_all, slice_get}
-pub use Rattle.vms_kinds.specs.{Codes.InRange, declared.Item.Item, declared.Kind.Kind, declared.Kind.TheVariants.U8}
+pub use Rattle.std.proofs.lemmas.List.FromFn.{get_or-map-range_with_len}
+pub use Rattle.std.specs.List.{flat_map, list_all, range_with_len, slice_get}
+pub use Rattle.vms_kinds.specs.{Codes.InRange, declared.TheConstants.NEWEST_SET, declared.Item.Item, declared.Kind.Kind, declared.Kind.TheVariants.U8}
 pub use Rattle.vms_kinds.specs.declared.Item.TheVariants.{Equal, Num, Struct, Unused}
 pub use Rattle.vms_spec.proofs.{ListLaws.found_one, Sizes.element_room, Sizes.field_size, Tables.first_at, Tables.first_long, Tables.first_take, Tables.last_is}
 pub use Rattle.vms_spec.proofs.{Faultless.AllTrue, WellFormedLaws.Clean, WellFormedLaws.device_parts, WellFormedLaws.well_good}
@@ -23,12 +24,12 @@ pub use Rattle.vms_spec.specs.Places.{cell_in, desc_of_sub, element_at, item_at,
 pub use Rattle.vms_spec.specs.Rules.{count_names_well, field_rules, has_good_count, has_no_test, is_counting, is_earlier_in, is_num, is_one, is_steady}
 pub use Rattle.vms_spec.specs.Rules.{is_steady_in, names_well, nobody, test_names_well, uses_below, validation_rules}
 pub use Rattle.vms_spec.specs.Sets.{And, AtLeast, Below, Cell, Desc, Device, Field, Formula, Not, Or, Set, Sub}
-pub use Rattle.vms_spec.specs.Shipped.{set_0, set_1, set_2, set_3, set_4, shipped_sets}
+pub use Rattle.vms_spec.specs.Shipped.{shipped_sets}
 pub use Rattle.vms_spec.specs.WellFormed.{WellFormed, device_rules, devices_items, has_few, items_in, struct_items, struct_rules, sub_rules, subs_items}
 pub use Rattle.vms_spec.specs.declared.Count.TheVariants.{Counted, Fixed, One}
 pub use Rattle.vms_spec.specs.declared.Whose.TheVariants.{Own, Parent}
 unfoldable pub use Rattle.vms_spec.specs.{Layout.first, WellFormed.first_fault}
-pub use Rattle.vms_desc.specs.{Asks.HasCells, Asks.field_at, Asks.own_numbers, Described.described, Formed.clock_set, Formed.is_well_formed, Formed.shipped_set}
+pub use Rattle.vms_desc.specs.{Asks.HasCells, Asks.field_at, Asks.own_numbers, Described.described, Formed.clock_set, Formed.is_well_formed, Formed.newest_set, Formed.shipped_set}
 pub use Rattle.vms_desc.specs.{Heads.FitsHead, Heads.FitsSub, Heads.HeadsFit, Names.first_named, Put.AreForms, Put.Puts, declared.eval.Scope.Scope}
 pub use Rattle.vms_desc.specs.{declared.forms.Forms.Forms, declared.path.Element.Element, declared.path.Placed.Placed, declared.table.Table.Table}
 pub use Rattle.vms_desc.specs.Forms.{device_forms, field_forms, fields_forms, forms_to, item_forms, subs_forms}

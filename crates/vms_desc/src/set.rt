@@ -49,7 +49,7 @@ impl DescSet {
     ghost use Rattle.vms_desc.specs.Calls.{desc_in, device_cells_in, device_in, own_count_in, truth_in};
     ghost use Rattle.vms_desc.specs.Described.{described};
 
-    /// Returns the shipped set `@s` for number `s`, 0 to 4.
+    /// Returns the shipped set `@s` for number `s`.
     ///
     /// # Errors
     ///
@@ -57,7 +57,7 @@ impl DescSet {
     ///
     /// # Requires
     ///
-    /// `s` is at most 4.
+    /// `s` is at most `NEWEST_SET`.
     pub fn shipped(alloc: Global, s: u8) -> Result<DescSet, NoMemory>
         requires { s ≤ NEWEST_SET }
         ensures { IfOk result (λ set. described set ≡ shipped_set s) }

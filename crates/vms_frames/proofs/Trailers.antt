@@ -1,9 +1,10 @@
 -- What ends a stream: nothing, or a description section.
-use Rattle.vms_frames.proofs.{Facade.ReadsTrailer, Facade.LONGEST_DESCRIPTION, UnitLemmas.seen_whole, HeadLemmas.text_seen}
-use Rattle.vms_frames.proofs.Facade.{◌≡◌, ℕ, ◌+◌, ◌-◌, List, [], ◌∷◌, ◌++◌, Option, Some, None, Ok, Err, Result, refl, ap, ◌∙◌, arith, ◌==◌, ◌||◌, ne_eqb}
-use Rattle.vms_frames.proofs.Facade.{Intake, Takes, Breaks, reads_behind, reads_last, longest_text, Description, AfterEnd, first_row, alone, trailer_at, Bad}
-use Rattle.vms_frames.proofs.Facade.{seen, seen_by, nothing_known, not_between, FrameFault, Refused, ReadFault, AnswersEnd, ReadsEnd, IsLong, ReadsText}
+use Rattle.vms_frames.proofs.{UnitLemmas.seen_whole, HeadLemmas.text_seen}
+use Rattle.vms_frames.proofs.Facade.{ReadsTrailer, LONGEST_DESCRIPTION, ◌≡◌, ℕ, ◌+◌, ◌-◌, List, [], ◌∷◌, ◌++◌, Option, Some, None, Ok, Err, Result, refl, ap}
+use Rattle.vms_frames.proofs.Facade.{◌∙◌, arith, ne_eqb, Intake, Takes, Breaks, reads_behind, reads_last, longest_text, Description, AfterEnd, first_row, alone}
+use Rattle.vms_frames.proofs.Facade.{trailer_at, Bad, seen, seen_by, nothing_known, FrameFault, Refused, ReadFault, AnswersEnd, ReadsEnd, IsLong, ReadsText}
 use Rattle.vms_spec.specs.Units.{Mark}
+use Rattle.std.proofs.Math.Bool.{and-false}
 use Rattle.vms_spec.specs.declared.Reason.TheVariants as reasons
 
 -- a description, after its mark
@@ -13,7 +14,7 @@ unfolding trailer_at
 description_there more = refl
 
 trailing_row : (b : ℕ) → first_row (alone AfterEnd nothing_known (Mark b)) ≡ Some (None, reasons.Trailing)
-trailing_row b = not_between (Some (None, reasons.Trailing)) (b == 0x02 || b == 0x03) (b == 0x08) (b == 0x05)
+trailing_row b = simp and-false refl
 
 other_there : (b : ℕ) (more : List ℕ) → (b ≡ 0x06 → ⊥) → seen AfterEnd nothing_known (b ∷ more) ≡ Bad 1 reasons.Trailing
 unfolding trailer_at

@@ -3,7 +3,7 @@ ghost use Rattle.std.specs.Prelude.{◌≡◌, true, false, ◌∷◌, [], ◌�
 ghost use Rattle.vms_kinds.specs.Codes.{InRange};
 ghost use Rattle.vms_frames.specs.Calls.{IsNext, is_configuration, tail_of};
 ghost use Rattle.vms_io.specs.Told.{intake};
-ghost use Rattle.vms_frames.specs.Reads.{ReadsMagic, ReadsVersion, ReadsCode, ReadsStep, ReadsNext, ReadsBehind, ReadsSub, ReadsFoot, ReadsText, ReadsTrailer, IsBegun, held_bytes, head_seen, start_seen, configuration_seen, start_reason as start_reason_of, sub_reason as sub_reason_of};
+ghost use Rattle.vms_frames.specs.Reads.{ReadsMagic, ReadsVersion, ReadsCode, ReadsStep, ReadsNext, ReadsBehind, ReadsSub, ReadsFoot, ReadsText, ReadsTrailer, IsBegun, held_bytes, head_seen, start_seen, configuration_seen, start_reason as start_reason_of, IsMarkReason};
 ghost use Rattle.vms_marks.specs.declared.description.TheConstants.{DESCRIPTION_FRONT, LONGEST_DESCRIPTION};
 
 use crate::fault::refused;
@@ -93,27 +93,25 @@ fn marked<S: Source>(
         between unit.items at result }
     ensures place { IfOk result (λ step. is_configuration step ≡ true → between ≡ Between.First) }
 {
-    match Mark::of(unit[0]) {
+    let mark = unit[0];
+    match Mark::of(mark) {
         Some(Mark::End) => Ok(Step::End),
         Some(Mark::Start) => start(source, at, unit),
-        Some(Mark::Part) | Some(Mark::SectionEnd) => Err(refused(at, Reason::Iterative)),
         Some(Mark::Full) => section(source, at, unit),
-        Some(Mark::Sub) => Err(refused(at, sub_reason(between))),
         Some(Mark::Configuration) if between == Between::First => configuration(source, at, unit),
-        Some(Mark::Command) => Err(refused(at, Reason::Command)),
-        Some(Mark::Configuration) | Some(Mark::Description) | Some(Mark::Footer) | None => {
-            Err(refused(at, Reason::BadMark))
-        }
+        _ => Err(refused(at, mark_reason(mark, between))),
     }
 }
 
-// Returns why no subsection may come between sections.
-fn sub_reason(between: Between) -> Reason
-    ensures { result ≡ sub_reason_of between }
+// Returns why the byte `mark` begins nothing between sections.
+fn mark_reason(mark: u8, between: Between) -> Reason
+    ensures { IsMarkReason between mark result }
 {
-    match between {
-        Between::AfterConfiguration => Reason::ConfigurationExtra,
-        Between::First | Between::Later => Reason::BadMark,
+    match Mark::of(mark) {
+        Some(Mark::Part) | Some(Mark::SectionEnd) => Reason::Iterative,
+        Some(Mark::Command) => Reason::Command,
+        Some(Mark::Sub) if between == Between::AfterConfiguration => Reason::ConfigurationExtra,
+        _ => Reason::BadMark,
     }
 }
 

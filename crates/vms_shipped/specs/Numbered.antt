@@ -1,12 +1,13 @@
 -- The shipped sets by number.
-use Rattle.std.specs.Prelude.{ℕ, zero, suc}
+use Rattle.std.specs.Prelude.{ℕ, get_or}
+use Rattle.vms_kinds.specs.declared.TheConstants.{NEWEST_SET}
 use Rattle.vms_spec.specs.Sets.{Set}
-use Rattle.vms_spec.specs.Shipped.{set_0, set_1, set_2, set_3, set_4}
+use Rattle.vms_spec.specs.Shipped.{set_0, shipped_sets}
 
--- the shipped set of a number, 0 to 4
+-- the newest shipped set
+abbrev pub newest_set : Set
+newest_set = get_or shipped_sets NEWEST_SET set_0
+
+-- the shipped set of a number; the newest set for a number above its own
 abbrev pub shipped_set : ℕ → Set
-shipped_set zero = set_0
-shipped_set (suc zero) = set_1
-shipped_set (suc (suc zero)) = set_2
-shipped_set (suc (suc (suc zero))) = set_3
-shipped_set s = set_4
+shipped_set s = get_or shipped_sets s newest_set

@@ -1,8 +1,8 @@
 //! The shipped sets as plain parts.
 //!
-//! The machines isa-0 to isa-4 have the sections of a timer, the pair of 8259A, the 8253 or 8254,
-//! and the 16450 or 16550A. The machines clk-1 and clk-2 have an MC146818 in front of those of
-//! isa-4.
+//! The machine isa-0 has the section of a timer. Those from isa-1 on also have the pair of 8259A, the
+//! 8253 or 8254, and the 16450 or 16550A. The machines clk-1 and clk-2 have an MC146818 in front of
+//! the sections of isa-4.
 #![tactic(auto)]
 
 mod chips;

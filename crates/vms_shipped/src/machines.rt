@@ -19,11 +19,11 @@ pub const CLK_1: &str = "clk-1";
 /// The machine of a board with version 2 of the clock chip.
 pub const CLK_2: &str = "clk-2";
 
-/// Returns the machine name of `level`, `isa-0` to `isa-4`.
+/// Returns the machine name of `level`: `isa-` and its number.
 ///
 /// # Requires
 ///
-/// `level` is at most 4.
+/// `level` is at most `NEWEST_SET`.
 pub fn isa_machine(level: u8) -> &'static str
     requires { level ≤ NEWEST_SET }
     ensures { result.now ≡ isa_machine level }

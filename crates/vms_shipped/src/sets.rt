@@ -50,7 +50,7 @@ const SET_4: SetRow = SetRow {
     devices: &[TIMER, FIRST_AT_4, SECOND_AT_4, I8254_AT_2, SERIAL_AT_4],
 };
 
-/// Returns the parts of the shipped set `s`, 0 to 4.
+/// Returns the parts of the shipped set `s`.
 ///
 /// # Errors
 ///
@@ -58,7 +58,7 @@ const SET_4: SetRow = SetRow {
 ///
 /// # Requires
 ///
-/// `s` is at most 4.
+/// `s` is at most `NEWEST_SET`.
 pub fn shipped_parts(alloc: Global, s: u8) -> Result<Parts, NoMemory>
     requires { s ≤ NEWEST_SET }
     ensures { IfOk result (λ parts. set_of parts ≡ shipped_set s) }

@@ -61,6 +61,6 @@ pub use Rattle.vms_stream.specs.StreamLaws.{WholeLaw, WrittenLaw, AcceptedLaw, A
 pub use Rattle.vms_stream.specs.StreamLaws.{LocalLaw, NeverBothLaw, OneFaultLaw, OneStreamLaw, SectionFoundLaw, SectionLaw, SectionReadLaw, StreamLaw, TakenLaw}
 pub use Rattle.vms_stream.specs.StreamLaws.{ToldLaw, UnitsLaw}
 pub use Rattle.vms_stream.specs.Streams.{HasSection, IsSection, IsStream, SectionsSpell, Takes}
-pub use Rattle.vms_stream.specs.Table.{Row, alone, asking, bad_foot, first_of, first_row, is_after_configuration, is_after_end, is_between, is_none, is_ram}
+pub use Rattle.vms_stream.specs.Table.{Row, alone, asking, bad_foot, first_of, first_row, is_after_end, is_between, is_none, is_ram}
 pub use Rattle.vms_stream.specs.Table.{large_count, other_constant, reason_of, test_some, wants_foot}
 unfoldable pub use Rattle.vms_stream.specs.{Finding.behind_at, Finding.between_at, Finding.trailer_at, Judge.reading}

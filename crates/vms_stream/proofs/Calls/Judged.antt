@@ -1,5 +1,6 @@
 -- What a cursor's call sees, and what the judge says; a unit between sections after the fields.
-use Rattle.vms_stream.proofs.{Facade.JudgedLaw, Finding.There.next_at}
+use Rattle.vms_stream.proofs.{Facade.JudgedLaw, Finding.There.next_at, Streams.UnitRows.Line, Streams.UnitRows.mark_never}
+use Rattle.std.proofs.Math.Bool.{and-false}
 use Rattle.vms_stream.proofs.Facade.{NextLaw, SeenLaw, ◌≡◌, if_both, if_so, ℕ, ◌+◌, List, ◌∷◌, length, get_or, Option, Some, None, refl, ap, ◌∙◌, Bool, true}
 use Rattle.vms_stream.proofs.Facade.{false, not, nat_lt, ◌==◌, ◌&&◌, if◌then◌else◌, [], ◌||◌, zero, suc, ◌++◌, take, both_ways, not-true, or-not_self}
 use Rattle.vms_stream.proofs.Facade.{LONGEST_NAME, Reason, Set, Image, number_at, bytes_at, Verdict, Faulty, Over, Piece, Configuration, Long, Head, End, Start}
@@ -18,18 +19,11 @@ next_between k Footed [] e = cc
 next_between k Footed (c ∷ rest) e = absurd (both_ways _ (not-true _ e) (or-not_self (c == 0x05)))
 next_between k _ rest e = (refl, refl)
 
--- a lone mark is invalid
-mark_by : (set : Set) (names : List (List ℕ)) (s u : State) (m : ℕ) (p q r w : Bool) → (let row : Option (Option ℕ × Reason) =
-    if true && not (p || q || r || (w && false)) then Some (None, reasons.BadMark)
-    else if (p || q) && true then Some (None, reasons.Iterative)
-    else if r && true then Some (None, reasons.Command)
-    else if w && false then Some (None, reasons.ConfigurationExtra)
-    else None in by_row (by_state set names) row m s ≡ by_row (by_state set names) row m u)
-mark_by set names s u m true q r w = refl
-mark_by set names s u m false true r w = refl
-mark_by set names s u m false false true w = refl
-mark_by set names s u m false false false true = refl
-mark_by set names s u m false false false false = refl
+-- an invalid unit is so in any state
+some_row : (set : Set) (names : List (List ℕ)) (s u : State) (m : ℕ) (row : Line) → (row ≡ None → ⊥)
+    → by_row (by_state set names) row m s ≡ by_row (by_state set names) row m u
+some_row set names s u m None never = absurd (never refl)
+some_row set names s u m (Some line) never = refl
 
 module _ (set : Set) (names : List (List ℕ)) (machine : Option (List ℕ)) (images : List Image) (came : List Bool) (k id : ℕ) (part : Option ℕ) (n : ℕ)
     (t : Tail) (rest : List ℕ) where
@@ -87,7 +81,9 @@ module _ (set : Set) (names : List (List ℕ)) (machine : Option (List ℕ)) (im
         by (b ∷ more) e = next_at t b (b ∷ more) e
 
     mark_outer : (b m : ℕ) → IsOuter (Whole (Mark b) m)
-    mark_outer b m = let f = next_between k t rest e in rw (f.0, f.1) (mark_by set names _ _ m (b == 2) (b == 3) (b == 8) (b == 5))
+    mark_outer b m =
+        let f = next_between k t rest e in
+        rw (f.0, f.1) (some_row set names _ _ m _ (mark_never set names (Between false false) (known_at set outer) b refl))
 
     pub next_judged : due_by set inner (Inside k id part n) ≡ AfterFields k t → rules_hold (slots_at set inner (Inside k id part n)) ≡ true
         → judge (by_state set names) inner rest ≡ judge (by_state set names) outer rest
@@ -96,9 +92,6 @@ module _ (set : Set) (names : List (List ℕ)) (machine : Option (List ℕ)) (im
         (judge_found (by_state set names) inner rest (unit_at (due_by set inner (Inside k id part n)) rest)) _ held
         ∙ same (unit_at (due_by set inner (Inside k id part n)) rest) ∙ ap (λ d. verdict d (unit_at d rest)) due ∙ ap (verdict (AfterFields k t)) unit_is
         ∙ between_outer (get_or rest 0 0) (mark_outer (get_or rest 0 0))
-
-abbrev Line : Type 0
-Line = Option (Option ℕ × Reason)
 
 -- a row of this section, or none
 abbrev Of : Option ℕ → Line → Type 0
@@ -131,19 +124,9 @@ first_append (x ∷ xs) ys = by (first_append xs ys) x.taken
     by later true = refl
     by later false = later
 
-never : {A : Type 0} (p : Bool) (x y : A) → (if p && false then x else y) ≡ y
-never true x y = refl
-never false x y = refl
-
--- if no section may begin, no mark is one of those that may not begin one
-pub not_between : (bad : Line) (p q r : Bool)
-    → (if p && false then Some (None, reasons.Iterative) else if q && false then Some (None, reasons.Command) else if r && false then Some
-    (None, reasons.ConfigurationExtra) else bad) ≡ bad
-not_between bad p q r = never p _ _ ∙ never q _ _ ∙ never r _ bad
-
 -- neither a footer nor a subsection head
 pub foot_row : (j : ℕ) (k : Known) (b : ℕ) → first_row (alone (AfterFields j Footed) k (Mark b)) ≡ Some (k.section, reasons.BadFooter)
-foot_row j k b = not_between (Some (k.section, reasons.BadFooter)) (b == 0x02 || b == 0x03) (b == 0x08) (b == 0x05)
+foot_row j k b = simp and-false refl
 
 -- ---- a unit that is invalid by itself belongs to the open section
 

@@ -1,9 +1,9 @@
 -- What it means for a unit that no row of the table takes it.
-use Rattle.vms_stream.proofs.Facade.{◌≡◌, ℕ, zero, suc, ◌<◌, List, ◌∷◌, length, Option, Some, None, refl, sym, ap, ◌∙◌, arith, Bool, true, false, not, ◌==◌}
-use Rattle.vms_stream.proofs.Facade.{◌&&◌, if◌then◌else◌, [], ◌||◌, slice_get, bytes_eq, ltb-false, le-ltb, eqb-true, eq-eqb, not-false, bytes_eq-Decides}
+use Rattle.vms_stream.proofs.Facade.{◌≡◌, ℕ, zero, suc, ◌<◌, List, ◌∷◌, length, Option, Some, None, refl, ap, arith, Bool, true, false, not, ◌==◌}
+use Rattle.vms_stream.proofs.Facade.{if◌then◌else◌, [], ◌||◌, slice_get, bytes_eq, ltb-false, le-ltb, eqb-true, eq-eqb, not-false, bytes_eq-Decides}
 use Rattle.vms_stream.proofs.Facade.{Reason, at_option, position, Set, Device, Sub, IsVersionOf, magic, is_one_of, Piece, Magic, Version, Configuration, Head}
 use Rattle.vms_stream.proofs.Facade.{SubHead, Foot, End, Start, Mark, subs_of, device_named, found_is, sub_is, Known, Due, first_of, is_between}
-use Rattle.vms_stream.proofs.Facade.{is_after_configuration, wants_foot, is_after_end, is_ram, test_some, is_none}
+use Rattle.vms_stream.proofs.Facade.{wants_foot, is_after_end, is_ram, test_some, is_none}
 use Rattle.vms_spec.specs.declared.Reason.TheVariants as reasons
 
 abbrev pub Line : Type 0
@@ -63,39 +63,16 @@ module _ (set : Set) (names : List (List ℕ)) (d : Due) (so_far : Known) where
   pub foot_passes : (id : ℕ) → id ≡ so_far.id → row_of (Foot id) ≡ None
   foot_passes id e = rw (eq-eqb id so_far.id e)
 
-  -- ---- marks that begin nothing
+  -- ---- marks that begin nothing: grind goes through their rows
 
   pub mark_never : (b : ℕ) → is_between d ≡ true → row_of (Mark b) ≡ None → ⊥
-  mark_never b s e = by (b == 2) (b == 3) (b == 8) (b == 5) (is_after_configuration d) _ (rw s at e)
-    where
-      by : (two three eight five configured : Bool) (rest : Line) → row_or (not (two || three || eight || (five && configured))) None reasons.BadMark
-          (row_or ((two || three) && true) None reasons.Iterative
-          (row_or (eight && true) None reasons.Command (row_or (five && configured) None reasons.ConfigurationExtra rest))) ≡ None → ⊥
-      by true three eight five configured rest e = cc
-      by false true eight five configured rest e = cc
-      by false false true five configured rest e = cc
-      by false false false true true rest e = cc
-      by false false false true false rest e = cc
-      by false false false false configured rest e = cc
-
-  -- a mark that no row takes comes neither where a foot is due nor after the end
-  mark_free : (b : ℕ) → row_of (Mark b) ≡ None → (wants_foot d ≡ false) × (is_after_end d ≡ false)
-  mark_free b e =
-      by (is_between d && not (b == 2 || b == 3 || b == 8 || (b == 5 && is_after_configuration d))) ((b == 2 || b == 3) && is_between d)
-      (b == 8 && is_between d) (b == 5 && is_after_configuration d) (wants_foot d) (is_after_end d) e
-    where
-      by : (lone iterative command extra foot trailing : Bool)
-          → row_or lone None reasons.BadMark (row_or iterative None reasons.Iterative (row_or command None reasons.Command
-          (row_or extra None reasons.ConfigurationExtra
-          (row_or foot so_far.section reasons.BadFooter (row_or trailing None reasons.Trailing None))))) ≡ None → (foot ≡ false) × (trailing ≡ false)
-      by false false false false false false e = (refl, refl)
-      by _ _ _ _ _ _ e = absurd (cc)
+  mark_never b s e = let f = rw s at e in grind arith
 
   pub foot_mark_never : (b : ℕ) → wants_foot d ≡ true → row_of (Mark b) ≡ None → ⊥
-  foot_mark_never b w e = let wrong = sym w ∙ (mark_free b e).0 in cc
+  foot_mark_never b w e = let f = rw w at e in grind arith
 
   pub trailing_never : (b : ℕ) → is_after_end d ≡ true → row_of (Mark b) ≡ None → ⊥
-  trailing_never b l e = let wrong = sym l ∙ (mark_free b e).1 in cc
+  trailing_never b l e = let f = rw l at e in grind arith
 
   -- ---- heads
 
