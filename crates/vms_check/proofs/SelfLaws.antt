@@ -28,10 +28,12 @@ all_bound : (item : Item) (ms : List ℕ) → AllByRecursion (λ m. bound item m
 all_bound item [] = tt
 all_bound item (m ∷ ms) = (least_below m ms, all_least m ms)
 
-pub counted_at : (P : ℕ → Type 0) (i : ℕ) (fs : List Field) (k : ℕ) (g : Field) (most : ℕ) → slice_get fs k ≡ Some g → g.count ≡ Counted i most
+counted_at : (P : ℕ → Type 0) (i : ℕ) (fs : List Field) (k : ℕ) (g : Field) (most : ℕ) → slice_get fs k ≡ Some g → g.count ≡ Counted i most
     → AllByRecursion P (counted i fs) → P most
 counted_at P i [] k g most there is h = absurd (cc)
-counted_at P i (f ∷ fs) zero g most there is h = let count : f.count ≡ Counted i most = cc in (rw (count, eq-eqb i i refl) at h).0
+counted_at P i (f ∷ fs) zero g most there is h =
+    let count : f.count ≡ Counted i most = (let same : f ≡ g = cc in rw same is) in
+    (rw (count, eq-eqb i i refl) at h).0
 counted_at P i (f ∷ fs) (suc k) g most there is h = counted_at P i fs k g most there is (all_right P _ (counted i fs) h)
 
 pub bound_counts : (item : Item) (i : ℕ) (fs : List Field) (k : ℕ) (g : Field) (most : ℕ) → slice_get fs k ≡ Some g → g.count ≡ Counted i most

@@ -1,6 +1,6 @@
 -- A number that fits its cell is at most every capacity that it counts, and one that fits the older capacities fits the newer.
 use Rattle.vms_check_laws.proofs.{Facade.cells_in, Facade.AllZip, Segments.fits_right, Presence.Steady, Presence.covers_unused}
-use Rattle.vms_check_laws.proofs.Facade.{counted_at, ◌≤ℤ◌, ◌≡◌, inl, inr, ℕ, zero, suc, ◌+◌, ◌*◌, ◌^◌, ◌≤◌, true, List, ◌∷◌, ◌++◌, length, get_or, Some, refl, arith, ℤ}
+use Rattle.vms_check_laws.proofs.Facade.{◌≤ℤ◌, ◌≡◌, inl, inr, ℕ, zero, suc, ◌+◌, ◌*◌, ◌^◌, ◌≤◌, true, List, ◌∷◌, ◌++◌, length, get_or, Some, refl, arith, ℤ}
 use Rattle.vms_check_laws.proofs.Facade.{pos, negsuc, if◌then◌else◌, AllByRecursion, slice_get, mod-le, eq-eqb, ints, ◌<◌, [], min, Bool, false, Option, None}
 use Rattle.vms_check_laws.proofs.Facade.{sym, nat_le, and_parts, eqb-true, leb-true, Kind, U8, U16, U32, Item, Num, width, residue, Count, One, Counted, Field}
 use Rattle.vms_check_laws.proofs.Facade.{Cell, times, counted, capacity_of, item_cells, field_cells, cells_from, place_of, no_field, kind_of, FitsCell, is_num}
@@ -12,6 +12,12 @@ use Rattle.vms_check_laws.proofs.Premises.{IsSingle, CountFits, OldFields, Defau
 -- the number of field k of these, the first of which has the number i and begins at a place
 abbrev pub field_number : List (List Cell) → List Field → List Field → ℕ → List ℤ → ℕ → ℕ → ℕ
 field_number cs all fs i numbers at k = residue (width (kind_of (get_or fs k no_field).item)) (get_or numbers (place_of cs all i at fs k) (pos 0))
+
+counted_at : (P : ℕ → Type 0) (by most i : ℕ) (fs : List Field) (f : Field) → slice_get fs i ≡ Some f → f.count ≡ Counted by most
+    → AllByRecursion P (counted by fs) → P most
+counted_at P by most i [] f is e h = absurd (cc)
+counted_at P by most zero (g ∷ fs) f is e h = let c : g.count ≡ Counted by most = cc in (rw (c, eq-eqb by by refl) at h).0
+counted_at P by most (suc i) (g ∷ fs) f is e h = counted_at P by most i fs f is e (all_right P _ _ h)
 
 first_fits : (cs : List (List Cell)) (item : Item) (count : Count) (caps : List ℕ) (d : ℤ) (more : List Cell) (numbers : List ℤ) (at : ℕ) → is_num item ≡ true
     → is_one count ≡ true → FitsAt (times (capacity_of count) (λ _. item_cells cs item caps d) 0 0 ++ more) numbers at
@@ -83,7 +89,7 @@ fits_count : (cs : List (List Cell)) (all : List Field) (numbers : List ℤ) (at
 fits_count cs all numbers at i f (Counted by most) is e fits c =
     let s = single_at cs all all 0 by numbers at c.field c.stands c.steady fits in
     let z : 0 + by ≡ by = omega arith in
-    let high = counted_at (λ m. s.number ≤ℤ pos m) by all i f most is e (rw z at s.fits.1) in
+    let high = counted_at (λ m. s.number ≤ℤ pos m) by most i all f is e (rw z at s.fits.1) in
     rw s.is (counting_below c.field.item _ c.field.default s.number most c.kind s.fits high)
 fits_count cs all numbers at i f _ is e fits known = tt
 
@@ -187,7 +193,7 @@ module _ (sides : Sides) where
         | inr m ↦
             let p = paired o n _ _ j most is m.count m.room in
             let counts : e.field.count ≡ Counted i p.1 = rw (at_i p.0 p.3) at p.2 in
-            at_most_more z p.1 most (counted_at (λ m. z ≤ℤ pos m) i a.fields e.index e.field p.1 met.known.field counts all) p.4
+            at_most_more z p.1 most (counted_at (λ m. z ≤ℤ pos m) i p.1 e.index a.fields e.field met.known.field counts all) p.4
       ]
 
   fits_arrays : (new : NewFields below' (is_steady_in b) b.fields) (z : ℤ) (i j : ℕ) (es fs : List Entry) → ((by : ℕ) → same_place (o by) (n j) ≡ true → by ≡ i)
