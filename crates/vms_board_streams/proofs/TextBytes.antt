@@ -1,13 +1,10 @@
 -- The description of a set's devices is bytes: names are, and the rest is ASCII.
-use Rattle.vms_board_streams.proofs.Facade.{◌≡◌, ℕ, zero, suc, ◌+◌, ◌<◌, ◌&&◌, List, [], ◌∷◌, ◌++◌, length, map, get_or, ℤ, Bool, true, false, nat_lt, refl}
-use Rattle.vms_board_streams.proofs.Facade.{sym, subst, arith, Option, Some, None, is_some, decimal, codes, and_parts, get_or_from_slice_get, AllByRecursion}
-use Rattle.vms_board_streams.proofs.Facade.{slice_get, list_all, items_of, Kind, Item, Num, Equal, Unused, Struct, width, Count, One, Fixed, Counted, Image}
-use Rattle.vms_board_streams.proofs.Facade.{own_cells, one_more, Clean, get_none, struct_clean, device_parts, sub_clean, no_desc, first, item_size, counted}
-use Rattle.vms_board_streams.proofs.Facade.{capacity_of, field_cells, numbers_of, desc_cells, struct_cells, all_hold, is_name, Field, Desc, Sub, Device, Set}
-use Rattle.vms_board_streams.proofs.Facade.{WellFormed, struct_rules, device_rules, sub_rules, AllSubs, AllParts, EachPart, all_parts, AreBytes, is_named}
-use Rattle.vms_board_streams.proofs.Facade.{parts_named, What, Number, Constant, Filler, Rule, Element, Shape, no_shape, shape, shapes, cells_in, dotted}
-use Rattle.vms_board_streams.proofs.Facade.{behind, single, index_text, item_elements, Stand, stand_of, array_elements, field_elements, elements_from}
-use Rattle.vms_board_streams.proofs.Facade.{all_from, elements_each, elements_in, Entry, cell_entry, sent_entry, listed_if, entry_of}
+use Rattle.vms_board_streams.proofs.Facade.{◌≡◌, ℕ, ◌+◌, ◌<◌, ◌&&◌, List, [], ◌∷◌, ◌++◌, length, get_or, ℤ, Bool, true, false, refl, sym, subst, arith, Option}
+use Rattle.vms_board_streams.proofs.Facade.{Some, None, is_some, decimal, codes, and_parts, get_or_from_slice_get, AllByRecursion, slice_get, items_of, Kind}
+use Rattle.vms_board_streams.proofs.Facade.{width, Count, One, Image, own_cells, Clean, get_none, struct_clean, device_parts, sub_clean, no_desc, counted}
+use Rattle.vms_board_streams.proofs.Facade.{desc_cells, struct_cells, is_name, Field, Desc, Sub, Device, Set, WellFormed, struct_rules, device_rules, sub_rules}
+use Rattle.vms_board_streams.proofs.Facade.{AllSubs, AllParts, EachPart, all_parts, AreBytes, is_named, parts_named, What, Number, Constant, Filler, Rule}
+use Rattle.vms_board_streams.proofs.Facade.{Element, index_text, all_from, elements_each, elements_in, Entry, cell_entry, sent_entry, listed_if, entry_of}
 use Rattle.vms_board_streams.proofs.Facade.{entries_of, part_entries, sub_trees, device_tree, device_trees, described_tree, described_text, HasLetters}
 use Rattle.vms_board_streams.proofs.Facade.{ItemsHave, Allows, IsSpelled, AreSpelled, all_both, decimal_good, text_good, word, kind_letters, sub_letters}
 use Rattle.vms_board_streams.proofs.Facade.{device_letters, devices_letters}
@@ -54,7 +51,7 @@ what-listed (Constant kind z) counted present path p =
 what-listed (Filler n) counted present path p = listed-entries present (sent_entry path n (codes "unused")) (record { path = p; type = word allows (codes "unused") refl })
 what-listed (Rule holds) counted present path p = tt
 
-elements-listed : (sent : Bool) (xs : List Element) → Each HasBytes xs → AreSpelled Byte (entries_of sent [] xs)
+elements-listed : (sent : Bool) (xs : List Element) → AllByRecursion HasBytes xs → AreSpelled Byte (entries_of sent [] xs)
 elements-listed sent [] p = tt
 elements-listed sent (x ∷ xs) p =
     all_both _ (entry_of x.what x.counted (sent && x.present) x.name) (entries_of sent [] xs)
