@@ -1,8 +1,9 @@
 -- What holds of each element of a list, and of one of them; of each element of a description, by its items and its fields.
-use Rattle.vms_elements.proofs.Facade.{◌≡◌, ◌⊎◌, inl, inr, ℕ, zero, suc, ◌+◌, Bool, true, List, [], ◌∷◌, ◌++◌, map, get_or, ℤ, Some, refl, subst, slice_get, Element}
-use Rattle.vms_elements.proofs.Facade.{Item, Field, Desc, Set, no_desc, first, counted, capacity_of, one_more, What, Rule, Shape, no_shape, AllByRecursion}
-use Rattle.vms_elements.proofs.Facade.{shape, shapes, dotted, behind, single, index_text, item_elements, Stand, stand_of, array_elements, field_elements}
-use Rattle.vms_elements.proofs.Facade.{elements_from, desc_elements, elements_in, ◌<◌, ◌/◌, ◌%◌, ◌==◌, false, if◌then◌else◌, arith, decimal, digits, digits_onto, digit_glyph, lt-ltb}
+use Rattle.vms_elements.proofs.Facade.{◌≡◌, ◌⊎◌, inl, inr, ℕ, zero, suc, ◌+◌, Bool, true, List, [], ◌∷◌, ◌++◌, map, get_or, ℤ, Some, refl, subst, slice_get}
+use Rattle.vms_elements.proofs.Facade.{Element, Item, Field, Desc, Set, no_desc, first, counted, capacity_of, one_more, What, Rule, Shape, no_shape}
+use Rattle.vms_elements.proofs.Facade.{AllByRecursion, shape, shapes, dotted, behind, single, index_text, item_elements, Stand, stand_of, array_elements}
+use Rattle.vms_elements.proofs.Facade.{field_elements, elements_from, desc_elements, elements_in, ◌<◌, ◌/◌, ◌%◌, ◌==◌, false, if◌then◌else◌, arith, decimal}
+use Rattle.vms_elements.proofs.Facade.{digits, digits_onto, digit_glyph, lt-ltb}
 use Rattle.vms_kinds.specs.declared.Item.TheVariants as items
 use Rattle.vms_elements.specs.Elements as whats
 

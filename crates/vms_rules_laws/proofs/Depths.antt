@@ -69,7 +69,10 @@ module _ (ds : List Desc) where
   -- the depth of an earlier structure
   earlier-depth : (i j : ℕ) → i < length ds → j < i → get_or (depths ds i) j 0 ≡ depth_at ds j
   earlier-depth i j l e =
-      cc (first_at (λ earlier d. 1 + deepest earlier d.fields) ds 0 i j e, first_at (λ earlier d. 1 + deepest earlier d.fields) ds 0 (length ds) j (omega arith))
+      cc (
+        first_at (λ earlier d. 1 + deepest earlier d.fields) ds 0 i j e,
+        first_at (λ earlier d. 1 + deepest earlier d.fields) ds 0 (length ds) j (omega arith),
+      )
 
   later-depth : (i j : ℕ) → i ≤ j → get_or (depths ds i) j 0 ≡ 0
   later-depth i j l = let long = first_long (λ earlier d. 1 + deepest earlier d.fields) ds i in get_or_past _ j 0 (omega arith)

@@ -7,7 +7,8 @@ pub use Rattle.std.proofs.Common.{inl, inr, int_lt, is_none, is_some, length, le
 pub use Rattle.std.proofs.Common.{pos, refl, rules, string_bytes, subst, suc, sym, take, true, w64, zero, ℕ, ℤ, ◌%◌, ◌&&◌, ◌*◌, ◌++◌, ◌+◌, ◌-◌, ◌/◌, ◌<◌, ◌==◌}
 pub use Rattle.std.proofs.Common.{◌^◌, ◌||◌, ◌∙◌, ◌∷◌, ◌≡◌, ◌≤◌}
 pub use Rattle.std.proofs.Math.Bool.{and-false, and-true, and_assoc}
-pub use Rattle.std.proofs.lemmas.Bool.{OnTrue_at, OnTrue_from, and_parts, cases_lt, eqb-true, le-ltb, leb-true, lt-ltb, ltb-false, ltb-true, or_from, Decides.nat_tests}
+pub use Rattle.std.proofs.lemmas.Bool.{OnTrue_at, OnTrue_from, and_parts, cases_lt, eqb-true, le-ltb, leb-true, lt-ltb, ltb-false, ltb-true, or_from}
+pub use Rattle.std.proofs.lemmas.Bool.{Decides.nat_tests}
 pub use Rattle.std.proofs.lemmas.List.{append-nil, drop_all, drop_more, map-append, map-id, take-append-drop}
 pub use Rattle.std.specs.{Char.digit_char, Int.w128, Int.Signed.mag, List.AllByRecursion, List.list_all, Option.option_map, Str.IsUtf8, Str.bytes_eq}
 pub use Rattle.std.specs.Fmt.{signed_decimal}

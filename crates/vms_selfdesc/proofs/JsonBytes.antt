@@ -1,10 +1,10 @@
 -- The bytes in the text of a JSON value without spaces: those of its strings, escaped, and others from 34 to 125.
-use Rattle.vms_selfdesc.proofs.Facade.{decimal_all, all_both, cases_lt, inl, inr, le-ltb, ◌≡◌, ℕ, suc, ◌<◌, ◌≤◌, ◌%◌, ◌/◌, ◌+◌, Bool, true, false, cond, ◌&&◌, ◌||◌, ◌==◌}
-use Rattle.vms_selfdesc.proofs.Facade.{nat_lt, nat_le, List, [], ◌∷◌, ◌++◌, map, Option, Some, None, ℤ, pos, negsuc, refl, arith, codes}
-use Rattle.vms_selfdesc.proofs.Facade.{AllByRecursion, list_all, and_parts, eqb-true, leb-true, ltb-true, ltb-false, lt-ltb, digit_char}
-use Rattle.vms_selfdesc.proofs.Facade.{escape, escape_byte, escape_letter, quoted, unsigned, negative, float, Data, null, boolean, number, string}
-use Rattle.vms_selfdesc.proofs.Facade.{array, object, Items, no_items, item, Members, no_members, member, items_of, number_text, comma_if, compact_text}
-use Rattle.vms_selfdesc.proofs.Facade.{items_text, members_text, Kind, kind_word, Entry, entry_tree, sub_members, device_members}
+use Rattle.vms_selfdesc.proofs.Facade.{decimal_all, all_both, cases_lt, inl, inr, le-ltb, ◌≡◌, ℕ, suc, ◌<◌, ◌≤◌, ◌%◌, ◌/◌, ◌+◌, Bool, true, false, cond, ◌&&◌}
+use Rattle.vms_selfdesc.proofs.Facade.{◌||◌, ◌==◌, nat_lt, nat_le, List, [], ◌∷◌, ◌++◌, map, Option, Some, None, ℤ, pos, negsuc, refl, arith, codes}
+use Rattle.vms_selfdesc.proofs.Facade.{AllByRecursion, list_all, and_parts, eqb-true, leb-true, ltb-true, ltb-false, lt-ltb, digit_char, escape, escape_byte}
+use Rattle.vms_selfdesc.proofs.Facade.{escape_letter, quoted, unsigned, negative, float, Data, null, boolean, number, string, array, object, Items, no_items}
+use Rattle.vms_selfdesc.proofs.Facade.{item, Members, no_members, member, items_of, number_text, comma_if, compact_text, items_text, members_text, Kind}
+use Rattle.vms_selfdesc.proofs.Facade.{kind_word, Entry, entry_tree, sub_members, device_members}
 use Rattle.std.specs.Fmt.{decimal}
 use Rattle.serde_json.specs.Data.{Num}
 use Rattle.vms_kinds.specs.declared.Kind.TheVariants as kinds

@@ -1,12 +1,12 @@
 -- What is known of a state that agrees with what lines said, and what was said in two parts.
-use Rattle.vms_values_laws.proofs.Facade.{◌≡◌, ℕ, ◌≤◌, List, [], ◌∷◌, ◌++◌, get_or, map, slice_set, ℤ, pos, refl, sym, ◌∙◌, arith, append_assoc, true}
-use Rattle.vms_values_laws.proofs.Facade.{false, if◌then◌else◌, Some, None, same_Some, suc, get_or-set_other, Bool, ◌==◌, ◌||◌, length, map-append}
-use Rattle.vms_values_laws.proofs.Facade.{all_both, all_more, all_parts, length-append, eq-eqb, or_parts, or_assoc, AllByRecursion, ValuesReason, if_not, Standing, Element, text_of, ranges}
-use Rattle.vms_values_laws.proofs.Facade.{text_append, Said, said_line, Agrees, Meets, AreBelow, AreFrom, put_all, Entry, OfNumber, is_of_cell, has_line, ints}
-use Rattle.vms_values_laws.proofs.Facade.{IsShort, ◌<◌, drop, Option, negsuc, Ok, Err, codes, ◌+◌, get_or-set_same, length-set, signed_decimal, Read, BadLine}
-use Rattle.vms_values_laws.proofs.Facade.{CellLine, put_number, put_line, ◌>>=◌, Number, number_reason, spelled_reason, line_reason, wanted_reason, Kind, U8}
-use Rattle.vms_values_laws.proofs.Facade.{same_number, exceeds, in_range, Cell, first_line, begins_with, number_spelled, spelled_holds}
-use Rattle.vms_values_laws.proofs.Facade.{line_splits, begun, ForNumber, Moved, Taken, lines_of, reason_for}
+use Rattle.vms_values_laws.proofs.Facade.{◌≡◌, ℕ, ◌≤◌, List, [], ◌∷◌, ◌++◌, get_or, map, slice_set, ℤ, pos, refl, sym, ◌∙◌, arith, append_assoc, true, false}
+use Rattle.vms_values_laws.proofs.Facade.{if◌then◌else◌, Some, None, same_Some, suc, get_or-set_other, Bool, ◌==◌, ◌||◌, length, map-append, all_both}
+use Rattle.vms_values_laws.proofs.Facade.{all_more, all_parts, length-append, eq-eqb, or_parts, or_assoc, AllByRecursion, ValuesReason, if_not, Standing}
+use Rattle.vms_values_laws.proofs.Facade.{Element, text_of, ranges, text_append, Said, said_line, Agrees, Meets, AreBelow, AreFrom, put_all, Entry, OfNumber}
+use Rattle.vms_values_laws.proofs.Facade.{is_of_cell, has_line, ints, IsShort, ◌<◌, drop, Option, negsuc, Ok, Err, codes, ◌+◌, get_or-set_same, length-set}
+use Rattle.vms_values_laws.proofs.Facade.{signed_decimal, Read, BadLine, CellLine, put_number, put_line, ◌>>=◌, Number, number_reason, spelled_reason}
+use Rattle.vms_values_laws.proofs.Facade.{line_reason, wanted_reason, Kind, U8, same_number, exceeds, in_range, Cell, first_line, begins_with, number_spelled}
+use Rattle.vms_values_laws.proofs.Facade.{spelled_holds, line_splits, begun, ForNumber, Moved, Taken, lines_of, reason_for}
 use Rattle.vms_spec.specs.declared.ValuesReason.TheVariants as reasons
 
 pub some_if : {A : Type 0} (b : Bool) (x y : A) → (if b then Some x else None) ≡ Some y → (b ≡ true) × (x ≡ y)

@@ -12,7 +12,8 @@ use Rattle.vms_values_laws.proofs.Facade.{reason_for, Taken, Follows, Along, Mov
 use Rattle.vms_values_laws.proofs.Facade.{read_desc, IsSound, AreSound, IsShort, number_holds, shapes, desc_elements, Said, Agrees, Meets, AreBelow, has_line}
 use Rattle.vms_spec.specs.declared.ValuesReason.TheVariants as reasons
 use Rattle.vms_spec.specs.ValuesReading as reading
-use Rattle.vms_values_laws.proofs.SaidLaws.{all_taken, moved_none, ComesTo, At, meets_all, taken_of, Told, told_none, has_said, said_both, lines_both, lines_said, AreShortSaid}
+use Rattle.vms_values_laws.proofs.SaidLaws.{all_taken, moved_none, ComesTo, At, meets_all, taken_of, Told, told_none, has_said, said_both, lines_both}
+use Rattle.vms_values_laws.proofs.SaidLaws.{lines_said, AreShortSaid}
 use Rattle.vms_values_laws.proofs.Walk.{wrapped, part_comes}
 
 abbrev pub as_bad : ℕ → Option ValuesReason → Option BadLine
