@@ -3,7 +3,7 @@ pub use Rattle.std.proofs.{lemmas.Option.get_or_from_slice_get, lemmas.Slice.Eq.
 pub use Rattle.std.proofs.Common.{◌⊎◌, Bool, Err, IfSome, List, None, Ok, Option, Result, Some, [], ap, append-nil, arith, codes, decimal, false, get_or, inl}
 pub use Rattle.std.proofs.Common.{inr, is_some, length, nat_lt, refl, subst, suc, sym, true, zero, ℕ, ℤ, ◌&&◌, ◌++◌, ◌+◌, ◌-◌, ◌<◌, ◌||◌, ◌∙◌, ◌∷◌, ◌≡◌, ◌≤◌}
 pub use Rattle.std.proofs.lemmas.Bool.{and_parts, ltb-false, ltb-true}
-pub use Rattle.std.specs.{List.AllByRecursion, List.slice_get, Str.bytes_eq}
+pub use Rattle.std.specs.{List.AllByRecursion, List.list_all, List.slice_get, Str.bytes_eq}
 pub use Rattle.vms_kinds.specs.{Bytes.IsBytes, Codes.width, declared.Kind.Kind, declared.TheConstants.NEWEST_CLOCK_SET}
 pub use Rattle.vms_spec.proofs.WellFormedLaws.{Clean, device_parts, get_none, struct_clean, sub_clean}
 pub use Rattle.vms_spec.specs.{Heads.FitsHeads, Names.is_name, Sets.Desc, Sets.Device, Sets.Field, Sets.Set, Sets.Sub, Streams.IsConfiguration}
