@@ -4,7 +4,7 @@ use Rattle.dev_clock_images.proofs.Facade.{◌≡◌, ℕ, zero, suc, ◌≤◌,
 use Rattle.dev_clock_images.proofs.Facade.{NEWEST, BoardCells, saved_are_cells, saved_comes_back, saved_goes_on, saved, MaySaveUnder, restored, ComesBack}
 use Rattle.dev_clock_images.proofs.Facade.{IsSound, ClockState, ClockCells, needs, unneeded, image_of, images_of, list_at, board_from, numbers_in, carried}
 use Rattle.dev_clock_images.proofs.Facade.{carried_device, clock_set, kinds, saved_cells, NEWEST_CLOCK, clock_1, clock_2, mc146818_at_1, mc146818_at_2, first}
-use Rattle.dev_clock_images.proofs.Facade.{Set, Device, set_4, cells_in, SavedIsCarried, ImagesComeBack}
+use Rattle.dev_clock_images.proofs.Facade.{Set, Device, newest_set, cells_in, SavedIsCarried, ImagesComeBack}
 use Rattle.dev_board.specs.Saved.{saved as board_saved, carried as board_carried}
 use Rattle.dev_clock.specs.Saved.{carried as clock_carried}
 use Rattle.dev_images.proofs.BoardCarried.{saved_is_carried as board-is-carried}
@@ -37,11 +37,11 @@ chip-2 numbers are = flag-2 numbers (needs (flag_in 2 numbers)) refl (unneeded (
 -- ---- the board's devices
 
 -- They are carried as between shipped sets.
-board-1 : (numbers : List ℤ) (cells : BoardCells) → board_from 1 (numbers_in (carried clock_1 clock_2 (images_of clock_1 clock_1.devices (numbers ∷ board_lists cells)))) ≡ board_cells_in (carried set_4 set_4 (images_of set_4 set_4.devices (board_lists cells)))
+board-1 : (numbers : List ℤ) (cells : BoardCells) → board_from 1 (numbers_in (carried clock_1 clock_2 (images_of clock_1 clock_1.devices (numbers ∷ board_lists cells)))) ≡ board_cells_in (carried newest_set newest_set (images_of newest_set newest_set.devices (board_lists cells)))
 unfolding carried first
 board-1 numbers cells = refl
 
-board-2 : (numbers : List ℤ) (cells : BoardCells) → board_from 1 (numbers_in (carried clock_2 clock_2 (images_of clock_2 clock_2.devices (numbers ∷ board_lists cells)))) ≡ board_cells_in (carried set_4 set_4 (images_of set_4 set_4.devices (board_lists cells)))
+board-2 : (numbers : List ℤ) (cells : BoardCells) → board_from 1 (numbers_in (carried clock_2 clock_2 (images_of clock_2 clock_2.devices (numbers ∷ board_lists cells)))) ≡ board_cells_in (carried newest_set newest_set (images_of newest_set newest_set.devices (board_lists cells)))
 unfolding carried first
 board-2 numbers cells = refl
 
@@ -65,7 +65,7 @@ same-both a b c d e f = ap (λ (x : ArrayVec ℤ). both x c) e ∙ ap (λ (x : B
 abbrev items : List ℤ → ArrayVec ℤ
 items numbers = record { items = numbers }
 
-by-set : (set : ℕ) (numbers : List ℤ) (cells : BoardCells) → 1 ≤ set → set ≤ NEWEST_CLOCK → AreOf (kinds set) numbers → cells_in (carried (clock_set set) clock_2 (images_of (clock_set set) (clock_set set).devices (numbers ∷ board_lists cells))) ≡ both (items (chip_carried set numbers)) (board_cells_in (carried set_4 set_4 (images_of set_4 set_4.devices (board_lists cells))))
+by-set : (set : ℕ) (numbers : List ℤ) (cells : BoardCells) → 1 ≤ set → set ≤ NEWEST_CLOCK → AreOf (kinds set) numbers → cells_in (carried (clock_set set) clock_2 (images_of (clock_set set) (clock_set set).devices (numbers ∷ board_lists cells))) ≡ both (items (chip_carried set numbers)) (board_cells_in (carried newest_set newest_set (images_of newest_set newest_set.devices (board_lists cells))))
 by-set zero numbers cells l h are = absurd (omega (arith, l))
 by-set (suc zero) numbers cells l h are =
     same-both _ _ _ _ (chip-first-1 numbers (board_lists cells) ∙ ap items (chip-1 numbers are)) (board-1 numbers cells)

@@ -2,12 +2,12 @@
 pub use Rattle.std.proofs.Common.{Bool, List, None, Option, Some, [], ap, arith, codes, false, get_or, if◌then◌else◌, length, pos, refl, subst, suc, sym, true}
 pub use Rattle.std.proofs.Common.{zero, ℕ, ℤ, ◌∙◌, ◌∷◌, ◌≡◌, ◌≤◌}
 pub use Rattle.std.specs.List.{slice_get}
-pub use Rattle.vms_spec.specs.{Layout.device_cells, Sets.Device, Sets.Set, Sets.Sub, Shipped.set_4, Streams.AreReady, Streams.IsReady, Streams.is_needed}
+pub use Rattle.vms_spec.specs.{Layout.device_cells, Sets.Device, Sets.Set, Sets.Sub, Streams.AreReady, Streams.IsReady, Streams.is_needed}
 pub use Rattle.vms_spec.specs.Images.{Image, IsNormal, IsValid, image_slots}
 unfoldable pub use Rattle.vms_spec.specs.Layout.{first}
 pub use Rattle.vms_check.specs.{Carrying.carried_device, Comparing.Compatible}
 unfoldable pub use Rattle.vms_check.specs.{Carrying.carried, Comparing.first_mismatch}
-pub use Rattle.vms_desc.specs.Formed.{clock_set}
+pub use Rattle.vms_desc.specs.Formed.{clock_set, newest_set}
 pub use Rattle.vms_fields.specs.{Clock.mc146818_rows, Fields.place_under}
 pub use Rattle.vms_rtc.specs.{Cells.kinds, Cells.saved_cells, declared.limits.TheConstants.NEWEST_CLOCK}
 pub use Rattle.vms_shipped.specs.ClockSets.{clock_1, clock_2, mc146818_at_1, mc146818_at_2}

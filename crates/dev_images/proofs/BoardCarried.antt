@@ -1,9 +1,10 @@
 -- What is saved of a sound board is carried to the newest set as its devices' tables say, and can
 -- be restored.
-use Rattle.dev_images.proofs.{Carried.timer_is_carried, Carried.chip_is_carried, PitCarried.pit_is_carried, SerialCarried.serial_is_carried}
-use Rattle.dev_images.proofs.Facade.{◌≡◌, ℕ, zero, suc, ◌≤◌, refl, sym, ap, subst, ◌∙◌, arith, NEWEST, saved_are_cells, saved_comes_back, saved_goes_on, saved}
+use Rattle.dev_images.proofs.{Carried.timer_is_carried, Carried.chip_is_carried, PitCarried.pit_is_carried, Places.places_are, SerialCarried.serial_is_carried, ShippedDevices.five_devices}
+use Rattle.dev_images.proofs.Facade.{◌≡◌, ℕ, ◌≤◌, refl, sym, ap, subst, ◌∙◌, arith, NEWEST, saved_are_cells, saved_comes_back, saved_goes_on, saved}
 use Rattle.dev_images.proofs.Facade.{MaySaveUnder, AreSavedCells, restored, ComesBack, IsSound, State, BoardCells, carried, shipped_set, saved_images, cells_in}
-use Rattle.dev_images.proofs.Facade.{SavedIsCarried, ImagesComeBack, five, same-five}
+use Rattle.dev_images.proofs.Facade.{List, Some, get_or, slice_get, Set, Device, Image, find_device, index, no_image, carried_at, carried_device, images_of}
+use Rattle.dev_images.proofs.Facade.{lists_of, timer_in, chip_in, pit_in, serial_in, SavedIsCarried, ImagesComeBack, five, same-five}
 use Rattle.dev_board.specs.Saved.{carried as board_carried}
 use Rattle.dev_pic.specs.Cells.{carried as pic_carried}
 use Rattle.dev_pit.specs.Cells.{carried as pit_carried}
@@ -19,15 +20,32 @@ as-tables : (set : ℕ) (cells : BoardCells) → tables set cells ≡ board_carr
 unfolding board_carried
 as-tables set cells = refl
 
-each : (set : ℕ) (m : State) → AreSavedCells set (saved set m) → 1 ≤ set → set ≤ NEWEST
-    → cells_in (carried (shipped_set set) (shipped_set NEWEST) (saved_images set m)) ≡ tables set (saved set m)
+-- The image of a device of the newest set, from that of the device of the same name and instance.
+abbrev taken : Set → List Image → Device → Image
+taken old images e =
+    carried_at old (shipped_set NEWEST) images e (find_device 0 old.devices e.desc.name e.instance)
+    (slice_get old.devices (index (find_device 0 old.devices e.desc.name e.instance)))
+
+from-device : (old : Set) (images : List Image) (e d : Device) (k : ℕ) (image : Image) → find_device 0 old.devices e.desc.name e.instance ≡ Some k
+    → slice_get old.devices k ≡ Some d → get_or images k (no_image old (shipped_set NEWEST)) ≡ image
+    → (taken old images e).numbers ≡ (carried_device old (shipped_set NEWEST) d e image).numbers
+from-device old images e d k image found there is = rw (found, there, is) refl
+
+each : (s : ℕ) (m : State) → AreSavedCells s (saved s m) → 1 ≤ s → s ≤ NEWEST
+    → cells_in (carried (shipped_set s) (shipped_set NEWEST) (saved_images s m)) ≡ tables s (saved s m)
 unfolding carried
-each zero m a l h = absurd (omega arith)
-each (suc zero) m a l h = same-five (timer_is_carried.first _ a.timer) ((chip_is_carried.chip 0).first _ a.master) ((chip_is_carried.chip 1).first _ a.slave) (pit_is_carried.first _ a.pit) (serial_is_carried.first _ a.serial)
-each (suc (suc zero)) m a l h = same-five (timer_is_carried.second _ a.timer) ((chip_is_carried.chip 0).second _ a.master) ((chip_is_carried.chip 1).second _ a.slave) (pit_is_carried.second _ a.pit) (serial_is_carried.second _ a.serial)
-each (suc (suc (suc zero))) m a l h = same-five (timer_is_carried.third _ a.timer) ((chip_is_carried.chip 0).third _ a.master) ((chip_is_carried.chip 1).third _ a.slave) (pit_is_carried.third _ a.pit) (serial_is_carried.third _ a.serial)
-each (suc (suc (suc (suc zero)))) m a l h = same-five (timer_is_carried.fourth _ a.timer) ((chip_is_carried.chip 0).fourth _ a.master) ((chip_is_carried.chip 1).fourth _ a.slave) (pit_is_carried.fourth _ a.pit) (serial_is_carried.fourth _ a.serial)
-each (suc (suc (suc (suc (suc set))))) m a l h = absurd (omega arith)
+each s m a l h =
+    let set = shipped_set s in
+    let new = shipped_set NEWEST in
+    let p = places_are s l h in
+    let there = λ (k : ℕ). ap (λ (devices : List Device). slice_get devices k) (five_devices s l h) in
+    let image = λ (k : ℕ). ap (λ (devices : List Device). get_or (images_of set devices (lists_of (saved s m))) k (no_image set new)) (five_devices s l h) in
+    same-five
+    (from-device set (saved_images s m) (timer_in new) (timer_in set) 0 _ p.timer (there 0) (image 0) ∙ timer_is_carried.each s l h _ a.timer)
+    (from-device set (saved_images s m) (chip_in 0 new) (chip_in 0 set) 1 _ p.master (there 1) (image 1) ∙ (chip_is_carried.chip 0).each s l h _ a.master)
+    (from-device set (saved_images s m) (chip_in 1 new) (chip_in 1 set) 2 _ p.slave (there 2) (image 2) ∙ (chip_is_carried.chip 1).each s l h _ a.slave)
+    (from-device set (saved_images s m) (pit_in new) (pit_in set) 3 _ p.pit (there 3) (image 3) ∙ pit_is_carried.each s l h _ a.pit)
+    (from-device set (saved_images s m) (serial_in new) (serial_in set) 4 _ p.serial (there 4) (image 4) ∙ serial_is_carried.each s l h _ a.serial)
 
 cells-carried : (set : ℕ) (m : State) → IsSound m → MaySaveUnder m.level set
     → cells_in (carried (shipped_set set) (shipped_set NEWEST) (saved_images set m)) ≡ board_carried set (saved set m)

@@ -1,6 +1,6 @@
 -- A sound board is saved in ready images.
-use Rattle.dev_images.proofs.{ChipReady.chip_is_ready, PitReady.pit_is_ready, SerialReady.serial_is_ready, TimerReady.timer_is_ready}
-use Rattle.dev_images.proofs.Facade.{◌≡◌, ℕ, zero, suc, ◌≤◌, List, [], ◌∷◌, length, Some, ℤ, refl, ap, subst, arith, slice_get, NEWEST, saved_are_cells, saved}
+use Rattle.dev_images.proofs.{ChipReady.chip_is_ready, PitReady.pit_is_ready, SerialReady.serial_is_ready, ShippedDevices.five_devices, TimerReady.timer_is_ready}
+use Rattle.dev_images.proofs.Facade.{◌≡◌, ℕ, zero, suc, ◌≤◌, List, [], ◌∷◌, length, Some, ℤ, refl, sym, ap, subst, arith, slice_get, NEWEST, saved_are_cells, saved}
 use Rattle.dev_images.proofs.Facade.{AreSavedCells, State, shipped_set, Image, Device, Set, IsReady, AreReady, image_of, images_of, lists_of, SavedAreReady}
 
 -- Each device's image is ready.
@@ -29,15 +29,11 @@ all-ready set _ _ h k _ image _ _ = absurd h
 are-ready : (set : Set) (lists : List (List ℤ)) → AllReady set set.devices lists → AreReady set (images_of set set.devices lists)
 are-ready set lists h = record { one_each = counts set set.devices lists h; ready = all-ready set set.devices lists h }
 
-each : (set : ℕ) (m : State) → AreSavedCells set (saved set m) → 1 ≤ set → set ≤ NEWEST
-    → AllReady (shipped_set set) (shipped_set set).devices (lists_of (saved set m))
+each : (s : ℕ) (m : State) → AreSavedCells s (saved s m) → 1 ≤ s → s ≤ NEWEST → AllReady (shipped_set s) (shipped_set s).devices (lists_of (saved s m))
 unfolding AllReady
-each zero m a l h = absurd (omega arith)
-each (suc zero) m a l h = (timer_is_ready.first _ a.timer, ((chip_is_ready.chip 0).first _ a.master, ((chip_is_ready.chip 1).first _ a.slave, (pit_is_ready.first _ a.pit, (serial_is_ready.first _ a.serial, tt)))))
-each (suc (suc zero)) m a l h = (timer_is_ready.second _ a.timer, ((chip_is_ready.chip 0).second _ a.master, ((chip_is_ready.chip 1).second _ a.slave, (pit_is_ready.second _ a.pit, (serial_is_ready.second _ a.serial, tt)))))
-each (suc (suc (suc zero))) m a l h = (timer_is_ready.third _ a.timer, ((chip_is_ready.chip 0).third _ a.master, ((chip_is_ready.chip 1).third _ a.slave, (pit_is_ready.third _ a.pit, (serial_is_ready.third _ a.serial, tt)))))
-each (suc (suc (suc (suc zero)))) m a l h = (timer_is_ready.fourth _ a.timer, ((chip_is_ready.chip 0).fourth _ a.master, ((chip_is_ready.chip 1).fourth _ a.slave, (pit_is_ready.fourth _ a.pit, (serial_is_ready.fourth _ a.serial, tt)))))
-each (suc (suc (suc (suc (suc set))))) m a l h = absurd (omega arith)
+each s m a l h =
+    subst (λ (devices : List Device). AllReady (shipped_set s) devices (lists_of (saved s m))) (sym (five_devices s l h))
+    (timer_is_ready.each s l h _ a.timer, ((chip_is_ready.chip 0).each s l h _ a.master, ((chip_is_ready.chip 1).each s l h _ a.slave, (pit_is_ready.each s l h _ a.pit, (serial_is_ready.each s l h _ a.serial, tt)))))
 
 pub saved_are_ready : SavedAreReady
 saved_are_ready = record {

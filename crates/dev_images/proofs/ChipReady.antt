@@ -1,7 +1,7 @@
 -- The image of a chip of the pair is ready.
-use Rattle.dev_images.proofs.{Facade.i8259_at_1, Facade.i8259_at_2, ReadyOf.are_kept, ReadyOf.ready-plain}
+use Rattle.dev_images.proofs.{Facade.i8259_at_1, Facade.i8259_at_2, ReadyOf.are_kept, ReadyOf.ready-plain, ShippedDevices.chip_kinds, ShippedDevices.is_chip}
 use Rattle.dev_images.proofs.Facade.{i8259_at_4, ChipIsReady, image_of, ◌≡◌, ℕ, zero, suc, ◌==◌, Bool, true, false, List, get_or, ℤ, pos, negsuc, refl, arith}
-use Rattle.dev_images.proofs.Facade.{ints, bit_and, place_of_pic, residue, InRange, image_slots, IsValid, first, device_cells, set_1, set_2, set_3, set_4}
+use Rattle.dev_images.proofs.Facade.{ints, bit_and, place_of_pic, residue, InRange, image_slots, IsValid, first, device_cells, set_1, set_2, set_3, Set, Device, sym, subst, shipped_set, AreChipCells, NEWEST, ◌≤◌, ReadyWhere, ReadyOf, chip_in, AreOf, Kind}
 use Rattle.std.proofs.Common.{codes}
 use Rattle.vms_kinds.specs.declared.Kind.TheVariants.{Bool as Truth}
 
@@ -22,20 +22,36 @@ unneeded (pos (suc zero)) r e = cc
 unneeded (pos (suc (suc n))) r e = absurd (let most = r.1 in omega (arith, ints, most))
 unneeded (negsuc n) r e = absurd (omega arith)
 
-kept-4 : (instance : ℕ) (numbers : List ℤ) (needed : Bool) → needs (mode_in numbers) ≡ needed → (needed ≡ false → mode_in numbers ≡ pos 0) → (are_kept (image_slots set_4 (i8259_at_4 instance) (image_of set_4 (i8259_at_4 instance) numbers)) numbers 0 (device_cells set_4 (i8259_at_4 instance)) ≡ true) × IsValid set_4 (i8259_at_4 instance) (image_of set_4 (i8259_at_4 instance) numbers)
-unfolding first
-kept-4 instance numbers true e off = rw e (refl, (refl, (refl, tt)))
-kept-4 instance numbers false e off = rw (e, off refl) (refl, (refl, tt))
+-- No item of a chip is a structure, so these hold in any set.
+module _ (set : Set) (instance : ℕ) (numbers : List ℤ) where
+  kept-4 : (needed : Bool) → needs (mode_in numbers) ≡ needed → (needed ≡ false → mode_in numbers ≡ pos 0) → (are_kept (image_slots set (i8259_at_4 instance) (image_of set (i8259_at_4 instance) numbers)) numbers 0 (device_cells set (i8259_at_4 instance)) ≡ true) × IsValid set (i8259_at_4 instance) (image_of set (i8259_at_4 instance) numbers)
+  unfolding first
+  kept-4 true e off = rw e (refl, (refl, (refl, tt)))
+  kept-4 false e off = rw (e, off refl) (refl, (refl, tt))
+
+  ready-1 : AreChipCells 1 numbers → ReadyOf set (i8259_at_1 instance) numbers
+  unfolding first
+  ready-1 are = ready-plain set (i8259_at_1 instance) numbers (omega arith) tt are refl refl (refl, tt)
+
+  ready-2 : AreChipCells 2 numbers → ReadyOf set (i8259_at_2 instance) numbers
+  unfolding first
+  ready-2 are = ready-plain set (i8259_at_2 instance) numbers (omega arith) tt are refl refl (refl, tt)
+
+  ready-4 : AreChipCells 4 numbers → ReadyOf set (i8259_at_4 instance) numbers
+  unfolding first
+  ready-4 are =
+      let both = kept-4 (needs (mode_in numbers)) refl (unneeded (mode_in numbers) (are.in_range mode_place (omega arith))) in
+      ready-plain set (i8259_at_4 instance) numbers (omega arith) (omega arith, tt) are refl both.0 both.1
+
+each : (instance s : ℕ) → 1 ≤ s → s ≤ NEWEST → ReadyWhere AreChipCells s (shipped_set s) (chip_in instance (shipped_set s))
+each instance zero l h = absurd (omega (arith, l))
+each instance (suc zero) l h = ready-1 set_1 instance
+each instance (suc (suc zero)) l h = ready-2 set_2 instance
+each instance (suc (suc (suc zero))) l h = ready-2 set_3 instance
+each instance (suc (suc (suc (suc s)))) l h =
+    let n = suc (suc (suc (suc s))) in
+    subst (λ (d : Device). ReadyWhere AreChipCells n (shipped_set n) d) (sym (is_chip instance n (omega arith) h))
+    (λ numbers are. ready-4 (shipped_set n) instance numbers (subst (λ (kinds : List Kind). AreOf kinds numbers) (chip_kinds n (omega arith) h) are))
 
 pub chip_is_ready : ChipIsReady
-unfolding first
-chip_is_ready = record {
-  chip = λ instance. record {
-    first = λ numbers are. ready-plain set_1 (i8259_at_1 instance) numbers (omega arith) tt are refl refl (refl, tt);
-    second = λ numbers are. ready-plain set_2 (i8259_at_2 instance) numbers (omega arith) tt are refl refl (refl, tt);
-    third = λ numbers are. ready-plain set_3 (i8259_at_2 instance) numbers (omega arith) tt are refl refl (refl, tt);
-    fourth = λ numbers are.
-        let both = kept-4 instance numbers (needs (mode_in numbers)) refl (unneeded (mode_in numbers) (are.in_range mode_place (omega arith))) in
-        ready-plain set_4 (i8259_at_4 instance) numbers (omega arith) (omega arith, tt) are refl both.0 both.1;
-  };
-}
+chip_is_ready = record { chip = λ instance. record { each = each instance } }

@@ -14,4 +14,5 @@ pub mod Places
 pub mod ReadyOf
 pub mod SerialCarried
 pub mod SerialReady
+pub mod ShippedDevices
 pub mod TimerReady

@@ -1,7 +1,7 @@
 -- Normal images of the newest set have the cells that a restore of a board requires.
-use Rattle.dev_images.proofs.{NormalCells.timer-of, NormalCells.chip-of, NormalCells.pit-of, NormalSerial.port-of}
+use Rattle.dev_images.proofs.{NormalCells.timer-of, NormalCells.chip-of, NormalCells.pit-of, NormalSerial.port-of, ShippedDevices.serial_at_4}
 use Rattle.dev_images.proofs.Facade.{◌≡◌, ℕ, List, [], ◌∷◌, length, Some, refl, arith, slice_get, NEWEST, AreBoardCells, shipped_set, Image, IsNormal, Device}
-use Rattle.dev_images.proofs.Facade.{timer, i8259_at_4, i8254_at_2, cells_in, NormalMayBeRestored, serial_at_4}
+use Rattle.dev_images.proofs.Facade.{timer, i8259_at_4, i8254_at_2, cells_in, NormalMayBeRestored}
 
 each : (images : List Image) → length images ≡ 5 → ((k : ℕ) (d : Device) (image : Image) → slice_get (shipped_set NEWEST).devices k ≡ Some d → slice_get images k ≡ Some image → IsNormal (shipped_set NEWEST) d image) → AreBoardCells (cells_in images)
 each (a ∷ b ∷ c ∷ d ∷ e ∷ []) l h = record {

@@ -1,13 +1,12 @@
 -- A normal image of the newest set's serial port has the cells that a restore of a port requires.
+use Rattle.dev_images.proofs.{Facade.TX_COUNT, Facade.TX, Facade.TIMEOUT_AT, Facade.RX_DATA, NormalCells.of-kinds, ShippedDevices.serial_at_4}
 use Rattle.dev_images.proofs.Facade.{◌≡◌, ℕ, zero, suc, ◌+◌, ◌<◌, ◌≤◌, true, false, ◌&&◌, ◌==◌, List, ◌∷◌, ◌++◌, length, get_or, take, drop, min, map, Option}
 use Rattle.dev_images.proofs.Facade.{Some, None, ℤ, pos, negsuc, ◌≤ℤ◌, refl, sym, ◌∙◌, subst, arith, [], and_parts, ltb-true, or_from, ints, nat_le, nat_lt}
-use Rattle.dev_images.proofs.Facade.{same_number, Set, Device, Sub, serial_at_4, InRange, residue, Kind, U8, Image, has_cell, image_slots, own_slots, sub_slots}
-use Rattle.dev_images.proofs.Facade.{came_slots, IsNormal, IsVersionOf, AreVersionsOf, Cell, no_cell, first, device_cells, times, Slot, Number, Rule, NEWEST}
-use Rattle.dev_images.proofs.Facade.{shipped_set, thr_ipending, fifo, timeout, ring, same_number_is, AreOf, kind_at, nat_of, IsPortCells, THR_IPENDING}
-use Rattle.dev_images.proofs.Facade.{RX_COUNT, RX, TX_COUNT, TX, TIMEOUT_AT, RX_DATA}
-use Rattle.dev_images.proofs.SerialReady.{byte, second_slots, inner_slots, fifo_slots, elements}
-use Rattle.dev_images.proofs.NormalCells.{of-kinds}
+use Rattle.dev_images.proofs.Facade.{same_number, Set, Device, Sub, InRange, residue, Kind, U8, Image, has_cell, image_slots, own_slots, sub_slots, came_slots}
+use Rattle.dev_images.proofs.Facade.{IsNormal, IsVersionOf, AreVersionsOf, Cell, no_cell, first, device_cells, times, Slot, Number, Rule, NEWEST, shipped_set}
+use Rattle.dev_images.proofs.Facade.{thr_ipending, fifo, timeout, ring, same_number_is, AreOf, kind_at, nat_of, IsPortCells, THR_IPENDING, RX_COUNT, RX}
 use Rattle.dev_images.proofs.ReadyOf.{has-none, neq, all_within, before-none, element, sub_cells, zero_defaults}
+use Rattle.dev_images.proofs.SerialReady.{byte, second_slots, inner_slots, fifo_slots, elements}
 
 within-none : (low high : ℕ) (slots : List Slot) (c : ℕ) → all_within low high slots ≡ true → high ≤ c → has_cell slots c ≡ false
 within-none low high [] c e h = refl
@@ -47,7 +46,7 @@ came-lack set d numbers c at (s ∷ subs) (Some v ∷ came) a h =
     has-none (sub_slots set s v numbers at) (came_slots set d numbers (at + length (sub_cells set s)) subs came) c (h.0 v a.0)
     (came-lack set d numbers c (at + length (sub_cells set s)) subs came a.1 h.1)
 
-own-within : (v : ℕ) (numbers : List ℤ) → 1 ≤ v → v ≤ NEWEST → all_within 0 THR_IPENDING (own_slots (shipped_set NEWEST) serial_at_4 v numbers) ≡ true
+own-within : (v : ℕ) (numbers : List ℤ) → 1 ≤ v → v ≤ 4 → all_within 0 THR_IPENDING (own_slots (shipped_set NEWEST) serial_at_4 v numbers) ≡ true
 unfolding first
 own-within zero numbers l h = absurd (omega arith)
 own-within (suc (suc (suc (suc (suc v))))) numbers l h = absurd (omega arith)

@@ -1,8 +1,12 @@
 -- The cells of the timer chip are carried as its own table says.
-use Rattle.dev_images.proofs.{ChipReady.needs, ChipReady.unneeded, Channels.behind, Channels.second_at, Channels.third_at, Channels.IsKeptAt}
+use Rattle.dev_images.proofs.{ChipReady.needs, ChipReady.unneeded, Channels.behind, Channels.second_at, Channels.third_at, Channels.IsKeptAt, Facade.pit_in}
 use Rattle.dev_images.proofs.Facade.{same_kind, ◌≡◌, ℕ, zero, suc, ◌+◌, ◌==◌, Bool, true, false, cond, List, [], ◌∷◌, ◌++◌, get_or, ℤ, pos, negsuc, ◌≤ℤ◌, refl}
 use Rattle.dev_images.proofs.Facade.{sym, ap, arith, COUNTERS, WLOW_HELD, WLOW, LATCHED, LATCH, STATUS_LATCHED, STATUS, InRange, Num, Kind, U8, U16, carriers}
 use Rattle.dev_images.proofs.Facade.{carry_items, no_carrier, first, struct_cells, Set, NEWEST, shipped_set, set_1, set_2, nat_of, AreCellsOf, PitIsCarried}
+use Rattle.dev_images.proofs.Facade.{Device, Desc, subst, i8254_at_1, i8254_at_2, carried_numbers, AreOf, ◌≤◌, ◌∙◌, carried_by, CarriedWhere, newest_set}
+use Rattle.dev_images.proofs.ShippedDevices.{is_pit, later_structs, pit_kinds, pit_origins}
+use Rattle.dev_base.specs.Tables.{Origin}
+use Rattle.dev_pit.specs.Cells.{carried as pit_carried}
 use Rattle.vms_kinds.specs.declared.Kind.TheVariants.{Bool as Truth}
 
 -- A channel of the newest set from one of older sets.
@@ -94,11 +98,29 @@ channels-carried old numbers rest k a b c =
     same-channels numbers _ _ _ rest (channel-carried old numbers 0 a k.first) (channel-carried old numbers second_at b k.second)
     (channel-carried old numbers third_at c k.third)
 
-pub pit_is_carried : PitIsCarried
+-- Cells of a later set are those of set 2.
+pub as-2 : (s : ℕ) → 2 ≤ s → s ≤ NEWEST → (numbers : List ℤ) → AreCellsOf s numbers → AreCellsOf 2 numbers
+as-2 s l h numbers are = record { of_kinds = subst (λ (kinds : List Kind). AreOf kinds numbers) (pit_kinds s l h) are.of_kinds; wlow = are.wlow; latch = are.latch }
+
+later-carried : (old : Set) (numbers : List ℤ) → AreCellsOf 2 numbers
+    → carried_numbers (record old { structs = set_2.structs }) i8254_at_2 i8254_at_2 numbers ≡ pit_carried 2 numbers
 unfolding first
-pit_is_carried = record {
-  first = λ numbers are. channels-carried set_1 numbers six_zeros (absent-kept 1 numbers are) refl refl refl;
-  second = λ numbers are. channels-carried set_2 numbers (statuses numbers) (absent-kept 2 numbers are) refl refl refl;
-  third = λ numbers are. channels-carried set_2 numbers (statuses numbers) (absent-kept 3 numbers are) refl refl refl;
-  fourth = λ numbers are. channels-carried set_2 numbers (statuses numbers) (absent-kept 4 numbers are) refl refl refl;
-}
+later-carried old numbers are =
+    channels-carried (record old { structs = set_2.structs }) numbers (statuses numbers) (absent-kept 2 numbers are) refl refl refl
+
+first-carried : (numbers : List ℤ) → AreCellsOf 1 numbers → carried_numbers set_1 i8254_at_1 i8254_at_2 numbers ≡ pit_carried 1 numbers
+unfolding first
+first-carried numbers are = channels-carried set_1 numbers six_zeros (absent-kept 1 numbers are) refl refl refl
+
+each : (s : ℕ) → 1 ≤ s → s ≤ NEWEST → CarriedWhere AreCellsOf pit_carried (pit_in newest_set) s (shipped_set s) (pit_in (shipped_set s))
+each zero l h = absurd (omega (arith, l))
+each (suc zero) l h = first-carried
+each (suc (suc s)) l h = λ numbers are.
+    let n = suc (suc s) in
+    let set = shipped_set n in
+    subst (λ (d : Device). carried_numbers set d i8254_at_2 numbers ≡ pit_carried n numbers) (sym (is_pit n (omega arith) h))
+    (subst (λ (structs : List Desc). carried_numbers (record set { structs = structs }) i8254_at_2 i8254_at_2 numbers ≡ pit_carried n numbers)
+    (sym (later_structs n (omega arith) h)) (later-carried set numbers (as-2 n (omega arith) h numbers are) ∙ ap (λ (origins : List Origin). carried_by origins numbers) (sym (pit_origins n (omega arith) h))))
+
+pub pit_is_carried : PitIsCarried
+pit_is_carried = record { each = each }

@@ -1,8 +1,9 @@
 -- The image of the timer chip is ready.
-use Rattle.dev_images.proofs.{Facade.PitIsReady, Facade.rules_append, PitCarried.IsKept, PitCarried.absent-kept}
+use Rattle.dev_images.proofs.{PitCarried.IsKept, PitCarried.absent-kept, PitCarried.as-2, ShippedDevices.is_pit, ShippedDevices.later_structs}
 use Rattle.dev_images.proofs.Channels.{channel_cells, second_at, third_at, slots_in, channel-fine}
-use Rattle.dev_images.proofs.Facade.{◌≡◌, ℕ, true, List, ◌∷◌, ◌++◌, ℤ, pos, refl, arith, [], STATUS_LATCHED, U8, RulesHold, first, Cell, Slot, Number, Constant}
-use Rattle.dev_images.proofs.Facade.{Filler, Rule, set_1, set_2, set_3, set_4, i8254_at_1, i8254_at_2, AreCellsOf, latched_place, status_place, ReadyOf}
+use Rattle.dev_images.proofs.Facade.{PitIsReady, rules_append, ◌≡◌, ℕ, true, List, ◌∷◌, ◌++◌, ℤ, pos, refl, arith, [], STATUS_LATCHED, U8, RulesHold, first}
+use Rattle.dev_images.proofs.Facade.{Cell, Slot, Number, Constant, Filler, Rule, set_1, set_2, Set, Device, Desc, zero, suc, sym, subst, shipped_set}
+use Rattle.dev_images.proofs.Facade.{i8254_at_1, i8254_at_2, AreCellsOf, latched_place, status_place, ReadyOf, ◌≤◌, NEWEST, ReadyWhere, pit_in}
 use Rattle.dev_images.proofs.ReadyOf.{are_kept, ready-plain, kept-left, kept-right, kept-both}
 use Rattle.vms_kinds.specs.declared.Kind.TheVariants.{Bool as Truth}
 
@@ -103,14 +104,21 @@ module _ (numbers : List ℤ) (k : IsKept numbers) where
       (channel-fine set_2 numbers 0 no_gate refl tt k.first).rules (channel-fine set_2 numbers second_at no_gate refl tt k.second).rules
       (channel-fine set_2 numbers third_at no_gate refl tt k.third).rules tt
 
-pub pit_is_ready : PitIsReady
+later-ready : (set : Set) (numbers : List ℤ) → AreCellsOf 2 numbers → ReadyOf (record set { structs = set_2.structs }) i8254_at_2 numbers
 unfolding first
-pit_is_ready = record {
-  first = pit-1;
-  second = λ numbers are. let k = absent-kept 2 numbers are in
-      ready-plain set_2 i8254_at_2 numbers (omega arith) tt are.of_kinds refl (later-kept numbers k) (later-holds numbers k);
-  third = λ numbers are. let k = absent-kept 3 numbers are in
-      ready-plain set_3 i8254_at_2 numbers (omega arith) tt are.of_kinds refl (later-kept numbers k) (later-holds numbers k);
-  fourth = λ numbers are. let k = absent-kept 4 numbers are in
-      ready-plain set_4 i8254_at_2 numbers (omega arith) tt are.of_kinds refl (later-kept numbers k) (later-holds numbers k);
-}
+later-ready set numbers are =
+    let k = absent-kept 2 numbers are in
+    ready-plain (record set { structs = set_2.structs }) i8254_at_2 numbers (omega arith) tt are.of_kinds refl (later-kept numbers k) (later-holds numbers k)
+
+each : (s : ℕ) → 1 ≤ s → s ≤ NEWEST → ReadyWhere AreCellsOf s (shipped_set s) (pit_in (shipped_set s))
+each zero l h = absurd (omega (arith, l))
+each (suc zero) l h = pit-1
+each (suc (suc s)) l h = λ numbers are.
+    let n = suc (suc s) in
+    let set = shipped_set n in
+    subst (λ (d : Device). ReadyOf set d numbers) (sym (is_pit n (omega arith) h))
+    (subst (λ (structs : List Desc). ReadyOf (record set { structs = structs }) i8254_at_2 numbers) (sym (later_structs n (omega arith) h))
+    (later-ready set numbers (as-2 n (omega arith) h numbers are)))
+
+pub pit_is_ready : PitIsReady
+pit_is_ready = record { each = each }

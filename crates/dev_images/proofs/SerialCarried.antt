@@ -1,11 +1,14 @@
 -- The cells that a serial port saves are carried as its own table says.
 use Rattle.dev_images.proofs.Facade.{◌≡◌, ℕ, zero, suc, ◌+◌, ◌<◌, ◌≤◌, Bool, true, false, List, [], ◌∷◌, ◌++◌, get_or, take, drop, replicate, ℤ, pos, refl, sym}
 use Rattle.dev_images.proofs.Facade.{ap, ◌∙◌, arith, codes, Carrier, carriers, carry_items, Num, U8, first, struct_cells, Cell, Set, Sub, NEWEST, shipped_set}
-use Rattle.dev_images.proofs.Facade.{set_1, set_2, set_3, set_4, never, thr_ipending, fifo, timeout, ring, AreSaved, carried_numbers, SerialIsCarried}
-use Rattle.dev_images.proofs.Facade.{serial_at_1, serial_at_2, serial_at_3, serial_at_4, THR_IPENDING, RX_COUNT, RX, TX_COUNT, TX, TIMEOUT_AT}
+use Rattle.dev_images.proofs.Facade.{set_1, set_2, set_3, never, Device, subst, carried_by, thr_ipending, fifo, timeout, ring, AreSaved, carried_numbers, SerialIsCarried}
+use Rattle.dev_images.proofs.ShippedDevices.{serial_at_1, serial_at_2, serial_at_3, serial_at_4, is_serial, port_origins}
+use Rattle.dev_base.specs.Tables.{Origin}
+use Rattle.dev_images.proofs.Facade.{THR_IPENDING, RX_COUNT, RX, TX_COUNT, TX, TIMEOUT_AT}
 use Rattle.dev_serial.specs.Cells.{carried as serial_carried}
-use Rattle.dev_images.proofs.SerialReady.{run, zeros-run, part, thr-1, thr, due, ring-4, old_latch, serial_since_2, new_name, former_names, needs_fifo, no-sign, no-timer}
+use Rattle.dev_images.proofs.SerialReady.{as-4, run, zeros-run, part, thr-1, thr, due, ring-4, old_latch, serial_since_2, new_name, former_names, needs_fifo, no-sign, no-timer}
 use Rattle.dev_images.proofs.SerialReady.{no-ring, HasFifo, has-fifo-2, has-fifo-3, has-fifo-4, rx_elements, tx_elements, rx-zeros, tx-zeros, no-fifo}
+use Rattle.dev_images.proofs.Facade.{CarriedWhere, newest_set, serial_in}
 
 zeros-each : (numbers : List ℤ) (at n : ℕ) → ((i : ℕ) → i < n → get_or numbers (at + i) (pos 0) ≡ pos 0) → replicate n (pos 0) ≡ run numbers at n
 zeros-each numbers at zero h = refl
@@ -52,40 +55,52 @@ with_parts own a b c d = own ++ (a ++ (b ++ (c ++ (d ++ []))))
 same-parts : (own a b c d a' b' c' d' : List ℤ) → a ≡ a' → b ≡ b' → c ≡ c' → d ≡ d' → with_parts own a b c d ≡ with_parts own a' b' c' d'
 same-parts own a b c d a' b' c' d' p q r s = rw (p, q, r, s) refl
 
-serial-1 : (numbers : List ℤ) → AreSaved 1 numbers → carried_numbers set_1 serial_at_1 serial_at_4 numbers ≡ serial_carried 1 numbers
+serial-1 : (set : Set) (numbers : List ℤ) → AreSaved 1 numbers → carried_numbers set serial_at_1 serial_at_4 numbers ≡ serial_carried 1 numbers
 unfolding first serial_carried
-serial-1 numbers are =
-    same-parts (run numbers 0 old_latch ++ pos 0 ∷ []) (part set_1 serial_at_1 numbers thr_ipending) (replicate 34 (pos 0)) (pos never ∷ [])
-    (replicate 36 (pos 0)) _ _ _ _ (thr-1 numbers _ refl (no-sign _ (are.of_kinds.in_range old_latch (omega arith)))).carried refl refl refl
+serial-1 set numbers are =
+    same-parts (run numbers 0 old_latch ++ pos 0 ∷ []) (part set serial_at_1 numbers thr_ipending) (replicate 34 (pos 0)) (pos never ∷ [])
+    (replicate 36 (pos 0)) _ _ _ _ (thr-1 set numbers _ refl (no-sign _ (are.of_kinds.in_range old_latch (omega arith)))).carried refl refl refl
 
-serial-2 : (numbers : List ℤ) → AreSaved 2 numbers → carried_numbers set_2 serial_at_2 serial_at_4 numbers ≡ serial_carried 2 numbers
+serial-2 : (set : Set) (numbers : List ℤ) → AreSaved 2 numbers → carried_numbers set serial_at_2 serial_at_4 numbers ≡ serial_carried 2 numbers
 unfolding first serial_carried
-serial-2 numbers are =
+serial-2 set numbers are =
     let h = has-fifo-2 numbers are in
-    same-parts (run numbers 0 THR_IPENDING) (part set_2 serial_at_2 numbers thr_ipending) (part set_2 serial_at_2 numbers fifo) (pos never ∷ [])
-    (replicate 36 (pos 0)) _ _ _ _ (thr set_2 2 (codes "divider") [] [] numbers _ refl (no-sign _ (are.of_kinds.in_range THR_IPENDING (omega arith)))).carried
-    (fifo-part set_2 2 (codes "divider") [] [] numbers h _ refl (no-fifo numbers h)) refl refl
+    same-parts (run numbers 0 THR_IPENDING) (part set serial_at_2 numbers thr_ipending) (part set serial_at_2 numbers fifo) (pos never ∷ [])
+    (replicate 36 (pos 0)) _ _ _ _ (thr set 2 (codes "divider") [] [] numbers _ refl (no-sign _ (are.of_kinds.in_range THR_IPENDING (omega arith)))).carried
+    (fifo-part set 2 (codes "divider") [] [] numbers h _ refl (no-fifo numbers h)) refl refl
 
-serial-3 : (numbers : List ℤ) → AreSaved 3 numbers → carried_numbers set_3 serial_at_3 serial_at_4 numbers ≡ serial_carried 3 numbers
+serial-3 : (set : Set) (numbers : List ℤ) → AreSaved 3 numbers → carried_numbers set serial_at_3 serial_at_4 numbers ≡ serial_carried 3 numbers
 unfolding first serial_carried
-serial-3 numbers are =
+serial-3 set numbers are =
     let h = has-fifo-3 numbers are in
-    same-parts (run numbers 0 THR_IPENDING) (part set_3 serial_at_3 numbers thr_ipending) (part set_3 serial_at_3 numbers fifo)
-    (part set_3 serial_at_3 numbers timeout) (replicate 36 (pos 0)) _ _ _ _
-    (thr set_3 3 new_name former_names (timeout ∷ []) numbers _ refl (no-sign _ (are.of_kinds.in_range THR_IPENDING (omega arith)))).carried
-    (fifo-part set_3 3 new_name former_names (timeout ∷ []) numbers h _ refl (no-fifo numbers h))
-    (due set_3 3 new_name former_names [] numbers _ refl (no-timer _ (are.of_kinds.in_range TIMEOUT_AT (omega arith)))).carried refl
+    same-parts (run numbers 0 THR_IPENDING) (part set serial_at_3 numbers thr_ipending) (part set serial_at_3 numbers fifo)
+    (part set serial_at_3 numbers timeout) (replicate 36 (pos 0)) _ _ _ _
+    (thr set 3 new_name former_names (timeout ∷ []) numbers _ refl (no-sign _ (are.of_kinds.in_range THR_IPENDING (omega arith)))).carried
+    (fifo-part set 3 new_name former_names (timeout ∷ []) numbers h _ refl (no-fifo numbers h))
+    (due set 3 new_name former_names [] numbers _ refl (no-timer _ (are.of_kinds.in_range TIMEOUT_AT (omega arith)))).carried refl
 
-serial-4 : (numbers : List ℤ) → AreSaved 4 numbers → carried_numbers set_4 serial_at_4 serial_at_4 numbers ≡ serial_carried 4 numbers
+serial-4 : (set : Set) (numbers : List ℤ) → AreSaved 4 numbers → carried_numbers set serial_at_4 serial_at_4 numbers ≡ serial_carried 4 numbers
 unfolding first serial_carried
-serial-4 numbers are =
+serial-4 set numbers are =
     let h = has-fifo-4 numbers are in
-    same-parts (run numbers 0 THR_IPENDING) (part set_4 serial_at_4 numbers thr_ipending) (part set_4 serial_at_4 numbers fifo)
-    (part set_4 serial_at_4 numbers timeout) (part set_4 serial_at_4 numbers ring) _ _ _ _
-    (thr set_4 4 new_name former_names (timeout ∷ ring ∷ []) numbers _ refl (no-sign _ (are.of_kinds.in_range THR_IPENDING (omega arith)))).carried
-    (fifo-part set_4 4 new_name former_names (timeout ∷ ring ∷ []) numbers h _ refl (no-fifo numbers h))
-    (due set_4 4 new_name former_names (ring ∷ []) numbers _ refl (no-timer _ (are.of_kinds.in_range TIMEOUT_AT (omega arith)))).carried
-    (ring-4 numbers _ refl (no-ring numbers are)).carried
+    same-parts (run numbers 0 THR_IPENDING) (part set serial_at_4 numbers thr_ipending) (part set serial_at_4 numbers fifo)
+    (part set serial_at_4 numbers timeout) (part set serial_at_4 numbers ring) _ _ _ _
+    (thr set 4 new_name former_names (timeout ∷ ring ∷ []) numbers _ refl (no-sign _ (are.of_kinds.in_range THR_IPENDING (omega arith)))).carried
+    (fifo-part set 4 new_name former_names (timeout ∷ ring ∷ []) numbers h _ refl (no-fifo numbers h))
+    (due set 4 new_name former_names (ring ∷ []) numbers _ refl (no-timer _ (are.of_kinds.in_range TIMEOUT_AT (omega arith)))).carried
+    (ring-4 set numbers _ refl (no-ring numbers are)).carried
+
+each : (s : ℕ) → 1 ≤ s → s ≤ NEWEST → CarriedWhere AreSaved serial_carried (serial_in newest_set) s (shipped_set s) (serial_in (shipped_set s))
+unfolding serial_carried
+each zero l h = absurd (omega (arith, l))
+each (suc zero) l h = serial-1 set_1
+each (suc (suc zero)) l h = serial-2 set_2
+each (suc (suc (suc zero))) l h = serial-3 set_3
+each (suc (suc (suc (suc s)))) l h = λ numbers are.
+    let n = suc (suc (suc (suc s))) in
+    subst (λ (d : Device). carried_numbers (shipped_set n) d serial_at_4 numbers ≡ serial_carried n numbers) (sym (is_serial n (omega arith) h))
+    (serial-4 (shipped_set n) numbers (as-4 n (omega arith) h numbers are)
+    ∙ ap (λ (origins : List Origin). carried_by origins numbers) (sym (port_origins n (omega arith) h)))
 
 pub serial_is_carried : SerialIsCarried
-serial_is_carried = record { first = serial-1; second = serial-2; third = serial-3; fourth = serial-4 }
+serial_is_carried = record { each = each }

@@ -2,12 +2,13 @@
 use Rattle.dev_images.proofs.Facade.{◌≡◌, ℕ, ◌+◌, ◌-◌, ◌%◌, ◌^◌, ◌<◌, ◌≤◌, ◌==◌, Bool, true, false, not, List, ◌∷◌, ◌++◌, get_or, take, drop, replicate, ℤ, pos}
 use Rattle.dev_images.proofs.Facade.{negsuc, refl, ap, arith, min, ◌||◌, [], eqb-true, not-false, or_parts, nat_tests, ints, and_le_l, bit_and, nat_le, codes}
 use Rattle.dev_images.proofs.Facade.{and_numeral, zero, suc, sym, ◌∙◌, InRange, residue, U8, U16, I8, Timer, first, device_cells, times, Cell, Slot, Number}
-use Rattle.dev_images.proofs.Facade.{Rule, RulesHold, counts_well, counted_well, rules_append, IsArray, Set, Device, Sub, set_1, set_2, set_3, set_4, never}
-use Rattle.dev_images.proofs.Facade.{number, serial, serial_fields, fcr, thr_ipending, fifo, timeout, ring, nat_of, AreSaved, ReadyOf, SerialIsReady}
-use Rattle.dev_images.proofs.Facade.{serial_at_1, serial_at_2, serial_at_3, serial_at_4, place_under, serial_rows, THR_IPENDING, RX_COUNT, RX, TX_COUNT, TX}
-use Rattle.dev_images.proofs.Facade.{TIMEOUT_AT, RX_DATA, RX_NUMBER, TX_NUMBER, carried_sub, image_of, NEWEST, shipped_set}
-use Rattle.dev_images.proofs.ReadyOf.{front, shape, IsFineSub, ready-parts, zeros-kept, element, array-kept, rules-times, are_kept}
-use Rattle.dev_images.proofs.ReadyOf.{counts-none, counts-by, kept-left, kept-right, kept-both}
+use Rattle.dev_images.proofs.Facade.{Rule, RulesHold, counts_well, counted_well, rules_append, IsArray, Set, Device, Sub, set_1, set_2, set_3, never, subst}
+use Rattle.dev_images.proofs.Facade.{AreOf, Kind, number, serial, serial_fields, fcr, thr_ipending, fifo, timeout, ring, nat_of, AreSaved, ReadyOf}
+use Rattle.dev_images.proofs.Facade.{SerialIsReady, place_under, serial_rows, THR_IPENDING, RX_COUNT, RX, TX_COUNT, TX, TIMEOUT_AT, RX_DATA, RX_NUMBER}
+use Rattle.dev_images.proofs.Facade.{TX_NUMBER, carried_sub, image_of, NEWEST, shipped_set, ReadyWhere, serial_in}
+use Rattle.dev_images.proofs.ReadyOf.{front, shape, IsFineSub, ready-parts, zeros-kept, element, array-kept, rules-times, are_kept, counts-none, counts-by}
+use Rattle.dev_images.proofs.ReadyOf.{kept-left, kept-right, kept-both}
+use Rattle.dev_images.proofs.ShippedDevices.{serial_at_1, serial_at_2, serial_at_3, serial_at_4, is_serial, port_kinds}
 
 -- Whether a signed byte isn't -1, and whether a timer isn't "never".
 abbrev pub needs_sign : ℤ → Bool
@@ -77,12 +78,12 @@ pub record IsSaved (set : Set) (d : Device) (numbers : List ℤ) (s : Sub) (j at
   pub carried : part set d numbers s ≡ cells
 
 -- The latch's cell, and the timeout's; no item of the port is a structure.
-pub thr-1 : (numbers : List ℤ) (needed : Bool) → needs_sign (get_or numbers old_latch (pos 0)) ≡ needed
+pub thr-1 : (set : Set) (numbers : List ℤ) (needed : Bool) → needs_sign (get_or numbers old_latch (pos 0)) ≡ needed
     → (needed ≡ false → get_or numbers old_latch (pos 0) ≡ negsuc 0)
-    → IsSaved set_1 serial_at_1 numbers thr_ipending 0 old_latch (get_or numbers old_latch (pos 0) ∷ [])
+    → IsSaved set serial_at_1 numbers thr_ipending 0 old_latch (get_or numbers old_latch (pos 0) ∷ [])
 unfolding first
-thr-1 numbers true e off = record { fine = record { kept = rw e refl; rules = rw e (refl, tt) }; carried = rw e refl }
-thr-1 numbers false e off = record { fine = record { kept = rw (e, off refl) refl; rules = rw e tt }; carried = rw (e, off refl) refl }
+thr-1 set numbers true e off = record { fine = record { kept = rw e refl; rules = rw e (refl, tt) }; carried = rw e refl }
+thr-1 set numbers false e off = record { fine = record { kept = rw (e, off refl) refl; rules = rw e tt }; carried = rw (e, off refl) refl }
 
 module _ (set : Set) (version : ℕ) (name : List ℕ) (former : List (List ℕ)) (more : List Sub) (numbers : List ℤ) where
   pub thr : (needed : Bool) → needs_sign (get_or numbers THR_IPENDING (pos 0)) ≡ needed → (needed ≡ false → get_or numbers THR_IPENDING (pos 0) ≡ negsuc 0)
@@ -196,21 +197,21 @@ module _ (numbers : List ℤ) (h : HasFifo numbers) where
   fifos set version name former more true e off = record { kept = rw e (fifo-kept numbers rx_elements tx_elements rx-zeros tx-zeros); rules = rw e (fifo-rules numbers rx_elements tx_elements rx-zeros tx-zeros) }
   fifos set version name former more false e off = record { kept = rw e (zeros-kept [] numbers RX_COUNT fifo_cells refl (off refl)); rules = rw e tt }
 
-serial-1 : (numbers : List ℤ) → AreSaved 1 numbers → ReadyOf set_1 serial_at_1 numbers
+serial-1 : (set : Set) (numbers : List ℤ) → AreSaved 1 numbers → ReadyOf set serial_at_1 numbers
 unfolding first
-serial-1 numbers are =
-    ready-parts set_1 serial_at_1 numbers (omega arith) (omega arith, tt) are.of_kinds (counts-none (device_cells set_1 serial_at_1) numbers refl) refl
-    (refl, tt) ((thr-1 numbers _ refl (no-sign _ (are.of_kinds.in_range old_latch (omega arith)))).fine, tt)
+serial-1 set numbers are =
+    ready-parts set serial_at_1 numbers (omega arith) (omega arith, tt) are.of_kinds (counts-none (device_cells set serial_at_1) numbers refl) refl
+    (refl, tt) ((thr-1 set numbers _ refl (no-sign _ (are.of_kinds.in_range old_latch (omega arith)))).fine, tt)
 
 -- The FIFOs as rings.
 abbrev pub needs_ring : List ℤ → Bool
 needs_ring numbers = needs_count (get_or numbers RX_NUMBER (pos 0)) || needs_count (get_or numbers TX_NUMBER (pos 0))
 
-pub ring-4 : (numbers : List ℤ) (needed : Bool) → needs_ring numbers ≡ needed → (needed ≡ false → take 36 (drop RX_DATA numbers) ≡ replicate 36 (pos 0))
-    → IsSaved set_4 serial_at_4 numbers ring 3 RX_DATA (run numbers RX_DATA 36)
+pub ring-4 : (set : Set) (numbers : List ℤ) (needed : Bool) → needs_ring numbers ≡ needed → (needed ≡ false → take 36 (drop RX_DATA numbers) ≡ replicate 36 (pos 0))
+    → IsSaved set serial_at_4 numbers ring 3 RX_DATA (run numbers RX_DATA 36)
 unfolding first
-ring-4 numbers true e off = record { fine = record { kept = rw e refl; rules = rw e (refl, tt) }; carried = rw e refl }
-ring-4 numbers false e off = record {
+ring-4 set numbers true e off = record { fine = record { kept = rw e refl; rules = rw e (refl, tt) }; carried = rw e refl }
+ring-4 set numbers false e off = record {
   fine = record { kept = rw e (zeros-kept [] numbers RX_DATA (replicate 36 byte) refl (off refl)); rules = rw e tt };
   carried = rw e (zeros-run numbers RX_DATA 36 (off refl));
 }
@@ -236,37 +237,56 @@ has-fifo-3 numbers are = has-fifo 3 (omega arith) numbers are (are.of_kinds.in_r
 pub has-fifo-4 : (numbers : List ℤ) → AreSaved 4 numbers → HasFifo numbers
 has-fifo-4 numbers are = has-fifo 4 (omega arith) numbers are (are.of_kinds.in_range RX_COUNT (omega arith)) (are.of_kinds.in_range TX_COUNT (omega arith))
 
-serial-2 : (numbers : List ℤ) → AreSaved 2 numbers → ReadyOf set_2 serial_at_2 numbers
+serial-2 : (set : Set) (numbers : List ℤ) → AreSaved 2 numbers → ReadyOf set serial_at_2 numbers
 unfolding first
-serial-2 numbers are =
+serial-2 set numbers are =
     let h = has-fifo-2 numbers are in
-    ready-parts set_2 serial_at_2 numbers (omega arith) (omega arith, (omega arith, tt)) are.of_kinds
-    (counts-by (device_cells set_2 serial_at_2) numbers (rw (well-rx numbers h, well-tx numbers h) refl)) refl (refl, tt) (
-      (thr set_2 2 (codes "divider") [] [] numbers _ refl (no-sign _ (are.of_kinds.in_range THR_IPENDING (omega arith)))).fine,
-      (fifos numbers h set_2 2 (codes "divider") [] [] _ refl (no-fifo numbers h), tt),
+    ready-parts set serial_at_2 numbers (omega arith) (omega arith, (omega arith, tt)) are.of_kinds
+    (counts-by (device_cells set serial_at_2) numbers (rw (well-rx numbers h, well-tx numbers h) refl)) refl (refl, tt) (
+      (thr set 2 (codes "divider") [] [] numbers _ refl (no-sign _ (are.of_kinds.in_range THR_IPENDING (omega arith)))).fine,
+      (fifos numbers h set 2 (codes "divider") [] [] _ refl (no-fifo numbers h), tt),
     )
 
-serial-3 : (numbers : List ℤ) → AreSaved 3 numbers → ReadyOf set_3 serial_at_3 numbers
+serial-3 : (set : Set) (numbers : List ℤ) → AreSaved 3 numbers → ReadyOf set serial_at_3 numbers
 unfolding first
-serial-3 numbers are =
+serial-3 set numbers are =
     let h = has-fifo-3 numbers are in
-    ready-parts set_3 serial_at_3 numbers (omega arith) (omega arith, (omega arith, (omega arith, tt))) are.of_kinds
-    (counts-by (device_cells set_3 serial_at_3) numbers (rw (well-rx numbers h, well-tx numbers h) refl)) refl (refl, tt)
-    ((thr set_3 3 new_name former_names (timeout ∷ []) numbers _ refl (no-sign _ (are.of_kinds.in_range THR_IPENDING (omega arith)))).fine, (fifos numbers h set_3 3 new_name former_names (timeout ∷ []) _ refl (no-fifo numbers h), ((due set_3 3 new_name former_names [] numbers _ refl (no-timer _ (are.of_kinds.in_range TIMEOUT_AT (omega arith)))).fine, tt)))
+    ready-parts set serial_at_3 numbers (omega arith) (omega arith, (omega arith, (omega arith, tt))) are.of_kinds
+    (counts-by (device_cells set serial_at_3) numbers (rw (well-rx numbers h, well-tx numbers h) refl)) refl (refl, tt)
+    ((thr set 3 new_name former_names (timeout ∷ []) numbers _ refl (no-sign _ (are.of_kinds.in_range THR_IPENDING (omega arith)))).fine, (fifos numbers h set 3 new_name former_names (timeout ∷ []) _ refl (no-fifo numbers h), ((due set 3 new_name former_names [] numbers _ refl (no-timer _ (are.of_kinds.in_range TIMEOUT_AT (omega arith)))).fine, tt)))
 
 pub no-ring : (numbers : List ℤ) → AreSaved 4 numbers → needs_ring numbers ≡ false → take 36 (drop RX_DATA numbers) ≡ replicate 36 (pos 0)
 no-ring numbers are e =
     are.no_ring (omega arith) (no-count _ (are.of_kinds.in_range RX_NUMBER (omega arith)) ((or_parts (needs_count (get_or numbers RX_NUMBER (pos 0))) _ e).0))
     (no-count _ (are.of_kinds.in_range TX_NUMBER (omega arith)) ((or_parts (needs_count (get_or numbers RX_NUMBER (pos 0))) _ e).1))
 
-serial-4 : (numbers : List ℤ) → AreSaved 4 numbers → ReadyOf set_4 serial_at_4 numbers
+serial-4 : (set : Set) (numbers : List ℤ) → AreSaved 4 numbers → ReadyOf set serial_at_4 numbers
 unfolding first
-serial-4 numbers are =
+serial-4 set numbers are =
     let h = has-fifo-4 numbers are in
     let more = timeout ∷ ring ∷ [] in
-    ready-parts set_4 serial_at_4 numbers (omega arith) (omega arith, (omega arith, (omega arith, (omega arith, tt)))) are.of_kinds
-    (counts-by (device_cells set_4 serial_at_4) numbers (rw (well-rx numbers h, well-tx numbers h) refl)) refl (refl, tt)
-    ((thr set_4 4 new_name former_names more numbers _ refl (no-sign _ (are.of_kinds.in_range THR_IPENDING (omega arith)))).fine, (fifos numbers h set_4 4 new_name former_names more _ refl (no-fifo numbers h), ((due set_4 4 new_name former_names (ring ∷ []) numbers _ refl (no-timer _ (are.of_kinds.in_range TIMEOUT_AT (omega arith)))).fine, ((ring-4 numbers _ refl (no-ring numbers are)).fine, tt))))
+    ready-parts set serial_at_4 numbers (omega arith) (omega arith, (omega arith, (omega arith, (omega arith, tt)))) are.of_kinds
+    (counts-by (device_cells set serial_at_4) numbers (rw (well-rx numbers h, well-tx numbers h) refl)) refl (refl, tt)
+    ((thr set 4 new_name former_names more numbers _ refl (no-sign _ (are.of_kinds.in_range THR_IPENDING (omega arith)))).fine, (fifos numbers h set 4 new_name former_names more _ refl (no-fifo numbers h), ((due set 4 new_name former_names (ring ∷ []) numbers _ refl (no-timer _ (are.of_kinds.in_range TIMEOUT_AT (omega arith)))).fine, ((ring-4 set numbers _ refl (no-ring numbers are)).fine, tt))))
+
+-- Cells of a set from 4 on are those of set 4.
+pub as-4 : (s : ℕ) → 4 ≤ s → s ≤ NEWEST → (numbers : List ℤ) → AreSaved s numbers → AreSaved 4 numbers
+as-4 s l h numbers are = record {
+  of_kinds = subst (λ (kinds : List Kind). AreOf kinds numbers) (port_kinds s l h) are.of_kinds;
+  rx = λ since. are.rx (omega (arith, l));
+  tx = λ since. are.tx (omega (arith, l));
+  no_fifo = λ since. are.no_fifo (omega (arith, l));
+  no_ring = λ since. are.no_ring (omega (arith, l));
+}
+
+each : (s : ℕ) → 1 ≤ s → s ≤ NEWEST → ReadyWhere AreSaved s (shipped_set s) (serial_in (shipped_set s))
+each zero l h = absurd (omega (arith, l))
+each (suc zero) l h = serial-1 set_1
+each (suc (suc zero)) l h = serial-2 set_2
+each (suc (suc (suc zero))) l h = serial-3 set_3
+each (suc (suc (suc (suc s)))) l h = λ numbers are.
+    let n = suc (suc (suc (suc s))) in
+    subst (λ (d : Device). ReadyOf (shipped_set n) d numbers) (sym (is_serial n (omega arith) h)) (serial-4 (shipped_set n) numbers (as-4 n (omega arith) h numbers are))
 
 pub serial_is_ready : SerialIsReady
-serial_is_ready = record { first = serial-1; second = serial-2; third = serial-3; fourth = serial-4 }
+serial_is_ready = record { each = each }

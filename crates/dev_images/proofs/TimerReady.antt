@@ -1,6 +1,6 @@
 -- The image of a moment is ready.
-use Rattle.dev_images.proofs.Facade.{List, ℤ, refl, arith, AreOf, timer_kinds, first, Set, set_1, set_2, set_3, set_4, timer, ReadyOf, TimerIsReady}
-use Rattle.dev_images.proofs.ReadyOf.{ready-plain}
+use Rattle.dev_images.proofs.Facade.{List, ℤ, refl, arith, AreOf, timer_kinds, first, Set, Device, sym, subst, timer, ReadyOf, ReadyWhere, AreTimerCells, TimerIsReady, shipped_set}
+use Rattle.dev_images.proofs.{ReadyOf.ready-plain, ShippedDevices.is_timer}
 
 -- In any set, since the moment is no structure.
 timer-ready : (set : Set) (numbers : List ℤ) → AreOf timer_kinds numbers → ReadyOf set timer numbers
@@ -8,4 +8,4 @@ unfolding first
 timer-ready set numbers are = ready-plain set timer numbers (omega arith) tt are refl refl (refl, tt)
 
 pub timer_is_ready : TimerIsReady
-timer_is_ready = record { first = timer-ready set_1; second = timer-ready set_2; third = timer-ready set_3; fourth = timer-ready set_4 }
+timer_is_ready = record { each = λ s l h. subst (λ (d : Device). ReadyWhere AreTimerCells s (shipped_set s) d) (sym (is_timer s l h)) (timer-ready (shipped_set s)) }

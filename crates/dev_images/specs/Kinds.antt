@@ -1,9 +1,10 @@
 -- The kinds of the devices' cells in the shipped sets.
-use Rattle.std.specs.Prelude.{◌≡◌, ℕ, List, [], ◌∷◌, map}
+use Rattle.std.specs.Prelude.{◌≡◌, ℕ, ◌≤◌, List, [], ◌∷◌, map}
 use Rattle.vms_kinds.specs.declared.Kind.{Kind}
 use Rattle.vms_spec.specs.Sets.{Set}
 use Rattle.vms_spec.specs.Layout.{device_cells}
-use Rattle.vms_spec.specs.Shipped.{set_1, set_2, set_3, set_4}
+use Rattle.vms_desc.specs.Formed.{shipped_set}
+use Rattle.dev_base.specs.declared.limits.TheConstants.{NEWEST}
 use Rattle.dev_pic.specs.Cells.{kinds as pic_kinds}
 use Rattle.dev_pit.specs.Cells.{kinds_of as pit_kinds}
 use Rattle.dev_serial.specs.Cells.{kinds as serial_kinds}
@@ -19,8 +20,5 @@ abbrev pub kinds_saved : ℕ → List (List Kind)
 kinds_saved s = (U64 ∷ []) ∷ pic_kinds s ∷ pic_kinds s ∷ pit_kinds s ∷ serial_kinds s ∷ []
 
 -- In each shipped set from 1 on these are the same.
-pub record KindsLaw : Type 0 where
-  pub first : kinds_in set_1 ≡ kinds_saved 1
-  pub second : kinds_in set_2 ≡ kinds_saved 2
-  pub third : kinds_in set_3 ≡ kinds_saved 3
-  pub fourth : kinds_in set_4 ≡ kinds_saved 4
+abbrev pub KindsLaw : Type 0
+KindsLaw = (s : ℕ) → 1 ≤ s → s ≤ NEWEST → kinds_in (shipped_set s) ≡ kinds_saved s

@@ -1,5 +1,5 @@
 -- The laws of the images of a board's devices that contracts name.
-use Rattle.std.specs.Prelude.{◌≡◌, ℕ, ℤ, Some, Ok, length, List, [], ◌∷◌, ◌++◌}
+use Rattle.std.specs.Prelude.{◌≡◌, ℕ, ◌≤◌, ℤ, Some, Ok, length, List}
 use Rattle.std.specs.List.{slice_get}
 use Rattle.dev_base.specs.Cells.{AreOf}
 use Rattle.dev_base.specs.declared.limits.TheConstants.{NEWEST}
@@ -9,30 +9,27 @@ use Rattle.dev_board.specs.declared.event.Event.{Event}
 use Rattle.dev_board.specs.SavedLaws.{ComesBack}
 use Rattle.dev_board.specs.Sound.{IsSound}
 use Rattle.dev_board.specs.State.{State}
-use Rattle.vms_desc.specs.Formed.{shipped_set}
+use Rattle.vms_desc.specs.Formed.{newest_set, shipped_set}
 use Rattle.dev_pic.specs.Cells.{kinds as pic_kinds, carried as pic_carried}
 use Rattle.dev_pit.specs.Cells.{carried as pit_carried, AreCellsOf as ArePitCells}
 use Rattle.dev_serial.specs.Cells.{carried as serial_carried}
 use Rattle.dev_serial.specs.Laws.{AreSaved as AreSerialCells}
 use Rattle.vms_check.specs.Carrying.{carried_device, carried}
 use Rattle.vms_spec.specs.Sets.{Set, Device}
-use Rattle.vms_spec.specs.Shipped.{set_1, set_2, set_3, set_4, timer, i8259_at_1, i8259_at_2, i8259_at_4, i8254_at_1, i8254_at_2, serial, serial_fields, divider, divisor, fcr, thr_ipending, fifo, timeout, ring}
 use Rattle.vms_spec.specs.Streams.{IsReady, AreReady}
 use Rattle.vms_spec.specs.Images.{Image, IsNormal}
 use Rattle.dev_images.specs.Images.{image_of, saved_images, cells_in}
+use Rattle.dev_images.specs.Places.{timer_in, chip_in, pit_in, serial_in}
 
 -- `ReadyOf set d numbers`: the image of these numbers is ready, so it may be written
 -- (docs/format.md, "Which images may be written").
 abbrev pub ReadyOf : Set → Device → List ℤ → Type 0
 ReadyOf set d numbers = IsReady set d (image_of set d numbers)
 
--- `InEachSet Says in_1 in_2 in_3 in_4`: a statement holds for each shipped set from 1 on, by its
--- number and the device in it.
-pub record InEachSet (Says : ℕ → Set → Device → Type 0) (in_1 in_2 in_3 in_4 : Device) : Type 0 where
-  pub first : Says 1 set_1 in_1
-  pub second : Says 2 set_2 in_2
-  pub third : Says 3 set_3 in_3
-  pub fourth : Says 4 set_4 in_4
+-- `InEachSet Says device`: a statement holds for each shipped set from 1 on, by its number and its
+-- device.
+pub record InEachSet (Says : ℕ → Set → Device → Type 0) (device : Set → Device) : Type 0 where
+  pub each : (s : ℕ) → 1 ≤ s → s ≤ NEWEST → Says s (shipped_set s) (device (shipped_set s))
 
 -- `ReadyWhere Are number set d`: the image of every list of numbers that are such cells is ready.
 abbrev pub ReadyWhere : (ℕ → List ℤ → Type 0) → ℕ → Set → Device → Type 0
@@ -48,36 +45,19 @@ AreChipCells set numbers = AreOf (pic_kinds set) numbers
 
 -- The image of a moment is ready in each shipped set from 1 on.
 abbrev pub TimerIsReady : Type 0
-TimerIsReady = InEachSet (ReadyWhere AreTimerCells) timer timer timer timer
+TimerIsReady = InEachSet (ReadyWhere AreTimerCells) timer_in
 
 -- The image of an 8259A's cells is ready in each shipped set from 1 on.
 pub record ChipIsReady : Type 0 where
-  pub chip : (instance : ℕ)
-      → InEachSet (ReadyWhere AreChipCells) (i8259_at_1 instance) (i8259_at_2 instance) (i8259_at_2 instance) (i8259_at_4 instance)
+  pub chip : (instance : ℕ) → InEachSet (ReadyWhere AreChipCells) (chip_in instance)
 
 -- The image of normal cells of the timer chip is ready in each shipped set from 1 on.
 abbrev pub PitIsReady : Type 0
-PitIsReady = InEachSet (ReadyWhere ArePitCells) i8254_at_1 i8254_at_2 i8254_at_2 i8254_at_2
-
--- The serial port of set 1.
-abbrev pub serial_at_1 : Device
-serial_at_1 = serial 1 (divider ∷ serial_fields) (thr_ipending ∷ [])
-
--- The serial port of set 2.
-abbrev pub serial_at_2 : Device
-serial_at_2 = serial 2 (divider ∷ serial_fields ++ fcr ∷ []) (thr_ipending ∷ fifo ∷ [])
-
--- The serial port of set 3.
-abbrev pub serial_at_3 : Device
-serial_at_3 = serial 3 (divisor ∷ serial_fields ++ fcr ∷ []) (thr_ipending ∷ fifo ∷ timeout ∷ [])
-
--- The serial port of set 4.
-abbrev pub serial_at_4 : Device
-serial_at_4 = serial 4 (divisor ∷ serial_fields ++ fcr ∷ []) (thr_ipending ∷ fifo ∷ timeout ∷ ring ∷ [])
+PitIsReady = InEachSet (ReadyWhere ArePitCells) pit_in
 
 -- The image of the cells that a serial port saves is ready in each shipped set from 1 on.
 abbrev pub SerialIsReady : Type 0
-SerialIsReady = InEachSet (ReadyWhere AreSerialCells) serial_at_1 serial_at_2 serial_at_3 serial_at_4
+SerialIsReady = InEachSet (ReadyWhere AreSerialCells) serial_in
 
 -- `carried_numbers set d e numbers` is the list of the numbers of device `e` of the newest set,
 -- carried from an image of device `d` of `set`.
@@ -92,20 +72,20 @@ CarriedWhere Are table newest number set d =
 
 -- A moment is carried unchanged.
 abbrev pub TimerIsCarried : Type 0
-TimerIsCarried = InEachSet (CarriedWhere AreTimerCells (λ set numbers. numbers) timer) timer timer timer timer
+TimerIsCarried = InEachSet (CarriedWhere AreTimerCells (λ set numbers. numbers) (timer_in newest_set)) timer_in
 
 -- The cells of an 8259A are carried as its table says.
 pub record ChipIsCarried : Type 0 where
-  pub chip : (instance : ℕ) → InEachSet (CarriedWhere AreChipCells pic_carried (i8259_at_4 instance))
-      (i8259_at_1 instance) (i8259_at_2 instance) (i8259_at_2 instance) (i8259_at_4 instance)
+  pub chip : (instance : ℕ)
+      → InEachSet (CarriedWhere AreChipCells pic_carried (chip_in instance newest_set)) (chip_in instance)
 
 -- The cells of the timer chip are carried as its table says; an absent one is at its default.
 abbrev pub PitIsCarried : Type 0
-PitIsCarried = InEachSet (CarriedWhere ArePitCells pit_carried i8254_at_2) i8254_at_1 i8254_at_2 i8254_at_2 i8254_at_2
+PitIsCarried = InEachSet (CarriedWhere ArePitCells pit_carried (pit_in newest_set)) pit_in
 
 -- The cells of a serial port are carried as its table says.
 abbrev pub SerialIsCarried : Type 0
-SerialIsCarried = InEachSet (CarriedWhere AreSerialCells serial_carried serial_at_4) serial_at_1 serial_at_2 serial_at_3 serial_at_4
+SerialIsCarried = InEachSet (CarriedWhere AreSerialCells serial_carried (serial_in newest_set)) serial_in
 
 -- A sound board is saved in ready images of the set, for any shipped set from its level on.
 pub record SavedAreReady : Type 0 where

@@ -1,8 +1,10 @@
 -- The places of a board's devices in each shipped set; a refusal names the devices by them.
-use Rattle.std.specs.Prelude.{◌≡◌, codes, Some}
+use Rattle.std.specs.Prelude.{◌≡◌, ℕ, ◌≤◌, codes, get_or, Some}
 use Rattle.vms_spec.specs.Lookup.{find_device}
-use Rattle.vms_spec.specs.Sets.{Set}
-use Rattle.vms_spec.specs.Shipped.{set_1, set_2, set_3, set_4}
+use Rattle.vms_spec.specs.Sets.{Device, Set}
+use Rattle.vms_spec.specs.Shipped.{timer}
+use Rattle.vms_desc.specs.Formed.{shipped_set}
+use Rattle.dev_base.specs.declared.limits.TheConstants.{NEWEST}
 
 -- `ArePlaced set`: the timer, the master and the slave of the pair, the timer chip and the serial
 -- port have these places, found by name and instance.
@@ -14,8 +16,19 @@ pub record ArePlaced (set : Set) : Type 0 where
   pub serial : find_device 0 set.devices (codes "serial") 0 ≡ Some 4
 
 -- This holds in each shipped set from 1 on.
-pub record PlacesLaw : Type 0 where
-  pub first : ArePlaced set_1
-  pub second : ArePlaced set_2
-  pub third : ArePlaced set_3
-  pub fourth : ArePlaced set_4
+abbrev pub PlacesLaw : Type 0
+PlacesLaw = (s : ℕ) → 1 ≤ s → s ≤ NEWEST → ArePlaced (shipped_set s)
+
+-- The devices of a set by their places. `chip_in instance set` is the master with this instance id;
+-- both chips have one description.
+abbrev pub timer_in : Set → Device
+timer_in set = get_or set.devices 0 timer
+
+abbrev pub chip_in : ℕ → Set → Device
+chip_in instance set = record (get_or set.devices 1 timer) { instance = instance }
+
+abbrev pub pit_in : Set → Device
+pit_in set = get_or set.devices 3 timer
+
+abbrev pub serial_in : Set → Device
+serial_in set = get_or set.devices 4 timer

@@ -111,7 +111,7 @@ pub use Rattle.vms_desc.proofs.Clean.{few_fields, few_subs, field_clean, reach, 
 pub use Rattle.vms_desc.proofs.Ranks.{reach_whole, uses_more}
 pub use Rattle.vms_desc.specs.Asks.{needed_at}
 pub use Rattle.vms_desc.specs.Described.{described, device_at}
-pub use Rattle.vms_desc.specs.Formed.{is_well_formed}
+pub use Rattle.vms_desc.specs.Formed.{is_well_formed, newest_set}
 pub use Rattle.vms_desc.specs.Names.{IsNameAt}
 pub use Rattle.vms_desc.specs.Parts.{HasPart, desc_at, sub_at}
 pub use Rattle.vms_desc.specs.Spots.{kinds_at}
@@ -138,7 +138,7 @@ pub use Rattle.dev_base.specs.Cells.{AreOf}
 pub use Rattle.dev_images.proofs.NormalSerial.{port-of}
 pub use Rattle.dev_images.proofs.ReadyOf.{AreSubs, count-of, kind-of, needed, versions}
 pub use Rattle.dev_images.specs.Images.{bare, image_of, needed_from}
-pub use Rattle.dev_images.specs.Laws.{serial_at_4}
+pub use Rattle.dev_images.proofs.ShippedDevices.{serial_at_4}
 pub use Rattle.dev_serial.proofs.RecastKinds.{recast_kinds}
 pub use Rattle.dev_serial.proofs.RecastLaws.{recast_twice}
 pub use Rattle.dev_serial.specs.Cells.{IsPortCells, kinds}

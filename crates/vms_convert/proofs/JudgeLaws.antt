@@ -1,7 +1,7 @@
 -- What was found of the devices, as the relations say it.
 use Rattle.vms_convert.proofs.Facade.{◌≡◌, ℕ, ◌<◌, List, [], ◌∷◌, length, get_or, map, Option, Some, None, Result, Ok, Err, ℤ, refl, sym, ◌∙◌, arith}
 use Rattle.vms_convert.proofs.Facade.{length-map, slice_get-get_or, slice_get_within, slice_get, IsFit, Device, Set, Image, Cell, device_cells, find_device}
-use Rattle.vms_convert.proofs.Facade.{set_4, AreReady, IsReady, WellFormed, device_at, IsNameAt, device_is, Typed, state_of, shipped_holds, AreKept, name_of}
+use Rattle.vms_convert.proofs.Facade.{newest_set, AreReady, IsReady, WellFormed, device_at, IsNameAt, device_is, Typed, state_of, shipped_holds, AreKept, name_of}
 use Rattle.vms_convert.proofs.Facade.{device_below, carried, Compatible, AreOfKinds, back, pair, all_in, AreBack, recast_each, AreWritable, FirstInvalid}
 use Rattle.vms_convert.proofs.Facade.{Judges, KeepsMachine, KeepsName, first_cell_at, first_of, IsValidAt, Loses, OfDevice, OfMachine, first_cell, numbers_in}
 use Rattle.vms_convert.proofs.Facade.{AreReturned, AreReturnedTo, IsFirstLost, Loss, LostCell}
@@ -126,7 +126,7 @@ same_first _ _ e = refl
 -- images that a loader of the newest set keeps, and what comes back of them
 pub record ComesBack (to new : Set) (images : List Image) (typed : List Typed) (lost : Option LostCell) : Type 0 where
   pub fit : IsFit to
-  pub newest : new ≡ set_4
+  pub newest : new ≡ newest_set
   pub compatible : Compatible to new
   pub kept : AreKept new images
   pub returned : AreReturned to new (recast_each to new.devices (numbers_in images)) typed lost

@@ -6,7 +6,7 @@ use Rattle.vms_convert.proofs.Facade.{map-append, take_more_set, back, Device, S
 use Rattle.vms_convert.proofs.Facade.{device_is, carried, carried_at, carried_device, no_image, Compatible, is_in, passes, found_device, found_some, pair}
 use Rattle.vms_convert.proofs.Facade.{all_in, answers_none, at_map, DifferAt, Loses, OfCell, numbers_in, FirstDifference, ArePaired, IsFirstLost, IsLostCell}
 use Rattle.vms_convert.proofs.Facade.{carried_of, LostCell, IsBack, device_partners, default_image, Typed, state_of, AreImagesOf, default_at, typed, IsReturned}
-use Rattle.vms_convert.proofs.Facade.{AreReturnedTo, AreReturned, IsRecastFor, kinds_at, recast, AreFresh, AreRoutes, IsRoute, Route, first, set_4, AreKept}
+use Rattle.vms_convert.proofs.Facade.{AreReturnedTo, AreReturned, IsRecastFor, kinds_at, recast, AreFresh, AreRoutes, IsRoute, Route, first, newest_set, AreKept}
 use Rattle.vms_convert.proofs.Facade.{kinds, recast_each, at_other, IsImageOf}
 use Rattle.std.proofs.lemmas.List.{same_lists, length-set}
 use Rattle.vms_check_laws.proofs.Streaming.{rules}
@@ -273,11 +273,11 @@ module _ (to new : Set) (wanted : List (List ℤ)) where
 
 -- ---- The numbers of a device of the newest set that a loader keeps, as they are brought to an older set.
 
-four_kinds : kinds_at set_4 4 ≡ kinds 4
+four_kinds : kinds_at newest_set 4 ≡ kinds 4
 unfolding first
 four_kinds = refl
 
-module _ (to new : Set) (is : new ≡ set_4) (images : List Image) (kept : AreKept new images) (k : ℕ) (lt : k < length new.devices) (image : Image)
+module _ (to new : Set) (is : new ≡ newest_set) (images : List Image) (kept : AreKept new images) (k : ℕ) (lt : k < length new.devices) (image : Image)
     (at : slice_get images k ≡ Some image) where
   abbrev wanted : List (List ℤ)
   wanted = recast_each to new.devices (numbers_in images)

@@ -1,6 +1,6 @@
 -- Recast numbers of normal images of the newest set are of its devices' kinds.
 use Rattle.vms_convert.proofs.Facade.{◌≡◌, zero, suc, Bool, true, false, List, [], ◌∷◌, get_or, map, Some, ℤ, refl, sym, arith, if◌then◌else◌, ℕ, ◌<◌, length}
-use Rattle.vms_convert.proofs.Facade.{ap, ◌∙◌, Option, None, IfSome, slice_get, Device, Set, Cell, first, device_cells, Image, IsNormal, set_4, timer}
+use Rattle.vms_convert.proofs.Facade.{ap, ◌∙◌, Option, None, IfSome, slice_get, Device, Set, Cell, first, device_cells, Image, IsNormal, newest_set, timer}
 use Rattle.vms_convert.proofs.Facade.{i8259_at_4, i8254_at_2, AreOf, kind-of, count-of, kinds, IsPortCells, recast_cells, recast_kinds, AreRecastOf}
 use Rattle.vms_convert.proofs.Facade.{RecastOfLaw, OneLostLaw, AreOfKinds, recast, wants_arrays, is_port, AreKept, serial_at_4, port-of, recast_each, is_one_of}
 use Rattle.vms_convert.proofs.Facade.{one_number, DifferAt, Loses, OfCell, OfDevice, OfMachine, KeepsAll}
@@ -21,28 +21,28 @@ from_kinds cells numbers h =
       in_range = λ c lt. rw (← kind-of cells c) (h.in_range c (omega (arith, count-of cells)));
     }
 
-of_normal : (d : Device) (image : Image) → IsNormal set_4 d image → AreOfKinds (device_cells set_4 d) image.numbers
+of_normal : (d : Device) (image : Image) → IsNormal newest_set d image → AreOfKinds (device_cells newest_set d) image.numbers
 of_normal d image n = record { long = n.cells.long; in_range = λ c lt. (n.cells.fits c lt).0 }
 
-port_kinds : map (λ cell. cell.kind) (device_cells set_4 serial_at_4) ≡ kinds 4
+port_kinds : map (λ cell. cell.kind) (device_cells newest_set serial_at_4) ≡ kinds 4
 unfolding first
 port_kinds = refl
 
-port_of : (to : Set) (numbers : List ℤ) → AreOfKinds (device_cells set_4 serial_at_4) numbers
-    → AreOfKinds (device_cells set_4 serial_at_4) (recast to serial_at_4 numbers)
+port_of : (to : Set) (numbers : List ℤ) → AreOfKinds (device_cells newest_set serial_at_4) numbers
+    → AreOfKinds (device_cells newest_set serial_at_4) (recast to serial_at_4 numbers)
 port_of to numbers h = go (wants_arrays to) where
-  go : (b : Bool) → AreOfKinds (device_cells set_4 serial_at_4) (if b then recast_cells numbers else numbers)
+  go : (b : Bool) → AreOfKinds (device_cells newest_set serial_at_4) (if b then recast_cells numbers else numbers)
   go false = h
   go true =
-      from_kinds (device_cells set_4 serial_at_4) (recast_cells numbers)
-      (rw port_kinds (recast_kinds numbers (rw port_kinds at (to_kinds (device_cells set_4 serial_at_4) numbers h))))
+      from_kinds (device_cells newest_set serial_at_4) (recast_cells numbers)
+      (rw port_kinds (recast_kinds numbers (rw port_kinds at (to_kinds (device_cells newest_set serial_at_4) numbers h))))
 
-device_is : (d e : Device) (numbers : List ℤ) → Some d ≡ Some e → AreOfKinds (device_cells set_4 d) numbers → AreOfKinds (device_cells set_4 e) numbers
+device_is : (d e : Device) (numbers : List ℤ) → Some d ≡ Some e → AreOfKinds (device_cells newest_set d) numbers → AreOfKinds (device_cells newest_set e) numbers
 device_is d e numbers h k = let same : e ≡ d = cc in rw same k
 
 pub recast_of : RecastOfLaw
 recast_of to (a ∷ b ∷ c ∷ d ∷ e ∷ []) l h = each where
-  each : AreRecastOf to set_4 (a ∷ b ∷ c ∷ d ∷ e ∷ [])
+  each : AreRecastOf to newest_set (a ∷ b ∷ c ∷ d ∷ e ∷ [])
   each zero x is = device_is timer x a.numbers is (of_normal timer a (h 0 timer a refl refl))
   each (suc zero) x is = device_is (i8259_at_4 0) x b.numbers is (of_normal (i8259_at_4 0) b (h 1 (i8259_at_4 0) b refl refl))
   each (suc (suc zero)) x is = device_is (i8259_at_4 1) x c.numbers is (of_normal (i8259_at_4 1) c (h 2 (i8259_at_4 1) c refl refl))
@@ -71,16 +71,16 @@ recast_long to (d ∷ devices) (n ∷ lists) l = ap suc (recast_long to devices 
 
 -- ---- images that a loader of the newest set keeps
 
-pub port_is : (k : ℕ) → k < length set_4.devices → is_port (device_at set_4 k) ≡ true → k ≡ 4
+pub port_is : (k : ℕ) → k < length newest_set.devices → is_port (device_at newest_set k) ≡ true → k ≡ 4
 port_is (suc (suc (suc (suc zero)))) lt e = refl
 port_is (suc (suc (suc (suc (suc k))))) lt e = absurd (omega arith)
 port_is _ lt e = absurd (cc)
 
-pub port_cells : (images : List Image) → AreKept set_4 images → (k : ℕ) (image : Image) → k ≡ 4 → slice_get images k ≡ Some image → IsPortCells image.numbers
+pub port_cells : (images : List Image) → AreKept newest_set images → (k : ℕ) (image : Image) → k ≡ 4 → slice_get images k ≡ Some image → IsPortCells image.numbers
 port_cells images kept k image is at = port-of image (kept.each 4 serial_at_4 image refl (rw (sym is) (at))).normal
 
 -- of a set that is the newest
-pub newest_kinds : (to new : Set) → new ≡ set_4 → (images : List Image) → AreKept new images → AreRecastOf to new images
+pub newest_kinds : (to new : Set) → new ≡ newest_set → (images : List Image) → AreKept new images → AreRecastOf to new images
 newest_kinds to new is images = rw is (λ kept. recast_of to images kept.one_each (λ k e image at at'. (kept.each k e image at at').normal))
 
 -- ---- What is lost first is one thing.

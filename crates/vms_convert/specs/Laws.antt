@@ -4,7 +4,7 @@ use Rattle.std.specs.List.{slice_get}
 use Rattle.vms_spec.specs.Sets.{Device, Set}
 use Rattle.vms_spec.specs.Layout.{device_cells}
 use Rattle.vms_spec.specs.Images.{Image, IsNormal}
-use Rattle.vms_spec.specs.Shipped.{set_4}
+use Rattle.vms_desc.specs.Formed.{newest_set}
 use Rattle.vms_spec.specs.Streams.{longest_text, ComeAsNeeded}
 use Rattle.vms_spec.specs.WellFormed.{WellFormed}
 use Rattle.vms_spec.specs.Good.{IsFit}
@@ -50,8 +50,8 @@ AreRecastOf to new images =
 
 -- This is so for normal images of the newest set.
 abbrev pub RecastOfLaw : Type 0
-RecastOfLaw = (to : Set) (images : List Image) → length images ≡ length set_4.devices
-    → ((k : ℕ) (e : Device) (image : Image) → slice_get set_4.devices k ≡ Some e → slice_get images k ≡ Some image → IsNormal set_4 e image) → AreRecastOf to set_4 images
+RecastOfLaw = (to : Set) (images : List Image) → length images ≡ length newest_set.devices
+    → ((k : ℕ) (e : Device) (image : Image) → slice_get newest_set.devices k ≡ Some e → slice_get images k ≡ Some image → IsNormal newest_set e image) → AreRecastOf to newest_set images
 
 -- The bytes are a stream of the newer set, with the same machine and the recast cells. Converting it again gives
 -- the same bytes and no others.
