@@ -11,6 +11,7 @@ pub use Rattle.vms_spec.proofs.WellFormedLaws.{Clean, device_parts, get_none, st
 pub use Rattle.vms_spec.specs.{Heads.FitsHeads, Images.Image, Images.own_cells, Names.is_name, Sets.Desc, Sets.Device, Sets.Field, Sets.Set, Sets.Sub}
 pub use Rattle.vms_spec.specs.{Streams.IsConfiguration, Streams.is_one_of, Streams.written, declared.Count.Count, declared.Reason.Reason}
 pub use Rattle.vms_spec.specs.Layout.{all_hold, capacity_of, counted, desc_cells, field_cells, item_size, no_desc, numbers_of, struct_cells}
+pub use Rattle.vms_spec.specs.Shipped.{shipped_sets}
 pub use Rattle.vms_spec.specs.WellFormed.{WellFormed, device_rules, first_fault, struct_rules, sub_rules}
 pub use Rattle.vms_spec.specs.declared.Count.TheVariants.{Counted, Fixed, One}
 unfoldable pub use Rattle.vms_spec.specs.Layout.{first}
@@ -33,7 +34,7 @@ pub use Rattle.vms_check.proofs.{SelfLaws.is_among, ShippedLaws.shipped_compatib
 pub use Rattle.vms_check.specs.{Comparing.Compatible}
 unfoldable pub use Rattle.vms_check.specs.Comparing.{first_mismatch}
 pub use Rattle.vms_check_laws.proofs.Streaming.{upgrade_stands}
-pub use Rattle.vms_desc.proofs.{Bounds.none_is, Formed.clock_formed, Formed.formed}
+pub use Rattle.vms_desc.proofs.{Bounds.none_is, Formed.by_number, Formed.clock_formed, Formed.formed}
 pub use Rattle.vms_desc.specs.Formed.{clock_set, shipped_set}
 pub use Rattle.vms_load.proofs.StreamLengths.{devices_long, stream_le}
 pub use Rattle.vms_selfdesc.proofs.Bounds.{clock_holds, shipped_holds}
