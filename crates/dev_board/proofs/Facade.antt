@@ -21,7 +21,7 @@ pub use Rattle.dev_board.specs.Laws.{WiresStay, moment_left, wire_left, AlikeSta
 pub use Rattle.dev_board.specs.Saved.{serial_back, timer_kinds, AreBoardCells, AreSavedCells, MaySaveUnder, moment_of, numbers_at, numbers_back, pair_back}
 pub use Rattle.dev_board.specs.SavedLaws.{ComesBack, IsTold, RestoredIsSound, SavedAreCells, SavedComesBack, SavedGoesOn, SoundMeetsRules}
 pub use Rattle.dev_board.specs.Sound.{Alike, HasDevices, HasLines, IsSound}
-pub use Rattle.dev_board.specs.Touch.{write_touches, HasTaken, IsSettled, Stays, asks_port, asks_timer, calm_after, is_access, is_nothing, read_touches, saying}
+pub use Rattle.dev_board.specs.Touch.{write_touches, HasTaken, IsBefore, IsSettled, Stays, asks_port, asks_timer, calm_after, is_access, is_nothing, read_touches, saying}
 pub use Rattle.dev_board.specs.declared.event.Event.TheVariants.{Ack, Byte, Read, Wait, Wire, Write}
 pub use Rattle.dev_board.specs.declared.misfit.Misfit.TheVariants.{LinesDisagree, Unsound}
 pub use Rattle.dev_board.specs.declared.misfit.TheConstants.{MASTER_DEVICE, PIT_DEVICE, SERIAL_DEVICE, TIMER_DEVICE}

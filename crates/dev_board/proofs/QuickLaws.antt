@@ -2,11 +2,11 @@
 use Rattle.dev_board.proofs.{KeepLaws.read_at-kept, KeepLaws.serial-written, KeptLaws.calm-read, KeptLaws.calm-write, PortLaws.ports_are}
 use Rattle.dev_board.proofs.{QuietLaws.untouched-settled, SoundLaws.settled-sound, WireBits.wires_of-are}
 use Rattle.dev_board.proofs.Facade.{◌≡◌, ℕ, ◌<◌, Bool, true, false, Option, None, Some, IfSome, arith, nat_tests, refl, ap, ◌∙◌, sym, subst, has, lines_of}
-use Rattle.dev_board.proofs.Facade.{int_of, pit_out, line_of, lsr_of, is_nothing, is_command, is_untouched, leaves_port, read_touches, write_touches, Stays}
+use Rattle.dev_board.proofs.Facade.{int_of, pit_out, line_of, lsr_of, is_nothing, is_command, is_untouched, leaves_port, read_touches, write_touches, IsBefore, Stays}
 use Rattle.dev_board.proofs.Facade.{HasTaken, Before, Touch, Untouched, Command, State, HasDevices, IsSound, target_of, Target, Pair, Register, Nothing}
 use Rattle.dev_board.proofs.Facade.{Counter, read, write, read_at, written_at, written, written_pair, saying, Event, Read, Write, step, acted, after_act}
 use Rattle.dev_board.proofs.Facade.{wires_after, settled, wires_of, IsCalm, Port, lsr_read, Pit, pit_read, PicPair}
-use Rattle.dev_board.proofs.StayLaws.{IsBefore, after-read, after-write, lsr-overrun, pair-taken}
+use Rattle.dev_board.proofs.StayLaws.{after-read, after-write, lsr-overrun, pair-taken}
 use Rattle.dev_board.specs.{Kept.IsKept, Ports.has_port, Ports.is_device, declared.kept.Kept.Kept}
 use Rattle.std.specs.Prelude.{MatchOption}
 use Rattle.dev_serial.specs.Access.{read_of as registers_read}

@@ -2,7 +2,7 @@
 use Rattle.dev_board.proofs.{KeptLaws.read-out, QuietLaws.command-taken, QuietLaws.ack-taken}
 use Rattle.dev_board.proofs.Facade.{◌≡◌, ℕ, Bool, true, false, ◌==◌, bit_or, arith, refl, ap, ◌∙◌, sym, not, ◌&&◌, ◌||◌, subst, if◌then◌else◌, cond_both}
 use Rattle.dev_board.proofs.Facade.{false≢true, nat_tests, and-false, and-true, or-false, has, bits_where, lines_of, written_pair, acked, int_of, PicPair}
-use Rattle.dev_board.proofs.Facade.{HasTaken, is_command, Stays, ack_touches, leaves_port, read_touches, time_touches, write_touches, has-or, either, State}
+use Rattle.dev_board.proofs.Facade.{HasTaken, IsBefore, is_command, Stays, ack_touches, leaves_port, read_touches, time_touches, write_touches, has-or, either, State}
 use Rattle.dev_board.proofs.Facade.{Act, waited, Before, Touch, Untouched, Command, Access, pit_out, lsr_of, lsr_read, Port, line_of, target_of, read_at}
 use Rattle.dev_board.proofs.Facade.{written_at, read, write, IsSound, Target, Pair, Counter, Register, Nothing}
 use Rattle.dev_board.specs.{declared.touch.Touch.TheVariants.Port as OfPort}
@@ -63,11 +63,6 @@ pair-taken m s = let master = s.pair.master in let slave = s.pair.slave in recor
   cascade = s.lines.slave;
   same = refl;
 }
-
--- The master says before an event what is so of the board.
-pub record IsBefore (before : Before) (m : State) : Type 0 where
-  pub lines : before.lines ≡ lines_of m.pair
-  pub int : before.int ≡ int_of m.pair
 
 module _ (m : State) (s : IsSound m) (before : Before) (b : IsBefore before m) where
   out : has before.lines 0 ≡ pit_out 0 m.moment m.pit

@@ -100,6 +100,11 @@ pub record HasTaken (lines : ℕ) (pair : PicPair) : Type 0 where
   pub cascade : has (lines_of pair) 2 ≡ slave_int_of pair
   pub same : lines ≡ lines_of pair
 
+-- `IsBefore before m`: the lines and the output are the master's, on this board.
+pub record IsBefore (before : Before) (m : State) : Type 0 where
+  pub lines : before.lines ≡ lines_of m.pair
+  pub int : before.int ≡ int_of m.pair
+
 -- `Stays touch before m`: what the master said before is still so of what wasn't touched.
 pub record Stays (touch : Touch) (before : Before) (m : State) : Type 0 where
   pub out : asks_timer touch ≡ false → has before.lines 0 ≡ pit_out 0 m.moment m.pit

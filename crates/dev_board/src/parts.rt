@@ -59,7 +59,7 @@ impl Parts {
     ghost use Rattle.dev_board.specs.Sound.{IsSound};
     ghost use Rattle.dev_board.specs.State.{power_on};
     ghost use Rattle.dev_board.specs.Step.{byte_came, waited, inputs_of, settled, step, names_wire};
-    ghost use Rattle.dev_board.specs.Touch.{Stays, read_touches, write_touches};
+    ghost use Rattle.dev_board.specs.Touch.{IsBefore, Stays, read_touches, write_touches};
     ghost use Rattle.dev_board.specs.Wires.{AreWires, wires_of};
 
     /// Returns the devices of level `level` at power on.
@@ -100,10 +100,8 @@ impl Parts {
         ensures sound { IsSound self.new }
         ensures kept { IsKept kept.new self.new }
     {
-        let lines = self.pair.lines();
+        let before = self.before(kept);
         let wires = self.wires();
-        let int = kept.int;
-        let before = Before { lines, int };
         match event {
             Event::Read { port } => {
                 let (value, touch) = self.read(port);
@@ -129,7 +127,7 @@ impl Parts {
             }
             Event::Ack => {
                 let value = self.pair.ack();
-                kept.int = self.settle(wires, before, ack_touches(lines), false);
+                kept.int = self.settle(wires, before, ack_touches(before.lines), false);
                 saying(Some(value), kept.int)
             }
         }
@@ -145,10 +143,8 @@ impl Parts {
         ensures sound { IsSound self.new }
         ensures kept { IsKept kept.new self.new }
     {
-        let lines = self.pair.lines();
+        let before = self.before(kept);
         let wires = self.wires();
-        let int = kept.int;
-        let before = Before { lines, int };
         let to = self.later_by(ns);
         let is_calm = to < kept.calm;
         let (edge, sent) = self.wait(to, is_calm);
@@ -158,6 +154,18 @@ impl Parts {
             value: None,
             int: kept.int,
             sent,
+        }
+    }
+
+    // Returns the lines and the output that the master has before an event.
+    #[inline(always)]
+    fn before(&self, kept: &Kept) -> Before
+        requires { IsKept kept.now self.now }
+        ensures { IsBefore result self.now }
+    {
+        Before {
+            lines: self.pair.lines(),
+            int: kept.int,
         }
     }
 

@@ -1,7 +1,7 @@
 -- Names of a well-formed set and paths are of the bytes that a description may have.
-use Rattle.vms_analyze.proofs.Facade.{◌≡◌, ℕ, zero, suc, ◌+◌, ◌<◌, ◌≤◌, ◌%◌, ◌/◌, Bool, true, false, ◌&&◌, ◌==◌, nat_le, if◌then◌else◌, List, [], ◌∷◌, ◌++◌}
-use Rattle.vms_analyze.proofs.Facade.{elements_each, what_of, length, length-append, refl, ap, ◌∙◌, arith, get_or, ℤ, list_all, AllByRecursion, mod-lt}
-use Rattle.vms_analyze.proofs.Facade.{and_parts, leb-true, le-leb, lt-ltb, and_from, digits, digits_onto, digit_glyph, list_all-append, Count, One}
+use Rattle.vms_analyze.proofs.Facade.{decimal_all, ◌≡◌, ℕ, ◌+◌, ◌<◌, ◌≤◌, Bool, true, ◌&&◌, nat_le, List, [], ◌∷◌, ◌++◌}
+use Rattle.vms_analyze.proofs.Facade.{elements_each, what_of, length, length-append, refl, ap, ◌∙◌, arith, get_or, ℤ, list_all, AllByRecursion}
+use Rattle.vms_analyze.proofs.Facade.{and_parts, leb-true, le-leb, and_from, list_all-append, Count, One}
 use Rattle.vms_analyze.proofs.Facade.{is_name_byte, is_name, is_sub_name, index_text, What, Constant, Filler, Rule, is_path_byte, is_path, sub_name_is, Item}
 use Rattle.vms_analyze.proofs.Facade.{Num, Unused, MOST_UNUSED, in_range, defaults_well, is_small_item, Field, Desc, Set, no_desc, elements_in}
 use Rattle.std.specs.Fmt.{decimal}
@@ -54,24 +54,15 @@ sub_named device name d e =
 
 -- ---- numbers of elements
 
-digit_byte : (d : ℕ) → d < 10 → is_path_byte (digit_glyph false d) ≡ true
-digit_byte d lt = rw (lt-ltb d 10 lt, (le-leb 48 (48 + d) (omega arith)), (le-leb (48 + d) 57 (omega arith))) refl
+path_bytes : (text : List ℕ) → AllByRecursion (λ b. is_path_byte b ≡ true) text → list_all is_path_byte text ≡ true
+path_bytes [] h = refl
+path_bytes (b ∷ text) h = rw (h.0) (path_bytes text h.1)
 
-onto : (k n : ℕ) (acc : List ℕ) → list_all is_path_byte acc ≡ true → list_all is_path_byte (digits_onto k 10 false n acc) ≡ true
-onto zero n acc h = h
-onto (suc k) n acc h = go (n / 10 == 0) (onto k (n / 10) (digit_glyph false (n % 10) ∷ acc) here)
-  where
-    here : list_all is_path_byte (digit_glyph false (n % 10) ∷ acc) ≡ true
-    here = rw (digit_byte (n % 10) (mod-lt n (omega arith))) (h)
-
-    go : (b : Bool) → list_all is_path_byte (digits_onto k 10 false (n / 10) (digit_glyph false (n % 10) ∷ acc)) ≡ true
-        → list_all is_path_byte (if b then digit_glyph false (n % 10) ∷ acc else digits_onto k 10 false (n / 10) (digit_glyph false (n % 10) ∷ acc)) ≡ true
-    go true more = here
-    go false more = more
+digit_byte : (d : ℕ) → d < 10 → is_path_byte (48 + d) ≡ true
+digit_byte d lt = rw (le-leb 48 (48 + d) (omega arith), le-leb (48 + d) 57 (omega arith)) refl
 
 decimal_bytes : (n : ℕ) → list_all is_path_byte (decimal n) ≡ true
-unfolding digits
-decimal_bytes n = onto 64 n [] refl
+decimal_bytes n = path_bytes (decimal n) (decimal_all _ digit_byte n)
 
 pub index_bytes : (count : Count) (e : ℕ) → list_all is_path_byte (index_text count e) ≡ true
 index_bytes One e = refl

@@ -11,7 +11,7 @@ use Rattle.vms_analyze.proofs.Facade.{fine_rest, begins_itself, IsFitting, AreSh
 use Rattle.vms_analyze.proofs.Facade.{device_wants, Want, Machine, wants, took, is_machine, taken, Found, Lines, behind, found, told_what, tolds, told_part}
 use Rattle.vms_analyze.proofs.Facade.{told_subs, told_device_of, told_devices, told, Desc, Sub, Device, Set, sub_head, is_needed, written_subs, written_section}
 use Rattle.vms_analyze.proofs.Facade.{written_sections, AreReady, is_one_of, be32, magic, stream_head, configuration, end_mark, optional, elements_slots}
-use Rattle.vms_analyze.proofs.Facade.{short_are, fine_both, AreGood, all_parts, LONGEST_NAME, number_at, bytes_at, is_name, is_name_byte, values_text}
+use Rattle.vms_analyze.proofs.Facade.{short_are, AreGood, all_parts, LONGEST_NAME, number_at, bytes_at, is_name, is_name_byte, values_text}
 use Rattle.vms_analyze.proofs.Facade.{WellFormed, failing, first_fault, here, set_rules, machine_short, few_devices, all_true, or_else_none, every_one}
 use Rattle.vms_analyze.proofs.Following.{takes_foot, takes_head, Takes, if_so, Follows, none_follows, one_follows, both_follow, follows_as, takes_line}
 use Rattle.vms_analyze.proofs.Following.{takes_any, takes_number, takes_bytes}
@@ -177,12 +177,12 @@ module _ (set : Set) (d : Device) (image : Image) (short : AreShort image.number
       let others = subs_entries set d image (suc j) next subs came in
       let g = all_parts _ numbers others good.1 in
       let have = at_defaults (is_needed set d image s j) (have_defaults n (elements_in set s.desc s.desc.version n at)) good.0 in
-      both_follow (sub_kept s at have) (subs_follow (suc j) next subs came versions.1 (fine_both numbers others fine.1).1 g.1)
+      both_follow (sub_kept s at have) (subs_follow (suc j) next subs came versions.1 (all_parts _ numbers others fine.1).1 g.1)
   subs_follow j at (s ∷ subs) (Some v ∷ came) versions fine good =
       let next = at + length (desc_cells (struct_cells set) s.desc) in
       let numbers = number_entries set s.desc n at in
       let others = subs_entries set d image (suc j) next subs came in
-      let f = fine_both numbers others fine.1 in
+      let f = all_parts _ numbers others fine.1 in
       rw versions.0 (both_follow (sub_came s at f.0) (subs_follow (suc j) next subs came versions.1 f.1 (all_parts _ numbers others good.1).1))
   subs_follow j at _ _ versions fine good = none_follows id
 
@@ -192,7 +192,7 @@ module _ (set : Set) (d : Device) (image : Image) (short : AreShort image.number
   device_follows old small shaped fine good =
       let numbers = number_entries set d.desc n 0 in
       let others = subs_entries set d image 0 (own_cells set d) d.subs image.came in
-      let f = fine_both numbers others fine.1 in
+      let f = all_parts _ numbers others fine.1 in
       rw (shaped.version, ← append-nil (number_lines set d.desc n 0 ++ subs_lines set n (own_cells set d) d.subs image.came))
       (both_follow
       (both_follow (both_follow (one_follows (takes_head d.desc.name d.instance d.desc.version old id small)) (part_follows d.desc 0 f.0))
@@ -212,7 +212,7 @@ pub devices_follow : (set : Set) (old id : ℕ) (devices : List Device) (images 
 devices_follow set old id (d ∷ devices) (image ∷ images) few shaped fine good =
     let here = device_entries set d image in
     let others = devices_entries set devices images in
-    let f = fine_both here others fine in
+    let f = all_parts _ here others fine in
     let g = all_parts _ here others good in
     both_follow (device_follows set d image (short_are image.numbers shaped.0.short) id old (omega arith) shaped.0 f.0 g.0)
     (devices_follow set id (suc id) devices images (omega arith) shaped.1 f.1 g.1)

@@ -1,15 +1,12 @@
 -- The description of a set's devices is bytes: names are, and the rest is ASCII.
-use Rattle.vms_board_streams.proofs.Facade.{◌≡◌, ℕ, zero, suc, ◌+◌, ◌<◌, ◌&&◌, List, [], ◌∷◌, ◌++◌, length, map, get_or, ℤ, Bool, true, false, nat_lt, refl}
-use Rattle.vms_board_streams.proofs.Facade.{sym, subst, arith, Option, Some, None, is_some, decimal, codes, and_parts, get_or_from_slice_get, AllByRecursion}
-use Rattle.vms_board_streams.proofs.Facade.{slice_get, list_all, items_of, Kind, Item, Num, Equal, Unused, Struct, width, Count, One, Fixed, Counted, Image}
-use Rattle.vms_board_streams.proofs.Facade.{own_cells, one_more, Clean, get_none, struct_clean, device_parts, sub_clean, no_desc, first, item_size, counted}
-use Rattle.vms_board_streams.proofs.Facade.{capacity_of, field_cells, numbers_of, desc_cells, struct_cells, all_hold, is_name, Field, Desc, Sub, Device, Set}
-use Rattle.vms_board_streams.proofs.Facade.{WellFormed, struct_rules, device_rules, sub_rules, AllSubs, AllParts, EachPart, all_parts, AreBytes, is_named}
-use Rattle.vms_board_streams.proofs.Facade.{parts_named, What, Number, Constant, Filler, Rule, Element, Shape, no_shape, shape, shapes, cells_in, dotted}
-use Rattle.vms_board_streams.proofs.Facade.{behind, single, index_text, item_elements, Stand, stand_of, array_elements, field_elements, elements_from}
-use Rattle.vms_board_streams.proofs.Facade.{desc_elements, elements_in, Each, each_append, each_map, Entry, cell_entry, sent_entry, listed_if, entry_of}
+use Rattle.vms_board_streams.proofs.Facade.{◌≡◌, ℕ, ◌+◌, ◌<◌, ◌&&◌, List, [], ◌∷◌, ◌++◌, length, get_or, ℤ, Bool, true, false, refl, sym, subst, arith, Option}
+use Rattle.vms_board_streams.proofs.Facade.{Some, None, is_some, decimal, codes, and_parts, get_or_from_slice_get, AllByRecursion, slice_get, items_of, Kind}
+use Rattle.vms_board_streams.proofs.Facade.{width, Count, One, Image, own_cells, Clean, get_none, struct_clean, device_parts, sub_clean, no_desc, counted}
+use Rattle.vms_board_streams.proofs.Facade.{desc_cells, struct_cells, is_name, Field, Desc, Sub, Device, Set, WellFormed, struct_rules, device_rules, sub_rules}
+use Rattle.vms_board_streams.proofs.Facade.{AllSubs, AllParts, EachPart, all_parts, AreBytes, is_named, parts_named, What, Number, Constant, Filler, Rule}
+use Rattle.vms_board_streams.proofs.Facade.{Element, index_text, all_from, elements_each, elements_in, Entry, cell_entry, sent_entry, listed_if, entry_of}
 use Rattle.vms_board_streams.proofs.Facade.{entries_of, part_entries, sub_trees, device_tree, device_trees, described_tree, described_text, HasLetters}
-use Rattle.vms_board_streams.proofs.Facade.{ItemsHave, Allows, IsSpelled, AreSpelled, all_append, decimal_good, text_good, word, kind_letters, sub_letters}
+use Rattle.vms_board_streams.proofs.Facade.{ItemsHave, Allows, IsSpelled, AreSpelled, all_both, decimal_good, text_good, word, kind_letters, sub_letters}
 use Rattle.vms_board_streams.proofs.Facade.{device_letters, devices_letters}
 
 abbrev Byte : ℕ → Type 0
@@ -26,72 +23,18 @@ of_bytes : (xs : List ℕ) → AreBytes xs → AllByRecursion Byte xs
 of_bytes [] p = tt
 of_bytes (x ∷ xs) p = (p.0, of_bytes xs p.1)
 
-decimal-bytes : (n : ℕ) → AllByRecursion Byte (decimal n)
-decimal-bytes n = decimal_good allows n
-
--- ---- fields
-
-abbrev pub AreNamed : List Field → Type 0
-AreNamed [] = Unit {0}
-AreNamed (f ∷ fs) = AllByRecursion Byte f.name × AreNamed fs
-
--- ---- elements
-
 -- a path of bytes
 abbrev HasBytes : Element → Type 0
 HasBytes x = AllByRecursion Byte x.name
 
+abbrev IsNamed : Field → Type 0
+IsNamed f = AllByRecursion Byte f.name
+
 index-bytes : (count : Count) (e : ℕ) → AllByRecursion Byte (index_text count e)
 index-bytes One e = tt
-index-bytes (Fixed m) e = (omega arith, all_append Byte (decimal e) (codes "]") (decimal-bytes e) (omega arith, tt))
-index-bytes (Counted by m) e = (omega arith, all_append Byte (decimal e) (codes "]") (decimal-bytes e) (omega arith, tt))
-
-module _ (ss : List Shape) (inside : (j : ℕ) (n : List ℤ) (at : ℕ) → Each HasBytes ((get_or ss j no_shape).elements n at)) where
-  item-spelled : (x : Item) (caps : List ℕ) (z : ℤ) (n : List ℤ) (at : ℕ) → Each HasBytes (item_elements ss x caps z n at)
-  item-spelled (Num kind) caps z n at = (tt, tt)
-  item-spelled (Equal kind y) caps z n at = (tt, tt)
-  item-spelled (Unused k) caps z n at = (tt, tt)
-  item-spelled (Struct j) caps z n at = each_map HasBytes HasBytes dotted (λ x p. (omega arith, p)) ((get_or ss j no_shape).elements n at) (inside j n at)
-
-  array-spelled : (f : Field) → AllByRecursion Byte f.name → (stand : Stand) (part : ℕ → List Element) → ((at : ℕ) → Each HasBytes (part at)) → (step e n at : ℕ) → Each HasBytes (array_elements f stand part step e n at)
-  array-spelled f name stand part each step e zero at = tt
-  array-spelled f name stand part each step e (suc n) at =
-      let text = f.name ++ index_text f.count e in
-      let below = nat_lt e stand.count in
-      let step-in = behind (stand.number, e) text below (stand.there && below) in
-      each_append HasBytes (map step-in (part at)) (array_elements f stand part step (suc e) n (at + step))
-      (each_map HasBytes HasBytes step-in (λ x p. all_append Byte text x.name (all_append Byte f.name (index_text f.count e) name (index-bytes f.count e)) p) (part at) (each at))
-      (array-spelled f name stand part each step (suc e) n (at + step))
-
-  fields-spelled : (fields : List Field) (v : ℕ) (own : ℕ → ℕ) (n : List ℤ) (i at : ℕ) (fs : List Field) → AreNamed fs → Each HasBytes (elements_from ss fields v own n i at fs)
-  fields-spelled fields v own n i at [] named = tt
-  fields-spelled fields v own n i at (f ∷ fs) named =
-      let next = at + length (field_cells (cells_in ss) fields i f) in
-      each_append HasBytes (field_elements ss fields v own n i at f) (elements_from ss fields v own n (suc i) next fs)
-      (array-spelled f named.0 (stand_of i f v own) (item_elements ss f.item (counted i fields) f.default n) (λ at. item-spelled f.item (counted i fields) f.default n at)
-      (item_size (cells_in ss) f.item) 0 (capacity_of f.count) at)
-      (fields-spelled fields v own n (suc i) next fs named.1)
-
-  desc-spelled : (d : Desc) (v : ℕ) (n : List ℤ) (at : ℕ) → AreNamed d.fields → Each HasBytes (desc_elements ss d v n at)
-  desc-spelled d v n at named =
-      let own = numbers_of (cells_in ss) d n at in
-      each_append HasBytes (elements_from ss d.fields v own n 0 at d.fields) (single (at + length (desc_cells (cells_in ss) d)) (Rule (all_hold d.validate v own)) ∷ [])
-      (fields-spelled d.fields v own n 0 at d.fields named) (tt, tt)
-
-shapes-spelled : (structs : List Desc) → ((j : ℕ) → AreNamed (get_or structs j no_desc).fields) → (k j : ℕ) (n : List ℤ) (at : ℕ) → Each HasBytes ((get_or (first shape structs k) j no_shape).elements n at)
-unfolding first
-shapes-spelled structs named zero j n at = tt
-shapes-spelled structs named (suc k) j n at =
-    let ss = first shape structs k in
-    let d = get_or structs k no_desc in
-    one_more (λ (s : Shape). (n : List ℤ) (at : ℕ) → Each HasBytes (s.elements n at)) no_shape (λ n at. tt) ss (shapes-spelled structs named k) (shape ss d)
-    (λ n at. desc-spelled ss (shapes-spelled structs named k) d d.version n at (named k)) j n at
+index-bytes _ e = (omega arith, all_both Byte (decimal e) (codes "]") (decimal_good allows e) (omega arith, tt))
 
 -- ---- their entries
-
-entries_append : (xs ys : List Entry) → AreSpelled Byte xs → AreSpelled Byte ys → AreSpelled Byte (xs ++ ys)
-entries_append [] ys p q = q
-entries_append (x ∷ xs) ys p q = (p.0, entries_append xs ys p.1 q)
 
 listed-entries : (b : Bool) (e : Entry) → IsSpelled Byte e → AreSpelled Byte (listed_if b e)
 listed-entries true e p = (p, tt)
@@ -108,10 +51,10 @@ what-listed (Constant kind z) counted present path p =
 what-listed (Filler n) counted present path p = listed-entries present (sent_entry path n (codes "unused")) (record { path = p; type = word allows (codes "unused") refl })
 what-listed (Rule holds) counted present path p = tt
 
-elements-listed : (sent : Bool) (xs : List Element) → Each HasBytes xs → AreSpelled Byte (entries_of sent [] xs)
+elements-listed : (sent : Bool) (xs : List Element) → AllByRecursion HasBytes xs → AreSpelled Byte (entries_of sent [] xs)
 elements-listed sent [] p = tt
 elements-listed sent (x ∷ xs) p =
-    entries_append (entry_of x.what x.counted (sent && x.present) x.name) (entries_of sent [] xs)
+    all_both _ (entry_of x.what x.counted (sent && x.present) x.name) (entries_of sent [] xs)
     (what-listed x.what x.counted (sent && x.present) x.name p.0) (elements-listed sent xs p.1)
 
 -- ---- sets
@@ -119,11 +62,15 @@ elements-listed sent (x ∷ xs) p =
 -- a description whose name and fields' names are bytes
 record IsTold (d : Desc) : Type 0 where
   name : AllByRecursion Byte d.name
-  fields : AreNamed d.fields
+  fields : AllByRecursion IsNamed d.fields
 
-module _ (set : Set) (inside : (j : ℕ) (n : List ℤ) (at : ℕ) → Each HasBytes ((get_or (shapes set) j no_shape).elements n at)) where
-  part-bytes : (d : Desc) (sent : Bool) (n : List ℤ) (at : ℕ) → AreNamed d.fields → AreSpelled Byte (part_entries set d sent n at)
-  part-bytes d sent n at named = elements-listed sent (elements_in set d d.version n at) (desc-spelled (shapes set) inside d d.version n at named)
+module _ (set : Set) (structs : (j : ℕ) → AllByRecursion IsNamed (get_or set.structs j no_desc).fields) where
+  part-bytes : (d : Desc) (sent : Bool) (n : List ℤ) (at : ℕ) → AllByRecursion IsNamed d.fields → AreSpelled Byte (part_entries set d sent n at)
+  part-bytes d sent n at named =
+      elements-listed sent (elements_in set d d.version n at)
+      (elements_each IsNamed HasBytes HasBytes (λ f good caps at. tt) (λ x p. (omega arith, p))
+      (λ f good number e c p x h. all_both Byte (f.name ++ index_text f.count e) x.name (all_both Byte f.name _ good (index-bytes f.count e)) h)
+      (λ at b. tt) (λ x h. h) set structs d d.version named n at)
 
   subs-bytes : (n : List ℤ) (at : ℕ) (subs : List Sub) (came : List (Option ℕ)) → AllSubs IsTold subs → ItemsHave Byte (items_of (sub_trees set n at subs came))
   subs-bytes n at [] came named = tt
@@ -151,18 +98,15 @@ module _ (set : Set) (inside : (j : ℕ) (n : List ℤ) (at : ℕ) → Each HasB
 
 -- ---- well-formed sets
 
-fields_named : (fs : List Field) → ((i : ℕ) (f : Field) → slice_get fs i ≡ Some f → is_name 32 f.name ≡ true) → AreNamed fs
-fields_named [] h = tt
-fields_named (f ∷ fs) h = (of_bytes f.name (is_named 32 f.name (omega arith) (h 0 f refl)).octets, fields_named fs (λ i. h (suc i)))
-
-clean_named : (k : ℕ) (d : Desc) (rules : List Bool) → Clean k d rules → AreNamed d.fields
-clean_named k d rules c = fields_named d.fields (λ i f e. (and_parts (is_name 32 f.name) (list_all (is_name 32) f.former) (c.fields i f e).0).0)
+clean_named : (k : ℕ) (d : Desc) (rules : List Bool) → Clean k d rules → AllByRecursion IsNamed d.fields
+clean_named k d rules c =
+    all_from IsNamed d.fields (λ i f e. of_bytes f.name (is_named 32 f.name (omega arith) (and_parts (is_name 32 f.name) _ (c.fields i f e).0).0).octets)
 
 module _ (set : Set) (well : WellFormed set) where
-  struct_named : (j : ℕ) (o : Option Desc) → slice_get set.structs j ≡ o → AreNamed (get_or set.structs j no_desc).fields
-  struct_named j None e = subst (λ (d : Desc). AreNamed d.fields) (sym (get_none set.structs j no_desc e)) tt
+  struct_named : (j : ℕ) (o : Option Desc) → slice_get set.structs j ≡ o → AllByRecursion IsNamed (get_or set.structs j no_desc).fields
+  struct_named j None e = subst (λ (d : Desc). AllByRecursion IsNamed d.fields) (sym (get_none set.structs j no_desc e)) tt
   struct_named j (Some d) e =
-      subst (λ (d : Desc). AreNamed d.fields) (sym (get_or_from_slice_get set.structs j d no_desc e))
+      subst (λ (d : Desc). AllByRecursion IsNamed d.fields) (sym (get_or_from_slice_get set.structs j d no_desc e))
       (clean_named j d (struct_rules set.structs j d) (struct_clean set well j d e))
 
   parts_told : EachPart IsTold set.devices
@@ -177,5 +121,4 @@ module _ (set : Set) (well : WellFormed set) where
 
   pub text_is_bytes : (images : List Image) → AreBytes (described_text set images)
   text_is_bytes images =
-      let inside = shapes-spelled set.structs (λ j. struct_named j (slice_get set.structs j) refl) (length set.structs) in
-      described-bytes set inside images (all_parts IsTold set.devices parts_told)
+      described-bytes set (λ j. struct_named j (slice_get set.structs j) refl) images (all_parts IsTold set.devices parts_told)

@@ -39,17 +39,6 @@ nothing_left (Some bytes) = refl
 pub takes_nothing : (i : Intake) → i.given < 2 ^ 64 → TakesBytes i i 0
 takes_nothing i few = record { left = nothing_left i.left; given = omega (arith, few) }
 
--- a prefix of the known bytes was read, and counted
-pub takes_front : (i i' : Intake) (bytes input : List ℕ) (n : ℕ) → Takes i i' bytes → i.left ≡ Some input → i'.left ≡ Some (drop n input) → n ≤ length input → TakesBytes i i' n
-takes_front i i' bytes input n t old new within =
-    let told : Consumes (Some input) (Some (drop n input)) bytes =
-    subst (λ (l : Option (List ℕ)). Consumes l (Some (drop n input)) bytes) old (subst (λ (l : Option (List ℕ)). Consumes i.left l bytes) new t.told) in
-    let same : length bytes ≡ n = omega (arith, within, ap length told, length-append bytes (drop n input), length-drop n input) in
-    record {
-      left = subst (λ (l : Option (List ℕ)). IfSome l (λ b. i'.left ≡ Some (drop n b))) (sym old) new;
-      given = t.given ∙ ap (λ (k : ℕ). capped (i.given + k)) same;
-    }
-
 -- an outcome of a status of its own, and nothing taken
 pub ends_with : (k : ℕ) (line : List ℕ) (i : Intake) (x : Outcome) → i.given < 2 ^ 64 → x ≡ ended k line 0 → EndsWith k line i i x
 ends_with k line i x few is = record {

@@ -1,19 +1,18 @@
 -- The defaults show three kinds of mismatch, where they are ready.
 use Rattle.vms_counter_laws.proofs.{Devices.Comes, Devices.comes, Clashing.present_fields, Clashing.clashes}
 use Rattle.vms_counter_laws.proofs.Facade.{◌==◌, if◌then◌else◌, ℕ, subst, ◌≡◌, inl, inr, ◌+◌, ◌^◌, ◌<◌, true, false, List, [], ◌++◌, length, map, Option, Some}
-use Rattle.vms_counter_laws.proofs.Facade.{None, refl, sym, ap, ◌∙◌, arith, append_assoc, append-nil, ℤ, flat_map, slice_get, list_all, lacking, IsBytes, Field}
-use Rattle.vms_counter_laws.proofs.Facade.{Device, Set, FitsHeads, struct_cells, desc_cells, device_cells, Image, Spells, default_image, own_slots, own_cells}
+use Rattle.vms_counter_laws.proofs.Facade.{None, refl, sym, ap, ◌∙◌, arith, append_assoc, append-nil, ℤ, slice_get, list_all, lacking, IsBytes, Field}
+use Rattle.vms_counter_laws.proofs.Facade.{Device, Set, FitsHeads, struct_cells, desc_cells, Image, Spells, default_image, own_slots, own_cells}
 use Rattle.vms_counter_laws.proofs.Facade.{zeroed, IsVersionOf, be32, magic, stream_head, section_head, configuration, end_mark, foot, written}
 use Rattle.vms_counter_laws.proofs.Facade.{written_sections, written_subs, AreReady, IsReady, Magic, Version, WellFormed, here, find_device, few_devices}
 use Rattle.vms_counter_laws.proofs.Facade.{machine_short, reading_on, falses, defaults_of, version_decides, bytes_rest, well_good, device_found, Unknown}
 use Rattle.vms_counter_laws.proofs.Facade.{AtMagic, AtVersion, judge, reading, Headed, at_start, between, by_state, Takes, unit_on, taken_holds, Mismatch}
 use Rattle.vms_counter_laws.proofs.Facade.{presence, reduced, compare_device, compare_fields, comparers, Comparer, Entry, first_mismatch, is_kept, present}
 use Rattle.vms_counter_laws.proofs.Facade.{position_from, FitsAt, fits_left, from_zero, fits_whole, devices_clash, at_map, default_images, machine_for}
-use Rattle.vms_counter_laws.proofs.Facade.{stream_of, Shows, IsPlain, AlwaysShown, OfMachine, OfVersion, OfConstant, Pair, pair, Two}
+use Rattle.vms_counter_laws.proofs.Facade.{stream_of, Shows, IsPlain, AlwaysShown, OfMachine, OfVersion, OfConstant, Pair, pair}
 use Rattle.vms_counter_laws.proofs.Inverted.{else_some, one_rule, struct_no_device, tables_within, IsDevice, OfDevice, of_device, Version as OfItsVersion, Own}
 use Rattle.vms_counter_laws.proofs.Inverted.{Below, IsWithin, part_within, DeviceFails, device_fails, machine_fails}
 use Rattle.vms_counter_laws.proofs.Machines.{same_head, lacks, machine_untaken}
-use Rattle.vms_stream.specs.State.{State}
 use Rattle.vms_spec.specs.declared.Part.TheVariants as parts
 
 module _ (old new : Set) (good_old : WellFormed old) (good_new : WellFormed new) (heads_old : FitsHeads old) (heads : FitsHeads new)
@@ -82,9 +81,6 @@ module _ (old new : Set) (good_old : WellFormed old) (good_new : WellFormed new)
       own : Spells numbers (own_slots new p.device d.desc.version numbers) body
       spelled : body ++ rest' ≡ zeroed image.numbers (own_slots old d d.desc.version image.numbers) ++ rest
 
-    in_turn : (h z w f r : List ℕ) → (((h ++ z) ++ w) ++ f) ++ r ≡ h ++ (z ++ (w ++ (f ++ r)))
-    in_turn h z w f r = simp append_assoc
-
     meets : Comes old new good_old good_new heads fails.all_in d image i → Meets
     meets c =
         let b = c.begins in
@@ -98,7 +94,7 @@ module _ (old new : Set) (good_old : WellFormed old) (good_new : WellFormed new)
         let head_d = section_head i d.desc.name d.instance d.desc.version in
         let head_e = section_head b.id e.desc.name e.instance b.image.version in
         let is : head_d ++ (own ++ more) ≡ head_e ++ (s.body ++ more') =
-        sym (in_turn head_d own subs _ c.rest) ∙ b.spelled ∙ ap (λ (l : List ℕ). l ++ b.after) s.whole ∙ in_turn head_e s.body s.tail close _ in
+        simp append_assoc (simp append_assoc at (b.spelled ∙ ap (λ (l : List ℕ). l ++ b.after) s.whole)) in
         let fits = heads_old.instance i d fails.answers.stands in
         let fits' = heads.instance b.number e b.there in
         let high : b.image.version < 2 ^ 32 = omega (arith, s.normal.version.1, fits'.1) in

@@ -3,7 +3,7 @@ use Rattle.vms_counter_laws.proofs.Facade.{◌≡◌, ◌⊎◌, inl, inr, ℕ, 
 use Rattle.vms_counter_laws.proofs.Facade.{refl, sym, arith, ℤ, if◌then◌else◌, slice_get, Kind, Item, Equal, Struct, InRange, code, Place, same_number, Formula}
 use Rattle.vms_counter_laws.proofs.Facade.{Field, Cell, field_cells, counted, here, in_field, value_code, ConstantFits, ConstantsFit, is_same, Mismatch}
 use Rattle.vms_counter_laws.proofs.Facade.{presence, Entry, absent_hold, bound, compare_fields, entry_of, failing_pair, holds_as_much, is_covered, names_match}
-use Rattle.vms_counter_laws.proofs.Facade.{pair_rules, pair_structs, present_from, same_constant, same_count, same_item, same_rest, uncovered_rules, RestAt}
+use Rattle.vms_counter_laws.proofs.Facade.{pair_structs, present_from, same_constant, same_count, same_item, same_rest, uncovered_rules, RestAt}
 use Rattle.vms_counter_laws.proofs.Facade.{at_first, one_on, kinds_same, Two, Clash, Clashes, Differ}
 use Rattle.vms_counter_laws.proofs.Inverted.{else_some, one_rule, IsStruct, StructsWithin}
 

@@ -3,7 +3,7 @@ pub use Rattle.std.proofs.{Common.◌≤◌, Common.◌⊎◌, lemmas.Bool.or_le
 pub use Rattle.std.proofs.{lemmas.List.length-set, lemmas.Option.slice_get_within, lemmas.Slice.Eq.bytes_eq-Decides}
 pub use Rattle.std.proofs.Common.{Bool, IfSome, List, None, Option, Some, [], ap, append-nil, append_assoc, arith, codes, false, get_or, if◌then◌else◌, inl}
 pub use Rattle.std.proofs.Common.{inr, length, map, pos, refl, slice_set, subst, suc, sym, true, zero, ℕ, ℤ, ◌&&◌, ◌++◌, ◌+◌, ◌<◌, ◌==◌, ◌^◌, ◌∙◌, ◌∷◌, ◌≡◌}
-pub use Rattle.std.specs.{Bool.Decides, List.flat_map, List.list_all, List.slice_get, Str.bytes_eq}
+pub use Rattle.std.specs.{Bool.Decides, List.list_all, List.slice_get}
 pub use Rattle.vms_kinds.proofs.{ByteLemmas.bytes_rest}
 pub use Rattle.vms_kinds.specs.{Bytes.IsBytes, Codes.InRange, declared.Item.Item, declared.Item.TheVariants.Equal, declared.Item.TheVariants.Struct}
 pub use Rattle.vms_kinds.specs.{declared.Kind.Kind, declared.Kind.TheVariants.U16, declared.Kind.TheVariants.U8}
@@ -11,11 +11,11 @@ unfoldable pub use Rattle.vms_kinds.specs.Codes.{code}
 pub use Rattle.vms_spec.proofs.{KindLaws.be32_read, KindLaws.value_code, Tables.one_more, WellFormedLaws.device_found, WellFormedLaws.well_good}
 pub use Rattle.vms_spec.proofs.Boxes.{box, box_set, counted_set, number, sub_of, subsection_set}
 pub use Rattle.vms_spec.proofs.Faultless.{few_devices, machine_short}
-pub use Rattle.vms_spec.specs.{Good.ConstantFits, Good.ConstantsFit, Heads.FitsHeads, Lists.first_answer, Lists.or_else, Lookup.find_device, Lookup.find_sub}
-pub use Rattle.vms_spec.specs.{Lookup.index, Numbers.same_number, Readiness.is_ready, Readiness.is_version_of, Shipped.set_1, Shipped.set_3, Units.Magic}
+pub use Rattle.vms_spec.specs.{Good.ConstantFits, Good.ConstantsFit, Heads.FitsHeads, Lists.first_answer, Lists.or_else, Lookup.find_device}
+pub use Rattle.vms_spec.specs.{Lookup.index, Numbers.same_number, Readiness.is_version_of, Shipped.set_1, Shipped.set_3, Units.Magic}
 pub use Rattle.vms_spec.specs.{Units.Version, declared.Count.TheVariants.Counted, declared.Part.Part, declared.Place.Place, declared.Reason.Reason}
 pub use Rattle.vms_spec.specs.Images.{Image, IsVersionOf, Spells, default_image, own_cells, own_slots, zeroed}
-pub use Rattle.vms_spec.specs.Layout.{Cell, counted, desc_cells, device_cells, field_cells, no_desc, struct_cells}
+pub use Rattle.vms_spec.specs.Layout.{Cell, counted, desc_cells, field_cells, no_desc, struct_cells}
 pub use Rattle.vms_spec.specs.Readings.{Accepted, Reading, Refused}
 pub use Rattle.vms_spec.specs.Sets.{Desc, Device, Field, Formula, Set, Sub}
 pub use Rattle.vms_spec.specs.Streams.{AreReady, IsConfiguration, IsReady, be32, configuration, end_mark, foot, is_one_of, magic, section_head, stream_head}
@@ -33,9 +33,9 @@ pub use Rattle.vms_stream.specs.{StreamLaws.BeginsSection, StreamLaws.Faulty, St
 pub use Rattle.vms_stream.specs.SoFar.{Bare, Footed, Tail, Unknown}
 unfoldable pub use Rattle.vms_stream.specs.{Finding.behind_at, Finding.between_at, Finding.trailer_at, Judge.reading}
 pub use Rattle.vms_check.specs.{Carrying.carried_device, Reducing.presence, Reducing.reduced, declared.mismatch.Mismatch.Mismatch}
-pub use Rattle.vms_check.specs.Comparing.{Comparer, Entry, absent_hold, bound, compare_desc, compare_device, compare_fields, compare_sub, compare_subs}
+pub use Rattle.vms_check.specs.Comparing.{Comparer, Entry, absent_hold, bound, compare_desc, compare_device, compare_fields, compare_sub}
 pub use Rattle.vms_check.specs.Comparing.{compare_validations, comparer_of, comparers, comparing, entry_of, failing_pair, holds_as_much, is_covered, is_in}
-pub use Rattle.vms_check.specs.Comparing.{is_kept, names_match, no_comparer, pair_rules, pair_structs, paired_device, position_from, present, present_from}
+pub use Rattle.vms_check.specs.Comparing.{is_kept, names_match, no_comparer, pair_rules, pair_structs, position_from, present, present_from}
 pub use Rattle.vms_check.specs.Comparing.{same_constant, same_count, same_item, same_rest, uncovered_rules}
 unfoldable pub use Rattle.vms_check.specs.Comparing.{first_mismatch}
 pub use Rattle.vms_check_laws.proofs.{Parts.devices_clash, Premises.Two, Premises.kinds_same, Wholes.at_map, Wholes.fits_whole, Wholes.saved}

@@ -1,8 +1,8 @@
 -- Which rule an answer of the comparison is of, and at which part.
 use Rattle.vms_counter_laws.proofs.Facade.{◌≡◌, ◌⊎◌, inl, inr, ℕ, zero, suc, ◌+◌, ◌<◌, Bool, true, false, List, [], ◌∷◌, length, get_or, if◌then◌else◌, Option}
 use Rattle.vms_counter_laws.proofs.Facade.{Some, None, refl, arith, slice_get, list_all, Item, Struct, Part, Place, or_else, first_answer, Cell, first, no_desc}
-use Rattle.vms_counter_laws.proofs.Facade.{struct_cells, Desc, Sub, Device, Set, is_one_of, find_sub, index, is_version_of, here, in_field, Mismatch}
-use Rattle.vms_counter_laws.proofs.Facade.{first_mismatch, comparing, compare_device, compare_sub, compare_subs, paired_device, is_in, Entry, Comparer}
+use Rattle.vms_counter_laws.proofs.Facade.{struct_cells, Desc, Sub, Device, Set, is_one_of, index, is_version_of, here, in_field, Mismatch}
+use Rattle.vms_counter_laws.proofs.Facade.{first_mismatch, comparing, compare_device, compare_sub, is_in, Entry, Comparer}
 use Rattle.vms_counter_laws.proofs.Facade.{no_comparer, comparer_of, comparers, compare_desc, compare_fields, compare_validations, failing_pair, is_covered}
 use Rattle.vms_counter_laws.proofs.Facade.{is_kept, pair_rules, pair_structs, present, position_from, same_rest, uncovered_rules, reduced, one_more, compared}
 use Rattle.vms_spec.specs.declared.Part.TheVariants as parts

@@ -1,6 +1,6 @@
 -- Streams with a machine, and their heads.
 use Rattle.vms_counter_laws.proofs.Facade.{◌≡◌, ℕ, ◌^◌, ◌<◌, List, [], ◌++◌, length, refl, sym, ap, ◌∙◌, append_assoc, Bool, true, false, ◌&&◌, ◌∷◌, get_or}
-use Rattle.vms_counter_laws.proofs.Facade.{Option, Some, None, arith, slice_get, list_all, bytes_eq, or_left, or_right, bytes_eq-Decides, be32, section_head}
+use Rattle.vms_counter_laws.proofs.Facade.{Option, Some, None, arith, list_all, or_left, or_right, bytes_eq-Decides, be32, section_head}
 use Rattle.vms_counter_laws.proofs.Facade.{stream_head, configuration, is_one_of, IsConfiguration, be32_read, apart, Device, Set, Image, HasSection}
 use Rattle.vms_counter_laws.proofs.Facade.{SectionsSpell, Takes, lacking}
 

@@ -1,5 +1,5 @@
 -- Worked pairs of sets.
-use Rattle.vms_counter_laws.proofs.Facade.{◌≡◌, ℕ, List, [], ◌∷◌, Some, None, pos, refl, codes, code, U8, U16, Struct, Counted, Place, first, Set, Desc, Field}
+use Rattle.vms_counter_laws.proofs.Facade.{◌≡◌, ℕ, List, [], ◌∷◌, Some, None, pos, codes, code, U8, U16, Struct, Counted, Place, first, Set, Desc, Field}
 use Rattle.vms_counter_laws.proofs.Facade.{set_1, set_3, here, in_field, number, box, box_set, sub_of, counted_set, subsection_set, reading, between_at}
 use Rattle.vms_counter_laws.proofs.Facade.{behind_at, trailer_at, Mismatch, first_mismatch, default_images, Answer, AreCompatible, NoState, State, computed}
 use Rattle.vms_spec.specs.declared.Part.TheVariants as parts

@@ -1,11 +1,11 @@
 -- The laws as they are stated.
-use Rattle.vms_counter_laws.proofs.{Facade.AlwaysLaw, Facade.ComputedLaw, Always.shown, OneAnswer.stream_bytes}
-use Rattle.vms_counter_laws.proofs.Facade.{◌≡◌, ℕ, zero, suc, Bool, true, false, List, [], ◌∷◌, length, Option, Some, None, refl, arith, if◌then◌else◌}
-use Rattle.vms_counter_laws.proofs.Facade.{slice_get, Decides, Decides-and, Decides-like, IsBytes, Device, Set, FitsHeads, Image, Reading, Accepted, Refused}
-use Rattle.vms_counter_laws.proofs.Facade.{AreReady, IsReady, WellFormed, ready_decides, Fault, reading, at_start, by_state, Taken, Faulty, state_refuses}
-use Rattle.vms_counter_laws.proofs.Facade.{accepted_holds, told_holds, either_holds, never_both_holds, Mismatch, first_mismatch, candidates, default_images}
-use Rattle.vms_counter_laws.proofs.Facade.{machine_for, Refusal, Answer, AreCompatible, NoState, State, stream_of, Shows, IsFirst, Here, Later, NoneShows}
-use Rattle.vms_counter_laws.proofs.Facade.{Counters, Agree, Lacks, Finds, all_ready, answer_to, first_refused, or_next, refused, refusal_of, NamedLaw}
+use Rattle.vms_counter_laws.proofs.{Facade.NamedLaw, Always.shown, OneAnswer.stream_bytes}
+use Rattle.vms_counter_laws.proofs.Facade.{AlwaysLaw, ComputedLaw, ◌≡◌, ℕ, zero, suc, Bool, true, false, List, [], ◌∷◌, length, Option, Some, None, refl, arith}
+use Rattle.vms_counter_laws.proofs.Facade.{if◌then◌else◌, slice_get, Decides, Decides-and, Decides-like, IsBytes, Device, Set, FitsHeads, Image, Reading}
+use Rattle.vms_counter_laws.proofs.Facade.{Accepted, Refused, AreReady, IsReady, WellFormed, ready_decides, Fault, reading, at_start, by_state, Taken, Faulty}
+use Rattle.vms_counter_laws.proofs.Facade.{state_refuses, accepted_holds, told_holds, either_holds, never_both_holds, Mismatch, first_mismatch, candidates}
+use Rattle.vms_counter_laws.proofs.Facade.{default_images, machine_for, Refusal, Answer, AreCompatible, NoState, State, stream_of, Shows, IsFirst, Here, Later}
+use Rattle.vms_counter_laws.proofs.Facade.{NoneShows, Counters, Agree, Lacks, Finds, all_ready, answer_to, first_refused, or_next, refused, refusal_of}
 use Rattle.vms_stream.specs.{State.State as Standing, StreamLaws.Answer as Either}
 
 -- ---- a state that is named

@@ -1,5 +1,5 @@
 -- The paths of a device's cells.
-use Rattle.vms_elements.proofs.{Walk.walks, Walk.numbers_long, Members.Each, Members.Has, PathsOf.IsAt, PathsOf.Tells, PathsOf.each_tells, PathsOf.path_stands}
+use Rattle.vms_elements.proofs.{Walk.walks, Walk.numbers_long, Members.Each, Members.Has, PathsOf.IsAt, PathsOf.each_tells, PathsOf.path_stands}
 use Rattle.vms_elements.proofs.Facade.{DistinctLaw, PathLaw, ◌≡◌, ℕ, zero, suc, ◌+◌, ◌<◌, ◌≤◌, List, [], ◌∷◌, ◌++◌, length, get_or, refl, ap, ◌∙◌, arith, Bool}
 use Rattle.vms_elements.proofs.Facade.{true, false, if◌then◌else◌, Option, Some, None, inl, inr, flat_map, slice_get, Desc, Sub, Device, Set, Cell, no_cell}
 use Rattle.vms_elements.proofs.Facade.{desc_cells, struct_cells, device_cells, sub_place, own_cells, path_at, desc_of_sub, cell_in, cell_at, What, Element}
@@ -10,7 +10,7 @@ use Rattle.vms_elements.proofs.Facade.{Number, is_number, numbers_in, cells_of, 
 number_has : (path : List (ℕ × ℕ)) (c : ℕ) (xs : List Element) → Has (IsAt path c) xs → Has (IsAt path c) (numbers_in xs)
 number_has path c [] h = absurd h
 number_has path c (x ∷ xs) (inl p) = rw p.2 (inl p)
-number_has path c (x ∷ xs) (inr h) = by_test (is_number x.what) (number_has path c xs h)
+number_has path c (x ∷ xs) (inr h) = by_test _ (number_has path c xs h)
   where
     by_test : (b : Bool) → Has (IsAt path c) (numbers_in xs) → Has (IsAt path c) (if b then x ∷ numbers_in xs else numbers_in xs)
     by_test true k = inr k
@@ -28,8 +28,8 @@ counts_within path c base (x ∷ xs) (e, up) (inr h) = let w = counts_within pat
 one_path : (path path' : List (ℕ × ℕ)) (c base : ℕ) (xs : List Element) → CountsUp base xs → Has (IsAt path c) xs → Has (IsAt path' c) xs → path ≡ path'
 one_path path path' c base [] up h k = absurd h
 one_path path path' c base (x ∷ xs) (e, up) (inl p) (inl q) = cc
-one_path path path' c base (x ∷ xs) (e, up) (inl (at, is, number)) (inr k) = let w = counts_within path' c (base + 1) xs up k in absurd (omega arith)
-one_path path path' c base (x ∷ xs) (e, up) (inr h) (inl (at, is, number)) = let w = counts_within path c (base + 1) xs up h in absurd (omega arith)
+one_path path path' c base (x ∷ xs) (e, up) (inl (at, is, number)) (inr k) = let w = counts_within path' c _ xs up k in absurd (omega arith)
+one_path path path' c base (x ∷ xs) (e, up) (inr h) (inl (at, is, number)) = let w = counts_within path c _ xs up h in absurd (omega arith)
 one_path path path' c base (x ∷ xs) (e, up) (inr h) (inr k) = one_path path path' c (base + 1) xs up h k
 
 -- the number of a cell, which holds P
@@ -79,10 +79,10 @@ module _ (set : Set) (d : Desc) (base : ℕ) where
   has path c h = number_has path c all (path_stands set path d base c h 0 [])
 
   inside : (path : List (ℕ × ℕ)) (c : ℕ) → IsPath path c → Within base whole c
-  inside path c h = let w = counts_within path c base (numbers_in all) laid (has path c h) in rw (numbers_long all, cells) at w
+  inside path c h = let w = counts_within path c base _ laid (has path c h) in rw (numbers_long all, cells) at w
 
   same_path : (path path' : List (ℕ × ℕ)) (c : ℕ) → IsPath path c → IsPath path' c → path ≡ path'
-  same_path path path' c h k = one_path path path' c base (numbers_in all) laid (has path c h) (has path' c k)
+  same_path path path' c h k = one_path path path' c base _ laid (has path c h) (has path' c k)
 
   -- a cell of the description has this path
   record HasOwnPath (c : ℕ) (x : Cell) : Type 0 where
@@ -92,7 +92,7 @@ module _ (set : Set) (d : Desc) (base : ℕ) where
 
   own_path : (c k : ℕ) → c ≡ base + k → k < whole → HasOwnPath c (get_or (desc_cells (struct_cells set) d) k no_cell)
   own_path c k is lt =
-      let p = pick (Tells set (length set.structs) d base) base c k all is (rw cells lt) laid (each_tells set d 0 [] base) in
+      let p = pick _ base c k all is (rw cells lt) laid (each_tells set d 0 [] base) in
       let t = p.holds (get_or (cells_of all) k no_cell) p.what in
       let names = rw cells at t.1 in
       record { path = p.element.path; has_it = t.0 ∙ ap Some p.place; names = names }
@@ -112,7 +112,7 @@ module _ (set : Set) where
   no_desc_path (s ∷ path) below base c h = cc
 
   sub_low : (base : ℕ) (subs : List Sub) (j : ℕ) (path : List (ℕ × ℕ)) (c : ℕ) → InSub base subs j path c → base ≤ c
-  sub_low base [] j path c h = absurd (no_desc_path path (length set.structs) (sub_place set base [] j) c h)
+  sub_low base [] j path c h = absurd (no_desc_path path _ _ c h)
   sub_low base (s ∷ subs) zero path c h = (inside set s.desc base path c h).low
   sub_low base (s ∷ subs) (suc j) path c h = omega (arith, sub_low (base + size s) subs j path c h)
 
@@ -122,10 +122,10 @@ module _ (set : Set) where
   apart d base next subs j path path' c le h k = omega (arith, (inside set d base path c h).high, sub_low next subs j path' c k)
 
   same_sub : (base : ℕ) (subs : List Sub) (j j' : ℕ) (path path' : List (ℕ × ℕ)) (c : ℕ) → InSub base subs j path c → InSub base subs j' path' c → ArePaths (Some j) (Some j') path path'
-  same_sub base [] j j' path path' c h k = absurd (no_desc_path path (length set.structs) (sub_place set base [] j) c h)
+  same_sub base [] j j' path path' c h k = absurd (no_desc_path path _ _ c h)
   same_sub base (s ∷ subs) zero zero path path' c h k = record { same_part = refl; same_path = same_path set s.desc base path path' c h k }
-  same_sub base (s ∷ subs) zero (suc j') path path' c h k = absurd (apart s.desc base (base + size s) subs j' path path' c (omega arith) h k)
-  same_sub base (s ∷ subs) (suc j) zero path path' c h k = absurd (apart s.desc base (base + size s) subs j path' path c (omega arith) k h)
+  same_sub base (s ∷ subs) zero (suc j') path path' c h k = absurd (apart s.desc base _ subs j' path path' c (omega arith) h k)
+  same_sub base (s ∷ subs) (suc j) zero path path' c h k = absurd (apart s.desc base _ subs j path' path c (omega arith) k h)
   same_sub base (s ∷ subs) (suc j) (suc j') path path' c h k =
       let e = same_sub (base + size s) subs j j' path path' c h k in
       let one : j ≡ j' = cc in
@@ -134,9 +134,9 @@ module _ (set : Set) where
   same_at : (o : Option Device) (part part' : Option ℕ) (path path' : List (ℕ × ℕ)) (c : ℕ) → cell_in set o part path ≡ Some c → cell_in set o part' path' ≡ Some c → ArePaths part part' path path'
   same_at None part part' path path' c h k = cc
   same_at (Some d) None None path path' c h k = record { same_part = refl; same_path = same_path set d.desc 0 path path' c h k }
-  same_at (Some d) None (Some j) path path' c h k = absurd (apart d.desc 0 (own_cells set d) d.subs j path path' c (omega arith) h k)
-  same_at (Some d) (Some j) None path path' c h k = absurd (apart d.desc 0 (own_cells set d) d.subs j path' path c (omega arith) k h)
-  same_at (Some d) (Some j) (Some j') path path' c h k = same_sub (own_cells set d) d.subs j j' path path' c h k
+  same_at (Some d) None (Some j) path path' c h k = absurd (apart d.desc 0 _ d.subs j path path' c (omega arith) h k)
+  same_at (Some d) (Some j) None path path' c h k = absurd (apart d.desc 0 _ d.subs j path' path c (omega arith) k h)
+  same_at (Some d) (Some j) (Some j') path path' c h k = same_sub _ d.subs j j' path path' c h k
 
   -- ---- each cell's path
 
@@ -169,7 +169,7 @@ module _ (set : Set) where
       (λ j e l. let p = sub_path (own_cells set d) d.subs c j e l in record { part = Some p.sub; path = p.path; has = rw there p.has_it; names = p.names })
 
 pub distinct_law : DistinctLaw
-distinct_law set k part part' path path' c h e = same_at set (slice_get set.devices k) part part' path path' c h e
+distinct_law set k part part' path path' c h e = same_at set _ part part' path path' c h e
 
 pub path_law : PathLaw
 path_law set k d c there lt = let f = device_path set k d c there lt in record { part = f.part; path = f.path; has = f.has; names = f.names }

@@ -1,13 +1,12 @@
 -- The lines of the counted numbers are the text of a description.
-use Rattle.vms_elements.proofs.{Arrays.array_of, Arrays.outs, Tables.both, Tables.shapes_cells}
+use Rattle.vms_elements.proofs.{Arrays.array_of, Arrays.outs, Tables.both, Tables.shapes_cells, Facade.machine_lines, Facade.values_lines, Facade.is_number}
 use Rattle.vms_elements.proofs.Facade.{◌≡◌, ℕ, zero, suc, ◌+◌, ◌≤◌, List, ◌∷◌, ◌++◌, length, get_or, map, ℤ, refl, sym, ◌∙◌, arith, Bool, true, false, ◌&&◌}
-use Rattle.vms_elements.proofs.Facade.{two_more, if◌then◌else◌, append-nil, append_assoc, Option, Some, None, codes, [], map-append, decimal, Item, Num}
-use Rattle.vms_elements.proofs.Facade.{Struct, Count, One, Fixed, Counted, Field, Desc, Sub, Device, Set, Image, own_cells, no_desc, first, counted}
-use Rattle.vms_elements.proofs.Facade.{capacity_of, elements_of, item_size, desc_cells, struct_cells, Printer, no_printer, printer, printers, item_lines}
-use Rattle.vms_elements.proofs.Facade.{element_lines, array_lines, field_lines, desc_lines, values_text, version_text, pick_append, first_cells, elements_fit}
-use Rattle.vms_elements.proofs.Facade.{first_long, Element, Shape, no_shape, shape, shapes, cells_in, dotted, behind, item_elements, Stand, stand_of}
-use Rattle.vms_elements.proofs.Facade.{array_elements, field_elements, elements_from, desc_elements, index_text, text_of, printed, number_line, number_lines}
-use Rattle.vms_elements.proofs.Facade.{subs_lines, device_lines, devices_lines, machine_lines, values_lines, is_number}
+use Rattle.vms_elements.proofs.Facade.{two_more, if◌then◌else◌, append-nil, append_assoc, Option, Some, None, codes, [], map-append, decimal, Item, Num, Struct}
+use Rattle.vms_elements.proofs.Facade.{Count, One, Field, Desc, Sub, Device, Set, Image, own_cells, no_desc, first, counted, capacity_of, elements_of}
+use Rattle.vms_elements.proofs.Facade.{item_size, desc_cells, struct_cells, Printer, no_printer, printer, printers, item_lines, element_lines, array_lines}
+use Rattle.vms_elements.proofs.Facade.{field_lines, desc_lines, values_text, version_text, pick_append, first_cells, elements_fit, first_long, Element, Shape}
+use Rattle.vms_elements.proofs.Facade.{no_shape, shape, cells_in, dotted, behind, item_elements, Stand, stand_of, array_elements, field_elements, elements_from}
+use Rattle.vms_elements.proofs.Facade.{desc_elements, index_text, text_of, printed, number_line, number_lines, subs_lines, device_lines, devices_lines}
 use Rattle.vms_spec.specs.Values as texts
 
 pub text_append : (xs ys : List (List ℕ)) → text_of (xs ++ ys) ≡ text_of xs ++ text_of ys
@@ -16,7 +15,7 @@ text_append (x ∷ xs) ys = rw (text_append xs ys) (sym (append_assoc x (10 ∷ 
 
 pub printed_append : (xs ys : List Element) → printed (xs ++ ys) ≡ printed xs ++ printed ys
 printed_append [] ys = refl
-printed_append (x ∷ xs) ys = pick_append (x.counted && is_number x.what) x _ _ _ (printed_append xs ys)
+printed_append (x ∷ xs) ys = pick_append _ x _ _ _ (printed_append xs ys)
 
 -- the text of the counted numbers, under a path
 abbrev under : List ℕ → List ℤ → List Element → List ℕ
@@ -73,12 +72,11 @@ module _ (ss : List Shape) (ps : List Printer) (cells : cells_in ss ≡ map (λ 
       go c is to names = rw (← is, ← cells) (array_printed path n f (stand_of i f v own) (counted i fields) (item_size (cells_in ss) f.item) to (λ e. rw is (names e)) (capacity_of f.count) at (elements_fit f.count own))
 
       many : (c : Count) → f.count ≡ c → ((e : ℕ) → index_text c e ≡ codes "[" ++ (decimal e ++ codes "]")) → under path n (field_elements ss fields v own n i at f) ≡ element_lines ps f.item (path ++ f.name) n at (item_size (map (λ p. p.cells) ps) f.item) 0 (elements_of c own)
-      many c is text = go c is (λ e. (path ++ f.name) ++ codes "[" ++ decimal e ++ codes "]") (λ e. rw (text e) (simp append_assoc)) ∙ lines_all f.item (path ++ f.name) n _ 0 (elements_of c own) at
+      many c is text = go c is (λ e. (path ++ f.name) ++ codes "[" ++ decimal e ++ codes "]") (λ e. rw (text e) (simp append_assoc)) ∙ lines_all f.item _ n _ 0 _ at
 
       by : (c : Count) → f.count ≡ c → under path n (field_elements ss fields v own n i at f) ≡ array_lines ps f.item c own (path ++ f.name) n at
       by One is = go One is (λ e. path ++ f.name) (λ e. rw append-nil refl) ∙ append-nil _
-      by (Fixed k) is = many (Fixed k) is (λ e. refl)
-      by (Counted j most) is = many (Counted j most) is (λ e. refl)
+      by _ is = many _ is (λ e. refl)
 
   fields_printed : (path : List ℕ) (fields : List Field) (v : ℕ) (own : ℕ → ℕ) (n : List ℤ) (i at : ℕ) (fs : List Field)
       → under path n (elements_from ss fields v own n i at fs) ≡ field_lines ps fields own path n i at fs
@@ -86,7 +84,7 @@ module _ (ss : List Shape) (ps : List Printer) (cells : cells_in ss ≡ map (λ 
   fields_printed path fields v own n i at (f ∷ fs) = rw (under_append, field_printed path fields v own n i at f, fields_printed path fields v own n (suc i) _ fs, cells) refl
 
   desc_printed : (path : List ℕ) (d : Desc) (v : ℕ) (n : List ℤ) (at : ℕ) → under path n (desc_elements ss d v n at) ≡ desc_lines ps d path n at
-  desc_printed path d v n at = rw (under_append, append-nil, fields_printed path d.fields v _ n 0 at d.fields, cells) refl
+  desc_printed path d v n at = rw (under_append, append-nil, fields_printed path _ v _ n 0 at _, cells) refl
 
 same_cells : (ds : List Desc) (k : ℕ) → cells_in (first shape ds k) ≡ map (λ p. p.cells) (first printer ds k)
 same_cells ds k = cc (shapes_cells ds k, first_cells (λ (p : Printer). p.cells) printer (λ ps d. refl) ds k)
@@ -104,8 +102,7 @@ are_printed ds (suc k) j path n at =
 -- ---- the whole text
 
 pub numbers_text : (set : Set) (d : Desc) (n : List ℤ) (at : ℕ) → text_of (number_lines set d n at) ≡ desc_lines (printers set) d [] n at
-numbers_text set d n at =
-    desc_printed (shapes set) (printers set) (same_cells set.structs (length set.structs)) (are_printed set.structs (length set.structs)) [] d d.version n at
+numbers_text set d n at = desc_printed _ _ (same_cells _ _) (are_printed _ _) [] d _ n at
 
 four : (a b c d e g : List ℕ) → (a ++ (b ++ (c ++ d))) ++ (e ++ g) ≡ (a ++ (b ++ (c ++ (d ++ e)))) ++ g
 four a b c d e g = simp append_assoc refl
@@ -131,4 +128,4 @@ machine_text None = refl
 machine_text (Some name) = refl
 
 pub text_is : (set : Set) (machine : Option (List ℕ)) (images : List Image) → text_of (values_lines set machine images) ≡ values_text set machine images
-text_is set machine images = text_append (machine_lines machine) _ ∙ both _ _ _ _ (machine_text machine) (devices_text set set.devices images)
+text_is set machine images = text_append _ _ ∙ both _ _ _ _ (machine_text machine) (devices_text set _ images)

@@ -2,10 +2,10 @@
 use Rattle.vms_elements.proofs.Facade.{first_at, first_long, ◌≡◌, ℕ, zero, suc, ◌+◌, ◌*◌, ◌<◌, ◌≤◌, List, ◌∷◌, ◌++◌, length, get_or, map, ℤ, refl, sym, ap, ◌∙◌}
 use Rattle.vms_elements.proofs.Facade.{arith, Bool, true, false, ◌&&◌, nat_lt, if◌then◌else◌, Option, Some, None, [], inl, slice_get, ltb-true, ltb-false}
 use Rattle.vms_elements.proofs.Facade.{lt-ltb, slice_get-get_or, get_or_past, Kind, Item, Num, Struct, Field, Desc, Set, Cell, no_desc, first, counted}
-use Rattle.vms_elements.proofs.Facade.{capacity_of, item_size, field_cells, desc_cells, place_of, numbers_of, all_hold, item_at, element_at, path_at, Element}
-use Rattle.vms_elements.proofs.Facade.{Shape, no_shape, shape, cells_in, dotted, behind, single, Number, Rule, item_elements, Stand, stand_of, array_elements}
+use Rattle.vms_elements.proofs.Facade.{capacity_of, item_size, field_cells, desc_cells, place_of, numbers_of, item_at, element_at, path_at, Element}
+use Rattle.vms_elements.proofs.Facade.{Shape, no_shape, shape, cells_in, dotted, behind, single, Number, item_elements, Stand, stand_of, array_elements}
 use Rattle.vms_elements.proofs.Facade.{field_elements, elements_from, desc_elements, index_text, is_number, elements_in, last_field, field_named, IsFieldOf}
-use Rattle.vms_elements.proofs.Members.{Each, each_append, each_map, Has, has_left, has_right, has_map}
+use Rattle.vms_elements.proofs.Members.{Each, all_both, all_map, Has, has_left, has_right, has_map}
 use Rattle.vms_elements.proofs.Tables.{shapes_cells}
 
 -- an element of a field that there is
@@ -57,9 +57,9 @@ module _ (set : Set) where
       by_test true t =
           let lt : j < below = ltb-true j below t in
           let d = get_or set.structs j no_desc in
-          rw (first_at shape set.structs no_shape below j lt)
-          (each_map (Tells j d place) (TellsItem below f place) dotted (dotted_tells below f j place d is t (slice_get-get_or set.structs j no_desc (omega arith)))
-          (desc_elements (first shape set.structs j) d d.version n place) (earlier j lt d d.version n place))
+          rw (first_at shape _ _ below j lt)
+          (all_map _ _ dotted (dotted_tells below f j place d is t (slice_get-get_or _ j _ (omega arith)))
+          _ (earlier j lt d d.version n place))
       by_test false t = rw (get_or_past ss j no_shape (omega (arith, first_long shape set.structs below, ltb-false j below t))) tt
   item_tells below le earlier f caps n place _ is = (λ cell what. cc, tt)
 
@@ -71,15 +71,15 @@ module _ (set : Set) where
   behind_tells : (below : ℕ) (d : Desc) (base i e place : ℕ) (f : Field) (text : List ℕ) (c p : Bool) → slice_get d.fields i ≡ Some f → nat_lt e (capacity_of f.count) ≡ true
       → place_of (sizes below) d.fields 0 base d.fields i + e * item_size (sizes below) f.item ≡ place → (x : Element) → TellsItem below f place x → Tells below d base (behind (i, e) text c p x)
   behind_tells below d base i e place f text c p there lt is x tells cell what =
-      let t = tells cell what in (element_is (sizes below) d base i e place f (item_at (into below x.path) x.path) there lt is ∙ t.0, rw there t.1)
+      let t = tells cell what in (element_is _ d base i e place f _ there lt is ∙ t.0, rw there t.1)
 
   array_tells : (below : ℕ) (d : Desc) (base : ℕ) (f : Field) (stand : Stand) (part : ℕ → List Element) (step : ℕ) → slice_get d.fields stand.number ≡ Some f
       → step ≡ item_size (sizes below) f.item → ((place : ℕ) → Each (TellsItem below f place) (part place))
       → (e n place : ℕ) → e + n ≤ capacity_of f.count → place_of (sizes below) d.fields 0 base d.fields stand.number + e * step ≡ place → Each (Tells below d base) (array_elements f stand part step e n place)
   array_tells below d base f stand part step there size h e zero place le is = tt
   array_tells below d base f stand part step there size h e (suc n) place le is =
-      each_append (Tells below d base) (map (behind (stand.number, e) _ _ _) (part place)) _
-      (each_map (TellsItem below f place) (Tells below d base) (behind (stand.number, e) (f.name ++ index_text f.count e) _ _)
+      all_both _ _ _
+      (all_map _ _ _
       (behind_tells below d base stand.number e place f (f.name ++ index_text f.count e) (nat_lt e stand.count) (stand.there && nat_lt e stand.count) there (lt-ltb e (capacity_of f.count) (omega arith)) (rw (← size) is)) (part place) (h place))
       (array_tells below d base f stand part step there size h (suc e) n (place + step) (omega arith) (grind (arith, is)))
 
@@ -92,18 +92,17 @@ module _ (set : Set) where
   fields_tell below le earlier d base v own n i place [] a = tt
   fields_tell below le earlier d base v own n i place (f ∷ fs) a =
       let ss = first shape set.structs below in
-      let cells : cells_in ss ≡ sizes below = shapes_cells set.structs below in
+      let cells : cells_in ss ≡ sizes below = shapes_cells _ below in
       let here = a i 0 (omega arith) in
-      each_append (Tells below d base) (field_elements ss d.fields v own n i place f) _
+      all_both (Tells below d base) (field_elements ss d.fields v own n i place f) _
       (array_tells below d base f (stand_of i f v own) (item_elements ss f.item (counted i d.fields) f.default n) (item_size (cells_in ss) f.item) here.0 (rw cells refl)
       (λ p. item_tells below le earlier f (counted i d.fields) n p f.item refl) 0 (capacity_of f.count) place (omega arith) (grind (arith, here.1)))
       (rw cells (fields_tell below le earlier d base v own n (suc i) (place + length (field_cells (sizes below) d.fields i f)) fs (λ j k at. a j (suc k) (omega arith))))
 
   desc_tells : (below : ℕ) → below ≤ length set.structs → ((j : ℕ) → j < below → Complete j) → Complete below
   desc_tells below le earlier d v n base =
-      let ss = first shape set.structs below in
-      let own = numbers_of (cells_in ss) d n base in
-      each_append (Tells below d base) (elements_from ss d.fields v own n 0 base d.fields) (single (base + length (desc_cells (cells_in ss) d)) (Rule (all_hold d.validate v own)) ∷ [])
+      let own = numbers_of (cells_in (first shape set.structs below)) d n base in
+      all_both _ _ _
       (fields_tell below le earlier d base v own n 0 base d.fields (λ j k at. let same : j ≡ k = omega arith in rw same (refl, refl))) (λ cell what. cc, tt)
 
   up_to : (most below : ℕ) → below ≤ most → below ≤ length set.structs → Complete below
@@ -137,9 +136,7 @@ module _ (set : Set) where
   in_fields ss fields v own n path c e f lt j i place (g ∷ fs) zero there at h =
       let same : f ≡ g = cc in
       let is : j ≡ i = omega arith in
-      let here = rw (is, same) at h in
-      let few = rw same at lt in
-      rw is (has_left _ _ _ (in_array g (stand_of i g v own) (item_elements ss g.item (counted i fields) g.default n) (item_size (cells_in ss) g.item) path c e _ 0 (capacity_of g.count) place e few (omega arith) refl here))
+      rw is (has_left _ _ _ (in_array g _ _ _ path c e _ 0 _ place e (rw same at lt) (omega arith) refl (rw (is, same) at h)))
   in_fields ss fields v own n path c e f lt j i place (g ∷ fs) (suc k) there at h =
       has_right _ (field_elements ss fields v own n i place g) _ (in_fields ss fields v own n path c e f lt j (suc i) (place + length (field_cells (cells_in ss) fields i g)) fs k there (omega arith) h)
 
@@ -178,7 +175,7 @@ module _ (set : Set) where
       own = numbers_of (cells_in ss) d n base
 
       cells : cells_in ss ≡ sizes below
-      cells = shapes_cells set.structs below
+      cells = shapes_cells _ below
 
       by_test : (b : Bool) → nat_lt e (capacity_of f.count) ≡ b
           → (if b then item_at (into below path) path f.item (place_of (sizes below) d.fields 0 base d.fields i + e * item_size (sizes below) f.item) else None) ≡ Some c
@@ -190,7 +187,7 @@ module _ (set : Set) where
 
   sound : (path : List (ℕ × ℕ)) → Sound path
   sound [] below d base c few h v n = cc
-  sound (s ∷ path) below d base c few h v n = in_desc path (sound path) below few d base s.0 s.1 c (slice_get d.fields s.0) refl h v n
+  sound (s ∷ path) below d base c few h v n = in_desc path (sound path) below few d base s.0 s.1 c _ refl h v n
 
   pub path_stands : (path : List (ℕ × ℕ)) (d : Desc) (base c : ℕ) → path_at set path (length set.structs) (Some d) base ≡ Some c → (v : ℕ) (n : List ℤ) → Has (IsAt path c) (elements_in set d v n base)
   path_stands path d base c h v n = sound path (length set.structs) d base c (omega arith) h v n

@@ -3,12 +3,12 @@ use Rattle.vms_elements.proofs.{Arrays.array_of, Arrays.outs, Tables.shapes_cell
 use Rattle.vms_elements.proofs.Facade.{◌≡◌, ℕ, zero, suc, ◌+◌, List, ◌∷◌, ◌++◌, length, get_or, map, ℤ, refl, sym, ap, ◌∙◌, arith, Bool, true, false, ◌&&◌}
 use Rattle.vms_elements.proofs.Facade.{two_more, if◌then◌else◌, [], Item, Struct, Field, Desc, Set, Slot, Meaning, no_meaning, no_desc, first, times, counted}
 use Rattle.vms_elements.proofs.Facade.{capacity_of, elements_of, item_size, item_slots, slots_from, desc_slots, meaning, meanings, pick_append, first_cells}
-use Rattle.vms_elements.proofs.Facade.{elements_fit, first_long, Element, Shape, no_shape, shape, shapes, cells_in, dotted, behind, item_elements, stand_of}
-use Rattle.vms_elements.proofs.Facade.{elements_from, desc_elements, slot_of, slots_of, elements_in}
+use Rattle.vms_elements.proofs.Facade.{elements_fit, first_long, Element, Shape, no_shape, shape, cells_in, dotted, behind, item_elements, stand_of}
+use Rattle.vms_elements.proofs.Facade.{elements_from, desc_elements, slots_of, elements_in}
 
 pub slots_append : (xs ys : List Element) → slots_of (xs ++ ys) ≡ slots_of xs ++ slots_of ys
 slots_append [] ys = refl
-slots_append (x ∷ xs) ys = pick_append x.present (slot_of x.cell x.what) _ _ _ (slots_append xs ys)
+slots_append (x ∷ xs) ys = pick_append _ _ _ _ _ (slots_append xs ys)
 
 slots_behind : (step : ℕ × ℕ) (text : List ℕ) (c p : Bool) (xs : List Element) → slots_of (map (behind step text c p) xs) ≡ (if p then slots_of xs else [])
 slots_behind step text c true [] = refl
@@ -56,7 +56,7 @@ module _ (ss : List Shape) (ms : List Meaning) (cells : cells_in ss ≡ map (λ 
       rw (slots_append, array, slots_all s.there slots step 0 (elements_of f.count own) at, fields_meant fields v own n (suc i) _ fs, cells) refl
 
   desc_meant : (d : Desc) (v : ℕ) (n : List ℤ) (at : ℕ) → slots_of (desc_elements ss d v n at) ≡ desc_slots ms d v n at
-  desc_meant d v n at = rw (slots_append, fields_meant d.fields v _ n 0 at d.fields, cells) refl
+  desc_meant d v n at = rw (slots_append, fields_meant _ v _ n 0 at _, cells) refl
 
 same_cells : (ds : List Desc) (k : ℕ) → cells_in (first shape ds k) ≡ map (λ m. m.cells) (meanings ds k)
 same_cells ds k = cc (shapes_cells ds k, first_cells (λ (m : Meaning). m.cells) meaning (λ ms d. refl) ds k)
@@ -72,4 +72,4 @@ are_meant ds (suc k) j n at =
     (first_long shape ds k ∙ sym (first_long meaning ds k)) (are_meant ds k) (shape ss d) (meaning ms d) (desc_meant ss ms (same_cells ds k) (are_meant ds k) d d.version) j n at
 
 pub elements_slots : (set : Set) (d : Desc) (v : ℕ) (n : List ℤ) (at : ℕ) → slots_of (elements_in set d v n at) ≡ desc_slots (meanings set.structs (length set.structs)) d v n at
-elements_slots set = desc_meant (shapes set) _ (same_cells set.structs (length set.structs)) (are_meant set.structs (length set.structs))
+elements_slots set = desc_meant _ _ (same_cells _ _) (are_meant _ _)

@@ -1,8 +1,7 @@
 -- The laws of one description and of the text, as they are stated.
-use Rattle.vms_elements.proofs.{SlotsOf.elements_slots, SlotsOf.slots_append, LinesOf.text_is}
+use Rattle.vms_elements.proofs.{SlotsOf.elements_slots, SlotsOf.slots_append, LinesOf.text_is, Facade.ElementsLaw, Facade.DeviceLaw, Facade.TextLaw}
 use Rattle.vms_elements.proofs.Facade.{◌≡◌, ℕ, List, [], ◌∷◌, length, map, Option, Some, None, ℤ, refl, arith, zero-add, flat_map, Sub, Device, Set, desc_cells}
-use Rattle.vms_elements.proofs.Facade.{struct_cells, device_cells, Image, own_cells, came_slots, Element, absent, slots_of, device_elements, sub_elements}
-use Rattle.vms_elements.proofs.Facade.{subs_elements, ElementsLaw, DeviceLaw, TextLaw}
+use Rattle.vms_elements.proofs.Facade.{struct_cells, device_cells, Image, came_slots, Element, absent, slots_of, device_elements, sub_elements, subs_elements}
 use Rattle.vms_elements.proofs.Walk.{Walks, is_absent, no_walk, step_walks, then_walks, walks}
 
 pub elements_law : ElementsLaw
@@ -32,12 +31,12 @@ subs_walk set (s ∷ subs) [] n place e = absurd (omega arith)
 subs_walk set (s ∷ subs) (o ∷ came) n place e = then_walks (sub_walks set s o n place) (subs_walk set subs came n _ (omega arith))
 
 device_walks : (set : Set) (d : Device) (image : Image) → length image.came ≡ length d.subs → Walks (device_cells set d) 0 (device_elements set d image) (device_elements set d image)
-device_walks set d image e = then_walks (walks set d.desc image.version image.version image.numbers image.numbers 0 0) (rw zero-add (subs_walk set d.subs image.came image.numbers (own_cells set d) e))
+device_walks set d image e = then_walks (walks set d.desc image.version image.version image.numbers image.numbers 0 0) (rw zero-add (subs_walk set d.subs _ _ _ e))
 
 pub device_law : DeviceLaw
 device_law set d image e =
     let w = device_walks set d image e in
-    record { cells = w.cells_are; in_order = w.up; slots = rw (slots_append, elements_slots set d.desc image.version image.numbers 0, subs_slots set d d.subs image.came image.numbers (own_cells set d)) refl }
+    record { cells = w.cells_are; in_order = w.up; slots = rw (slots_append, elements_slots set d.desc image.version image.numbers 0, subs_slots set d d.subs _ _ _) refl }
 
 pub text_law : TextLaw
 text_law set machine images = text_is set machine images

@@ -1,12 +1,11 @@
 -- One walk over the elements of a description, in two states side by side: their cells, their names, that the numbers count up, and
 -- that what is in the bytes is counted.
-use Rattle.vms_elements.proofs.{Members.Each, Members.each_append, Members.each_map, Tables.shapes_cells, Tables.cells_at}
-use Rattle.vms_elements.proofs.Facade.{◌≡◌, ℕ, zero, suc, ◌+◌, Bool, true, false, ◌&&◌, nat_lt, if◌then◌else◌, List, [], ◌∷◌, ◌++◌, length, get_or, map, ℤ}
-use Rattle.vms_elements.proofs.Facade.{refl, ap, ◌∙◌, subst, arith, append-nil, map-append, length-map, Item, Num, Struct, Field, Desc, Set, Cell, no_desc}
-use Rattle.vms_elements.proofs.Facade.{first, times, counted, item_cells, field_cells, cells_from, desc_cells, struct_cells, numbers_of, pick_append, size_same}
-use Rattle.vms_elements.proofs.Facade.{one_more, What, Number, Rule, Element, Shape, no_shape, shape, shapes, cells_in, dotted, behind, single, item_elements}
-use Rattle.vms_elements.proofs.Facade.{Stand, stand_of, array_elements, field_elements, elements_from, desc_elements, index_text, absent, is_number, numbers_in}
-use Rattle.vms_elements.proofs.Facade.{cells_with, cells_of, names_of, CountsUp, elements_in}
+use Rattle.vms_elements.proofs.{Tables.shapes_cells, Tables.cells_at, Facade.cells_with, Facade.cells_of, Members.Each, Members.all_both, Members.all_map}
+use Rattle.vms_elements.proofs.Facade.{names_of, CountsUp, elements_in, ◌≡◌, ℕ, zero, suc, ◌+◌, Bool, true, false, ◌&&◌, if◌then◌else◌, List, [], ◌∷◌, ◌++◌}
+use Rattle.vms_elements.proofs.Facade.{length, get_or, map, ℤ, refl, ap, ◌∙◌, subst, arith, append-nil, map-append, length-map, Item, Num, Struct, Field, Desc}
+use Rattle.vms_elements.proofs.Facade.{Set, Cell, no_desc, first, times, counted, item_cells, field_cells, cells_from, desc_cells, struct_cells, numbers_of}
+use Rattle.vms_elements.proofs.Facade.{pick_append, size_same, one_more, What, Number, Rule, Element, Shape, no_shape, shape, cells_in, dotted, behind, single}
+use Rattle.vms_elements.proofs.Facade.{item_elements, Stand, array_elements, field_elements, elements_from, desc_elements, absent, is_number, numbers_in}
 
 abbrev pub IsCounted : Element → Type 0
 IsCounted x = x.present ≡ true → x.counted ≡ true
@@ -26,7 +25,7 @@ cells_append (x ∷ xs) ys = cc (cells_append xs ys, by x.what)
 
 pub numbers_append : (xs ys : List Element) → numbers_in (xs ++ ys) ≡ numbers_in xs ++ numbers_in ys
 numbers_append [] ys = refl
-numbers_append (x ∷ xs) ys = pick_append (is_number x.what) x _ _ _ (numbers_append xs ys)
+numbers_append (x ∷ xs) ys = pick_append _ x _ _ _ (numbers_append xs ys)
 
 pub names_append : (xs ys : List Element) → names_of (xs ++ ys) ≡ names_of xs ++ names_of ys
 names_append xs ys = simp (numbers_append, map-append)
@@ -106,7 +105,7 @@ then_walks {c} {d} {at} {xs} {ys} {us} {vs} h g = record {
   cells_are = rw (cells_append, h.cells_are, g.cells_are);
   up = rw numbers_append (counts_append at _ _ h.up (rw (numbers_long xs, h.cells_are) g.up));
   names = rw (names_append xs us, names_append ys vs, h.names, g.names);
-  counted = each_append IsCounted xs us h.counted g.counted;
+  counted = all_both IsCounted xs us h.counted g.counted;
 }
 
 pub step_walks : {c : List Cell} {at : ℕ} {xs ys : List Element} {text : List ℕ} {f g : Element → Element} → IsStep text f → IsStep text g → Walks c at xs ys → Walks c at (map f xs) (map g ys)
@@ -114,7 +113,7 @@ step_walks {c} {at} {xs} {ys} {text} {f} {g} s t h = record {
   cells_are = cc (cells_map s xs);
   up = counts_map s at xs h.up;
   names = rw (names_map s xs, names_map t ys, h.names);
-  counted = each_map IsCounted IsCounted f s.counted xs h.counted;
+  counted = all_map IsCounted IsCounted f s.counted xs h.counted;
 }
 
 pub no_walk : (at : ℕ) → Walks [] at [] []
@@ -142,13 +141,12 @@ module _ (ss : List Shape) (walked : AreWalked ss) where
       → (e n a b x y : ℕ) → Walks (times n (λ _. c) x y) a (array_elements f s p step e n a) (array_elements f t q step e n b)
   array_walks f s t p q c step size h e zero a b x y = no_walk a
   array_walks f s t p q c step size h e (suc n) a b x y =
-      then_walks (step_walks (is_behind (s.number, e) (f.name ++ index_text f.count e) (nat_lt e s.count) s.there) (is_behind (t.number, e) (f.name ++ index_text f.count e) (nat_lt e t.count) t.there) (h a b))
+      then_walks (step_walks (is_behind _ _ _ _) (is_behind _ _ _ _) (h a b))
       (rw size (array_walks f s t p q c step size h (suc e) n (a + step) (b + step) (x + y) y))
 
   pub field_walks : (fields : List Field) (v w : ℕ) (own now : ℕ → ℕ) (n m : List ℤ) (i a b : ℕ) (f : Field)
       → Walks (field_cells (cells_in ss) fields i f) a (field_elements ss fields v own n i a f) (field_elements ss fields w now m i b f)
-  field_walks fields v w own now n m i a b f =
-      array_walks f (stand_of i f v own) (stand_of i f w now) _ _ _ _ (size_same (cells_in ss) f.item (counted i fields) f.default) (item_walks f.item (counted i fields) f.default n m) 0 _ a b 0 0
+  field_walks fields v w own now n m i a b f = array_walks f _ _ _ _ _ _ (size_same _ f.item _ _) (item_walks f.item _ _ n m) 0 _ a b 0 0
 
   pub fields_walk : (fields : List Field) (v w : ℕ) (own now : ℕ → ℕ) (n m : List ℤ) (i a b : ℕ) (fs : List Field)
       → Walks (cells_from (cells_in ss) fields i fs) a (elements_from ss fields v own n i a fs) (elements_from ss fields w now m i b fs)
@@ -171,7 +169,7 @@ are_walked ds (suc k) j n m a b =
     let ss = first shape ds k in
     let d = get_or ds k no_desc in
     one_more (λ (s : Shape). (n m : List ℤ) (a b : ℕ) → Walks s.cells a (s.elements n a) (s.elements m b)) no_shape (λ n m a b. no_walk a) ss (are_walked ds k)
-    (shape ss d) (desc_walks ss (are_walked ds k) d d.version d.version) j n m a b
+    (shape ss d) (desc_walks ss (are_walked ds k) d _ _) j n m a b
 
 pub walks : (set : Set) (d : Desc) (v w : ℕ) (n m : List ℤ) (a b : ℕ) → Walks (desc_cells (struct_cells set) d) a (elements_in set d v n a) (elements_in set d w m b)
-walks set d v w n m a b = rw (← (shapes_cells set.structs (length set.structs))) (desc_walks (shapes set) (are_walked set.structs (length set.structs)) d v w n m a b)
+walks set d v w n m a b = rw (← (shapes_cells set.structs (length set.structs))) (desc_walks _ (are_walked _ _) d v w n m a b)

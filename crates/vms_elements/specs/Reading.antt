@@ -1,6 +1,6 @@
 -- The machine and the images that a text says, or its first bad line in the first bad pass (docs/values.md).
 use Rattle.std.specs.Prelude.{◌≡◌, ◌⊎◌, ℕ, suc, ◌<◌, Bool, true, false, ◌||◌, ◌==◌, List, [], ◌∷◌, ◌++◌, length, get_or, map, Option, Some, None, ℤ, pos}
-use Rattle.std.specs.List.{list_all}
+use Rattle.std.specs.List.{AllByRecursion, list_all}
 use Rattle.vms_kinds.specs.declared.Kind.TheVariants.{U64, I64}
 use Rattle.vms_spec.specs.declared.ValuesReason.{ValuesReason}
 use Rattle.vms_spec.specs.Rules.{in_range}
@@ -61,8 +61,7 @@ AreShaped set (d ∷ devices) (image ∷ images) = IsShaped set d image × AreSh
 
 -- Each of these lines may be where it is.
 abbrev pub AreFine : List Entry → Type 0
-AreFine [] = Unit {0}
-AreFine (e ∷ es) = (line_reason e (entry_line e) ≡ None) × AreFine es
+AreFine = AllByRecursion (λ e. line_reason e (entry_line e) ≡ None)
 
 -- The first bad line of the first pass. The lines before it are fine lines of some images of the set, and it
 -- isn't one that may follow. All images with these lines require the same line there.

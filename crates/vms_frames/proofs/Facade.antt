@@ -2,7 +2,7 @@
 pub use Rattle.std.proofs.{lemmas.Int.to_z-of_z, lemmas.Option.same_Some, lemmas.Result.err_from_is_err_and, lemmas.Slice.Eq.bytes_eq-Decides}
 pub use Rattle.std.proofs.Common.{Bool, Err, List, None, Ok, Option, Result, Some, [], ap, append_assoc, arith, drop, drop_at, false, get_or, if◌then◌else◌}
 pub use Rattle.std.proofs.Common.{length, length-append, length-drop, nat_lt, not, refl, rules, slice_index, subst, suc, sym, take, take-append-drop, take_all}
-pub use Rattle.std.proofs.Common.{take_at, true, zero, ℕ, ℤ, ◌&&◌, ◌++◌, ◌+◌, ◌-◌, ◌<◌, ◌==◌, ◌^◌, ◌||◌, ◌∙◌, ◌∷◌, ◌≡◌, ◌≤◌}
+pub use Rattle.std.proofs.Common.{take_at, true, zero, ℕ, ℤ, ◌&&◌, ◌++◌, ◌+◌, ◌-◌, ◌<◌, ◌==◌, ◌^◌, ◌∙◌, ◌∷◌, ◌≡◌, ◌≤◌}
 pub use Rattle.std.proofs.lemmas.Bool.{eq-eqb, false_from_ne_true, le-ltb, lt-ltb, ltb-true, ne_eqb}
 pub use Rattle.std.proofs.lemmas.List.{append-nil, get_or-take, length-take-le, take-append-le}
 pub use Rattle.std.specs.{Int.w128, Str.bytes_eq}
@@ -12,7 +12,7 @@ pub use Rattle.vms_spec.specs.{declared.Reason.Reason, declared.TheConstants.LON
 pub use Rattle.vms_spec.specs.Units.{Configuration, Description, End, Foot, Long, Magic, Number, Piece, Start, Version}
 pub use Rattle.vms_bodies.proofs.{BodyOnly.if_false, FaultFields.bad_same, FaultFields.raw_same}
 pub use Rattle.vms_stream.proofs.Calls.Judged.{foot_row}
-pub use Rattle.vms_stream.specs.{SoFar.Footed, SoFar.Known, SoFar.Unknown, Table.alone, Table.first_row, Table.is_ram, Taking.nothing_known}
+pub use Rattle.vms_stream.specs.{SoFar.Footed, SoFar.Known, SoFar.Unknown, Table.alone, Table.first_row, Taking.nothing_known}
 pub use Rattle.vms_stream.specs.Dues.{AMagic, AVersion, AfterEnd, AfterFields, Due, Field, is_foot, raw}
 pub use Rattle.vms_stream.specs.Finding.{Cut, Whole, needs, sub_at, text_at}
 pub use Rattle.vms_stream.specs.Seen.{Bad, Good, Seen, Short, seen, seen_by, seen_in}
@@ -21,7 +21,7 @@ pub use Rattle.vms_frames.specs.Calls.{AnswersAfter, AnswersBehind, AnswersEnd, 
 pub use Rattle.vms_frames.specs.Calls.{due_of, held_of, in_section, step_long, tail_of, unit_of_step}
 pub use Rattle.vms_frames.specs.Reads.{BehindReads, BetweenReads, CutsShort, EndReads, Grows, HeadReads, IsBegun, IsLong, Passes, ReadsAs, ReadsBehind}
 pub use Rattle.vms_frames.specs.Reads.{ReadsCode, ReadsFoot, ReadsMagic, ReadsNext, ReadsStep, ReadsSub, ReadsText, ReadsTrailer, ReadsUnit, ReadsVersion}
-pub use Rattle.vms_frames.specs.Reads.{configuration_seen, described, foot_seen, head_seen, held_bytes, start_reason, start_seen, sub_long, IsMarkReason}
+pub use Rattle.vms_frames.specs.Reads.{configuration_seen, described, foot_seen, head_seen, held_bytes, IsStartReason, start_seen, sub_long, IsMarkReason}
 pub use Rattle.vms_frames.specs.Reads.{sub_seen}
 pub use Rattle.vms_frames.specs.declared.fault.FrameFault.{FrameFault, TheVariants.ReadFault, TheVariants.Refused}
 pub use Rattle.vms_frames.specs.declared.units.Behind.{Behind, TheVariants.Done, TheVariants.Next, TheVariants.Sub}

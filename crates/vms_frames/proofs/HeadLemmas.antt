@@ -1,9 +1,9 @@
 -- The heads of sections and of subsections, of configurations and of descriptions, and footers, by the bytes that came.
-use Rattle.vms_frames.proofs.Facade.{◌≡◌, ℕ, ◌+◌, ◌<◌, ◌≤◌, ◌==◌, ◌||◌, not, List, ◌++◌, length, get_or, take, drop, Bool, true, false, if◌then◌else◌, nat_lt}
+use Rattle.vms_frames.proofs.Facade.{◌≡◌, ℕ, ◌+◌, ◌<◌, ◌≤◌, ◌==◌, not, List, ◌++◌, length, get_or, take, drop, Bool, true, false, if◌then◌else◌, nat_lt}
 use Rattle.vms_frames.proofs.Facade.{Some, None, refl, sym, ap, ◌∙◌, arith, length-append, length-drop, take_all, le-ltb, lt-ltb, eq-eqb, ne_eqb, get_or-take}
 use Rattle.vms_frames.proofs.Facade.{length-take-le, number_at, bytes_at, Piece, Long, Start, Foot, head_in, sub_head_in, Known, Due, AfterFields, first_row}
-use Rattle.vms_frames.proofs.Facade.{alone, is_ram, needs, text_at, Seen, Good, Bad, Short, seen_in, seen_by, nothing_known, Section, step_long, unit_of_step}
-use Rattle.vms_frames.proofs.Facade.{in_section, head_seen, start_seen, start_reason, sub_seen, foot_seen}
+use Rattle.vms_frames.proofs.Facade.{alone, needs, text_at, Seen, Good, Bad, Short, seen_in, seen_by, nothing_known, Section, step_long, unit_of_step}
+use Rattle.vms_frames.proofs.Facade.{in_section, head_seen, start_seen, IsStartReason, Reason, sub_seen, foot_seen}
 use Rattle.vms_spec.specs.declared.Reason.TheVariants as reasons
 use Rattle.vms_stream.specs.SoFar as tails
 use Rattle.vms_spec.specs.Units.{SubHead as ASub}
@@ -97,24 +97,15 @@ start_cut unit rest some few =
     let n : get_or (unit ++ rest) 5 0 ≡ get_or unit 5 0 = byte_of_unit 5 unit rest (omega arith) in
     cut_short (IsBetween true false) nothing_known (6 + get_or (unit ++ rest) 5 0) (unit ++ rest) _ (omega (arith, length-append unit rest))
 
-start_by : (id : ℕ) (name : List ℕ) (n : ℕ)
-    → seen_by (first_row (alone (IsBetween true false) nothing_known (Start id name))) (Start id name) n ≡ Bad n (start_reason name)
-start_by id name n = by (is_ram name)
-  where
-    by : (ram : Bool)
-        → seen_by (if ram then Some (None, reasons.Ram) else if not ram || false then Some (None, reasons.Iterative) else None) (Start id name) n ≡ Bad n
-        (if ram then reasons.Ram else reasons.Iterative)
-    by true = refl
-    by false = refl
-
-pub start_whole : (unit rest : List ℕ) → length unit ≡ 6 + get_or unit 5 0 → start_seen (unit ++ rest) ≡ Bad (6 + get_or unit 5 0) (start_reason (drop 6 unit))
-start_whole unit rest long =
+pub start_whole : (unit rest : List ℕ) (reason : Reason) → length unit ≡ 6 + get_or unit 5 0 → IsStartReason (drop 6 unit) reason
+    → start_seen (unit ++ rest) ≡ Bad (6 + get_or unit 5 0) reason
+start_whole unit rest reason long is =
     let all = unit ++ rest in
     let k = get_or unit 5 0 in
     let n : get_or all 5 0 ≡ k = byte_of_unit 5 unit rest (omega arith) in
     seen_whole (IsBetween true false) nothing_known (6 + get_or all 5 0) all (Start (number_at 4 1 all) (bytes_at (get_or all 5 0) 6 all))
-    (omega (arith, length-append unit rest)) ∙ start_by (number_at 4 1 all) (bytes_at (get_or all 5 0) 6 all) (6 + get_or all 5 0)
-    ∙ rw (n, bytes_of_unit k 6 unit rest (omega arith), take_all k (drop 6 unit) (omega (arith, length-drop 6 unit))) refl
+    (omega (arith, length-append unit rest))
+    ∙ rw (n, bytes_of_unit k 6 unit rest (omega arith), take_all k (drop 6 unit) (omega (arith, length-drop 6 unit)), is (number_at 4 1 all)) refl
 
 -- ---- configurations and descriptions: a mark, a length, and that many bytes
 

@@ -3,7 +3,7 @@ ghost use Rattle.std.specs.Prelude.{◌≡◌, true, false, ◌∷◌, [], ◌�
 ghost use Rattle.vms_kinds.specs.Codes.{InRange};
 ghost use Rattle.vms_frames.specs.Calls.{IsNext, is_configuration, tail_of};
 ghost use Rattle.vms_io.specs.Told.{intake};
-ghost use Rattle.vms_frames.specs.Reads.{ReadsMagic, ReadsVersion, ReadsCode, ReadsStep, ReadsNext, ReadsBehind, ReadsSub, ReadsFoot, ReadsText, ReadsTrailer, IsBegun, held_bytes, head_seen, start_seen, configuration_seen, start_reason as start_reason_of, IsMarkReason};
+ghost use Rattle.vms_frames.specs.Reads.{ReadsMagic, ReadsVersion, ReadsCode, ReadsStep, ReadsNext, ReadsBehind, ReadsSub, ReadsFoot, ReadsText, ReadsTrailer, IsBegun, held_bytes, head_seen, start_seen, configuration_seen, IsStartReason, IsMarkReason};
 ghost use Rattle.vms_marks.specs.declared.description.TheConstants.{DESCRIPTION_FRONT, LONGEST_DESCRIPTION};
 
 use crate::fault::refused;
@@ -161,7 +161,7 @@ fn start<S: Source>(source: &mut S, at: u64, unit: Unit) -> Result<Step, FrameFa
 
 // Returns why the section `name`, which is sent in parts, is refused.
 fn start_reason(name: &[u8]) -> Reason
-    ensures { result ≡ start_reason_of name.now }
+    ensures { IsStartReason name.now result }
 {
     if name == b"ram".as_slice() {
         Reason::Ram

@@ -58,12 +58,12 @@ pub use Rattle.vms_frames.specs.Calls.{ReadsNumber, ahead, due_of, held_long, in
 pub use Rattle.vms_image.specs.Typed.{AreImagesOf, IsImageOf, Typed, default_at}
 pub use Rattle.vms_io.proofs.ReadingLemmas.{no_bytes, nothing_follows, reads_as, reads_both, reads_last, reads_told, takes_as, takes_none}
 pub use Rattle.vms_io.specs.{Causes.capped, Reading.Breaks, Reading.Last, Reading.MayFollow, Reading.On, Told.Intake, Told.intake}
-pub use Rattle.vms_load.specs.{Calls.section_due, Good.AreKept, Good.IsKept, Heads.sub_opened, Loads.Loads, declared.fault.LoadFault.LoadFault}
+pub use Rattle.vms_load.specs.{Calls.due_in, Calls.section_due, Good.AreKept, Good.IsKept, Heads.sub_opened, Loads.Loads, declared.fault.LoadFault.LoadFault}
 pub use Rattle.vms_load.specs.{declared.parts.Open.Open, declared.parts.Section.Section, declared.staged.Staged.Staged}
 pub use Rattle.vms_load.specs.Bodies.{AreOfKinds, HasMoved, IsOfKind, ReadsCapped, ReadsConstant, TakesAs, TakesOn, progress}
 pub use Rattle.vms_load.specs.Bounds.{desc_bytes, field_bytes, fields_bytes, item_bytes, struct_bytes}
 pub use Rattle.vms_load.specs.Exact.{EndsAtUnit, ExactLaw, GivesStream, IsRefusedAt, UnitLaw}
-pub use Rattle.vms_load.specs.Going.{GoesBehind, GoesOn, GoesSoFar, GoesThrough, IsSpent, LoadReads, course, fault_course}
+pub use Rattle.vms_load.specs.Going.{GoesBehind, GoesOn, GoesSoFar, GoesThrough, IsSpent, LoadReads, Moves, course, fault_course}
 pub use Rattle.vms_load.specs.Heads.{sub_opened_at, unfit, Unfit, device_opened, opened_at, opened_unless, reason_against, reason_against_sub, section_opened}
 pub use Rattle.vms_load.specs.Parts.{HoldsNone, IsIn, IsMoved, IsOpen, IsSame, OpensNext, after_fields, after_part, all_passed, bytes_of, bytes_of_part}
 pub use Rattle.vms_load.specs.Parts.{in_fields, part_base, part_desc, part_due, part_of, spot_in, state_in, subs_due}
@@ -71,7 +71,7 @@ pub use Rattle.vms_load.specs.Reading.{Failed, IsStopped, IsTaken, Told, Took, f
 pub use Rattle.vms_load.specs.Reading.{steps_long, take_append, take_steps, told, took_none}
 pub use Rattle.vms_load.specs.Reads.{IsBehind, IsRefused, LeadsOn, Onward, Reads, ReadsBehind, ReadsOn, Refuses, Settles, behind, concerning, reach}
 pub use Rattle.vms_load.specs.Staging.{AreShaped, HoldsAt, IsOf, ReadsAll, accepted_of, begun_at, devices_most, image_at, is_configured, is_first, most_given}
-pub use Rattle.vms_load.specs.Staging.{name_of, no_image, section_bytes, sections_due, spot_at, spot_of, state_of, stream_due, subs_bytes}
+pub use Rattle.vms_load.specs.Staging.{due_at, name_of, no_image, read_from, section_bytes, sections_due, spot_at, spot_of, state_of, stream_due, subs_bytes}
 pub use Rattle.vms_marks.specs.{declared.foot.TheConstants.FOOT_LENGTH, declared.head.Head.Head, declared.head.TheConstants.LONGEST_HEAD}
 pub use Rattle.vms_marks.specs.{declared.sub_head.TheConstants.LONGEST_SUB_HEAD}
 pub use Rattle.vms_parts.proofs.{Items.get_map_at}

@@ -4,7 +4,7 @@ use Rattle.vms_load.proofs.Facade.{◌^◌, [], IfErr, drop-drop, drop_all, Reas
 use Rattle.vms_load.proofs.Facade.{by_state, Seen, Good, Bad, Short, judge_seen, judge, advances, solid, Stand, ahead, Fails, AnswersSeen, FrameFault, Refusal}
 use Rattle.vms_load.proofs.Facade.{Onward, behind, LeadsOn, Refuses, Reads, ReadsOn, ReadsBehind, IsBehind, Settles, concerning, IsRefused, reach}
 use Rattle.vms_load.proofs.Facade.{LoadFault, reading_on, one_unit, Intake, On, takes_none, reads_as, reads_both, reads_last, course, fault_course, IsSpent}
-use Rattle.vms_load.proofs.Facade.{GoesOn, GoesSoFar, GoesBehind}
+use Rattle.vms_load.proofs.Facade.{GoesOn, GoesSoFar, GoesBehind, Moves}
 use Rattle.vms_io.specs.Reading.{Reads as Takes}
 use Rattle.vms_frames.specs.Reads.{fault_course as frame_course}
 use Rattle.vms_spec.specs.declared.Reason.TheVariants as reasons
@@ -156,6 +156,10 @@ spent_on : {X : Type 0} (from to end : Stand) (some most : ℕ) (result : Result
 spent_on from to end some most (Ok x) up more le k n e l = omega arith
 spent_on from to end some most (Err fault) up more le k n e l = omega arith
 
+spent_most : {X : Type 0} (from to : Stand) (some most : ℕ) (result : Result X LoadFault) (n : ℕ) → some ≤ most → IsSpent from to some result n → IsSpent from to most result n
+spent_most from to some most (Ok x) n le l = l
+spent_most from to some most (Err fault) n le l = omega arith
+
 -- whatever a call returns, it took the bytes by which the cursor has advanced
 pub spent_by : {X : Type 0} (from to : Stand) (most : ℕ) (result : Result X LoadFault) (n : ℕ) → n ≡ reach to - reach from → n ≤ most → IsSpent from to most result n
 spent_by from to most (Ok x) n e le = e
@@ -165,16 +169,17 @@ spent_by from to most (Err fault) n e le = le
 pub goes_here : (a : Intake) (next : Onward) (from : Stand) → a.given < 2 ^ 64 → GoesSoFar a a next next from from
 goes_here a next from counted = record { bytes = []; takes = takes_none a counted; long = omega arith; says = λ more f. leads_here (Some more) next from; cause = tt }
 
--- from a place on to the next, and from there on
-pub goes_further : {a b c : Intake} (reading middle next : Onward) (from to end : Stand) → from.at ≤ to.at → to.at ≤ end.at → reach from ≤ reach to → reach to ≤ reach end
-    → GoesSoFar a b reading middle from to → GoesSoFar b c middle next to end → GoesSoFar a c reading next from end
-goes_further reading middle next from to end h i up more p q =
-    reads_both (λ k n e l. omega arith) (λ all rest left l r. leads_on (Some all) (Some rest) (Some left) reading middle next from to end h i l r) p q
+-- a call that succeeds advances the cursor
+advances_by : {X : Type 0} (from to : Stand) (due : ℕ) (after : X → ℕ) (result : Result X LoadFault) → Moves from to due after result → OnOk result (from.at ≤ to.at) × OnOk result (reach from ≤ reach to)
+advances_by from to due after (Ok x) m = (m.0, m.1)
+advances_by from to due after (Err fault) m = (tt, tt)
 
-pub goes_on : {X : Type 0} {a b c : Intake} (some most : ℕ) (reading middle : Onward) (next : X → Onward) (from to end : Stand) (result : Result X LoadFault) → from.at ≤ to.at → OnOk result (to.at ≤ end.at)
-    → reach from ≤ reach to → OnOk result (reach to ≤ reach end) → reach to + some ≤ reach from + most → GoesSoFar a b reading middle from to → GoesOn b c some middle next to end result → GoesOn a c most reading next from end result
-goes_on some most reading middle next from to end result h i up more le p q =
-    reads_both (λ k n e l. spent_on from to end some most result up more le k n e l) (λ all rest left l r. reads_on (Some all) (Some rest) (Some left) reading middle next from to end result h i l r) p q
+-- what a call reads from the next place on, whatever it returns
+pub goes_on : {X : Type 0} {a b c : Intake} (some most due : ℕ) (after : X → ℕ) (reading middle : Onward) (next : X → Onward) (from to end : Stand) (result : Result X LoadFault) → from.at ≤ to.at
+    → reach from ≤ reach to → Moves to end due after result → reach to + some ≤ reach from + most → GoesSoFar a b reading middle from to → GoesOn b c some middle next to end result → GoesOn a c most reading next from end result
+goes_on some most due after reading middle next from to end result h up moves le p q =
+    let on = advances_by to end due after result moves in
+    reads_both (λ k n e l. spent_on from to end some most result up on.1 le k n e l) (λ all rest left l r. reads_on (Some all) (Some rest) (Some left) reading middle next from to end result h on.0 l r) p q
 
 -- a fault is reported alike whatever would follow
 pub goes_still : (X Y : Type 0) {a b : Intake} (most : ℕ) (reading : Onward) (next : X → Onward) (other : Y → Onward) (from to end : Stand) (e : LoadFault) → GoesOn {X = X} a b most reading next from to (Err e) → GoesOn {X = Y} a b most reading other from end (Err e)
@@ -195,6 +200,14 @@ pub behind_here : {X : Type 0} (a : Intake) (most : ℕ) (go : State → Onward)
     → ((more bytes : List ℕ) → IsBehind long at bytes from (Some more) → ReadsBehind go v next at long bytes to (Some more) (Err e)) → GoesBehind a a most go v next at long from to (Err e)
 behind_here a most go v next at long from to e ok counted h =
     goes_refused e ok (record { bytes = []; takes = takes_none a counted; long = omega arith; says = λ more f. h more; cause = tt })
+
+-- what a call reads after a unit, seen from that unit on
+pub goes_behind : {X : Type 0} {a b : Intake} (go : State → Onward) (v : Verdict State) (next : X → Onward) (long at : ℕ) (to end : Stand) (result : Result X LoadFault) (some most due : ℕ) (after : X → ℕ) → Moves to end due after result → some ≤ most
+    → (reading : Onward) (given : X → Onward) → ((rest left : List ℕ) → ReadsOn reading given to end (Some rest) (Some left) result → ReadsOn (behind go at v) next to end (Some rest) (Some left) result)
+    → GoesOn a b some reading given to end result → GoesBehind a b most go v next at long to end result
+goes_behind go v next long at to end result some most due after moves le reading given turns p =
+    reads_as (λ n l. spent_most to end some most result n le l)
+    (λ rest left r bytes b. read_behind go v next long at bytes to end (Some rest) (Some left) result b (advances_by to end due after result moves).0 (turns rest left r)) p
 
 -- a fault of a cursor, with the device concerned
 pub same_course : (section : Option ℕ) (e : FrameFault) → frame_course e ≡ fault_course (concerning section e)

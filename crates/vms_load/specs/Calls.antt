@@ -196,12 +196,6 @@ module _ (set : DescSet) where
   abbrev pub HasImages : Staged → Type 0
   HasImages staged = AreShaped (described set) staged.images.items
 
-  -- The images that a loader keeps are at their defaults, and there is room for those that it reads.
-  pub record IsRoom (images : List Typed) (staged : Staged) : Type 0 where
-    pub states : map untyped images ≡ map (default_image (described set)) (described set).devices
-    pub shaped : AreShaped (described set) images
-    pub spare : HasImages staged
-
   -- Nothing of a stream has been read.
   pub record IsRestarted (staged : Staged) : Type 0 where
     pub state : state_of (described set) staged Before ≡ at_start (described set)

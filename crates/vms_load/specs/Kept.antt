@@ -8,7 +8,7 @@ use Rattle.vms_load.specs.declared.loader.Loader.{Loader}
 
 -- The set of the loader.
 abbrev pub loads : Loader → Set
-loads loader = described loader.set
+loads loader = described loader.lean.set
 
 -- The images that the loader keeps.
 abbrev pub kept : Loader → List Image
@@ -16,4 +16,4 @@ kept loader = map untyped loader.images.items
 
 -- The length of the last stream, 0 before the first.
 abbrev pub taken_by : Loader → ℕ
-taken_by loader = loader.taken
+taken_by loader = loader.lean.taken

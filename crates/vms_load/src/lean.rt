@@ -9,6 +9,7 @@ use crate::LoadFault;
 use crate::staged::{Staged, spare_room};
 use crate::stream::stream;
 use std::alloc::Global;
+use std::mem::swap;
 use vms_desc::DescSet;
 use vms_image::Image;
 use vms_io::{NoMemory, Source};
@@ -79,6 +80,16 @@ impl LeanLoader {
         let taken = stream(&self.set, only, &mut self.staged, source)?;
         self.taken = taken;
         Ok(self.staged.machine)
+    }
+
+    /// Exchanges the images of the stream that was taken for `images`, of the same set.
+    pub(crate) fn exchange(&mut self, images: &mut Vec<Image>)
+        requires { AreShaped (loads self.old) images.old.items }
+        ensures taken { images.new ≡ self.old.staged.images }
+        ensures set { loads self.new ≡ loads self.old }
+        ensures long { taken_by self.new ≡ taken_by self.old }
+    {
+        swap(&mut self.staged.images, images);
     }
 
     /// Returns the images of the stream that was taken, one for each device of the set.

@@ -2,16 +2,14 @@
 ghost use Rattle.std.specs.Prelude.{◌≡◌, ◌<◌, map, IfOk, OnOk, OnErr};
 ghost use Rattle.vms_spec.specs.Images.{default_image};
 ghost use Rattle.vms_parts.specs.Views.{set_of};
-ghost use Rattle.vms_load.specs.Calls.{IsRoom};
 ghost use Rattle.vms_load.specs.Good.{AreKept, kept_once};
 ghost use Rattle.vms_image.specs.Typed.{AreImagesOf, state_of as untyped};
 ghost use Rattle.vms_load.specs.Staging.{AreShaped};
 
 use crate::LoadFault;
-use crate::staged::{Staged, default_images, spare_room};
-use crate::stream::stream;
+use crate::lean::LeanLoader;
+use crate::staged::default_images;
 use std::alloc::Global;
-use std::mem::swap;
 use vms_desc::DescSet;
 use vms_image::Image;
 use vms_io::{NoMemory, Source};
@@ -21,17 +19,14 @@ use vms_io::{NoMemory, Source};
 /// A stream that is refused changes nothing.
 #[derive(Drop)]
 pub struct Loader {
-    set: DescSet,
+    // Reads a stream, and has its images until it is complete.
+    lean: LeanLoader,
     // The images of the last stream that was taken.
     images: Vec<Image>,
-    taken: u64,
-    // What has been read of a stream that isn't complete.
-    staged: Staged,
-    ghost kept: { AreShaped (set_of set.parts) images.items },
-    ghost whole: { 0 < taken → AreKept (set_of set.parts)
-        (map untyped images.items) } by { kept_once taken (set_of set.parts)
+    ghost kept: { AreShaped (set_of lean.set.parts) images.items },
+    ghost whole: { 0 < lean.taken → AreKept (set_of lean.set.parts)
+        (map untyped images.items) } by { kept_once lean.taken (set_of lean.set.parts)
             (map untyped images.items) },
-    ghost spare: { AreShaped (set_of set.parts) staged.images.items },
 }
 
 impl Loader {
@@ -54,13 +49,9 @@ impl Loader {
             kept loader ≡ map (default_image (described set)) (described set).devices) }
         ensures taken { IfOk result (λ loader. taken_by loader ≡ 0) }
     {
-        let (images, staged) = room(alloc, &set)?;
-        Ok(Loader {
-            set,
-            images,
-            taken: 0,
-            staged,
-        })
+        let images = default_images(alloc, &set)?;
+        let lean = LeanLoader::new(alloc, set)?;
+        Ok(Loader { lean, images })
     }
 
     /// Reads one stream from `source` and returns the number of the machine that it names, or none.
@@ -93,10 +84,9 @@ impl Loader {
         ensures taken { OnErr result (taken_by self.new ≡ taken_by self.old) }
         ensures set { loads self.new ≡ loads self.old }
     {
-        let taken = stream(&self.set, only, &mut self.staged, source)?;
-        swap(&mut self.images, &mut self.staged.images);
-        self.taken = taken;
-        Ok(self.staged.machine)
+        let machine = self.lean.load(source, only)?;
+        self.lean.exchange(&mut self.images);
+        Ok(machine)
     }
 
     /// Returns the images of the last stream that was taken, or the defaults before the first.
@@ -115,21 +105,13 @@ impl Loader {
     pub fn taken(&self) -> u64
         ensures { result ≡ taken_by self.now }
     {
-        self.taken
+        self.lean.taken()
     }
 
     /// Returns the set whose streams the loader reads.
     pub fn set(&self) -> &DescSet
         ensures { described result.now ≡ loads self.now }
     {
-        &self.set
+        self.lean.set()
     }
-}
-
-// Returns the images that a loader of `set` keeps at first, and room for what it reads.
-fn room(alloc: Global, set: &DescSet) -> Result<(Vec<Image>, Staged), NoMemory>
-    ensures { IfOk result (λ room. IsRoom set.now room.0.items room.1) }
-{
-    let images = default_images(alloc, set)?;
-    Ok((images, spare_room(alloc, set)?))
 }

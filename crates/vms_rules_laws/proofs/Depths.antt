@@ -1,6 +1,6 @@
 -- Structures and tests have the number of levels that the walk computes.
 use Rattle.vms_rules_laws.proofs.Facade.{◌≡◌, ◌⊎◌, ℕ, zero, suc, ◌+◌, ◌<◌, ◌≤◌, max, nat_lt, true, false, List, [], ◌∷◌, length, get_or, length-append, inl}
-use Rattle.vms_rules_laws.proofs.Facade.{inr, refl, sym, ap, ◌∙◌, arith, max-le, le-max_left, le-max_right, cases_Bool, ltb-true, nat_tests, get_or_past}
+use Rattle.vms_rules_laws.proofs.Facade.{inr, refl, ap, arith, max-le, le-max_left, le-max_right, cases_Bool, ltb-true, nat_tests, get_or_past}
 use Rattle.vms_rules_laws.proofs.Facade.{get_or_from_slice_get, slice_get-get_or, slice_get_within, Item, Struct, first, no_desc, depth, nodes, Formula}
 use Rattle.vms_rules_laws.proofs.Facade.{AtLeast, Not, And, Or, Field, Desc, deepest, item_depth, struct_depths, first_at, first_long, At, IsWithinTest, Nests}
 use Rattle.vms_rules_laws.proofs.Facade.{UsesOn, parts_of}
@@ -64,17 +64,18 @@ as-deep sizes (g ∷ fs) (suc k) f e = let inner = as-deep sizes fs k f e in let
 module _ (ds : List Desc) where
   own-depth : (i : ℕ) (d : Desc) → At ds i d → depth_at ds i ≡ 1 + deepest (depths ds i) d.fields
   own-depth i d e =
-      first_at (λ earlier d. 1 + deepest earlier d.fields) ds 0 (length ds) i (slice_get_within ds i d e)
-      ∙ ap (λ x. 1 + deepest (depths ds i) x.fields) (get_or_from_slice_get ds i d no_desc e)
+      cc (first_at (λ earlier d. 1 + deepest earlier d.fields) ds 0 (length ds) i (slice_get_within ds i d e), get_or_from_slice_get ds i d no_desc e)
 
   -- the depth of an earlier structure
   earlier-depth : (i j : ℕ) → i < length ds → j < i → get_or (depths ds i) j 0 ≡ depth_at ds j
   earlier-depth i j l e =
-      first_at (λ earlier d. 1 + deepest earlier d.fields) ds 0 i j e ∙ sym
-      (first_at (λ earlier d. 1 + deepest earlier d.fields) ds 0 (length ds) j (omega arith))
+      cc (
+        first_at (λ earlier d. 1 + deepest earlier d.fields) ds 0 i j e,
+        first_at (λ earlier d. 1 + deepest earlier d.fields) ds 0 (length ds) j (omega arith),
+      )
 
   later-depth : (i j : ℕ) → i ≤ j → get_or (depths ds i) j 0 ≡ 0
-  later-depth i j l = let long = first_long (λ earlier d. 1 + deepest earlier d.fields) ds i in get_or_past (depths ds i) j 0 (omega arith)
+  later-depth i j l = let long = first_long (λ earlier d. 1 + deepest earlier d.fields) ds i in get_or_past _ j 0 (omega arith)
 
   pub deep_struct : (n i : ℕ) → i < length ds → UsesOn ds n i → n < depth_at ds i
   deep_struct zero i l h = let own = own-depth i (get_or ds i no_desc) (slice_get-get_or ds i no_desc l) in omega arith
@@ -110,5 +111,4 @@ module _ (ds : List Desc) where
 
   pub shallow_struct : (n i : ℕ) (d : Desc) → At ds i d → (UsesOn ds n i → ⊥) → depth_at ds i ≤ n
   shallow_struct zero i d e h = absurd (h tt)
-  shallow_struct (suc n) i d e h =
-      omega (arith, most-deep (depths ds i) n d.fields (λ k f g. bounded-item n i d e (shallow_struct n) h k f g f.item refl), own-depth i d e)
+  shallow_struct (suc n) i d e h = omega (arith, most-deep _ n _ (λ k f g. bounded-item n i d e (shallow_struct n) h k f g f.item refl), own-depth i d e)

@@ -1,13 +1,13 @@
 -- The eight rules hold exactly if the walk finds no fault.
-use Rattle.vms_rules_laws.proofs.{Depths.deep_struct, Depths.shallow_struct, Fields.all_eight, Fields.field_decides, Fields.validation_decides}
-use Rattle.vms_rules_laws.proofs.{Items.set_counts, Names.distinct_decides, Names.name_decides, Names.sub_name_decides}
+use Rattle.vms_rules_laws.proofs.{Depths.deep_struct, Depths.shallow_struct, Items.set_counts}
 use Rattle.vms_rules_laws.proofs.Facade.{◌≡◌, ℕ, zero, suc, ◌+◌, ◌<◌, ◌≤◌, Bool, true, false, not, nat_le, List, [], ◌∷◌, length, get_or, take, Option, None}
 use Rattle.vms_rules_laws.proofs.Facade.{le_decides, set_clean, inl, inr, refl, arith, Decides, list_any, leb-true, le-leb, or_left, or_right, Decides-and}
-use Rattle.vms_rules_laws.proofs.Facade.{Decides-eqb, Decides-like, Decides-not, slice_get_within, bytes_eq-Decides, MOST_ITEMS, Part, Place, first_answer}
-use Rattle.vms_rules_laws.proofs.Facade.{or_else, is_name, field_rules, is_small_test, validation_rules, Desc, Sub, Device, Set, desc_fault, device_fault}
-use Rattle.vms_rules_laws.proofs.Facade.{device_rules, devices_items, failing, first_fault, has_few, here, in_field, is_same_device, set_rules, size_rules}
-use Rattle.vms_rules_laws.proofs.Facade.{struct_depths, struct_fault, struct_items, struct_rules, sub_fault, sub_rules, AllTrue, both_none, Clean}
-use Rattle.vms_rules_laws.proofs.Facade.{device_parts, struct_clean, sub_clean, At, IsDesc, IsDevice, IsName, IsSteady, IsStruct, IsSub, EightLaw}
+use Rattle.vms_rules_laws.proofs.Facade.{Decides-eqb, Decides-like, Decides-not, slice_get_within, bytes_eq-Decides, Part, Place, first_answer, field_rules}
+use Rattle.vms_rules_laws.proofs.Facade.{validation_rules, Desc, Sub, Device, Set, desc_fault, device_fault, device_rules, failing, first_fault, has_few, here}
+use Rattle.vms_rules_laws.proofs.Facade.{in_field, is_same_device, set_rules, size_rules, struct_depths, struct_fault, struct_rules, sub_fault, sub_rules}
+use Rattle.vms_rules_laws.proofs.Facade.{AllTrue, both_none, Clean, device_parts, struct_clean, sub_clean, At, IsDesc, IsDevice, IsStruct, IsSub, EightLaw}
+use Rattle.vms_rules_laws.proofs.Fields.{all_eight, field_decides, validation_decides}
+use Rattle.vms_rules_laws.proofs.Names.{distinct_decides, name_decides, sub_name_decides}
 use Rattle.vms_rules_laws.proofs.Tests.{all_decides, names_decides, never, new_decides, small_decides, split, steady_decides}
 use Rattle.vms_spec.specs.declared.Part.TheVariants as parts
 
@@ -41,27 +41,26 @@ any_found p (x ∷ xs) (suc i) e = elim (split (p x) (list_any p (take i xs)) e)
 any_there : {X : Type 0} (p : X → Bool) (xs : List X) (i k : ℕ) (x : X) → k < i → At xs k x → p x ≡ true → list_any p (take i xs) ≡ true
 any_there p xs zero k x lt e t = absurd (omega arith)
 any_there p [] (suc i) k x lt e t = cc
-any_there p (y ∷ xs) (suc i) zero x lt e t = let same : x ≡ y = cc in or_left (p y) (list_any p (take i xs)) (rw same at t)
-any_there p (y ∷ xs) (suc i) (suc k) x lt e t = or_right (p y) (list_any p (take i xs)) (any_there p xs i k x (omega arith) e t)
+any_there p (y ∷ xs) (suc i) zero x lt e t = let same : x ≡ y = cc in or_left (p y) _ (rw same at t)
+any_there p (y ∷ xs) (suc i) (suc k) x lt e t = or_right (p y) _ (any_there p xs i k x (omega arith) e t)
 
 abbrev AreNone : Set → ℕ → Device → Type 0
 AreNone set i d = (j : ℕ) (e : Device) → j < i → At set.devices j e → (e.desc.name ≡ d.desc.name) × (e.instance ≡ d.instance) → ⊥
 
 same_decides : (name : List ℕ) (instance : ℕ) (e : Device) → Decides (is_same_device name instance e) ((e.desc.name ≡ name) × (e.instance ≡ instance))
-same_decides name instance e = Decides-and _ _ (bytes_eq-Decides e.desc.name name) (Decides-eqb e.instance instance)
+same_decides name instance e = Decides-and _ _ (bytes_eq-Decides _ name) (Decides-eqb e.instance instance)
 
 new_device_decides : (set : Set) (i : ℕ) (d : Device) → Decides (not (list_any (is_same_device d.desc.name d.instance) (take i set.devices))) (AreNone set i d)
 new_device_decides set i d =
     let same = is_same_device d.desc.name d.instance in
-    let decides = same_decides d.desc.name d.instance in
-    Decides-like _ (λ none j x lt there is. none (any_there same set.devices i j x lt there ((decides x).1 is)))
-    (λ h t. let r = any_found same set.devices i t in h r.0 r.1 r.2 r.3 ((decides r.1).0 r.4))
-    (Decides-not (list_any same (take i set.devices)) (λ e. e, λ e. e))
+    let decides = same_decides _ _ in
+    Decides-like _ (λ none j x lt there is. none (any_there same _ i j x lt there ((decides x).1 is)))
+    (λ h t. let r = any_found same _ i t in h r.0 r.1 r.2 r.3 ((decides r.1).0 r.4)) (Decides-not _ (λ e. e, λ e. e))
 
 -- ---- a description
 
 few_decides : (d : Desc) → Decides (has_few d) ((length d.fields ≤ 256) × (length d.validate ≤ 16))
-few_decides d = Decides-and _ _ (le_decides (length d.fields) 256) (le_decides (length d.validate) 16)
+few_decides d = Decides-and _ _ (le_decides _ 256) (le_decides _ 16)
 
 module _ (k : ℕ) (d : Desc) (rules : List Bool) where
   desc_on : Clean k d rules → nat_le d.minimum d.version ≡ true → (length d.fields ≤ 256) × (length d.validate ≤ 16) → IsDesc k d
@@ -75,7 +74,7 @@ module _ (k : ℕ) (d : Desc) (rules : List Bool) where
 
   desc_back : (part : Part) → AllTrue rules → IsDesc k d → desc_fault k d part rules ≡ None
   desc_back part own h =
-      both_none _ _ (none_failing 1 rules (here part) own)
+      both_none _ _ (none_failing 1 rules _ own)
       (both_none _ _ (from_zero _ d.fields (λ i f e. none_failing 1 (field_rules k d i f) (in_field part i) ((field_decides k d i f).1 (h.fields i f e))))
       (from_zero _ d.validate (λ i t e. none_failing 1 (validation_rules d t) (here part) ((validation_decides d t).1 (h.validations i t e)))))
 
@@ -84,10 +83,9 @@ module _ (k : ℕ) (d : Desc) (rules : List Bool) where
 struct_decides : (structs : List Desc) (i : ℕ) (d : Desc) → At structs i d
     → (Clean i d (struct_rules structs i d) → IsStruct structs i d) × (IsStruct structs i d → struct_fault structs i d ≡ None)
 struct_decides structs i d there =
-    let depth = get_or (struct_depths structs) i 0 in
     let named = name_decides 100 d.name in
-    let new = new_decides (λ e. e.name) structs i d.name in
-    let limits = Decides-and (has_few d) (nat_le depth 4) (few_decides d) (le_decides depth 4) in (
+    let new = new_decides (λ e. e.name) _ i d.name in
+    let limits = Decides-and _ _ (few_decides d) (le_decides (get_or (struct_depths structs) i 0) 4) in (
       λ c.
           let own = c.own in
           let few = limits.0 own.1.1.1.1.1.1.0 in
@@ -95,7 +93,7 @@ struct_decides structs i d there =
           record {
             named = named.0 own.0;
             new = new.0 own.1.0;
-            is = desc_on i d (struct_rules structs i d) c own.1.1.0 few.0;
+            is = desc_on i d _ c own.1.1.0 few.0;
             shallow = λ on. let deep = deep_struct structs 4 i (slice_get_within structs i d there) on in absurd (omega arith);
             some = leb-true 1 (length d.fields) own.1.1.1.1.1.1.1.0;
           },
@@ -110,16 +108,16 @@ struct_decides structs i d there =
 sub_decides : (k i : ℕ) (d : Device) (j : ℕ) (s : Sub) → (Clean k s.desc (sub_rules d j s) → IsSub k d j s) × (IsSub k d j s → sub_fault k i d j s ≡ None)
 sub_decides k i d j s =
     let named = sub_name_decides d.desc.name s.desc.name in
-    let new = new_decides (λ t. t.desc.name) d.subs j s.desc.name in
-    let needed = names_decides _ _ (IsSteady s.desc) (IsSteady d.desc) (steady_decides s.desc) (steady_decides d.desc) s.needed in
-    let limits = Decides-and (has_few s.desc) (is_small_test s.needed) (few_decides s.desc) (small_decides s.needed) in (
+    let new = new_decides (λ t. t.desc.name) d.subs j _ in
+    let needed = names_decides _ _ _ _ (steady_decides s.desc) (steady_decides d.desc) _ in
+    let limits = Decides-and _ _ (few_decides s.desc) (small_decides s.needed) in (
       λ c.
           let own = c.own in
           let few = limits.0 own.1.1.1.1.1.1.0 in
           record {
             named = named.0 own.0;
             new = new.0 own.1.0;
-            is = desc_on k s.desc (sub_rules d j s) c own.1.1.0 few.0;
+            is = desc_on k s.desc _ c own.1.1.0 few.0;
             needed = needed.0 own.1.1.1.0;
             small = few.1;
           },
@@ -138,14 +136,14 @@ device_decides set i d =
     let k = length set.structs in
     let named = name_decides 100 d.desc.name in
     let new = new_device_decides set i d in
-    let limits = Decides-and (has_few d.desc) (nat_le (length d.subs) 32) (few_decides d.desc) (le_decides (length d.subs) 32) in (
+    let limits = Decides-and _ _ (few_decides d.desc) (le_decides _ 32) in (
       λ c subs.
           let own = c.own in
           let few = limits.0 own.1.1.1.1.1.1.0 in
           record {
             named = named.0 own.0;
             new = new.0 own.1.0;
-            is = desc_on k d.desc (device_rules set i d) c own.1.1.0 few.0;
+            is = desc_on k d.desc _ c own.1.1.0 few.0;
             few_subs = few.1;
             subs = subs;
           },
@@ -154,7 +152,7 @@ device_decides set i d =
           (desc_back k d.desc (device_rules set i d) (parts.Device i)
           (all_eight (named.1 h.named) (new.1 h.new) (le-leb d.desc.minimum d.desc.version h.is.versions) refl refl refl
           (limits.1 ((h.is.few_fields, h.is.few_validations), h.few_subs)) refl) h.is)
-          (from_zero (sub_fault k i d) d.subs (λ j s e. (sub_decides k i d j s).1 (h.subs j s e))),
+          (from_zero _ d.subs (λ j s e. (sub_decides k i d j s).1 (h.subs j s e))),
     )
 
 -- ---- the set
@@ -165,33 +163,30 @@ eight_holds set =
     let of_structs = first_answer (struct_fault set.structs) 0 set.structs in
     let of_devices = first_answer (device_fault set) 0 set.devices in
     let last = failing 1 (size_rules set) (here parts.Set) in
-    let named = all_decides (is_name 64) (IsName 64) (name_decides 64) set.machines in
+    let named = all_decides _ _ (name_decides 64) _ in
     let new = distinct_decides set.machines in
-    let limits =
-    Decides-and _ _ (Decides-and _ _ (le_decides (length set.machines) 16) (le_decides (length set.structs) 64)) (le_decides (length set.devices) 64) in
-    let items = le_decides (devices_items (struct_items set.structs) set.devices) MOST_ITEMS in (
+    let limits = Decides-and _ _ (Decides-and _ _ (le_decides _ 16) (le_decides _ 64)) (le_decides _ 64) in
+    let items = le_decides _ _ in (
       λ well.
           let clean = set_clean set well in
           let few = limits.0 clean.own.1.1.1.1.1.1.0 in
-          let most = items.0 clean.sizes.1.1.1.1.1.1.0 in
           record {
             named = named.0 clean.own.0;
             new = new.0 clean.own.1.0;
             few_machines = few.0.0;
             few_structs = few.0.1;
             few_devices = few.1;
-            structs = λ i d e. (struct_decides set.structs i d e).0 (struct_clean set well i d e);
+            structs = λ i d e. (struct_decides _ i d e).0 (struct_clean set well i d e);
             devices = λ i d e. (device_decides set i d).0 (device_parts set well i d e).0
-                (λ j s f. (sub_decides (length set.structs) i d j s).0 (sub_clean set well i j d s e f));
-            items = omega (arith, set_counts set set.devices);
+                (λ j s f. (sub_decides _ i d j s).0 (sub_clean set well i j d s e f));
+            items = omega (arith, items.0 clean.sizes.1.1.1.1.1.1.0, set_counts set set.devices);
           },
       λ h.
           both_none _ _
           (none_failing 1 (set_rules set) (here parts.Set)
           (all_eight (named.1 h.named) (new.1 h.new) refl refl refl refl (limits.1 ((h.few_machines, h.few_structs), h.few_devices)) refl))
-          (both_none of_structs (or_else of_devices last)
-          (from_zero (struct_fault set.structs) set.structs (λ i d e. (struct_decides set.structs i d e).1 (h.structs i d e)))
+          (both_none _ _ (from_zero _ _ (λ i d e. (struct_decides _ i d e).1 (h.structs i d e)))
           (both_none of_devices last (from_zero (device_fault set) set.devices (λ i d e. (device_decides set i d).1 (h.devices i d e)))
           (none_failing 1 (size_rules set) (here parts.Set)
-          (all_eight refl refl refl refl refl refl (items.1 (omega (arith, h.items, set_counts set set.devices))) refl)))),
+          (all_eight refl refl refl refl refl refl (items.1 (omega (arith, set_counts set set.devices))) refl)))),
     )

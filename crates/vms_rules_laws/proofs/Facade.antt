@@ -14,10 +14,10 @@ pub use Rattle.vms_kinds.specs.declared.Kind.TheVariants.{U16, U32, U8}
 pub use Rattle.vms_spec.proofs.{ListLaws.both_none, NumberLaws.same_number_is, Faultless.AllTrue, Faultless.set_clean}
 pub use Rattle.vms_spec.proofs.Tables.{first_at, first_long, two_more}
 pub use Rattle.vms_spec.proofs.WellFormedLaws.{Clean, device_parts, ranges, struct_clean, sub_clean, untested, within}
-pub use Rattle.vms_spec.specs.{Images.default_image, Images.own_cells, Lists.first_answer, Lists.or_else, Numbers.same_number, Streams.is_one_of}
-pub use Rattle.vms_spec.specs.{declared.Count.Count, declared.Part.Part, declared.Place.Place, declared.TheConstants.MOST_ITEMS}
+pub use Rattle.vms_spec.specs.{Lists.first_answer, Numbers.same_number, Streams.is_one_of, declared.Count.Count, declared.Part.Part, declared.Place.Place}
 pub use Rattle.vms_spec.specs.{declared.TheConstants.MOST_UNUSED, declared.Whose.TheVariants.Own, declared.Whose.TheVariants.Parent}
-pub use Rattle.vms_spec.specs.Layout.{all_hold, capacity_of, counted, desc_cells, item_size, no_desc, numbers_of, struct_cells, field_cells}
+pub use Rattle.vms_spec.specs.Images.{default_image, own_cells}
+pub use Rattle.vms_spec.specs.Layout.{all_hold, capacity_of, counted, desc_cells, no_desc, numbers_of, struct_cells, field_cells}
 pub use Rattle.vms_spec.specs.Names.{all_names, are_new, is_name, is_name_byte, is_sub_name}
 pub use Rattle.vms_spec.specs.Rules.{count_names_well, counts_well, defaults_well, depth, field_rules, has_good_count, has_no_test, in_range, is_counting}
 pub use Rattle.vms_spec.specs.Rules.{is_counting_item, is_earlier_in, is_num, is_one, is_small_item, is_small_optional, is_small_test, is_steady, is_steady_in}
@@ -30,8 +30,8 @@ pub use Rattle.vms_spec.specs.declared.Count.TheVariants.{Counted, Fixed, One}
 unfoldable pub use Rattle.vms_spec.specs.{Layout.first, WellFormed.first_fault}
 pub use Rattle.vms_bodies.proofs.ReadyLaws.{counted_well, is_same, le_decides, ranged}
 pub use Rattle.vms_elements.specs.Elements.{Element, Rule, Shape, Stand, array_elements, behind, cells_in, desc_elements, dotted, elements_from, field_elements}
-pub use Rattle.vms_elements.specs.Elements.{index_text, item_elements, no_shape, shape, shapes, single, stand_of}
+pub use Rattle.vms_elements.specs.Elements.{index_text, item_elements, no_shape, shape, single}
 pub use Rattle.vms_elements.specs.Parts.{absent, elements_in, subs_elements}
-pub use Rattle.vms_rules_laws.specs.{Eight.IsWithin, Eight.IsWithinTest, Eight.NamesOnly, Eight.Nests, Eight.Nobody, Laws.EightLaw}
-pub use Rattle.vms_rules_laws.specs.Eight.{UsesOn, items_among, items_of, names_of, parts_of, AreNewNames, At, CountFits, DefaultFits, IsCounting, IsDesc}
-pub use Rattle.vms_rules_laws.specs.Eight.{IsDevice, IsEarlier, IsField, IsName, IsNameByte, IsNew, IsSmall, IsSteady, IsStruct, IsSub, IsSubName, IsValidation}
+pub use Rattle.vms_rules_laws.specs.{Eight.IsSteady, Eight.IsStruct, Eight.IsSub, Eight.IsSubName, Eight.IsValidation, Laws.EightLaw}
+pub use Rattle.vms_rules_laws.specs.Eight.{IsWithin, IsWithinTest, NamesOnly, Nests, Nobody, UsesOn, items_among, items_of, names_of, parts_of, AreNewNames, At}
+pub use Rattle.vms_rules_laws.specs.Eight.{CountFits, DefaultFits, IsCounting, IsDesc, IsDevice, IsEarlier, IsField, IsName, IsNameByte, IsNew, IsSmall}

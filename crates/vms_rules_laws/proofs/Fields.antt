@@ -1,11 +1,11 @@
 -- The rules that the tests at a field and at a validation decide.
 use Rattle.vms_rules_laws.proofs.{Names.name_decides, Names.new_names_decides, Names.within_decides, Tests.steady_decides}
-use Rattle.vms_rules_laws.proofs.Facade.{◌≡◌, ℕ, suc, ◌<◌, Bool, true, false, ◌==◌, if◌then◌else◌, List, [], ◌∷◌, ◌++◌, length, Option, Some, None, ℤ, pos}
+use Rattle.vms_rules_laws.proofs.Facade.{◌≡◌, ℕ, suc, ◌<◌, Bool, true, false, ◌==◌, if◌then◌else◌, List, [], ◌∷◌, ◌++◌, Option, Some, None, ℤ, pos}
 use Rattle.vms_rules_laws.proofs.Facade.{le_decides, ◌≤ℤ◌, inl, inr, refl, sym, ap, ◌∙◌, subst, Decides, AllByRecursion, slice_get, and_from, and_parts}
 use Rattle.vms_rules_laws.proofs.Facade.{eq-eqb, eqb-true, Decides-and, Decides-ltb, Item, Num, Equal, Unused, Struct, Kind, U8, U16, U32, InRange}
 use Rattle.vms_rules_laws.proofs.Facade.{MOST_UNUSED, Count, One, Fixed, Counted, counted, is_name, same_number, count_names_well, counts_well, defaults_well}
 use Rattle.vms_rules_laws.proofs.Facade.{field_rules, has_good_count, in_range, is_counting, is_counting_item, is_earlier_in, is_small_item}
-use Rattle.vms_rules_laws.proofs.Facade.{is_small_optional, is_small_test, is_steady_in, names_well, nobody, test_names_well, uses_below, validation_rules}
+use Rattle.vms_rules_laws.proofs.Facade.{is_small_optional, is_small_test, names_well, nobody, test_names_well, uses_below, validation_rules}
 use Rattle.vms_rules_laws.proofs.Facade.{Formula, Field, Desc, AllTrue, same_number_is, ranges, within, counted_well, is_same, ranged, At, CountFits}
 use Rattle.vms_rules_laws.proofs.Facade.{DefaultFits, IsCounting, IsEarlier, IsField, IsName, IsSmall, IsSteady, IsValidation, IsWithin, NamesOnly, Nobody}
 use Rattle.vms_rules_laws.proofs.Tests.{all_decides, at_places, earlier_decides, names_decides, never, nobody_decides, one_decides, small_decides}
@@ -59,9 +59,7 @@ count_decides d i (Counted k n) = (λ e. so e, λ h. back (h k n refl))
         rw is at here
 
     back : ((steady : IsEarlier d i k) × IsCounting steady.1.field.item) → count_names_well d i (Counted k n) ≡ true
-    back h =
-        and_from (is_earlier_in d i k) (is_counting (slice_get d.fields k)) ((earlier_decides d i k).1 h.0)
-        (item_at h.0.1 ∙ (counting_decides h.0.1.field.item).1 h.1)
+    back h = and_from _ _ ((earlier_decides d i k).1 h.0) (item_at h.0.1 ∙ (counting_decides h.0.1.field.item).1 h.1)
 
 uses_decides : (k : ℕ) (item : Item) → Decides (uses_below k item) ((j : ℕ) → item ≡ Struct j → j < k)
 uses_decides k (Struct i) = (λ e j same. let is : i ≡ j = cc in rw is at ((Decides-ltb i k).0 e), λ h. (Decides-ltb i k).1 (h i refl))
@@ -84,7 +82,7 @@ good_count_decides _ c = one_decides c
 -- ---- defaults
 
 zero_decides : (z : ℤ) → Decides (same_number z (pos 0)) (z ≡ pos 0)
-zero_decides z = (same_number_is z (pos 0), is_same z (pos 0))
+zero_decides z = (same_number_is z _, is_same z (pos 0))
 
 range_decides : (kind : Kind) (z : ℤ) → Decides (in_range kind z) (InRange kind z)
 range_decides kind z = (ranges kind z, ranged kind z)
@@ -120,19 +118,19 @@ module _ (P : ℕ → Type 0) (i : ℕ) where
   pub counted_each : (fs : List Field) → AllByRecursion P (counted i fs) → OfCounted fs
   counted_each [] h = λ j most g there same. cc
   counted_each (f ∷ fs) h =
-      let own = (first f.count f fs).0 h in
+      let own = (first _ f fs).0 h in
       let all = at_places (λ (g : Field). OfOne g.count) f fs own.0 (λ j g there most same. counted_each fs own.1 j most g there same) in
       λ j most g there same. all j g there most same
 
   pub each_counted : (fs : List Field) → OfCounted fs → AllByRecursion P (counted i fs)
   each_counted [] h = tt
-  each_counted (f ∷ fs) h = (first f.count f fs).1 (λ most same. h 0 most f refl same) (each_counted fs (λ j most g there same. h (suc j) most g there same))
+  each_counted (f ∷ fs) h = (first _ f fs).1 (λ most same. h 0 most f refl same) (each_counted fs (λ j most g there same. h (suc j) most g there same))
 
 counts_decides : (i : ℕ) (fs : List Field) (z : ℤ)
     → Decides (counts_well (counted i fs) z) ((j most : ℕ) (g : Field) → At fs j g → g.count ≡ Counted i most → z ≤ℤ pos most)
 counts_decides i fs z = (
   λ e. counted_each (λ most. z ≤ℤ pos most) i fs (within (counted i fs) z e),
-  λ h. counted_well (counted i fs) z (each_counted (λ most. z ≤ℤ pos most) i fs h),
+  λ h. counted_well _ z (each_counted (λ most. z ≤ℤ pos most) i fs h),
 )
 
 -- ---- a field, and a validation
@@ -147,11 +145,11 @@ pub field_decides : (k : ℕ) (d : Desc) (i : ℕ) (f : Field)
 field_decides k d i f =
     let named = all_decides (is_name 32) (IsName 32) (name_decides 32) (f.name ∷ f.former) in
     let new = new_names_decides d.fields i f in
-    let names = Decides-and _ _ (test_decides d i f.test) (count_decides d i f.count) in
+    let names = Decides-and _ _ (test_decides d i f.test) (count_decides d i _) in
     let uses = uses_decides k f.item in
-    let defaults = Decides-and _ _ (default_decides f.item f.default) (counts_decides i d.fields f.default) in
-    let limits = Decides-and _ _ (Decides-and _ _ (le_decides (length f.former) 8) (optional_small f.test)) (unused_decides f.item) in
-    let good = good_count_decides f.item f.count in (
+    let defaults = Decides-and _ _ (default_decides f.item _) (counts_decides i _ _) in
+    let limits = Decides-and _ _ (Decides-and _ _ (le_decides _ 8) (optional_small f.test)) (unused_decides f.item) in
+    let good = good_count_decides f.item _ in (
       λ r.
           let named_ones = names.0 r.1.1.1.0 in
           let fitting = defaults.0 r.1.1.1.1.1.0 in
@@ -176,7 +174,7 @@ field_decides k d i f =
 
 pub validation_decides : (d : Desc) (t : Formula) → (AllTrue (validation_rules d t) → IsValidation d t) × (IsValidation d t → AllTrue (validation_rules d t))
 validation_decides d t =
-    let named = names_decides (is_steady_in d) nobody (IsSteady d) Nobody (steady_decides d) nobody_decides t in (
+    let named = names_decides _ nobody _ Nobody (steady_decides d) nobody_decides t in (
       λ r. record { named = named.0 r.1.1.1.0; small = (small_decides t).0 r.1.1.1.1.1.1.0 },
       λ h. all_eight refl refl refl (named.1 h.named) refl refl ((small_decides t).1 h.small) refl,
     )

@@ -1,9 +1,9 @@
 -- A set has the number of items that the walk computes.
 use Rattle.vms_rules_laws.proofs.Facade.{◌≡◌, ℕ, zero, suc, ◌+◌, ◌*◌, List, [], ◌∷◌, ◌++◌, length, get_or, map, ℤ, None, Bool, ◌&&◌, nat_lt, refl, sym, ◌∙◌}
-use Rattle.vms_rules_laws.proofs.Facade.{field_cells, arith, suc-mul, Item, Struct, Field, Desc, Sub, Device, Set, no_desc, first, counted, capacity_of}
-use Rattle.vms_rules_laws.proofs.Facade.{item_size, desc_cells, struct_cells, numbers_of, all_hold, default_image, own_cells, item_count, items_in}
-use Rattle.vms_rules_laws.proofs.Facade.{struct_items, subs_items, devices_items, first_long, Element, Shape, no_shape, shape, shapes, cells_in, dotted}
-use Rattle.vms_rules_laws.proofs.Facade.{behind, single, Rule, item_elements, Stand, stand_of, array_elements, field_elements, elements_from, desc_elements}
+use Rattle.vms_rules_laws.proofs.Facade.{field_cells, arith, suc-mul, Item, Struct, Field, Desc, Sub, Device, Set, no_desc, first, capacity_of}
+use Rattle.vms_rules_laws.proofs.Facade.{desc_cells, struct_cells, numbers_of, all_hold, default_image, own_cells, item_count, items_in}
+use Rattle.vms_rules_laws.proofs.Facade.{struct_items, subs_items, devices_items, first_long, Element, Shape, no_shape, shape, cells_in, dotted}
+use Rattle.vms_rules_laws.proofs.Facade.{behind, single, Rule, item_elements, Stand, array_elements, field_elements, elements_from, desc_elements}
 use Rattle.vms_rules_laws.proofs.Facade.{index_text, absent, elements_in, subs_elements, two_more, items_among, items_of}
 
 items_append : (xs ys : List Element) → items_among (xs ++ ys) ≡ items_among xs + items_among ys
@@ -42,9 +42,7 @@ module _ (ss : List Shape) (sizes : List ℕ) (good : AreCounted ss sizes) where
 
   module _ (fields : List Field) (v : ℕ) (own : ℕ → ℕ) (n : List ℤ) where
     field_counts : (i at : ℕ) (f : Field) → items_among (field_elements ss fields v own n i at f) ≡ capacity_of f.count * item_count sizes f.item
-    field_counts i at f =
-        array_counts f (stand_of i f v own) (item_elements ss f.item (counted i fields) f.default n) (item_count sizes f.item)
-        (λ a. item_counts f.item (counted i fields) f.default n a) (item_size (cells_in ss) f.item) 0 (capacity_of f.count) at
+    field_counts i at f = array_counts f _ _ _ (λ a. item_counts f.item _ _ n a) _ 0 _ at
 
     fields_count : (i at : ℕ) (fs : List Field) → items_among (elements_from ss fields v own n i at fs) ≡ items_in sizes fs
     fields_count i at [] = refl
@@ -69,7 +67,7 @@ are_counted ds (suc k) j n at =
 
 module _ (set : Set) where
   part_counts : (d : Desc) (v : ℕ) (n : List ℤ) (at : ℕ) → items_among (elements_in set d v n at) ≡ items_in (struct_items set.structs) d.fields
-  part_counts d v n at = desc_counts (shapes set) (struct_items set.structs) (are_counted set.structs (length set.structs)) d v n at
+  part_counts d v n at = desc_counts _ _ (are_counted _ _) d v n at
 
   subs_count : (subs : List Sub) (n : List ℤ) (at : ℕ)
       → items_among (subs_elements set subs (map (λ s. None) subs) n at) ≡ subs_items (struct_items set.structs) subs

@@ -3,23 +3,23 @@ use Rattle.vms_rules_laws.proofs.{Facade.names_of, Tests.all_decides, Tests.one_
 use Rattle.vms_rules_laws.proofs.Facade.{◌≡◌, ◌⊎◌, ℕ, zero, suc, ◌+◌, ◌<◌, ◌&&◌, nat_le, List, [], ◌∷◌, ◌++◌, append_assoc, length, length-append, take, drop}
 use Rattle.vms_rules_laws.proofs.Facade.{le_decides, inl, inr, refl, sym, ap, ◌∙◌, subst, arith, Decides, Decides-and, Decides-at, Decides-eqb, Decides-like}
 use Rattle.vms_rules_laws.proofs.Facade.{Decides-not, Decides-or, or_assoc, drop_at, take-append-drop, take_at, bytes_eq-Decides, all_names, are_new, is_name}
-use Rattle.vms_rules_laws.proofs.Facade.{is_name_byte, is_sub_name, Field, is_one_of, are_distinct, AreNewNames, At, IsName, IsNameByte, IsSubName, IsWithin}
+use Rattle.vms_rules_laws.proofs.Facade.{is_name_byte, is_sub_name, Field, are_distinct, AreNewNames, At, IsName, IsNameByte, IsSubName, IsWithin}
 
 -- ---- bytes and names
 
 pub within_decides : (least most n : ℕ) → Decides (nat_le least n && nat_le n most) (IsWithin least most n)
-within_decides least most n = Decides-and (nat_le least n) (nat_le n most) (le_decides least n) (le_decides n most)
+within_decides least most n = Decides-and _ _ (le_decides least n) (le_decides n most)
 
 byte_decides : (b : ℕ) → Decides (is_name_byte b) (IsNameByte b)
 byte_decides b =
     let marks = Decides-or _ _ (Decides-eqb b 95) (Decides-or _ _ (Decides-eqb b 45) (Decides-eqb b 46)) in
-    Decides-at (is_name_byte b) _ (simp or_assoc)
+    Decides-at _ _ (simp or_assoc)
     (Decides-or _ _ (within_decides 48 57 b) (Decides-or _ _ (within_decides 65 90 b) (Decides-or _ _ (within_decides 97 122 b) marks)))
 
 pub name_decides : (most : ℕ) (name : List ℕ) → Decides (is_name most name) (IsName most name)
 name_decides most name =
     Decides-like _ (λ h. record { some = h.0.0; few = h.0.1; each = h.1 }) (λ h. ((h.some, h.few), h.each))
-    (Decides-and _ _ (within_decides 1 most (length name)) (all_decides is_name_byte IsNameByte byte_decides name))
+    (Decides-and _ _ (within_decides 1 most _) (all_decides is_name_byte IsNameByte byte_decides name))
 
 pub sub_name_decides : (device name : List ℕ) → Decides (is_sub_name device name) (IsSubName device name)
 sub_name_decides device name =
@@ -27,10 +27,10 @@ sub_name_decides device name =
     let front : List ℕ = device ++ 47 ∷ [] in
     let long : length front ≡ n = length-append device (47 ∷ []) in
     let whole : (h : IsSubName device name) → name ≡ front ++ h.tail = λ h. h.is ∙ sym (append_assoc device (47 ∷ []) h.tail) in
-    Decides-like (is_sub_name device name)
+    Decides-like _
     (λ h. record { tail = drop n name; is = sym (take-append-drop n name) ∙ rw h.0 (append_assoc device (47 ∷ []) (drop n name)); named = h.1 })
     (λ h. (ap (take n) (whole h) ∙ take_at front h.tail n long, rw (ap (drop n) (whole h) ∙ drop_at front h.tail n long) h.named))
-    (Decides-and _ _ (bytes_eq-Decides (take n name) front) (name_decides 64 (drop n name)))
+    (Decides-and _ _ (bytes_eq-Decides _ front) (name_decides 64 _))
 
 -- ---- distinct names
 
@@ -38,7 +38,7 @@ pub distinct_decides : (names : List (List ℕ)) → Decides (are_distinct names
 distinct_decides [] = (λ e j k name lt x y. cc, λ h. refl)
 distinct_decides (n ∷ names) =
     Decides-like _ (λ h. apart h.0 h.1) (λ h. (λ m. h 0 (suc m.0) n (omega arith) refl m.1, λ j k name lt x y. h (suc j) (suc k) name (omega arith) x y))
-    (Decides-and _ _ (Decides-not (is_one_of names n) (one_of_decides names n)) (distinct_decides names))
+    (Decides-and _ _ (Decides-not _ (one_of_decides names n)) (distinct_decides names))
   where
     apart : (((k : ℕ) × At names k n) → ⊥) → ((j k : ℕ) (name : List ℕ) → j < k → At names j name → At names k name → ⊥)
         → (j k : ℕ) (name : List ℕ) → j < k → At (n ∷ names) j name → At (n ∷ names) k name → ⊥
@@ -56,7 +56,7 @@ all_new_decides [] earlier = (λ e. record { new = λ a b name x y. cc; once = �
 all_new_decides (m ∷ names) earlier =
     Decides-like _ (λ h. record { new = new-so h.0 h.1; once = once-so h.1 })
     (λ h. (λ k. h.new k.0 0 m k.1 refl, record { new = before h; once = λ a b name lt x y. h.once (suc a) (suc b) name (omega arith) x y }))
-    (Decides-and _ _ (Decides-not (is_one_of earlier m) (one_of_decides earlier m)) (all_new_decides names (m ∷ earlier)))
+    (Decides-and _ _ (Decides-not _ (one_of_decides earlier m)) (all_new_decides names (m ∷ earlier)))
   where
     new-so : (((k : ℕ) × At earlier k m) → ⊥) → AreAllNew (m ∷ earlier) names → (a b : ℕ) (name : List ℕ) → At earlier a name → At (m ∷ names) b name → ⊥
     new-so none r a zero name x y = let same : m ≡ name = cc in none (a, rw same x)
@@ -100,7 +100,7 @@ named-before : (fields : List Field) (i a : ℕ) (n : List ℕ) → At (all_name
 named-before fields zero a n e = cc
 named-before [] (suc i) a n e = cc
 named-before (f ∷ fs) (suc i) zero n e = record { field = 0; name = 0; is = f; early = omega arith; there = refl; named = e }
-named-before (f ∷ fs) (suc i) (suc a) n e = elim (append-at f.former (all_names (take i fs)) a n e) [
+named-before (f ∷ fs) (suc i) (suc a) n e = elim (append-at _ _ a n e) [
   | inl x ↦ record { field = 0; name = suc a; is = f; early = omega arith; there = refl; named = x }
   | inr y ↦ let r = named-before fs i y.0 n y.1 in record {
     field = suc r.field;
@@ -114,7 +114,7 @@ named-before (f ∷ fs) (suc i) (suc a) n e = elim (append-at f.former (all_name
 
 first-named : (f : Field) (rest : List (List ℕ)) (c : ℕ) (n : List ℕ) → At (names_of f) c n → (a : ℕ) × At (f.name ∷ (f.former ++ rest)) a n
 first-named f rest zero n e = (0, e)
-first-named f rest (suc c) n e = (suc c, append-left f.former rest c n e)
+first-named f rest (suc c) n e = (suc c, append-left _ rest c n e)
 
 before-named : (fields : List Field) (i j : ℕ) (g : Field) (c : ℕ) (n : List ℕ) → j < i → At fields j g → At (names_of g) c n
     → (a : ℕ) × At (all_names (take i fields)) a n
@@ -125,7 +125,7 @@ before-named (f ∷ fs) (suc i) zero g c n lt there named =
     first-named f (all_names (take i fs)) c n (subst (λ x. At (names_of x) c n) (sym same) named)
 before-named (f ∷ fs) (suc i) (suc j) g c n lt there named =
     let r = before-named fs i j g c n (omega arith) there named in
-    let s = append-later f.former (all_names (take i fs)) r.0 n r.1 in
+    let s = append-later _ _ r.0 n r.1 in
     (suc s.0, s.1)
 
 pub new_names_decides : (fields : List Field) (i : ℕ) (f : Field) → Decides (are_new (all_names (take i fields)) (f.name ∷ f.former)) (AreNewNames fields i f)

@@ -1,5 +1,5 @@
 -- The relations that the tests of lists and of formulas decide.
-use Rattle.vms_rules_laws.proofs.Facade.{◌≡◌, ◌⊎◌, ℕ, zero, suc, ◌<◌, ◌≤◌, Bool, true, false, not, ◌||◌, nat_lt, List, [], ◌∷◌, take, map, Option, Some}
+use Rattle.vms_rules_laws.proofs.Facade.{◌≡◌, ◌⊎◌, ℕ, zero, suc, ◌<◌, ◌≤◌, Bool, true, false, not, ◌||◌, List, [], ◌∷◌, take, map, Option, Some}
 use Rattle.vms_rules_laws.proofs.Facade.{le_decides, None, inl, inr, refl, ap, subst, arith, Decides, list_all, slice_get, Decides-and, Decides-like}
 use Rattle.vms_rules_laws.proofs.Facade.{Decides-ltb, Decides-not, Decides-or, bytes_eq-Decides, Kind, Item, Num, Count, One, Own, Parent, depth, has_no_test}
 use Rattle.vms_rules_laws.proofs.Facade.{is_earlier_in, is_num, is_one, is_small_test, is_steady, is_steady_in, names_well, nobody, nodes, Formula, Cell, Not}
@@ -51,8 +51,7 @@ unmapped f (y ∷ ys) (suc i) (suc k) x lt e = unmapped f ys i k x (omega arith)
 pub new_decides : {X : Type 0} (f : X → List ℕ) (xs : List X) (i : ℕ) (name : List ℕ) → Decides (not (is_one_of (map f (take i xs)) name)) (IsNew f xs i name)
 new_decides f xs i name =
     Decides-like _ (λ none j x lt there same. none (j, rw same at (unmapped f xs i j x lt there)))
-    (λ h m. let r = mapped f xs i m.0 name m.1 in h m.0 r.0 r.1 r.2 r.3)
-    (Decides-not (is_one_of (map f (take i xs)) name) (one_of_decides (map f (take i xs)) name))
+    (λ h m. let r = mapped f xs i m.0 name m.1 in h m.0 r.0 r.1 r.2 r.3) (Decides-not _ (one_of_decides _ name))
 
 -- ---- formulas
 
@@ -71,13 +70,13 @@ one_decides One = (λ e. refl, λ e. refl)
 one_decides _ = (λ e. cc, λ e. cc)
 
 pub steady_decides : (d : Desc) (k : ℕ) → Decides (is_steady_in d k) (IsSteady d k)
-steady_decides d k = (by (slice_get d.fields k) refl, λ s. rw s.there ((field_is s.field).1 ((((s.kind, s.number), s.one), s.untested), s.since)))
+steady_decides d k = (by _ refl, λ s. rw s.there ((field_is s.field).1 ((((s.kind, s.number), s.one), s.untested), s.since)))
   where
     field_is : (f : Field) → Decides (is_steady d.minimum (Some f))
         (((((kind : Kind) × (f.item ≡ Num kind)) × (f.count ≡ One)) × (f.test ≡ None)) × (f.since ≤ d.minimum))
     field_is f =
         Decides-and _ _ (Decides-and _ _ (Decides-and _ _ (number_decides f.item) (one_decides f.count)) (untested f.test, λ e. ap has_no_test e))
-        (le_decides f.since d.minimum)
+        (le_decides _ _)
 
     by : (o : Option Field) → slice_get d.fields k ≡ o → is_steady d.minimum o ≡ true → IsSteady d k
     by None there e = cc
@@ -86,7 +85,7 @@ steady_decides d k = (by (slice_get d.fields k) refl, λ s. rw s.there ((field_i
         record { field = f; there = there; kind = h.0.0.0.0; number = h.0.0.0.1; one = h.0.0.1; untested = h.0.1; since = h.1 }
 
 pub earlier_decides : (d : Desc) (i k : ℕ) → Decides (is_earlier_in d i k) (IsEarlier d i k)
-earlier_decides d i k = Decides-and (nat_lt k i) (is_steady_in d k) (Decides-ltb k i) (steady_decides d k)
+earlier_decides d i k = Decides-and _ _ (Decides-ltb k i) (steady_decides d k)
 
 pub nobody_decides : (k : ℕ) → Decides (nobody k) (Nobody k)
 nobody_decides k = (λ e. never e, λ h. absurd h)

@@ -1,27 +1,14 @@
 -- Parts with the same elements by two lists of numbers.
-use Rattle.vms_selfdesc.proofs.Facade.{◌≡◌, ℕ, suc, ◌+◌, Bool, true, List, [], ◌∷◌, ◌++◌, length, ℤ, refl, sym, ap, ap₂, ◌∙◌}
-use Rattle.vms_selfdesc.proofs.Facade.{and_parts, Option, Some, None, Formula, is_none, Item, Struct, Field, Desc, Set, Count, One, Fixed, Counted, field_cells}
-use Rattle.vms_selfdesc.proofs.Facade.{struct_cells, counted, numbers_of, elements_of, no_parent, is_there, Shape, Element, shapes, cells_in}
-use Rattle.vms_selfdesc.proofs.Facade.{item_elements, field_elements, elements_from, entries_of, part_entries, Sub, Entry, is_some, object, sub_members, sub_tree}
+use Rattle.vms_selfdesc.proofs.Facade.{AllByRecursion, ◌≡◌, ℕ, suc, ◌+◌, Bool, true, List, [], ◌∷◌, ◌++◌, length, ℤ, refl, sym, ap, ap₂, ◌∙◌, and_parts}
+use Rattle.vms_selfdesc.proofs.Facade.{Option, Some, None, Formula, is_none, Item, Struct, Field, Desc, Set, Count, One, Fixed, Counted, field_cells}
+use Rattle.vms_selfdesc.proofs.Facade.{struct_cells, counted, numbers_of, elements_of, no_parent, is_there, Shape, Element, shapes, cells_in, item_elements}
+use Rattle.vms_selfdesc.proofs.Facade.{field_elements, elements_from, entries_of, part_entries, Sub, Entry, is_some, object, sub_members, sub_tree}
 use Rattle.vms_selfdesc.proofs.OfElements.{cells_are, of_desc}
 use Rattle.vms_selfdesc.specs.Alike.{IsFieldAlike, HasSameCount, is_plain, is_steady, is_uncounted}
 
-pub steady_alike : (v : ℕ) (own other : ℕ → ℕ) (f : Field) → is_steady f ≡ true → HasSameCount v own other f
-steady_alike v own other f e = record { count = by_count f.count (and_parts _ _ e).0; there = by_test f.test (and_parts _ _ e).1 }
-  where
-    by_count : (c : Count) → is_uncounted c ≡ true → elements_of c own ≡ elements_of c other
-    by_count One e = refl
-    by_count (Fixed n) e = refl
-    by_count (Counted by most) e = cc
-
-    by_test : (t : Option Formula) → is_none t ≡ true → is_there t f.since v own no_parent ≡ is_there t f.since v other no_parent
-    by_test None e = refl
-    by_test (Some t) e = cc
-
 -- field by field
 abbrev pub AreFieldsAlike : ℕ → (ℕ → ℕ) → (ℕ → ℕ) → List Field → Type 0
-AreFieldsAlike v own other [] = Unit {0}
-AreFieldsAlike v own other (f ∷ fs) = IsFieldAlike v own other f × AreFieldsAlike v own other fs
+AreFieldsAlike v own other = AllByRecursion (IsFieldAlike v own other)
 
 module _ (n m : List ℤ) where
   plain_same : (ss : List Shape) (item : Item) (caps : List ℕ) (z : ℤ) → is_plain item ≡ true → item_elements ss item caps z n ≡ item_elements ss item caps z m

@@ -3,14 +3,15 @@ pub use Rattle.std.proofs.{Math.Facts.to_z-of_z, Math.ListN.get_or-eq_default, M
 pub use Rattle.std.proofs.{lemmas.Fmt.decimal_by_steps, lemmas.Fmt.length-decimal-le, lemmas.Option.slice_get-get_or, lemmas.Result.IfOk-weaker}
 pub use Rattle.std.proofs.{lemmas.Slice.Eq.bytes_eq-Decides, lemmas.Str.IsCharBoundary-from_take, lemmas.Str.IsUtf8-string_bytes}
 pub use Rattle.std.proofs.Common.{Bool, List, None, Option, Some, String, [], add-one, ap, append_assoc, ap₂, arith, codes, cond, decimal, drop, false, get_or}
-pub use Rattle.std.proofs.Common.{if◌then◌else◌, inl, inr, int_lt, is_none, is_some, length, length-append, map, max, nat_le, nat_lt, negsuc, option_and_then}
+pub use Rattle.std.proofs.Common.{inl, inr, int_lt, is_none, is_some, length, length-append, map, max, nat_le, nat_lt, negsuc, option_and_then}
 pub use Rattle.std.proofs.Common.{pos, refl, rules, string_bytes, subst, suc, sym, take, true, w64, zero, ℕ, ℤ, ◌%◌, ◌&&◌, ◌*◌, ◌++◌, ◌+◌, ◌-◌, ◌/◌, ◌<◌, ◌==◌}
 pub use Rattle.std.proofs.Common.{◌^◌, ◌||◌, ◌∙◌, ◌∷◌, ◌≡◌, ◌≤◌}
 pub use Rattle.std.proofs.Math.Bool.{and-false, and-true, and_assoc}
-pub use Rattle.std.proofs.lemmas.Bool.{OnTrue_at, OnTrue_from, and_parts, cases_lt, eqb-true, le-ltb, leb-true, lt-ltb, ltb-false, ltb-true, or_from, Decides.nat_tests}
+pub use Rattle.std.proofs.lemmas.Bool.{OnTrue_at, OnTrue_from, and_parts, cases_lt, eqb-true, le-ltb, leb-true, lt-ltb, ltb-false, ltb-true, or_from}
+pub use Rattle.std.proofs.lemmas.Bool.{Decides.nat_tests}
 pub use Rattle.std.proofs.lemmas.List.{append-nil, drop_all, drop_more, map-append, map-id, take-append-drop}
 pub use Rattle.std.specs.{Char.digit_char, Int.w128, Int.Signed.mag, List.AllByRecursion, List.list_all, Option.option_map, Str.IsUtf8, Str.bytes_eq}
-pub use Rattle.std.specs.Fmt.{digit_glyph, digits_onto, signed_decimal}
+pub use Rattle.std.specs.Fmt.{signed_decimal}
 unfoldable pub use Rattle.std.specs.Fmt.{digits}
 pub use Rattle.vms_kinds.specs.{Codes.highest, Codes.lowest, Codes.width, declared.Item.Item, declared.Kind.Kind, declared.Kind.TheVariants.U8}
 pub use Rattle.vms_kinds.specs.declared.Item.TheVariants.{Equal, Num, Struct, Unused}
@@ -30,7 +31,7 @@ pub use Rattle.vms_spec.specs.declared.Count.TheVariants.{Counted, Fixed, One}
 pub use Rattle.vms_spec.specs.declared.TheConstants.{MOST_ITEMS, MOST_UNUSED}
 unfoldable pub use Rattle.vms_spec.specs.Layout.{first}
 pub use Rattle.vms_words.specs.Words.{kind_word}
-pub use Rattle.vms_elements.proofs.{Arrays.array_of, Arrays.outs, Tables.shapes_cells}
+pub use Rattle.vms_elements.proofs.{Arrays.array_of, Arrays.outs, Members.all_both, Members.decimal_all, Tables.shapes_cells}
 pub use Rattle.vms_elements.specs.Elements.{Element, Number, Shape, What, array_elements, behind, cells_in, desc_elements, dotted, elements_from}
 pub use Rattle.vms_elements.specs.Elements.{field_elements, index_text, item_elements, no_shape, shape, shapes}
 pub use Rattle.vms_desc.proofs.{ClockHeads.clock_heads, EvalLaws.place_after, EvalLaws.place_is, EvalLaws.place_within, Formed.by_number, Formed.clock_formed}

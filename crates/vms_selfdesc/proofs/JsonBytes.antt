@@ -1,10 +1,10 @@
 -- The bytes in the text of a JSON value without spaces: those of its strings, escaped, and others from 34 to 125.
-use Rattle.vms_selfdesc.proofs.Facade.{cases_lt, inl, inr, le-ltb, ◌≡◌, ℕ, zero, suc, ◌<◌, ◌≤◌, ◌%◌, ◌/◌, ◌+◌, Bool, true, false, cond, ◌&&◌, ◌||◌, ◌==◌}
-use Rattle.vms_selfdesc.proofs.Facade.{nat_lt, nat_le, if◌then◌else◌, List, [], ◌∷◌, ◌++◌, map, Option, Some, None, ℤ, pos, negsuc, refl, arith, codes}
-use Rattle.vms_selfdesc.proofs.Facade.{AllByRecursion, list_all, and_parts, eqb-true, leb-true, ltb-true, ltb-false, lt-ltb, digit_char, digits, digits_onto}
-use Rattle.vms_selfdesc.proofs.Facade.{digit_glyph, escape, escape_byte, escape_letter, quoted, unsigned, negative, float, Data, null, boolean, number, string}
-use Rattle.vms_selfdesc.proofs.Facade.{array, object, Items, no_items, item, Members, no_members, member, items_of, number_text, comma_if, compact_text}
-use Rattle.vms_selfdesc.proofs.Facade.{items_text, members_text, Kind, kind_word, Entry, entry_tree, sub_members, device_members}
+use Rattle.vms_selfdesc.proofs.Facade.{decimal_all, all_both, cases_lt, inl, inr, le-ltb, ◌≡◌, ℕ, suc, ◌<◌, ◌≤◌, ◌%◌, ◌/◌, ◌+◌, Bool, true, false, cond, ◌&&◌}
+use Rattle.vms_selfdesc.proofs.Facade.{◌||◌, ◌==◌, nat_lt, nat_le, List, [], ◌∷◌, ◌++◌, map, Option, Some, None, ℤ, pos, negsuc, refl, arith, codes}
+use Rattle.vms_selfdesc.proofs.Facade.{AllByRecursion, list_all, and_parts, eqb-true, leb-true, ltb-true, ltb-false, lt-ltb, digit_char, escape, escape_byte}
+use Rattle.vms_selfdesc.proofs.Facade.{escape_letter, quoted, unsigned, negative, float, Data, null, boolean, number, string, array, object, Items, no_items}
+use Rattle.vms_selfdesc.proofs.Facade.{item, Members, no_members, member, items_of, number_text, comma_if, compact_text, items_text, members_text, Kind}
+use Rattle.vms_selfdesc.proofs.Facade.{kind_word, Entry, entry_tree, sub_members, device_members}
 use Rattle.std.specs.Fmt.{decimal}
 use Rattle.serde_json.specs.Data.{Num}
 use Rattle.vms_kinds.specs.declared.Kind.TheVariants as kinds
@@ -37,12 +37,7 @@ pub record IsSpelled (L : ℕ → Type 0) (e : Entry) : Type 0 where
   pub type : AllByRecursion L e.type
 
 abbrev pub AreSpelled : (ℕ → Type 0) → List Entry → Type 0
-AreSpelled L [] = Unit {0}
-AreSpelled L (e ∷ es) = IsSpelled L e × AreSpelled L es
-
-pub all_append : (P : ℕ → Type 0) (xs ys : List ℕ) → AllByRecursion P xs → AllByRecursion P ys → AllByRecursion P (xs ++ ys)
-all_append P [] ys p q = q
-all_append P (x ∷ xs) ys p q = (p.0, all_append P xs ys p.1 q)
+AreSpelled L = AllByRecursion (IsSpelled L)
 
 module _ {Letter Good : ℕ → Type 0} (allows : Allows Letter Good) where
   -- a byte that JSON itself writes
@@ -51,24 +46,8 @@ module _ {Letter Good : ℕ → Type 0} (allows : Allows Letter Good) where
 
   -- ---- numbers
 
-  glyph : (d : ℕ) → d < 10 → Good (digit_glyph false d)
-  glyph d lt = let e = lt-ltb d 10 lt in rw e (allows.own (48 + d) (omega arith) (omega arith))
-
-  onto : (k n : ℕ) (acc : List ℕ) → AllByRecursion Good acc → AllByRecursion Good (digits_onto k 10 false n acc)
-  onto zero n acc h = h
-  onto (suc k) n acc h = go (n / 10 == 0) (onto k (n / 10) (digit_glyph false (n % 10) ∷ acc) here)
-    where
-      here : AllByRecursion Good (digit_glyph false (n % 10) ∷ acc)
-      here = (glyph (n % 10) (omega arith), h)
-
-      go : (b : Bool) → AllByRecursion Good (digits_onto k 10 false (n / 10) (digit_glyph false (n % 10) ∷ acc))
-          → AllByRecursion Good (if b then digit_glyph false (n % 10) ∷ acc else digits_onto k 10 false (n / 10) (digit_glyph false (n % 10) ∷ acc))
-      go true more = here
-      go false more = more
-
   pub decimal_good : (n : ℕ) → AllByRecursion Good (decimal n)
-  unfolding digits
-  decimal_good n = onto 64 n [] tt
+  decimal_good = decimal_all Good (λ d lt. allows.own (48 + d) (omega arith) (omega arith))
 
   number_good : (n : Num) → AllByRecursion Good (number_text n)
   number_good (unsigned n) = decimal_good n
@@ -112,10 +91,10 @@ module _ {Letter Good : ℕ → Type 0} (allows : Allows Letter Good) where
 
   escape_good : (s : List ℕ) → AllByRecursion Letter s → AllByRecursion Good (escape s)
   escape_good [] p = tt
-  escape_good (x ∷ s) p = all_append Good (escape_byte x) (escape s) (byte_good x p.0) (escape_good s p.1)
+  escape_good (x ∷ s) p = all_both Good (escape_byte x) (escape s) (byte_good x p.0) (escape_good s p.1)
 
   quoted_good : (s : List ℕ) → AllByRecursion Letter s → AllByRecursion Good (quoted s)
-  quoted_good s p = (own 34 refl, all_append Good (escape s) (34 ∷ []) (escape_good s p) (own 34 refl, tt))
+  quoted_good s p = (own 34 refl, all_both Good (escape s) (34 ∷ []) (escape_good s p) (own 34 refl, tt))
 
   -- ---- values
 
@@ -135,13 +114,13 @@ module _ {Letter Good : ℕ → Type 0} (allows : Allows Letter Good) where
 
     items_good : (later : Bool) (ds : Items) → ItemsHave Letter ds → AllByRecursion Good (items_text later ds)
     items_good later no_items p = (own 93 refl, tt)
-    items_good later (item d ds) p = comma later _ (all_append Good (compact_text d) (items_text true ds) (text_good d p.0) (items_good true ds p.1))
+    items_good later (item d ds) p = comma later _ (all_both Good (compact_text d) (items_text true ds) (text_good d p.0) (items_good true ds p.1))
 
     members_good : (later : Bool) (ms : Members) → MembersHave Letter ms → AllByRecursion Good (members_text later ms)
     members_good later no_members p = (own 125 refl, tt)
     members_good later (member k d ms) p =
-        let rest = all_append Good (compact_text d) (members_text true ms) (text_good d p.1) (members_good true ms p.2) in
-        comma later _ (all_append Good (quoted k) _ (quoted_good k p.0) (own 58 refl, rest))
+        let rest = all_both Good (compact_text d) (members_text true ms) (text_good d p.1) (members_good true ms p.2) in
+        comma later _ (all_both Good (quoted k) _ (quoted_good k p.0) (own 58 refl, rest))
 
   -- ---- the trees of a self-description
 

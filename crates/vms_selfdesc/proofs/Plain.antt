@@ -158,9 +158,6 @@ puts {a} {b} {c} {k} {v} p key value is sound = record {
 pub member_more : (k : List ℕ) (d : Data) (ms : Members) → members_text true (member k d ms) ≡ member_text k d ++ members_text true ms
 member_more k d ms = simp append_assoc
 
-pub member_last : (k : List ℕ) (d : Data) (ms : Members) (s : List ℕ) → members_text true ms ≡ s → members_text true (member k d ms) ≡ member_text k d ++ s
-member_last k d ms s e = rw (member_more k d ms, e)
-
 -- ---- entries
 
 -- the members of an entry after its path

@@ -4,7 +4,6 @@ use Rattle.vms_selfdesc.proofs.Facade.{option_map, ltb-true, ItemsHaveNumbers, I
 use Rattle.vms_selfdesc.proofs.Facade.{object, no_members, put, of_integer, of_items, items_of, items_outline, number_text, number_of-decimal}
 use Rattle.vms_selfdesc.proofs.Facade.{number_of-negative, IsSound, AreSound, Entry, sent_entry, absent_entry, natural, entry_tree, list_tree, sub_members}
 use Rattle.vms_selfdesc.proofs.Facade.{device_members}
-use Rattle.json.specs.Json as json
 
 pub natural_sound : (n : ℕ) → n < 2 ^ 64 → IsSound (natural n)
 natural_sound n small = record { read = ap (option_map number) (number_of-decimal n small); numbers = IsNumber-decimal n small }

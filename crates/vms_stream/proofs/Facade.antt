@@ -4,9 +4,9 @@ pub use Rattle.vms_spec.proofs.Boxes.{bare_set, box, constant_set, counted_set, 
 pub use Rattle.vms_spec.proofs.KindLaws.{be32_read, length-code, value_code}
 pub use Rattle.vms_spec.proofs.Rows.{box_end, box_head, head, hex, lines, smallest}
 pub use Rattle.vms_spec.proofs.WellFormedLaws.{device_parts, sub_clean, well_good}
-pub use Rattle.vms_spec.specs.{Good.IsGood, Images.sub_place, Lists.at_option, Lists.position, Sound.AreSound, Sound.IsSound, Values.values_text}
+pub use Rattle.vms_spec.specs.{Good.IsGood, Images.own_slots, Lists.at_option, Lists.position, Sound.AreSound, Sound.IsSound, Values.values_text}
 pub use Rattle.vms_spec.specs.{declared.Reason.Reason, declared.TheConstants.LONGEST_NAME, Sets.Desc, Sets.Device, Sets.Set, Sets.Sub, WellFormed.WellFormed}
-pub use Rattle.vms_spec.specs.Images.{sub_slots, zeroed, AreVersionsOf, Image, IsNormal, IsValid, IsVersionOf, Spells, default_image, own_cells, own_slots}
+pub use Rattle.vms_spec.specs.Images.{sub_place, sub_slots, zeroed, AreVersionsOf, Image, IsNormal, IsValid, IsVersionOf, Spells, default_image, own_cells}
 pub use Rattle.vms_spec.specs.Layout.{Rule, Slot, desc_cells, desc_slots, device_cells, meanings, struct_cells}
 pub use Rattle.vms_spec.specs.Lookup.{bytes_at, find_sub, is_bad_bool, number_at}
 pub use Rattle.vms_spec.specs.Names.{is_name, is_name_byte, is_sub_name}
@@ -19,33 +19,33 @@ pub use Rattle.vms_spec.specs.Streams.{magic, optional, section_head, stream_hea
 pub use Rattle.vms_spec.specs.Taking.{Progress, Refusal, Taken, cells_of, if_whole, on, refuse, take_desc, take_slot, take_value, takers}
 pub use Rattle.vms_spec.specs.Units.{Configuration, Constant, Description, End, Filler, Foot, Head, Long, Magic, Mark, Number, Piece, Start, SubHead, Version}
 pub use Rattle.vms_spec.specs.Units.{spell, spelled}
-pub use Rattle.std.proofs.{Math.Bool.or-not_self, Math.Nat.add-zero, Math.Seq.drop-append_seam, Math.Seq.drop-nil, Math.Seq.set-append_seam}
-pub use Rattle.std.proofs.{lemmas.Bool.not-true, lemmas.Int.ints, lemmas.Option.slice_get_within, lemmas.Slice.Eq.bytes_eq-Decides}
+pub use Rattle.std.proofs.{Math.Bool.or-not_self, Math.Nat.add-zero, lemmas.Int.ints, lemmas.Option.slice_get_within, lemmas.Slice.Eq.bytes_eq-Decides}
 pub use Rattle.std.proofs.Common.{Bool, Err, IfSome, List, None, Ok, Option, Some, [], ap, append-nil, append_assoc, arith, codes, drop, false, get_or}
 pub use Rattle.std.proofs.Common.{get_or-drop, if◌then◌else◌, inl, inr, length, length-append, length-drop, map, nat_le, nat_lt, negsuc, not, pos, refl}
 pub use Rattle.std.proofs.Common.{slice_set, subst, suc, sym, take, true, zero, ℕ, ℤ, ◌&&◌, ◌++◌, ◌+◌, ◌<◌, ◌==◌, ◌^◌, ◌||◌, ◌∙◌, ◌∷◌, ◌≡◌, ◌≤◌, ◌⊎◌}
-pub use Rattle.std.proofs.lemmas.Bool.{or_from, or_parts, and_parts, both_ways, eq-eqb, eqb-true, le-ltb, leb-true, lt-ltb, ltb-false, ltb-true, not-false}
+pub use Rattle.std.proofs.Math.Seq.{drop-append_seam, drop-nil, set-append_seam}
+pub use Rattle.std.proofs.lemmas.Bool.{not-true, or_from, or_parts, and_parts, both_ways, eq-eqb, eqb-true, le-ltb, leb-true, lt-ltb, ltb-false, ltb-true}
 pub use Rattle.std.proofs.lemmas.List.{drop-drop, length-map, length-set, length-take-le, take-append-drop}
 pub use Rattle.std.specs.{Int.byte_at, Int.bytes_high_first, List.list_all, List.slice_get, Prelude.replicate, Str.bytes_eq}
 unfoldable pub use Rattle.std.specs.Fmt.{digits}
 pub use Rattle.vms_kinds.proofs.ByteLemmas.{bytes_first, bytes_rest}
-pub use Rattle.vms_kinds.specs.{Bytes.IsBytes, declared.Kind.Kind, declared.Kind.TheVariants.U64, declared.Kind.TheVariants.U8}
-pub use Rattle.vms_kinds.specs.Codes.{InRange, residue, value_of, width}
+pub use Rattle.vms_kinds.specs.{Bytes.IsBytes, declared.Kind.Kind, Codes.InRange, Codes.residue, Codes.value_of, Codes.width}
+pub use Rattle.vms_kinds.specs.declared.Kind.TheVariants.{U64, U8}
 unfoldable pub use Rattle.vms_kinds.specs.Codes.{code}
 unfoldable pub use Rattle.vms_spec.specs.Layout.{first}
 pub use Rattle.vms_bodies.proofs.{AgreeLaws.its_spelled, BodyLaws.at_set, BodyLaws.set_twice, FaultFields.bad_same, FaultFields.raw_same, FaultFields.raw_take}
-pub use Rattle.vms_bodies.proofs.{FoundLaws.body_found, FrameLaws.one_unit, FrameLaws.unit_read, Names.if_both, Names.if_so, PartLaws.beside_next}
-pub use Rattle.vms_bodies.proofs.{PartLaws.beside_start, Places.same_refl, StepLaws.Is, StepLaws.Walks, StepLaws.step, StepLaws.steps_keep, SubHeads.sub_bytes}
-pub use Rattle.vms_bodies.proofs.{SubHeads.sub_is, WalkLaws.Comes, WalkLaws.drop_next, WalkLaws.set_desc_comes, Widths.width_positive}
-pub use Rattle.vms_bodies.proofs.{WrittenLaws.zeroed_spells, BodyOnly.front_drop, BodyOnly.front_take, BodyOnly.if_true, BodyOnly.none_taken}
+pub use Rattle.vms_bodies.proofs.{FoundLaws.body_found, FrameLaws.one_unit, FrameLaws.unit_read, Names.if_both, Names.if_so, PartLaws.beside_end}
+pub use Rattle.vms_bodies.proofs.{PartLaws.beside_first, Places.same_refl, StepLaws.Is, StepLaws.Walks, StepLaws.step, StepLaws.steps_keep, SubHeads.sub_bytes}
+pub use Rattle.vms_bodies.proofs.{SubHeads.sub_is, Widths.width_positive, WrittenLaws.zeroed_spells, BodyOnly.front_drop, BodyOnly.front_take, BodyOnly.if_true}
+pub use Rattle.vms_bodies.proofs.{BodyOnly.none_taken, SubsOnly.own_taken, SubsOnly.part_taken, SubsOnly.so_at_last, SubsOnly.so_far, SubsOnly.sub_so}
 pub use Rattle.vms_bodies.proofs.ComeLaws.{agrees, all_came, came_at, defaults_of, falses, never_true, none_missing, none_versions, same_lists, sub_front}
 pub use Rattle.vms_bodies.proofs.FineLaws.{Fine, Stays, fine_next, fine_normal, fine_valid, part_place, stays_next, stays_on, stays_refl}
 pub use Rattle.vms_bodies.proofs.HeadFound.{found_is, four_low, head_bytes, is_bytes_drop, split_four, split_one, text_long}
-pub use Rattle.vms_bodies.proofs.PartLaws.{none_came, none_of, sub_are, version_at, Beside, at_other, beside_back, beside_done, beside_end, beside_first}
+pub use Rattle.vms_bodies.proofs.PartLaws.{beside_next, beside_start, none_came, none_of, sub_are, version_at, Beside, at_other, beside_back, beside_done}
 pub use Rattle.vms_bodies.proofs.SectionLaws.{defaults_at, defaults_long, own_are}
-pub use Rattle.vms_bodies.proofs.SubsOnly.{own_taken, part_taken, so_at_last, so_far, sub_so}
+pub use Rattle.vms_bodies.proofs.WalkLaws.{Comes, drop_next, set_desc_comes}
 pub use Rattle.vms_bodies.specs.Whole.{Advances, reading_on}
-pub use Rattle.vms_stream.specs.{Laws.Accepts, Laws.Ends, Laws.FoundLaw, Laws.IsThere, Laws.Mirrored, Laws.Refuses, Taking.put, Taking.taken_by}
+pub use Rattle.vms_stream.specs.{Taking.put, Taking.taken_by, StreamLaws.ToldLaw, StreamLaws.UnitsLaw, Table.reason_of, Table.test_some, Table.wants_foot}
 pub use Rattle.vms_stream.specs.Dues.{AMagic, AVersion, AfterEnd, AfterFields, AtConfiguration, AtConstant, AtDescription, AtEnd, AtFiller, AtFoot, AtHead}
 pub use Rattle.vms_stream.specs.Dues.{AtLongName, AtLongText, AtMagic, AtMark, AtNext, AtNumber, AtOther, AtStart, AtSubHead, AtTrailing, AtVersion, Between}
 pub use Rattle.vms_stream.specs.Dues.{Due, Field, May, Nothing, begins_next, due, due_field, first_byte, fits_four, holds, is_foot, is_next, raw, rules_hold}
@@ -53,14 +53,13 @@ pub use Rattle.vms_stream.specs.Faults.{Fails, Fault, Front, IsWhole, Owes, Why,
 pub use Rattle.vms_stream.specs.Finding.{Cut, Found, Whole, head_at, needs, start_at, sub_at, text_at, unit_at}
 pub use Rattle.vms_stream.specs.Judge.{Grammar, by_row, by_units, judge, judge_found, owes}
 pub use Rattle.vms_stream.specs.Judged.{JudgedLaw, NextLaw, SeenLaw, ask, begins_section, judge_seen}
+pub use Rattle.vms_stream.specs.Laws.{Accepts, Ends, FoundLaw, IsThere, Mirrored, Refuses}
 pub use Rattle.vms_stream.specs.Seen.{Bad, Good, Seen, Short, seen, seen_by, seen_in}
 pub use Rattle.vms_stream.specs.SoFar.{Bare, Footed, Known, Tail, Unknown, behind, beyond, images, known, machine, passed, put_image, skipped, tail}
 pub use Rattle.vms_stream.specs.State.{Before, Ended, Free, Headed, Inside, Spot, State, after, at_start, between, by_state, due_by, image_at, inside, known_at}
 pub use Rattle.vms_stream.specs.State.{next_spot, onward, open_at, or_none, part_at, slots_at}
 pub use Rattle.vms_stream.specs.StreamLaws.{WholeLaw, WrittenLaw, AcceptedLaw, Answer, AreOneFault, BeginsSection, EitherLaw, FrontLaw, FurtherLaw, GoesOn}
 pub use Rattle.vms_stream.specs.StreamLaws.{LocalLaw, NeverBothLaw, OneFaultLaw, OneStreamLaw, SectionFoundLaw, SectionLaw, SectionReadLaw, StreamLaw, TakenLaw}
-pub use Rattle.vms_stream.specs.StreamLaws.{ToldLaw, UnitsLaw}
 pub use Rattle.vms_stream.specs.Streams.{HasSection, IsSection, IsStream, SectionsSpell, Takes}
-pub use Rattle.vms_stream.specs.Table.{Row, alone, asking, bad_foot, first_of, first_row, is_after_end, is_between, is_none, is_ram}
-pub use Rattle.vms_stream.specs.Table.{large_count, other_constant, reason_of, test_some, wants_foot}
+pub use Rattle.vms_stream.specs.Table.{Row, alone, asking, bad_foot, first_of, first_row, is_after_end, is_between, is_none, large_count, other_constant}
 unfoldable pub use Rattle.vms_stream.specs.{Finding.behind_at, Finding.between_at, Finding.trailer_at, Judge.reading}

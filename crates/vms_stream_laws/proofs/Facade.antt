@@ -12,20 +12,19 @@ pub use Rattle.vms_kinds.specs.{Bytes.IsBytes, Codes.InRange, declared.Item.Item
 pub use Rattle.vms_kinds.specs.{declared.Kind.TheVariants.U8}
 pub use Rattle.vms_spec.proofs.{Faultless.AllTrue, Faultless.all_true, Faultless.or_else_none, ListLaws.both_none, NumberLaws.is_below, NumberLaws.not_above}
 pub use Rattle.vms_spec.proofs.{NumberLaws.same_number_itself, Sizes.elements_fit, Tables.one_more, WellFormedLaws.device_parts, WellFormedLaws.well_good}
-pub use Rattle.vms_spec.specs.{Good.IsGood, Heads.FitsHeads, Images.Image, Images.default_image, Images.own_cells, Images.sub_place, Layout.struct_cells}
-pub use Rattle.vms_spec.specs.{Layout.times, Lists.at_option, Lists.first_answer, Lists.or_else, Lists.position, Lookup.raw, Rules.is_small_test, Sets.Desc}
-pub use Rattle.vms_spec.specs.{Sets.Device, Sets.Field, Sets.Set, Sets.Sub, SoFar.subs_of, Streams.AllCame, Streams.magic, Tests.is_there, declared.Part.Part}
-pub use Rattle.vms_spec.specs.Layout.{Cell, Meaning, Rule, Slot, all_hold, capacity_of, counted, desc_cells, desc_slots, device_cells, elements_of, field_cells}
-pub use Rattle.vms_spec.specs.Layout.{field_slots, item_size, item_slots, meaning, meanings, no_desc, no_meaning, no_parent, numbers_of, slots_from}
-pub use Rattle.vms_spec.specs.Numbers.{exceeds, is_above, is_truth, same_number}
-pub use Rattle.vms_spec.specs.SoFar.{come, device, device_named, fresh, id_of, image, mark_come, opened, part, part_slots, slots, slots_of_sub, sub_named}
+pub use Rattle.vms_spec.specs.{Good.IsGood, Heads.FitsHeads, Layout.numbers_of, Layout.slots_from, Lists.at_option, Lists.first_answer, Lists.or_else}
+pub use Rattle.vms_spec.specs.{Lists.position, Lookup.raw, Rules.is_small_test, Sets.Desc, Sets.Device, Sets.Field, Sets.Set, Sets.Sub, SoFar.sub_named}
+pub use Rattle.vms_spec.specs.{Streams.AllCame, Streams.magic, Tests.is_there, declared.Part.Part, Numbers.exceeds, Numbers.is_above, Numbers.is_truth}
+pub use Rattle.vms_spec.specs.Images.{Image, default_image, own_cells, sub_place}
+pub use Rattle.vms_spec.specs.Layout.{struct_cells, times, Cell, Meaning, Rule, Slot, all_hold, capacity_of, counted, desc_cells, desc_slots, device_cells}
+pub use Rattle.vms_spec.specs.Layout.{elements_of, field_cells, field_slots, item_size, item_slots, meaning, meanings, no_desc, no_meaning, no_parent}
+pub use Rattle.vms_spec.specs.SoFar.{subs_of, come, device, device_named, fresh, id_of, image, mark_come, opened, part, part_slots, slots, slots_of_sub}
 pub use Rattle.vms_spec.specs.Units.{Configuration, Constant, End, Filler, Foot, Head, Magic, Number, Piece, SubHead, Version, spell, spelled}
 pub use Rattle.vms_spec.specs.WellFormed.{WellFormed, deepest, desc_fault, device_fault, device_rules, devices_items, failing, fields_fault, has_few, here}
 pub use Rattle.vms_spec.specs.WellFormed.{is_same_device, items_in, set_rules, size_rules, struct_depths, struct_fault, struct_items, struct_rules, sub_fault}
 pub use Rattle.vms_spec.specs.WellFormed.{sub_rules, subs_items, validations_fault}
 unfoldable pub use Rattle.vms_spec.specs.{Layout.first, WellFormed.first_fault}
-pub use Rattle.vms_stream.proofs.{Stated.units_hold}
-pub use Rattle.vms_stream.proofs.Streams.UnitRows.{end_passes, foot_passes, head_passes, passed_by}
+pub use Rattle.vms_stream.proofs.{Stated.units_hold, Streams.UnitRows.end_passes, Streams.UnitRows.foot_passes, Streams.UnitRows.head_passes}
 pub use Rattle.vms_stream.proofs.WrittenBytes.{AreBytes, be32_bytes, bytes_at, code_bytes, foot_bytes, head_bytes, parts_named, zeros_bytes}
 pub use Rattle.vms_stream.specs.{Faults.Front, Judge.owes, Laws.Ends}
 pub use Rattle.vms_stream.specs.Dues.{AVersion, AfterFields, AtConstant, AtEnd, AtFiller, AtFoot, AtHead, AtMagic, AtNext, AtNumber, AtVersion, Between, Due}

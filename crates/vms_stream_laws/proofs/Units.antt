@@ -1,10 +1,9 @@
 -- The units with which a stream can go on: no row takes them; which slot is due; which devices have not come.
-use Rattle.vms_stream_laws.proofs.Facade.{◌≡◌, ℕ, zero, suc, ◌+◌, ◌<◌, Bool, true, false, not, ◌&&◌, List, [], ◌∷◌, length, drop, slice_set, ℤ, pos, negsuc}
-use Rattle.vms_stream_laws.proofs.Facade.{Some, None, refl, ap, ◌∙◌, arith, slice_get, le-ltb, ltb-false, InRange, Kind, U8, Slot, raw, exceeds, is_above}
-use Rattle.vms_stream_laws.proofs.Facade.{is_truth, same_number, Set, slots, AllCame, Number, Constant, is_below, not_above, same_number_itself, AreConstants}
-use Rattle.vms_stream_laws.proofs.Facade.{AfterFields, due_field, Known, Tail, skipped, first_of, passed_by}
+use Rattle.vms_stream_laws.proofs.Facade.{◌≡◌, ℕ, zero, suc, ◌+◌, ◌<◌, Bool, true, false, ◌&&◌, List, [], ◌∷◌, length, drop, slice_set, ℤ, pos, negsuc}
+use Rattle.vms_stream_laws.proofs.Facade.{Some, None, refl, ◌∙◌, arith, slice_get, le-ltb, ltb-false, InRange, Kind, U8, Slot, raw, exceeds, is_above}
+use Rattle.vms_stream_laws.proofs.Facade.{is_truth, Set, slots, AllCame, Number, Constant, is_below, not_above, same_number_itself, AreConstants}
+use Rattle.vms_stream_laws.proofs.Facade.{AfterFields, due_field, Known, Tail, skipped, first_of}
 use Rattle.vms_kinds.specs.declared.Kind.TheVariants.{Bool as Truth}
-use Rattle.vms_spec.specs.declared.Reason.TheVariants as reasons
 use Rattle.vms_spec.specs.Layout.{Number as NumberSlot, Constant as ConstantSlot, Filler as FillerSlot, Rule as RuleSlot}
 use Rattle.vms_stream.specs.Dues.{Field}
 
@@ -34,14 +33,10 @@ module _ (set : Set) (names : List (List ℕ)) (so_far : Known) where
   zero_kind kind = refl
 
   pub number_passes : (k c : ℕ) (kind : Kind) (capacities : List ℕ) → first_of set names (Field k (NumberSlot c kind capacities)) so_far (Number c kind (pos 0)) ≡ None
-  number_passes k c kind capacities =
-      passed_by (is_truth kind && is_above (pos 0) 1) so_far.section reasons.BadBool _ (zero_kind kind)
-      ∙ passed_by (exceeds capacities (pos 0)) so_far.section reasons.CountTooLarge None (zero_fits capacities)
+  number_passes k c kind capacities = rw (zero_kind kind, zero_fits capacities)
 
   pub constant_passes : (k : ℕ) (kind : Kind) (z : ℤ) → InRange kind z → first_of set names (Field k (ConstantSlot kind z)) so_far (Constant kind z) ≡ None
-  constant_passes k kind z r =
-      passed_by (is_truth kind && is_above z 1) so_far.section reasons.BadBool _ (fits_truth kind z r)
-      ∙ passed_by (not (same_number z z)) so_far.section reasons.NotEqual None (ap not (same_number_itself z))
+  constant_passes k kind z r = rw (fits_truth kind z r, same_number_itself z)
 
 -- ---- the slot that is due
 

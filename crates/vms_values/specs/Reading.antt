@@ -53,10 +53,8 @@ ReadsBy set read (Err faults.NoMemory) = Unit {0}
 
 -- The same, for every text.
 abbrev pub ReadsAs : Set → ValuesRead → Result Given ValuesFault → Type 0
-ReadsAs set (Values machine images) (Ok v) = AreValues set machine images v
-ReadsAs set (Bad line reason) (Ok v) = ⊥
-ReadsAs set (Values machine images) (Err (outer.Bad line reason)) = ⊥
-ReadsAs set (Bad line reason) (Err (outer.Bad l r)) = (l ≡ line) × (r ≡ reason)
+ReadsAs set read (Ok v) = ReadsBy set read (Ok v)
+ReadsAs set read (Err (outer.Bad line reason)) = ReadsBy set read (Err (faults.Bad line reason))
 ReadsAs set read (Err outer.NoMemory) = Unit {0}
 
 -- What the text means, by the lines and elements of the set: the values whose text it is, which may be

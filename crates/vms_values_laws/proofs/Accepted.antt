@@ -1,14 +1,14 @@
 -- A text that was accepted is the one of its machine and images.
-use Rattle.vms_values_laws.proofs.{AllCome.images_of, AllCome.short_are, BadLines.fine_text, BadLines.NoneBad, Meeting.named_is, Meeting.Ends}
-use Rattle.vms_values_laws.proofs.{ReadyParts.device_ready, Rights.AreGood, Rights.fine_both, SaidLaws.all_both, SaidLaws.all_from, SaidLaws.all_parts}
-use Rattle.vms_values_laws.proofs.Facade.{◌≡◌, ℕ, suc, ◌+◌, Bool, true, false, ◌==◌, List, [], ◌∷◌, ◌++◌, length, get_or, map, Option, Some, None, ℤ, pos}
-use Rattle.vms_values_laws.proofs.Facade.{append_cancel_left, refl, sym, ap, ◌∙◌, arith, codes, zero, ◌≤◌, AllByRecursion, slice_get, eqb-true, leb-true}
-use Rattle.vms_values_laws.proofs.Facade.{ext_get_or, Sub, Device, Set, desc_cells, struct_cells, Image, own_cells, version_text, Element, elements_in, printed}
-use Rattle.vms_values_laws.proofs.Facade.{sub_line, Entry, OfMachine, OfSub, OfNumber, number_entries, subs_entries, devices_entries, entry_line}
-use Rattle.vms_values_laws.proofs.Facade.{device_entries, entries, part_reason, is_of_cell, has_line, IsShaped, AreShaped, AreUnsaid, AllUnsaid, IsAtVersion}
-use Rattle.vms_values_laws.proofs.Facade.{AreAtVersions, IsMachineOf, AreFine, Says, Demand, ForSection, ForNumber, demand_of, Taken, lines_of, Follows, Along}
-use Rattle.vms_values_laws.proofs.Facade.{ValuesReason, first_line, IsReady, AreReady, BadLine, ValuesRead, Values, Bad, machine_named}
-use Rattle.vms_values_laws.proofs.Facade.{or_bad, WellFormed, IsGood, device_parts, sub_clean, OfSection, DefaultsFit, device_cells}
+use Rattle.vms_values_laws.proofs.{BadLines.fine_text, BadLines.NoneBad, Meeting.named_is, Meeting.Ends, ReadyParts.device_ready, Rights.AreGood}
+use Rattle.vms_values_laws.proofs.AllCome.{images_of, short_are}
+use Rattle.vms_values_laws.proofs.Facade.{all_both, all_from, all_parts, ◌≡◌, ℕ, suc, ◌+◌, Bool, true, false, ◌==◌, List, [], ◌∷◌, ◌++◌, length, get_or, map}
+use Rattle.vms_values_laws.proofs.Facade.{Option, Some, None, ℤ, pos, append_cancel_left, refl, sym, ap, ◌∙◌, arith, codes, zero, ◌≤◌, AllByRecursion}
+use Rattle.vms_values_laws.proofs.Facade.{slice_get, eqb-true, leb-true, ext_get_or, Sub, Device, Set, desc_cells, struct_cells, Image, own_cells, version_text}
+use Rattle.vms_values_laws.proofs.Facade.{Element, elements_in, printed, sub_line, Entry, OfMachine, OfSub, OfNumber, number_entries, subs_entries}
+use Rattle.vms_values_laws.proofs.Facade.{devices_entries, entry_line, device_entries, entries, part_reason, is_of_cell, has_line, IsShaped, AreShaped}
+use Rattle.vms_values_laws.proofs.Facade.{AreUnsaid, AllUnsaid, IsAtVersion, AreAtVersions, IsMachineOf, AreFine, Says, Demand, ForSection, ForNumber}
+use Rattle.vms_values_laws.proofs.Facade.{demand_of, Taken, lines_of, Follows, Along, ValuesReason, first_line, IsReady, AreReady, BadLine, ValuesRead, Values}
+use Rattle.vms_values_laws.proofs.Facade.{Bad, machine_named, or_bad, WellFormed, IsGood, device_parts, sub_clean, OfSection, DefaultsFit, device_cells}
 use Rattle.vms_values_laws.proofs.SecondPass.{AreShort, of_numbers, number_same, as_bad, parts_from}
 
 -- ---- Two states with the same lines, and with defaults where there is no line, are the same.
@@ -75,11 +75,11 @@ module _ (set : Set) (d : Device) (image : Image) where
 
   subs_own : (j at : ℕ) (subs : List Sub) (came : List (Option ℕ)) → AreAtVersions subs came
       → AreOwn image.numbers (subs_entries set d image j at subs came)
-  subs_own j at (s ∷ subs) (o ∷ came) h = (h.0, all_both _ (number_entries set s.desc image.numbers at) _ (numbers_own _) (subs_own (suc j) _ subs came h.1))
+  subs_own j at (s ∷ subs) (o ∷ came) h = (h.0, all_both _ _ _ (numbers_own _) (subs_own (suc j) _ subs came h.1))
   subs_own j at _ _ h = tt
 
   whole_own : AreAtVersions d.subs image.came → AreOwn image.numbers (inside_of set d image)
-  whole_own h = all_both _ (number_entries set d.desc image.numbers 0) _ (numbers_own _) (subs_own 0 (own_cells set d) d.subs image.came h)
+  whole_own h = all_both _ _ _ (numbers_own _) (subs_own 0 _ d.subs _ h)
 
 abbrev of_demand : ℕ → Demand → Bool
 of_demand c (ForNumber x) = x.cell == c
@@ -100,8 +100,8 @@ module _ (n m : List ℤ) (short : AreShort n) (short' : AreShort m) where
   -- a number has the same line in both, or it is this default in both
   same_at : (c : ℕ) (z : ℤ) (es fs : List Entry) → AreOwn n es → AreOwn m fs → Match es fs → (has_line es c ≡ false → get_or n c (pos 0) ≡ z)
       → (has_line fs c ≡ false → get_or m c (pos 0) ≡ z) → get_or n c (pos 0) ≡ get_or m c (pos 0)
-  same_at c z [] [] a b h u u' = u refl ∙ sym (u' refl)
-  same_at c z (e ∷ es) (f ∷ fs) a b h u u' = by (is_of_cell c e) refl (same_at c z es fs a.1 b.1 h.2) where
+  same_at c z [] [] a b h u u' = cc (u refl, u' refl)
+  same_at c z (e ∷ es) (f ∷ fs) a b h u u' = by _ refl (same_at c z es fs a.1 b.1 h.2) where
     by : (t : Bool) → is_of_cell c e ≡ t
         → ((has_line es c ≡ false → get_or n c (pos 0) ≡ z) → (has_line fs c ≡ false → get_or m c (pos 0) ≡ z) → get_or n c (pos 0) ≡ get_or m c (pos 0))
         → get_or n c (pos 0) ≡ get_or m c (pos 0)
@@ -141,7 +141,7 @@ came_one n m _ _ came a b h l = refl
 
 came_same : (n m : List ℤ) (es fs : List Entry) → AreOwn n es → AreOwn m fs → Match es fs → came_of es ≡ came_of fs
 came_same n m [] [] a b h = refl
-came_same n m (e ∷ es) (f ∷ fs) a b h = ap (came_with e) (came_same n m es fs a.1 b.1 h.2) ∙ came_one n m e f (came_of fs) a.0 b.0 h.0 h.1
+came_same n m (e ∷ es) (f ∷ fs) a b h = cc (came_same n m es fs a.1 b.1 h.2, came_one n m e f (came_of fs) a.0 b.0 h.0 h.1)
 came_same n m _ _ a b h = absurd h
 
 module _ (set : Set) (d : Device) (image : Image) where
@@ -165,9 +165,9 @@ device_same : (set : Set) (d : Device) (image image' : Image) → IsShaped set d
 device_same set d image image' a b u u' m =
     let es = inside_of set d image in
     same_image image image' (a.version ∙ sym b.version)
-    (sym (whole_came set d image a.subs) ∙ came_same _ _ es (inside_of set d image') (whole_own set d image a.versions) (whole_own set d image' b.versions) m
+    (sym (whole_came set d image a.subs) ∙ came_same _ _ es _ (whole_own set d image a.versions) (whole_own set d image' b.versions) m
     ∙ whole_came set d image' b.subs) (ext_get_or (pos 0) image.numbers image'.numbers (a.cells ∙ sym b.cells) (λ c lt.
-    same_at _ _ (short_are _ a.short) (short_are _ b.short) c _ es (inside_of set d image') (whole_own set d image a.versions)
+    same_at _ _ (short_are _ a.short) (short_are _ b.short) c _ es _ (whole_own set d image a.versions)
     (whole_own set d image' b.versions) m (u c lt) (u' c (omega arith))))
 
 begins_new : (set : Set) (devices : List Device) (images : List Image) → BeginsNew (devices_entries set devices images)
@@ -181,8 +181,7 @@ devices_same set [] [] [] a b u u' m = refl
 devices_same set [] [] (i ∷ images') a b u u' m = absurd b
 devices_same set (d ∷ devices) (i ∷ images) [] a b u u' m = absurd b
 devices_same set (d ∷ devices) (i ∷ images) (j ∷ images') a b u u' m =
-    let p = parted _ _ (inside_of set d i) (devices_entries set devices images) (inside_of set d j) (devices_entries set devices images')
-    (whole_own set d i a.0.versions) (whole_own set d j b.0.versions) (begins_new set devices images) (begins_new set devices images') m.2 in
+    let p = parted _ _ _ _ _ _ (whole_own set d i a.0.versions) (whole_own set d j b.0.versions) (begins_new set _ images) (begins_new set _ _) m.2 in
     rw (device_same set d i j a.0 b.0 u.0 u'.0 p.inside, devices_same set devices images images' a.1 b.1 u.1 u'.1 p.rest) refl
 devices_same set _ _ images' a b u u' m = absurd a
 
@@ -203,12 +202,12 @@ answer_by machine images None = Values machine images
 
 pub none_answers : (set : Set) (text : List ℕ) (v : ValuesRead) (n : NoneBad set text v)
     → v ≡ answer_by n.machine (images_of n.all.devices) (parts_from set 1 (entries set n.machine (images_of n.all.devices)))
-none_answers set text v n = n.is ∙ ap (λ o. answer_by n.machine (images_of n.all.devices) o) n.judged
+none_answers set text v n = cc
 
 -- no part is bad
 pub none_good : (set : Set) (line : ℕ) (es : List Entry) → parts_from set line es ≡ None → AreGood set es
 none_good set line [] h = tt
-none_good set line (e ∷ es) h = go (part_reason set e) refl h (λ g. none_good set (suc line) es g) where
+none_good set line (e ∷ es) h = go _ refl h (λ g. none_good set (suc line) es g) where
   go : (o : Option ValuesReason) → part_reason set e ≡ o → or_bad (as_bad line o) (parts_from set (suc line) es) ≡ None
       → (parts_from set (suc line) es ≡ None → AreGood set es) → (part_reason set e ≡ None) × AreGood set es
   go None is h more = (is, more h)
@@ -221,7 +220,7 @@ module _ (set : Set) (well : WellFormed set) (good : IsGood set) where
       × ((j : ℕ) (s : Sub) → slice_get d.subs j ≡ Some s → s.desc.minimum ≤ s.desc.version)
 
   all_known : AllByRecursion IsKnown set.devices
-  all_known = all_from IsKnown set.devices (λ k d e. (
+  all_known = all_from _ _ (λ k d e. (
     good.defaults k d e,
     leb-true d.desc.minimum d.desc.version (device_parts set well k d e).0.own.1.1.0,
     λ j s f. leb-true s.desc.minimum s.desc.version (sub_clean set well k j d s e f).own.1.1.0,
@@ -238,7 +237,7 @@ module _ (set : Set) (well : WellFormed set) (good : IsGood set) where
   ready_from [] (image ∷ images) known shaped unsaid fine goods = absurd shaped
   ready_from (d ∷ devices) [] known shaped unsaid fine goods = absurd shaped
   ready_from (d ∷ devices) (image ∷ images) known shaped unsaid fine goods =
-      let f = fine_both (device_entries set d image) (devices_entries set devices images) fine in
+      let f = all_parts _ (device_entries set d image) (devices_entries set devices images) fine in
       let g = all_parts _ (device_entries set d image) (devices_entries set devices images) goods in
       let short = short_are image.numbers shaped.0.short in
       let mine = device_ready set d image short shaped.0 unsaid.0 f.0 g.0 known.0.0 known.0.1 known.0.2 in
@@ -261,6 +260,6 @@ module _ (set : Set) (well : WellFormed set) (good : IsGood set) where
   pub says_ready : (text : List ℕ) (machine : Option (List ℕ)) (images : List Image) → Says set text machine images → AreGood set (entries set machine images)
       → AreReady set images
   says_ready text machine images s g =
-      let p = machine_good machine images s.fine g in
-      let all = ready_from set.devices images all_known s.shaped s.unsaid p.0 p.1 in
+      let p = machine_good _ images s.fine g in
+      let all = ready_from _ images all_known s.shaped s.unsaid p.0 p.1 in
       record { one_each = all.one_each; ready = all.ready }

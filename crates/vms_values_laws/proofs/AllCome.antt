@@ -1,15 +1,15 @@
 -- All devices, read as entries, and which devices reading requires.
-use Rattle.vms_values_laws.proofs.Facade.{◌≡◌, ℕ, suc, ◌+◌, List, ◌∷◌, ◌++◌, length, map, true, false, Option, Some, None, ℤ, Ok, Err, Result, refl, sym, ap}
-use Rattle.vms_values_laws.proofs.Facade.{◌∙◌, subst, arith, [], length-append, length-map, bytes_eq-Decides, zero, ◌<◌, get_or, slice_set, Bool, ⊎_elim}
-use Rattle.vms_values_laws.proofs.Facade.{AllByRecursion, or_right, cases_eq, if◌then◌else◌, pos, negsuc, get_or-set_other, append-nil, list_all, and_parts}
-use Rattle.vms_values_laws.proofs.Facade.{length-set, get_or-set_same, get_or-map, Device, Set, desc_cells, struct_cells, device_cells, Image, default_image}
-use Rattle.vms_values_laws.proofs.Facade.{own_cells, first_line, Standing, BadLine, ReadSubs, readers, read_desc, read_subs, then_subs, next_line, rest_of}
-use Rattle.vms_values_laws.proofs.Facade.{is_line, IsSound, AreSound, section_line, Entry, OfSection, device_entries, Said, ForSection, reason_for, Taken}
-use Rattle.vms_values_laws.proofs.Facade.{Follows, Along, Begins, Moved, either_of, no_cell, Cell, ReadDevice, ReadAll, read_devices, device_read, with_device}
-use Rattle.vms_values_laws.proofs.Facade.{IsShort, devices_entries, is_short, IsShaped, AreShaped, AreUnsaid, AllUnsaid, put_all, Demand, IsGood, DefaultsFit}
-use Rattle.vms_values_laws.proofs.Facade.{ranged, in_range, I64, U64, nat_le, and_from, le-leb}
-use Rattle.vms_values_laws.proofs.SaidLaws.{all_from, unsaid_kept, AreShortSaid, short}
-use Rattle.vms_values_laws.proofs.SecondPass.{moved_none, moved_one, moved_then, AreShort, numbers_come, follows_then, along_then, short_within, AreLined}
+use Rattle.vms_values_laws.proofs.Facade.{all_from, ◌≡◌, ℕ, suc, ◌+◌, List, ◌∷◌, ◌++◌, length, map, true, false, Option, Some, None, ℤ, Ok, Err, Result, refl}
+use Rattle.vms_values_laws.proofs.Facade.{sym, ap, ◌∙◌, subst, arith, [], length-append, length-map, bytes_eq-Decides, zero, ◌<◌, get_or, slice_set, Bool}
+use Rattle.vms_values_laws.proofs.Facade.{⊎_elim, AllByRecursion, or_right, cases_eq, if◌then◌else◌, pos, negsuc, get_or-set_other, append-nil, list_all}
+use Rattle.vms_values_laws.proofs.Facade.{and_parts, length-set, get_or-set_same, get_or-map, Device, Set, desc_cells, struct_cells, device_cells, Image}
+use Rattle.vms_values_laws.proofs.Facade.{default_image, own_cells, first_line, Standing, BadLine, ReadSubs, readers, read_desc, read_subs, then_subs}
+use Rattle.vms_values_laws.proofs.Facade.{next_line, rest_of, is_line, IsSound, AreSound, section_line, Entry, OfSection, device_entries, Said, ForSection}
+use Rattle.vms_values_laws.proofs.Facade.{reason_for, Taken, Follows, Along, Begins, Moved, either_of, no_cell, Cell, ReadDevice, ReadAll, read_devices}
+use Rattle.vms_values_laws.proofs.Facade.{device_read, with_device, IsShort, devices_entries, is_short, IsShaped, AreShaped, AreUnsaid, AllUnsaid, put_all}
+use Rattle.vms_values_laws.proofs.Facade.{Demand, IsGood, DefaultsFit, ranged, I64, U64, and_from, le-leb}
+use Rattle.vms_values_laws.proofs.SaidLaws.{moved_none, moved_one, moved_then, unsaid_kept, AreShortSaid, short}
+use Rattle.vms_values_laws.proofs.SecondPass.{AreShort, numbers_come, follows_then, along_then, short_within, AreLined}
 use Rattle.vms_values_laws.proofs.SubsCome.{line_taken, AreSoundSubs, cells_long, none_at, subs_come, Went, Come, stopped_first, behind_numbers, numbers_first}
 use Rattle.vms_spec.specs.declared.ValuesReason.TheVariants as reasons
 
@@ -39,7 +39,7 @@ module _ (set : Set) (d : Device) (line : ℕ) (text : List ℕ) where
 
   pub section_refused : reason_for (ForSection d) (first_line text) ≡ Some reasons.Form → DeviceComes (Err (record { line = line; reason = reasons.Form }))
   section_refused wrong =
-      stopped_first (device_of set d) d.subs 0 place (ForSection d)
+      stopped_first _ d.subs 0 place _
       (λ image came more long. record { first = OfSection d (state_of d came image.numbers); others = _; is = refl; demands = refl }) wrong
 
   abbrev start : Standing
@@ -89,10 +89,9 @@ pub section_read : (d : Device) (text : List ℕ) (o : Option (List ℕ × List 
     → (line : ℕ) → Moved line text (record { demand = ForSection d; line = section_line d d.desc.version } ∷ []) (suc line) (rest_of (first_line text))
 section_read d text None e h line = cc
 section_read d text (Some (first, rest)) e h line =
-    let is : first ≡ section_line d d.desc.version = (bytes_eq-Decides first (section_line d d.desc.version)).0 h in
+    let is : first ≡ section_line d d.desc.version = (bytes_eq-Decides first _).0 h in
     moved_one line text (record { demand = ForSection d; line = section_line d d.desc.version }) _
-    (line_taken text (section_line d d.desc.version) rest (e ∙ ap (λ (l : List ℕ). Some (l, rest)) is))
-    (ap (λ l. reason_for (ForSection d) (Some (l, []))) (sym is) ∙ rw h refl)
+    (line_taken text _ rest (e ∙ ap (λ (l : List ℕ). Some (l, rest)) is)) (ap (λ l. reason_for (ForSection d) (Some (l, []))) (sym is) ∙ rw h refl)
 
 pub section_not : (d : Device) (o : Option (List ℕ × List ℕ)) → is_line (section_line d d.desc.version) o ≡ false
     → reason_for (ForSection d) o ≡ Some reasons.Form
@@ -102,18 +101,17 @@ section_not d (Some (first, rest)) h = rw h refl
 -- ---- The devices of a set one after the other, read as entries.
 
 short_set : (n : List ℤ) (i : ℕ) (z : ℤ) → IsShort z → AreShort n → AreShort (slice_set n i z)
-short_set n i z h short = short_within (slice_set n i z) (λ c lt.
+short_set n i z h short = short_within _ (λ c lt.
     ⊎_elim (λ (same : c ≡ i). rw (same, get_or-set_same n i z (pos 0) (omega (arith, length-set n i z))) h)
     (λ (ne : c ≡ i → ⊥). rw (get_or-set_other n i c z (pos 0) ne) (short c)) (cases_eq c i))
 
 pub short_all : (n : List ℤ) (said : List Said) → AreShortSaid said → AreShort n → AreShort (put_all n said)
 short_all n [] h short = short
-short_all n (s ∷ said) h short = short_all (slice_set n s.element.cell s.number) said h.1 (short_set n s.element.cell s.number h.0 short)
+short_all n (s ∷ said) h short = short_all (slice_set n s.element.cell s.number) said h.1 (short_set n _ _ h.0 short)
 
 -- as a test that computes
 is_short_one : (z : ℤ) → IsShort z → is_short z ≡ true
-is_short_one (pos n) h =
-    or_right (nat_le n 0x7fff_ffff_ffff_ffff) _ (and_from (nat_le 0 n) _ (le-leb 0 n (omega arith)) (le-leb n 0xffff_ffff_ffff_ffff (omega arith)))
+is_short_one (pos n) h = or_right _ _ (and_from _ _ (le-leb 0 n (omega arith)) (le-leb n 0xffff_ffff_ffff_ffff (omega arith)))
 is_short_one (negsuc n) h = let e = le-leb n 0x7fff_ffff_ffff_ffff (omega arith) in rw e refl
 
 pub are_short : (n : List ℤ) → AreShort n → list_all is_short n ≡ true
@@ -122,8 +120,7 @@ are_short (z ∷ n) h = let e = is_short_one z (h 0) in let f = are_short n (λ 
 
 pub short_are : (n : List ℤ) → list_all is_short n ≡ true → AreShort n
 short_are [] e c = omega arith
-short_are (z ∷ n) e zero =
-    either_of (in_range I64 z) (in_range U64 z) (and_parts (is_short z) (list_all is_short n) e).0 (short I64 z) (short U64 z)
+short_are (z ∷ n) e zero = either_of _ _ (and_parts (is_short z) (list_all is_short n) e).0 (short I64 z) (short U64 z)
 short_are (z ∷ n) e (suc c) = short_are n (and_parts (is_short z) (list_all is_short n) e).1 c
 
 -- what reading requires of a device
@@ -182,7 +179,7 @@ defaults_shaped set (d ∷ devices) good = (
     subs = length-map d.subs (λ s. None);
     versions = none_at d.subs;
     cells = length-map (device_cells set d) (λ c. c.default);
-    short = are_short (default_numbers set d) good.0.short;
+    short = are_short _ good.0.short;
   },
   defaults_shaped set devices good.1,
 )
@@ -195,8 +192,7 @@ module _ (set : Set) (d : Device) (devices : List Device) (line : ℕ) (text : L
       → (images : List Image) → AreShaped set (d ∷ devices) images → Follows taken P (devices_entries set (d ∷ devices) images)
   each_state taken P h [] shaped = absurd shaped
   each_state taken P h (i ∷ images) shaped =
-      let same : state_of d i.came i.numbers ≡ i = rw (← shaped.0.version) refl in
-      subst (λ x. Follows taken P (device_entries set d x ++ devices_entries set devices images)) same (h i images shaped.0 shaped.1)
+      subst (λ x. Follows taken P (device_entries set d x ++ devices_entries set devices images)) (rw (← shaped.0.version) refl) (h i images shaped.0 shaped.1)
 
   shaped_as : {came : List (Option ℕ)} {numbers : List ℤ} {line' : ℕ} {rest : List ℕ} {Then : List Entry → List Entry → Type 0}
       → DeviceWent set d line text came numbers line' rest Then → IsShaped set d (state_of d came numbers)
@@ -205,7 +201,7 @@ module _ (set : Set) (d : Device) (devices : List Device) (line : ℕ) (text : L
         version = refl;
         subs = w.one_each;
         versions = w.versions;
-        cells = w.told.long ∙ length-map (device_cells set d) (λ c. c.default);
+        cells = cc (length-map (device_cells set d) (λ c. c.default));
         short = are_short numbers (rw (w.told.numbers) (short_all (default_numbers set d) w.said w.told.short good));
       }
 
@@ -218,9 +214,9 @@ module _ (set : Set) (d : Device) (devices : List Device) (line : ℕ) (text : L
         rest = s.rest;
         before = record {
           taken = w.taken;
-          shaped = (shaped_as w, defaults_shaped set devices later);
-          follows = each_state w.taken (λ es. Begins s.demand es)
-              (λ i images shaped others. w.follows i i.came (devices_entries set devices images) shaped.subs (short_are i.numbers shaped.short));
+          shaped = (shaped_as w, defaults_shaped set _ later);
+          follows = each_state _ (λ es. Begins s.demand es)
+              (λ i images shaped others. w.follows i i.came (devices_entries set devices images) shaped.subs (short_are _ shaped.short));
           along = w.along (state_of d s.came s.numbers) (devices_entries set devices (default_images set devices)) w.told.agrees;
           moved = w.moved;
         };
@@ -238,24 +234,21 @@ module _ (set : Set) (d : Device) (devices : List Device) (line : ℕ) (text : L
         record {
           taken = x.taken ++ a.taken;
           shaped = (shaped_as x.whole, a.shaped);
-          follows = each_state (x.taken ++ a.taken) Then (λ i images shaped others.
-              follows_then x.taken a.taken (λ es. es ≡ devices_entries set devices images) Then _
-              (x.follows i i.came _ shaped.subs (short_are i.numbers shaped.short))
+          follows = each_state _ Then (λ i images shaped others.
+              follows_then _ _ (λ es. es ≡ devices_entries set devices images) Then _ (x.follows i i.came _ shaped.subs (short_are _ shaped.short))
               (λ es is. rw is (a.follows images others)));
-          along = along_then x.taken a.taken (λ es. es ≡ devices_entries set devices images) Then _ (x.along image _ x.told.agrees) (λ es is. rw is a.along);
+          along = along_then _ _ (λ es. es ≡ devices_entries set devices images) Then _ (x.along image _ x.told.agrees) (λ es is. rw is a.along);
           moved = moved_then x.moved a.moved;
         }
 
     -- a number about which nothing was said is its default
     image_unsaid : AreUnsaid set d image
     image_unsaid c lt bare =
-        rw (x.told.numbers, unsaid_kept (default_numbers set d) x.said c (sym (x.heard image x.told.agrees c) ∙ bare))
+        rw (x.told.numbers, unsaid_kept _ x.said c (sym (x.heard image x.told.agrees c) ∙ bare))
         (get_or-map (λ c. c.default) (device_cells set d) c no_cell (pos 0) (omega (arith, length-map (device_cells set d) (λ c. c.default))))
 
     after_it : r.place.line ≡ line + length (device_entries set d image)
-    after_it =
-        let along = along_long x.taken (device_entries set d image ++ []) (x.along image [] x.told.agrees) in
-        omega (arith, ap (λ l. length l) (append-nil (device_entries set d image)))
+    after_it = omega (arith, along_long _ _ (x.along image [] x.told.agrees), ap (λ l. length l) (append-nil (device_entries set d image)))
 
     others_come : (o : Result ReadAll BadLine) → AllCome set devices r.place.line r.place.rest o
         → AllCome set (d ∷ devices) line text (with_device (record { image = image; line = line; sub_lines = r.lines }) o)
@@ -268,7 +261,7 @@ module _ (set : Set) (d : Device) (devices : List Device) (line : ℕ) (text : L
 
   by_device : (r : Result ReadSubs BadLine) (go : ℕ → List ℕ → Result ReadAll BadLine) → AreGoodDevices set devices → DeviceComes set d line text r
       → ((line : ℕ) (text : List ℕ) → AllCome set devices line text (go line text)) → AllCome set (d ∷ devices) line text (device_read d line r go)
-  by_device (Ok r) go later x h = others_come r x (go r.place.line r.place.rest) (h r.place.line r.place.rest)
+  by_device (Ok r) go later x h = others_come r x _ (h r.place.line r.place.rest)
   by_device (Err e) go later x h = stopped_here e later x
 
   by_section : (b : Bool) → is_line (section_line d d.desc.version) (first_line text) ≡ b → AreSound set.structs → IsSound d.desc → AreSoundSubs d.subs
@@ -280,7 +273,7 @@ module _ (set : Set) (d : Device) (devices : List Device) (line : ℕ) (text : L
       (read_subs set (own_cells set d) d.subs)) go
       else Err (record { line = line; reason = reasons.Form }))
   by_section true e structs sound subs later go h =
-      by_device _ go later (inside_comes set d line text structs sound subs (section_read d text (first_line text) refl e line)) h
+      by_device _ go later (inside_comes set d line text structs sound subs (section_read d text _ refl e line)) h
   by_section false e structs sound subs later go h =
       stopped_here (record { line = line; reason = reasons.Form }) later (section_refused set d line text (section_not d (first_line text) e))
 
@@ -293,22 +286,22 @@ devices_come set structs [] good line text =
       lined = tt;
     }
 devices_come set structs (d ∷ devices) good line text =
-    by_section set d devices line text good.0.short (is_line (section_line d d.desc.version) (first_line text)) refl structs good.0.sound good.0.subs good.1
+    by_section set d _ line text good.0.short _ refl structs good.0.sound good.0.subs good.1
     (λ line text. read_devices set devices line text) (λ line text. devices_come set structs devices good.1 line text)
 
 -- ---- What reading requires of the devices follows from what the laws require of a set.
 
 short_defaults : (cells : List Cell) → DefaultsFit cells → AreShort (map (λ c. c.default) cells)
-short_defaults cells fit = short_within (map (λ c. c.default) cells) (λ c lt.
+short_defaults cells fit = short_within _ (λ c lt.
     let l : c < length cells = omega (arith, length-map cells (λ c. c.default)) in
     let cell = get_or cells c no_cell in
     rw (get_or-map (λ c. c.default) cells c no_cell (pos 0) l) (short cell.kind cell.default (ranged cell.kind cell.default (fit c l).0)))
 
 pub good_devices : (set : Set) → IsGood set → AreGoodDevices set set.devices
 good_devices set good =
-    all_from _ set.devices
+    all_from _ _
     (λ k d e. record {
       sound = good.devices k d e;
       subs = all_from _ d.subs (λ j s f. good.subs k j d s e f);
-      short = short_defaults (device_cells set d) (good.defaults k d e);
+      short = short_defaults _ (good.defaults k d e);
     })

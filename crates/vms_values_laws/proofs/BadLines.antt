@@ -1,13 +1,13 @@
 -- The first bad line of a text.
-use Rattle.vms_values_laws.proofs.{Facade.Moved, Facade.is_one_of, Facade.AreSound, Facade.begun, SaidLaws.some_if, SubsCome.line_taken, Meeting.Ends}
+use Rattle.vms_values_laws.proofs.{Facade.Taken, Facade.lines_of, SubsCome.line_taken, Meeting.Ends}
 use Rattle.vms_values_laws.proofs.AllCome.{images_of, AllRead, AreGoodDevices, AllCome, devices_come, AllWent}
-use Rattle.vms_values_laws.proofs.Facade.{◌≡◌, ℕ, suc, ◌+◌, List, [], ◌∷◌, ◌++◌, length, map, Option, Some, None, refl, sym, ap, ◌∙◌, arith, append-nil, codes}
-use Rattle.vms_values_laws.proofs.Facade.{and_parts, ◌⊎◌, inl, inr, ◌&&◌, drop, Ok, Err, Result, bytes_eq-Decides, ValuesReason, Set, Image, first_line}
-use Rattle.vms_values_laws.proofs.Facade.{begins_with, BadLine, ReadAll, machine_named, judge_devices, rest_of, after_machine, ended, judged, answer_of}
-use Rattle.vms_values_laws.proofs.Facade.{ValuesRead, Bad, values_read, text_of, Entry, entries, devices_entries, entry_line, front_reason, AreShaped}
-use Rattle.vms_values_laws.proofs.Facade.{AllUnsaid, AreFine, IsBadLine, ForMachine, reason_for, Taken, lines_of, AreFineTaken, Follows, Along}
-use Rattle.vms_values_laws.proofs.SecondPass.{follows_then, along_then, reason_same, moved_then, moved_none, moved_one, parts_from, devices_judged}
-use Rattle.vms_spec.specs.declared.ValuesReason.TheVariants as reasons
+use Rattle.vms_values_laws.proofs.Facade.{AreFineTaken, Follows, Along, Moved, is_one_of, AreSound, begun, ◌≡◌, ℕ, suc, ◌+◌, List, [], ◌∷◌, ◌++◌, length, map}
+use Rattle.vms_values_laws.proofs.Facade.{Option, Some, None, refl, sym, ap, ◌∙◌, arith, append-nil, codes, and_parts, ◌⊎◌, inl, inr, ◌&&◌, drop, Ok, Err}
+use Rattle.vms_values_laws.proofs.Facade.{Result, bytes_eq-Decides, ValuesReason, Set, Image, first_line, begins_with, BadLine, ReadAll, machine_named}
+use Rattle.vms_values_laws.proofs.Facade.{judge_devices, rest_of, after_machine, ended, judged, answer_of, ValuesRead, Bad, values_read, text_of, Entry}
+use Rattle.vms_values_laws.proofs.Facade.{entries, devices_entries, entry_line, front_reason, AreShaped, AllUnsaid, AreFine, IsBadLine, ForMachine, reason_for}
+use Rattle.vms_values_laws.proofs.SaidLaws.{some_if, moved_then, moved_none, moved_one}
+use Rattle.vms_values_laws.proofs.SecondPass.{follows_then, along_then, reason_same, parts_from, devices_judged}
 
 -- ---- What the first pass finds in a whole text.
 
@@ -78,8 +78,8 @@ pub fine_text : (set : Set) (text : List ℕ) (v : ValuesRead) (n : NoneBad set 
     → AreFine (entries set n.machine (images_of n.all.devices)) × (text ≡ text_of (map entry_line (entries set n.machine (images_of n.all.devices))))
 fine_text set text v n =
     let es = entries set n.machine (images_of n.all.devices) in
-    let s = split n.taken (λ es. Ends None [] es) (λ es. es ≡ []) es n.moved.fine (n.follows (images_of n.all.devices) n.shaped) n.along in
-    let whole : es ≡ s.before = s.is ∙ ap (λ l. s.before ++ l) s.rest ∙ append-nil s.before in (
+    let s = split _ (λ es. Ends None [] es) (λ es. es ≡ []) es n.moved.fine (n.follows (images_of n.all.devices) n.shaped) n.along in
+    let whole : es ≡ s.before = cc (append-nil s.before) in (
       rw whole s.fine,
       n.moved.texts ∙ append-nil (text_of (lines_of n.taken)) ∙ ap text_of (sym s.lines) ∙ ap (λ l. text_of (map entry_line l)) (sym whole),
     )
@@ -116,9 +116,9 @@ module _ (set : Set) (text : List ℕ) (machine : Option (List ℕ)) (line : ℕ
       let all = machine_taken machine ++ a.taken in
       let passed : Moved 1 text all at rest = moved_then headed a.moved in
       let its : (images : List Image) → AreShaped set set.devices images → Follows all P (entries set machine images) =
-      λ images shaped. (behind_machine set machine images a.taken P).0 (follows_ends a.taken Q P _ (a.follows images shaped) bad) in
-      let s = split all P P (entries set machine images) passed.fine (its images a.shaped)
-      ((behind_machine set machine images a.taken P).1 (rw (append-nil a.taken) at (along_then a.taken [] Q P _ a.along bad))) in
+      λ images shaped. (behind_machine set _ images _ P).0 (follows_ends _ Q P _ (a.follows images shaped) bad) in
+      let s = split all P P _ passed.fine (its images a.shaped)
+      ((behind_machine set _ images _ P).1 (rw (append-nil a.taken) at (along_then _ [] Q P _ a.along bad))) in
       record {
         line = at;
         reason = reason;
@@ -136,7 +136,7 @@ module _ (set : Set) (text : List ℕ) (machine : Option (List ℕ)) (line : ℕ
           shaped = a.shaped;
           state = s.is;
           fine = s.fine;
-          begins = passed.texts ∙ ap (λ l. text_of l ++ rest) (sym s.lines);
+          begins = cc;
           number = omega arith;
           bad = s.rest;
         };
@@ -150,22 +150,22 @@ module _ (set : Set) (text : List ℕ) (machine : Option (List ℕ)) (line : ℕ
     taken = machine_taken machine ++ a.taken;
     took = record {
       named = named;
-      follows = λ images shaped. (behind_machine set machine images a.taken (λ es. Ends None [] es)).0
-          (follows_ends a.taken (λ es. es ≡ []) (λ es. Ends None [] es) _ (a.follows images shaped) (λ es e. (e, refl)));
+      follows = λ images shaped. (behind_machine set _ images _ (λ es. Ends None [] es)).0
+          (follows_ends _ (λ es. es ≡ []) (λ es. Ends None [] es) _ (a.follows images shaped) (λ es e. (e, refl)));
       moved = moved_then headed (rw e at a.moved);
     };
     shaped = a.shaped;
     unsaid = a.unsaid;
-    judged = devices_judged set line set.devices all.devices a.lined a.shaped ∙ parts_machine set machine line (images_of all.devices) headed.further;
-    along = (behind_machine set machine (images_of all.devices) a.taken (λ es. es ≡ [])).1 a.along;
+    judged = devices_judged set line _ _ a.lined a.shaped ∙ parts_machine set _ line _ headed.further;
+    along = (behind_machine set _ _ _ (λ es. es ≡ [])).1 a.along;
     is = refl;
   })
   -- something comes after the last line
-  by_rest all (b ∷ rest) e a = inl (first_bad reasons.Form a.whole (λ es is. rw (is, e) refl))
+  by_rest all (b ∷ rest) e a = inl (first_bad _ a.whole (λ es is. rw (is, e) refl))
 
   by_end : (o : Result ReadAll BadLine) → AllCome set set.devices line after o → FirstPass set text (ended set machine o)
-  by_end (Ok all) a = by_rest all all.rest refl a
-  by_end (Err e) a = inl (first_bad e.reason a.before (λ es b. rw b.is (reason_same b.first (first_line a.rest) ∙ rw b.demands a.wrong)))
+  by_end (Ok all) a = by_rest all _ refl a
+  by_end (Err e) a = inl (first_bad _ a.before (λ es b. rw b.is (reason_same b.first (first_line a.rest) ∙ rw b.demands a.wrong)))
 
 -- ---- The first pass over a text: a bad line, or what its lines say.
 
@@ -179,17 +179,17 @@ machine_first machines (Some (line, rest)) name e =
 name_moved : (set : Set) (text name : List ℕ) → machine_named set.machines (first_line text) ≡ Some name
     → Moved 1 text (machine_taken (Some name)) 2 (rest_of (first_line text))
 name_moved set text name e =
-    let line = machine_first set.machines (first_line text) name e in
+    let line = machine_first _ _ name e in
     moved_one 1 text (record { demand = ForMachine name; line = codes "machine " ++ name }) (rest_of (first_line text))
-    (line_taken text (codes "machine " ++ name) line.0 line.1) (rw ((bytes_eq-Decides (codes "machine " ++ name) (codes "machine " ++ name)).1 refl) refl)
+    (line_taken text (codes "machine " ++ name) line.0 line.1) (rw ((bytes_eq-Decides _ _).1 refl) refl)
 
 by_machine : (set : Set) (text : List ℕ) → AreSound set.structs → AreGoodDevices set set.devices → (machine : Option (List ℕ))
     → machine_named set.machines (first_line text) ≡ machine → FirstPass set text (after_machine set text machine)
-by_machine set text structs good None e = by_end set text None 1 text (sym e) (moved_none 1 text) _ (devices_come set structs set.devices good 1 text)
+by_machine set text structs good None e = by_end set text None 1 text (sym e) (moved_none 1 text) _ (devices_come set structs _ good 1 text)
 by_machine set text structs good (Some name) e =
     let after = rest_of (first_line text) in
-    by_end set text (Some name) 2 after (sym e) (name_moved set text name e) _ (devices_come set structs set.devices good 2 after)
+    by_end set text _ 2 after (sym e) (name_moved set text name e) _ (devices_come set structs _ good 2 after)
 
 pub first_pass : (set : Set) (text : List ℕ) → AreSound set.structs → AreGoodDevices set set.devices → FirstPass set text (values_read set text)
 unfolding values_read
-first_pass set text structs good = by_machine set text structs good (machine_named set.machines (first_line text)) refl
+first_pass set text structs good = by_machine set text structs good _ refl

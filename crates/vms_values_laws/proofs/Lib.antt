@@ -1,7 +1,6 @@
 pub mod Accepted
 pub mod AllCome
 pub mod BadLines
-pub mod EachElement
 pub mod Meeting
 pub mod SaidLaws
 pub mod Facade

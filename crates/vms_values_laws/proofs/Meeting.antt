@@ -1,49 +1,34 @@
 -- Lines without a line feed: a text leads along one list of lines, and the entries of a fit set have no other.
-use Rattle.vms_values_laws.proofs.{Facade.IsMachineOf, SecondPass.reason_same}
-use Rattle.vms_values_laws.proofs.Facade.{◌≡◌, ℕ, zero, suc, ◌+◌, ◌%◌, ◌/◌, Bool, true, false, ◌==◌, nat_lt, if◌then◌else◌, List, ◌∷◌, ◌++◌, length, drop}
-use Rattle.vms_values_laws.proofs.Facade.{Option, Some, None, ℤ, pos, negsuc, refl, sym, ap, ◌∙◌, arith, codes, [], map, append_assoc, ne_eqb, decimal}
-use Rattle.vms_values_laws.proofs.Facade.{signed_decimal, digits, digits_onto, digit_glyph, bytes_eq, bytes_eq-Decides, some_pair_parts, AllByRecursion, ◌&&◌}
-use Rattle.vms_values_laws.proofs.Facade.{get_or, nat_le, take, slice_get, list_all, and_parts, get_or_from_slice_get, take-append-drop, or_else_none}
-use Rattle.vms_values_laws.proofs.Facade.{either_of, Cell, first_line, longer_line, begins_with, number_spelled, spelled_holds, begun, What, Number, Element}
-use Rattle.vms_values_laws.proofs.Facade.{section_line, sub_line, text_of, if_not, element_reason, spelled_reason, Entry, entry_line, line_reason, front_reason}
-use Rattle.vms_values_laws.proofs.Facade.{Demand, ForMachine, ForSection, ForSub, ForNumber, reason_for, demand_of, Taken, lines_of, AreFineTaken, Follows}
-use Rattle.vms_values_laws.proofs.Facade.{ValuesReason, AreFine, or_else, Count, One, Field, Desc, Sub, Device, Set, no_desc, counted, desc_cells, struct_cells}
-use Rattle.vms_values_laws.proofs.Facade.{Image, own_cells, index_text, is_number, elements_in, printed, OfNumber, number_entries, subs_entries, device_entries}
-use Rattle.vms_values_laws.proofs.Facade.{devices_entries, entries, Place, first_answer, is_name_byte, is_name, is_sub_name, is_one_of, machine_named}
-use Rattle.vms_values_laws.proofs.Facade.{WellFormed, first_fault, failing, here, set_rules, struct_fault, struct_rules, device_fault}
-use Rattle.vms_values_laws.proofs.Facade.{device_rules, sub_rules, size_rules, Clean, struct_clean, device_parts, sub_clean, get_none, name_byte_high}
-use Rattle.vms_values_laws.proofs.EachElement.{elements_each}
-use Rattle.vms_values_laws.proofs.SaidLaws.{all_both, all_from, if_holds, if_none, some_if, short}
+use Rattle.vms_values_laws.proofs.{SecondPass.reason_same, SaidLaws.if_none, SaidLaws.some_if, SaidLaws.short, Facade.name_byte_high}
+use Rattle.vms_values_laws.proofs.Facade.{IsMachineOf, decimal_all, if_both, elements_each, all_both, all_from, ◌≡◌, ℕ, suc, ◌+◌, Bool, true, false, ◌==◌}
+use Rattle.vms_values_laws.proofs.Facade.{if◌then◌else◌, List, ◌∷◌, ◌++◌, length, drop, Option, Some, None, ℤ, pos, negsuc, refl, sym, ap, ◌∙◌, arith, codes}
+use Rattle.vms_values_laws.proofs.Facade.{[], map, append_assoc, ne_eqb, decimal, signed_decimal, bytes_eq, bytes_eq-Decides, some_pair_parts, AllByRecursion}
+use Rattle.vms_values_laws.proofs.Facade.{◌&&◌, get_or, nat_le, take, slice_get, list_all, and_parts, get_or_from_slice_get, take-append-drop, or_else_none}
+use Rattle.vms_values_laws.proofs.Facade.{either_of, Cell, first_line, begins_with, number_spelled, spelled_holds, begun, What, Number, Element, sub_line}
+use Rattle.vms_values_laws.proofs.Facade.{text_of, if_not, element_reason, spelled_reason, Entry, entry_line, line_reason, front_reason, Demand, ForMachine}
+use Rattle.vms_values_laws.proofs.Facade.{ForSection, ForSub, ForNumber, reason_for, demand_of, Taken, lines_of, AreFineTaken, Follows, ValuesReason, AreFine}
+use Rattle.vms_values_laws.proofs.Facade.{or_else, Count, One, Field, Desc, Sub, Device, Set, no_desc, counted, desc_cells, struct_cells, Image, index_text}
+use Rattle.vms_values_laws.proofs.Facade.{is_number, printed, OfNumber, number_entries, subs_entries, device_entries, devices_entries, entries, Place}
+use Rattle.vms_values_laws.proofs.Facade.{first_answer, is_name_byte, is_name, is_sub_name, is_one_of, machine_named, WellFormed, first_fault, failing, here}
+use Rattle.vms_values_laws.proofs.Facade.{set_rules, struct_fault, device_fault, size_rules, Clean, struct_clean, device_parts, sub_clean, get_none}
 use Rattle.vms_spec.specs.declared.ValuesReason.TheVariants as reasons
 use Rattle.vms_spec.specs.declared.Part.TheVariants as parts
 
 -- ---- Lines without a line feed, and which lines meet a demand.
 
 abbrev pub NoFeed : List ℕ → Type 0
-NoFeed [] = Unit {0}
-NoFeed (b ∷ line) = ((b == 10) ≡ false) × NoFeed line
+NoFeed = AllByRecursion (λ b. (b == 10) ≡ false)
 
-pub feed_append : (a b : List ℕ) → NoFeed a → NoFeed b → NoFeed (a ++ b)
-feed_append [] b p q = q
-feed_append (x ∷ a) b p q = (p.0, feed_append a b p.1 q)
+feed_append : (a b : List ℕ) → NoFeed a → NoFeed b → NoFeed (a ++ b)
+feed_append = all_both _
 
 -- such a line is the first of a text
 pub line_first : (line rest : List ℕ) → NoFeed line → first_line (line ++ 10 ∷ rest) ≡ Some (line, rest)
 line_first [] rest h = refl
-line_first (b ∷ line) rest h =
-    ap (λ t. if t then Some ([], line ++ 10 ∷ rest) else longer_line b (first_line (line ++ 10 ∷ rest))) h.0 ∙ ap (longer_line b) (line_first line rest h.1)
+line_first (b ∷ line) rest h = cc (line_first line rest h.1)
 
-onto_feed : (k n : ℕ) (acc : List ℕ) → NoFeed acc → NoFeed (digits_onto k 10 false n acc)
-onto_feed zero n acc h = h
-onto_feed (suc k) n acc h =
-    let d = n % 10 in
-    let glyph = if_holds (λ g. (g == 10) ≡ false) (nat_lt d 10) _ _ (ne_eqb (48 + d) 10 (λ e. omega arith)) (ne_eqb (87 + d) 10 (λ e. omega arith)) in
-    let here : NoFeed (digit_glyph false d ∷ acc) = (glyph, h) in
-    if_holds NoFeed (n / 10 == 0) _ _ here (onto_feed k (n / 10) (digit_glyph false (n % 10) ∷ acc) here)
-
-pub decimal_feed : (n : ℕ) → NoFeed (decimal n)
-unfolding digits
-decimal_feed n = onto_feed 64 n [] tt
+decimal_feed : (n : ℕ) → NoFeed (decimal n)
+decimal_feed n = decimal_all _ (λ d lt. ne_eqb (48 + d) 10 (λ e. omega arith)) n
 
 pub signed_feed : (z : ℤ) → NoFeed (signed_decimal z)
 signed_feed (pos n) = decimal_feed n
@@ -64,35 +49,35 @@ by_spelled cell present text None e f = cc
 by_spelled cell present text (Some z) e f = rw (spelled_holds text z (short cell.kind z (if_none _ _ (or_else_none _ _ f).0)) e) (signed_feed z)
 
 by_what : (what : What) (present : Bool) (text : List ℕ) → element_reason what present text ≡ None → NoFeed text
-by_what (Number cell) present text e = by_spelled cell present text (number_spelled text) refl e
+by_what (Number cell) present text e = by_spelled cell _ text _ refl e
 by_what _ present text e = cc
 
 by_front : (x : Element) (a : List ℕ) (b : Bool) → begins_with (x.name ++ codes " = ") a ≡ b
     → (if b then element_reason x.what x.present (drop (length (x.name ++ codes " = ")) a) else Some reasons.Form) ≡ None → NoFeed x.name → NoFeed a
 by_front x a true e f h =
     rw (begun (x.name ++ codes " = ") a e)
-    (feed_append (x.name ++ codes " = ") (drop (length (x.name ++ codes " = ")) a) (feed_append x.name (codes " = ") h (refl, (refl, (refl, tt))))
-    (by_what x.what x.present _ f))
+    (feed_append _ _ (feed_append x.name _ h (refl, (refl, (refl, tt))))
+    (by_what x.what _ _ f))
 by_front x a false e f h = cc
 
 pub section_feed : (name : List ℕ) (instance version : ℕ) → NoFeed name
     → NoFeed (codes "section " ++ (name ++ (codes " " ++ (decimal instance ++ (codes " v" ++ decimal version)))))
 section_feed name instance version h =
     feed_append (codes "section ") _ (refl, (refl, (refl, (refl, (refl, (refl, (refl, (refl, tt))))))))
-    (feed_append name _ h (refl, feed_append (decimal instance) _ (decimal_feed instance) (refl, (refl, decimal_feed version))))
+    (feed_append name _ h (refl, feed_append _ _ (decimal_feed instance) (refl, (refl, decimal_feed version))))
 
 pub sub_feed : (name text : List ℕ) → NoFeed name → NoFeed text → NoFeed (codes "sub " ++ (name ++ (codes " " ++ text)))
 sub_feed name text h g = (refl, (refl, (refl, (refl, feed_append name _ h (refl, g)))))
 
 -- a fine line has none
 pub fine_feed : (demand : Demand) (a : List ℕ) → IsClean demand → reason_for demand (Some (a, [])) ≡ None → NoFeed a
-fine_feed (ForMachine name) a h e = by_bytes a (codes "machine " ++ name) e (refl, (refl, (refl, (refl, (refl, (refl, (refl, (refl, h))))))))
-fine_feed (ForSection d) a h e = by_bytes a (section_line d d.desc.version) e (section_feed d.desc.name d.instance d.desc.version h)
+fine_feed (ForMachine name) a h e = by_bytes a _ e (refl, (refl, (refl, (refl, (refl, (refl, (refl, (refl, h))))))))
+fine_feed (ForSection d) a h e = by_bytes a _ e (section_feed _ _ _ h)
 fine_feed (ForSub s) a h e =
     either_of (bytes_eq a (sub_line s (Some s.desc.version))) (bytes_eq a (sub_line s None)) (if_none _ _ e)
     (λ t. rw ((bytes_eq-Decides a _).0 t) (sub_feed s.desc.name _ h (refl, decimal_feed s.desc.version)))
-    (λ t. rw ((bytes_eq-Decides a _).0 t) (sub_feed s.desc.name _ h (refl, tt)))
-fine_feed (ForNumber x) a h e = by_front x a (begins_with (x.name ++ codes " = ") a) refl e h
+    (λ t. rw ((bytes_eq-Decides a _).0 t) (sub_feed _ _ h (refl, tt)))
+fine_feed (ForNumber x) a h e = by_front x a _ refl e h
 
 -- ---- A text leads along one list of lines: those that were taken are those of each state that has the text's lines.
 
@@ -114,7 +99,7 @@ both_end : (o o' : Option ValuesReason) (rest : List ℕ) (es : List Entry) → 
 both_end None None rest es f g = refl
 both_end None (Some r) rest es f g = rw (f.0, f.1) at g
 both_end (Some r) None rest es f g = sym (rw (g.0, g.1) at f)
-both_end (Some r) (Some r') rest es f g = sym f ∙ g
+both_end (Some r) (Some r') rest es f g = cc
 
 -- a fine line doesn't end them
 not_ended : (o : Option ValuesReason) (e : Entry) (es : List Entry) (line rest : List ℕ) → NoFeed line → reason_for (demand_of e) (Some (line, [])) ≡ None
@@ -125,7 +110,7 @@ not_ended (Some r) e es line rest feed fine h =
     cc
 
 fine_entry : (e : Entry) → line_reason e (entry_line e) ≡ None → reason_for (demand_of e) (Some (entry_line e, [])) ≡ None
-fine_entry e h = sym (reason_same e (Some (entry_line e, []))) ∙ h
+fine_entry e h = cc (reason_same e (Some (entry_line e, [])))
 
 pub meet : (taken : List Taken) (before after : List Entry) (rest rest' : List ℕ) (o o' : Option ValuesReason)
     → Follows taken (λ es. Ends o rest es) (before ++ after) → AreClean (before ++ after)
@@ -133,20 +118,19 @@ pub meet : (taken : List Taken) (before after : List Entry) (rest rest' : List �
     → Same taken before o o'
 meet [] [] after rest rest' o o' f clean fine fine' e ends = record { long = refl; lines = refl; reason = both_end o o' rest after f (rw e ends) }
 meet [] (x ∷ before) after rest rest' o o' f clean fine fine' e ends =
-    let feed = fine_feed (demand_of x) (entry_line x) clean.0 (fine_entry x fine'.0) in
     let is : rest ≡ entry_line x ++ 10 ∷ (text_of (map entry_line before) ++ rest') =
     e ∙ append_assoc (entry_line x) (10 ∷ text_of (map entry_line before)) rest' in
-    absurd (not_ended o x (before ++ after) (entry_line x) (text_of (map entry_line before) ++ rest') feed (fine_entry x fine'.0) (rw (is) at f))
+    absurd (not_ended o x _ _ _ (fine_feed _ _ clean.0 (fine_entry x fine'.0)) (fine_entry x fine'.0) (rw (is) at f))
 meet (t ∷ taken) [] [] rest rest' o o' f clean fine fine' e ends = absurd f
 meet (t ∷ taken) [] (x ∷ after) rest rest' o o' f clean fine fine' e ends =
     let same : reason_for (demand_of x) (Some (t.line, [])) ≡ None = rw (f.0) fine.0 in
     let is : rest' ≡ t.line ++ 10 ∷ (text_of (lines_of taken) ++ rest) = sym e ∙ append_assoc t.line (10 ∷ text_of (lines_of taken)) rest in
     absurd (not_ended o' x after t.line (text_of (lines_of taken) ++ rest) (fine_feed (demand_of x) t.line clean.0 same) same (rw (is) at ends))
 meet (t ∷ taken) (x ∷ before) after rest rest' o o' f clean fine fine' e ends =
-    let feed' = fine_feed (demand_of x) (entry_line x) clean.0 (fine_entry x fine'.0) in
-    let feed = fine_feed (demand_of x) t.line clean.0 (rw (f.0) fine.0) in
+    let feed' = fine_feed _ _ clean.0 (fine_entry x fine'.0) in
+    let feed = fine_feed _ t.line clean.0 (rw (f.0) fine.0) in
     let texts = sym (append_assoc t.line (10 ∷ text_of (lines_of taken)) rest) ∙ e ∙ append_assoc (entry_line x) (10 ∷ text_of (map entry_line before)) rest' in
-    let both = some_pair_parts t.line (entry_line x) _ _ (sym (line_first t.line _ feed) ∙ ap first_line texts ∙ line_first (entry_line x) _ feed') in
+    let both = some_pair_parts t.line _ _ _ (sym (line_first t.line _ feed) ∙ ap first_line texts ∙ line_first _ _ feed') in
     let more = meet taken before after rest rest' o o' (f.1 (sym both.0)) clean.1 fine.1 fine'.1 both.1 ends in
     record { long = ap suc more.long; lines = rw (both.0, more.lines) refl; reason = more.reason }
 
@@ -160,13 +144,13 @@ AreCleanFields = AllByRecursion (λ (f : Field). NoFeed f.name)
 
 index_feed : (count : Count) (e : ℕ) → NoFeed (index_text count e)
 index_feed One e = tt
-index_feed _ e = (refl, feed_append (decimal e) (codes "]") (decimal_feed e) (refl, tt))
+index_feed _ e = (refl, feed_append _ _ (decimal_feed e) (refl, tt))
 
 clean_numbers : (n : List ℤ) (xs : List Element) → AreNamed xs → AreClean (map (λ x. OfNumber x n) (printed xs))
 clean_numbers n [] h = tt
 clean_numbers n (x ∷ xs) h =
     let more = clean_numbers n xs h.1 in
-    if_holds (λ l. AreClean (map (λ x. OfNumber x n) l)) (x.counted && is_number x.what) (x ∷ printed xs) (printed xs) (h.0, more) more
+    if_both (λ l. AreClean (map (λ x. OfNumber x n) l)) (x.counted && is_number x.what) (x ∷ printed xs) (printed xs) (h.0, more) more
 
 abbrev pub AreCleanSubs : List Sub → Type 0
 AreCleanSubs = AllByRecursion (λ (s : Sub). NoFeed s.desc.name × AreCleanFields s.desc.fields)
@@ -177,18 +161,18 @@ AreCleanDevices = AllByRecursion (λ (d : Device). NoFeed d.desc.name × AreClea
 module _ (set : Set) (structs : (j : ℕ) → AreCleanFields (get_or set.structs j no_desc).fields) where
   clean_part : (d : Desc) (n : List ℤ) (at : ℕ) → AreCleanFields d.fields → AreClean (number_entries set d n at)
   clean_part d n at h =
-      clean_numbers n (elements_in set d d.version n at)
+      clean_numbers n _
       (elements_each (λ f. NoFeed f.name) (λ x. NoFeed x.name) (λ x. NoFeed x.name) (λ f good caps at. tt) (λ x h. (refl, h))
-      (λ f good number e c p x h. feed_append (f.name ++ index_text f.count e) x.name (feed_append f.name _ good (index_feed f.count e)) h)
-      (λ at b. tt) (λ x h. h) set structs d d.version h n at)
+      (λ f good number e c p x h. feed_append _ x.name (feed_append f.name _ good (index_feed _ e)) h)
+      (λ at b. tt) (λ x h. h) set structs d _ h n at)
 
   clean_subs : (d : Device) (image : Image) (j at : ℕ) (subs : List Sub) (came : List (Option ℕ)) → AreCleanSubs subs
       → AreClean (subs_entries set d image j at subs came)
   clean_subs d image j at (s ∷ subs) (o ∷ came) h =
       let next = at + length (desc_cells (struct_cells set) s.desc) in (
         h.0.0,
-        all_both _ (number_entries set s.desc image.numbers at) (subs_entries set d image (suc j) next subs came)
-            (clean_part s.desc image.numbers at h.0.1) (clean_subs d image (suc j) next subs came h.1),
+        all_both _ _ _
+            (clean_part s.desc _ at h.0.1) (clean_subs d image (suc j) next subs came h.1),
       )
   clean_subs d image j at _ _ h = tt
 
@@ -196,8 +180,8 @@ module _ (set : Set) (structs : (j : ℕ) → AreCleanFields (get_or set.structs
   clean_images (d ∷ devices) (image ∷ images) h =
       all_both _ (device_entries set d image) (devices_entries set devices images) (
         h.0.0,
-        all_both _ (number_entries set d.desc image.numbers 0) (subs_entries set d image 0 (own_cells set d) d.subs image.came)
-            (clean_part d.desc image.numbers 0 h.0.1) (clean_subs d image 0 (own_cells set d) d.subs image.came h.0.2),
+        all_both _ _ _
+            (clean_part d.desc _ 0 h.0.1) (clean_subs d image 0 _ d.subs _ h.0.2),
       ) (clean_images devices images h.1)
   clean_images _ _ h = tt
 
@@ -220,8 +204,7 @@ clean_sub_name device name h e =
     rw (take-append-drop n name) at (feed_append (take n name) (drop n name) front (clean_name 64 (drop n name) p.1))
 
 clean_fields : (k : ℕ) (d : Desc) (rules : List Bool) → Clean k d rules → AreCleanFields d.fields
-clean_fields k d rules c =
-    all_from _ d.fields (λ i f e. clean_name 32 f.name (and_parts (is_name 32 f.name) (list_all (is_name 32) f.former) (c.fields i f e).0).0)
+clean_fields k d rules c = all_from _ _ (λ i f e. clean_name 32 f.name (and_parts (is_name 32 f.name) (list_all (is_name 32) f.former) (c.fields i f e).0).0)
 
 first_true : (b : Bool) (rules : List Bool) (place : Place) → failing 1 (b ∷ rules) place ≡ None → b ≡ true
 first_true true rules place e = refl
@@ -231,7 +214,7 @@ named_one : (machines : List (List ℕ)) (name : List ℕ) → list_all (is_name
 named_one [] name e h = cc
 named_one (m ∷ machines) name e h =
     let p = and_parts (is_name 64 m) (list_all (is_name 64) machines) e in
-    either_of (bytes_eq m name) _ h (λ f. rw (← ((bytes_eq-Decides m name).0 f)) (clean_name 64 m p.0)) (λ f. named_one machines name p.1 f)
+    either_of _ _ h (λ f. rw (← ((bytes_eq-Decides m name).0 f)) (clean_name 64 m p.0)) (λ f. named_one machines name p.1 f)
 
 -- a machine that is named is one of the set
 pub named_is : (machines : List (List ℕ)) (o : Option (List ℕ × List ℕ)) (name : List ℕ) → machine_named machines o ≡ Some name → is_one_of machines name ≡ true
@@ -241,24 +224,24 @@ named_is machines (Some (line, rest)) name e =
 
 module _ (set : Set) (well : WellFormed set) where
   clean_structs : (j : ℕ) → AreCleanFields (get_or set.structs j no_desc).fields
-  clean_structs j = go (slice_get set.structs j) refl where
+  clean_structs j = go _ refl where
     go : (o : Option Desc) → slice_get set.structs j ≡ o → AreCleanFields (get_or set.structs j no_desc).fields
-    go None e = rw (get_none set.structs j no_desc e) tt
-    go (Some d) e = rw (get_or_from_slice_get set.structs j d no_desc e) (clean_fields j d (struct_rules set.structs j d) (struct_clean set well j d e))
+    go None e = rw (get_none _ j _ e) tt
+    go (Some d) e = rw (get_or_from_slice_get _ j d _ e) (clean_fields j d _ (struct_clean set well j d e))
 
   device_clean : (k : ℕ) (d : Device) → slice_get set.devices k ≡ Some d → NoFeed d.desc.name × AreCleanFields d.desc.fields × AreCleanSubs d.subs
   device_clean k d e =
       let c = (device_parts set well k d e).0 in
-      let name : NoFeed d.desc.name = clean_name 100 d.desc.name c.own.0 in (
+      let name : NoFeed d.desc.name = clean_name 100 _ c.own.0 in (
         name,
-        clean_fields (length set.structs) d.desc (device_rules set k d) c,
+        clean_fields _ d.desc _ c,
         all_from _ d.subs
             (λ j s f. let x = sub_clean set well k j d s e f in
-            (clean_sub_name d.desc.name s.desc.name name x.own.0, clean_fields (length set.structs) s.desc (sub_rules d j s) x)),
+            (clean_sub_name _ _ name x.own.0, clean_fields _ s.desc _ x)),
       )
 
   pub clean_devices : AreCleanDevices set.devices
-  clean_devices = all_from _ set.devices (λ k d e. device_clean k d e)
+  clean_devices = all_from _ _ (λ k d e. device_clean k d e)
 
   machines_named : list_all (is_name 64) set.machines ≡ true
   unfolding first_fault
@@ -269,8 +252,8 @@ module _ (set : Set) (well : WellFormed set) where
       (or_else (first_answer (device_fault set) 0 set.devices) (failing 1 (size_rules set) (here parts.Set)))) well).0
 
   pub clean_named : (name : List ℕ) → is_one_of set.machines name ≡ true → NoFeed name
-  clean_named name h = named_one set.machines name machines_named h
+  clean_named name h = named_one _ name machines_named h
 
   pub clean_entries : (machine : Option (List ℕ)) (images : List Image) → IsMachineOf set machine → AreClean (entries set machine images)
-  clean_entries None images h = clean_images set clean_structs set.devices images clean_devices
-  clean_entries (Some name) images h = (clean_named name h, clean_images set clean_structs set.devices images clean_devices)
+  clean_entries None images h = clean_images set clean_structs _ images clean_devices
+  clean_entries (Some name) images h = (clean_named name h, clean_images set clean_structs _ images clean_devices)

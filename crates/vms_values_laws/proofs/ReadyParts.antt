@@ -1,14 +1,14 @@
 -- Images that may be written, part by part, and the first bad part.
-use Rattle.vms_values_laws.proofs.{SaidLaws.if_none, SaidLaws.all_both, SaidLaws.short, AllCome.are_short}
-use Rattle.vms_values_laws.proofs.Facade.{◌≡◌, ℕ, suc, ◌+◌, ◌≤◌, Bool, true, false, List, ◌∷◌, ◌++◌, length, get_or, Option, Some, None, ℤ, refl, sym, ap, ◌∙◌}
-use Rattle.vms_values_laws.proofs.Facade.{arith, [], map, flat_map, slice_get, printed, or_else_none, ValuesReason, or_else, Desc, Sub, Device, Set, Cell}
-use Rattle.vms_values_laws.proofs.Facade.{no_cell, Slot, desc_cells, struct_cells, device_cells, Image, own_cells, own_slots, sub_slots, came_slots}
-use Rattle.vms_values_laws.proofs.Facade.{image_slots, RulesHold, AreVersionsOf, is_needed, ComeAsNeeded, IsReady, DefaultsFit, rules_append, rules_decide}
-use Rattle.vms_values_laws.proofs.Facade.{elements_in, Entry, OfSub, number_entries, subs_entries, device_entries, if_not, have_defaults, came_well}
-use Rattle.vms_values_laws.proofs.Facade.{part_reason, AreFine, IsShaped, AreUnsaid, AreAtVersions, walks, elements_slots, BadLine, or_bad, pos, codes, ranged}
-use Rattle.vms_values_laws.proofs.Facade.{text_of, devices_entries, entries, AreShaped, AllUnsaid, IsText, Says, entry_law, text_is, OfSection, bytes_eq}
-use Rattle.vms_values_laws.proofs.Facade.{bytes_eq-Decides, entry_line, is_of_cell, line_reason, or_right, rules_split, section_line, sub_line}
-use Rattle.vms_values_laws.proofs.Rights.{right_none, part, right_by, known_both, Known, defaults_are, AreGood, fine_then, IfDefaults}
+use Rattle.vms_values_laws.proofs.{SaidLaws.if_none, SaidLaws.short, AllCome.are_short}
+use Rattle.vms_values_laws.proofs.Facade.{all_both, ◌≡◌, ℕ, suc, ◌+◌, ◌≤◌, Bool, true, false, List, ◌∷◌, ◌++◌, length, get_or, Option, Some, None, ℤ, refl}
+use Rattle.vms_values_laws.proofs.Facade.{sym, ap, ◌∙◌, arith, [], map, flat_map, slice_get, printed, or_else_none, ValuesReason, or_else, Desc, Sub, Device}
+use Rattle.vms_values_laws.proofs.Facade.{Set, Cell, no_cell, Slot, desc_cells, struct_cells, device_cells, Image, own_cells, own_slots, sub_slots}
+use Rattle.vms_values_laws.proofs.Facade.{came_slots, image_slots, RulesHold, AreVersionsOf, is_needed, ComeAsNeeded, IsReady, DefaultsFit, rules_append}
+use Rattle.vms_values_laws.proofs.Facade.{rules_decide, elements_in, Entry, OfSub, number_entries, subs_entries, device_entries, if_not, have_defaults}
+use Rattle.vms_values_laws.proofs.Facade.{came_well, part_reason, AreFine, IsShaped, AreUnsaid, AreAtVersions, walks, elements_slots, BadLine, or_bad, pos}
+use Rattle.vms_values_laws.proofs.Facade.{codes, ranged, devices_entries, entries, AreShaped, AllUnsaid, IsText, Says, entry_law, text_is, OfSection}
+use Rattle.vms_values_laws.proofs.Facade.{bytes_eq, bytes_eq-Decides, entry_line, is_of_cell, line_reason, or_right, rules_split, section_line, sub_line}
+use Rattle.vms_values_laws.proofs.Rights.{right_none, part, right_by, known_both, Known, defaults_are, AreGood, IfDefaults}
 use Rattle.vms_values_laws.proofs.SecondPass.{of_numbers, AreShort, short_within, desc_rules, as_bad, parts_from}
 use Rattle.vms_spec.specs.declared.ValuesReason.TheVariants as reasons
 use Rattle.vms_spec.specs.Layout as slots
@@ -83,7 +83,7 @@ module _ (set : Set) (d : Device) (image : Image) (short : AreShort image.number
       unsaid = λ k h. refl;
       said = λ f g defaults none.
           let w = well_away _ _ (two_none true _ g.0).1 in
-          let bare = (desc_bare set n short s.desc s.desc.version at).0 w.1 in
+          let bare = (desc_bare set n short s.desc _ at).0 w.1 in
           (record { right = λ c k lt e. let is = bare c k lt e refl in record { fits = rw is (defaults c lt); absent = λ h. is } }, w.0);
       right = λ r m.
           let line = or_right (bytes_eq (sub_line s None) (sub_line s (Some s.desc.version))) _ ((bytes_eq-Decides (sub_line s None) _).1 refl) in
@@ -123,7 +123,7 @@ module _ (set : Set) (d : Device) (image : Image) (short : AreShort image.number
       head_known (OfSection d image) (λ k. refl) line (λ g. (rules_decide ss).0 (sym rules ∙ if_none _ _ g))
       (λ m. rw (rules ∙ (rules_decide ss).1 m) refl) its in
       known_both (λ a b. (rules_append ss later a b.0, b.1)) (λ m. let r = rules_split ss later m.0 in (r.0, (r.1, m.1))) (omega arith) own
-      (subs_known 0 (own_cells set d) d.subs image.came long versions)
+      (subs_known 0 (own_cells set d) d.subs _ long versions)
 
   -- ---- A state that a text says, with good parts, is ready.
 
@@ -144,8 +144,8 @@ module _ (set : Set) (d : Device) (image : Image) (short : AreShort image.number
       unsaid k (omega arith) h ∙ ap (λ i. (get_or (device_cells set d) i no_cell).default) (omega arith)) in
       record {
         normal = record {
-          version = (let v = shaped.version in omega arith, omega arith);
-          subs = versions_of d.subs image.came shaped.subs shaped.versions lows;
+          version = (omega arith, omega arith);
+          subs = versions_of d.subs _ shaped.subs shaped.versions lows;
           cells = record { long = shaped.cells; fits = λ c lt. (p.0.right c c lt (omega arith)).fits };
           absent = λ c lt e. (p.0.right c c (omega arith) (omega arith)).absent e;
         };
@@ -167,7 +167,7 @@ pub record FirstPart (set : Set) (line : ℕ) (es : List Entry) (b : BadLine) : 
 
 pub first_part : (set : Set) (line : ℕ) (es : List Entry) (b : BadLine) → parts_from set line es ≡ Some b → FirstPart set line es b
 first_part set line [] b h = absurd (cc)
-first_part set line (e ∷ es) b h = go (part_reason set e) refl h (λ g. first_part set (suc line) es b g) where
+first_part set line (e ∷ es) b h = go _ refl h (λ g. first_part set (suc line) es b g) where
   go : (o : Option ValuesReason) → part_reason set e ≡ o → or_bad (as_bad line o) (parts_from set (suc line) es) ≡ Some b
       → (parts_from set (suc line) es ≡ Some b → FirstPart set (suc line) es b) → FirstPart set line (e ∷ es) b
   go None is h more =
@@ -219,7 +219,7 @@ record DeviceSays (set : Set) (d : Device) (image : Image) : Type 0 where
 
 device_says : (set : Set) (d : Device) (image : Image) → AreShort image.numbers → IsReady set d image → DeviceSays set d image
 device_says set d image short ready =
-    let at = came_at set d image 0 d.subs image.came ready.needed in
+    let at = came_at set d image 0 d.subs _ ready.needed in
     let known = device_known set d image short ready.version at.0 at.1 in
     let p = known.right (record {
       right = λ c k lt e. let same : k ≡ c = omega arith in
@@ -237,9 +237,8 @@ device_says set d image short ready =
 
 -- numbers that fit their cells have at most 64 bits
 ready_short : (set : Set) (d : Device) (image : Image) → IsReady set d image → AreShort image.numbers
-ready_short set d image ready = short_within image.numbers (λ c lt.
-    let cell = get_or (device_cells set d) c no_cell in
-    short cell.kind (get_or image.numbers c (pos 0)) (ranged cell.kind (get_or image.numbers c (pos 0)) (ready.normal.cells.fits c (omega arith)).0))
+ready_short set d image ready = short_within _ (λ c lt.
+    short (get_or (device_cells set d) c no_cell).kind (get_or image.numbers c (pos 0)) (ranged _ _ (ready.normal.cells.fits c (omega arith)).0))
 
 record AllSay (set : Set) (devices : List Device) (images : List Image) : Type 0 where
   shaped : AreShaped set devices images
@@ -257,7 +256,7 @@ all_say set (d ∷ devices) (image ∷ images) long ready =
     record {
       shaped = (mine.shaped, others.shaped);
       unsaid = (mine.unsaid, others.unsaid);
-      fine = fine_then (device_entries set d image) (devices_entries set devices images) mine.fine others.fine;
+      fine = all_both _ (device_entries set d image) (devices_entries set devices images) mine.fine others.fine;
       good = all_both _ (device_entries set d image) (devices_entries set devices images) mine.good others.good;
     }
 all_say set _ _ long ready = absurd (omega arith)
@@ -275,15 +274,15 @@ with_machine set (Some name) images a = ((bytes_same (codes "machine " ++ name) 
 pub text_says : (set : Set) (text : List ℕ) (machine : Option (List ℕ)) (images : List Image) → IsText set text machine images
     → SaysWell set text machine images
 text_says set text machine images t =
-    let a = all_say set set.devices images t.ready.one_each t.ready.ready in
-    let p = with_machine set machine images a in
+    let a = all_say set _ images t.ready.one_each t.ready.ready in
+    let p = with_machine set _ images a in
     record {
       says = record {
         named = t.named;
         shaped = a.shaped;
         unsaid = a.unsaid;
         fine = p.0;
-        printed = t.printed ∙ sym (text_is set machine images) ∙ ap text_of (sym (entry_law set machine images));
+        printed = cc (text_is set machine images, entry_law set machine images);
       };
       good = p.1;
     }

@@ -1,14 +1,13 @@
 -- Which numbers have fine lines, and which entries.
-use Rattle.vms_values_laws.proofs.Facade.{◌≡◌, ℕ, Bool, true, false, List, ◌∷◌, ◌++◌, length, get_or, drop, Some, None, ℤ, pos, refl, sym, ap, ◌∙◌, codes}
-use Rattle.vms_values_laws.proofs.Facade.{or_from, and_from, and-true, and-false, not-true, append_assoc, if◌then◌else◌, ◌||◌, [], zero, suc, ◌+◌, ◌-◌, ◌<◌}
-use Rattle.vms_values_laws.proofs.Facade.{◌≤◌, ◌&&◌, ◌==◌, subst, arith, ⊎_elim, signed_decimal, eq-eqb, ne_eqb, and_parts, or_parts, drop-append_seam}
-use Rattle.vms_values_laws.proofs.Facade.{get_or_append_left, get_or-append-add, length-append, cases_lt, Entry, AreCounted, or_else_none, same_number, Cell}
-use Rattle.vms_values_laws.proofs.Facade.{no_cell, Slot, FitsCell, has_cell, begins_with, is_same, ranged, ranges, or_second, same_number_is, within_all}
-use Rattle.vms_values_laws.proofs.Facade.{not_exceeds, IsShort, number_holds, Number, Element, What, number_line, printed, OfNumber, if_not, number_reason}
-use Rattle.vms_values_laws.proofs.Facade.{element_reason, line_reason, have_defaults, DefaultsFit, names_append, cells_of, slots_of, numbers_in, CountsUp}
-use Rattle.vms_values_laws.proofs.Facade.{AreFine, has_line, Set, AllByRecursion, part_reason, none_joined, is_number, cells_with, slot_of, has_default}
-use Rattle.vms_values_laws.proofs.SaidLaws.{if_none, if_holds, lines_both, all_both, all_parts}
-use Rattle.vms_values_laws.proofs.SecondPass.{AreShort, of_numbers}
+use Rattle.vms_values_laws.proofs.{Facade.has_default, SaidLaws.if_none, SaidLaws.lines_both, SecondPass.AreShort, SecondPass.of_numbers}
+use Rattle.vms_values_laws.proofs.Facade.{if_both, all_both, all_parts, ◌≡◌, ℕ, Bool, true, false, List, ◌∷◌, ◌++◌, length, get_or, drop, Some, None, ℤ, pos}
+use Rattle.vms_values_laws.proofs.Facade.{refl, sym, ap, ◌∙◌, codes, or_from, and_from, and-true, and-false, not-true, append_assoc, if◌then◌else◌, ◌||◌, []}
+use Rattle.vms_values_laws.proofs.Facade.{zero, suc, ◌+◌, ◌-◌, ◌<◌, ◌≤◌, ◌&&◌, ◌==◌, subst, arith, ⊎_elim, signed_decimal, eq-eqb, ne_eqb, and_parts, or_parts}
+use Rattle.vms_values_laws.proofs.Facade.{drop-append_seam, get_or_append_left, get_or-append-add, length-append, cases_lt, Entry, AreCounted, or_else_none}
+use Rattle.vms_values_laws.proofs.Facade.{same_number, Cell, no_cell, Slot, FitsCell, has_cell, begins_with, is_same, ranged, ranges, or_second, same_number_is}
+use Rattle.vms_values_laws.proofs.Facade.{within_all, not_exceeds, IsShort, number_holds, Number, Element, What, number_line, printed, OfNumber, if_not}
+use Rattle.vms_values_laws.proofs.Facade.{number_reason, element_reason, line_reason, have_defaults, DefaultsFit, names_append, cells_of, slots_of, numbers_in}
+use Rattle.vms_values_laws.proofs.Facade.{CountsUp, AreFine, has_line, Set, AllByRecursion, part_reason, none_joined, is_number, cells_with, slot_of}
 use Rattle.vms_spec.specs.declared.ValuesReason.TheVariants as reasons
 use Rattle.vms_spec.specs.Layout as slots
 
@@ -40,13 +39,13 @@ reason_fits cell present z h =
     let p = or_else_none _ _ h in
     let q = or_else_none _ _ p.1 in
     record {
-      fits = (ranges cell.kind z (if_none _ _ p.0), within_all cell.capacities z (not-true _ (if_none _ _ q.0)));
-      absent = λ e. same_number_is z cell.default (or_second present _ (if_none _ _ q.1) e);
+      fits = (ranges _ z (if_none _ _ p.0), within_all _ z (not-true _ (if_none _ _ q.0)));
+      absent = λ e. same_number_is z _ (or_second _ _ (if_none _ _ q.1) e);
     }
 
 pub fits_reason : (cell : Cell) (present : Bool) (z : ℤ) → IsFitting cell present z → number_reason cell present z ≡ None
 fits_reason cell present z f =
-    rw (ranged cell.kind z f.fits.0, (not_exceeds cell.capacities z f.fits.1)) (here present f.absent) where
+    rw (ranged _ z f.fits.0, (not_exceeds _ z f.fits.1)) (here _ f.absent) where
       here : (p : Bool) → (p ≡ false → z ≡ cell.default) → if_not (p || same_number z cell.default) reasons.Absent ≡ None
       here true h = refl
       here false h = rw (is_same z cell.default (h refl)) refl
@@ -83,7 +82,7 @@ right_both n at next xs ys ss ts is a b = record {
       (cases_lt c (length xs));
 } where
   bare : (k : ℕ) → has_cell (ss ++ ts) k ≡ false → (has_cell ss k ≡ false) × (has_cell ts k ≡ false)
-  bare k h = or_parts (has_cell ss k) (has_cell ts k) (sym (names_append ss ts k) ∙ h)
+  bare k h = or_parts _ _ (sym (names_append ss ts k) ∙ h)
 
 pub fit_parts : (xs ys : List Cell) → DefaultsFit (xs ++ ys) → DefaultsFit xs × DefaultsFit ys
 fit_parts xs ys h = (
@@ -100,24 +99,12 @@ pub fine_rest : (n : List ℤ) (x : Element) (xs : List Element) (b : Bool) → 
 fine_rest n x xs true f = f.1
 fine_rest n x xs false f = f
 
-pub fine_both : (es fs : List Entry) → AreFine (es ++ fs) → AreFine es × AreFine fs
-fine_both [] fs h = (tt, h)
-fine_both (e ∷ es) fs h = let p = fine_both es fs h.1 in ((h.0, p.0), p.1)
-
-pub fine_then : (es fs : List Entry) → AreFine es → AreFine fs → AreFine (es ++ fs)
-fine_then [] fs a b = b
-fine_then (e ∷ es) fs a b = (a.0, fine_then es fs a.1 b)
-
 pub none_in : (es fs : List Entry) (k : ℕ) → has_line es k ≡ false → has_line fs k ≡ false → has_line (es ++ fs) k ≡ false
 none_in es fs k a b = lines_both es fs k ∙ or_from _ _ a b
 
 -- no section or subsection is bad
 abbrev pub AreGood : Set → List Entry → Type 0
 AreGood set = AllByRecursion (λ (e : Entry). part_reason set e ≡ None)
-
-pub numbers_good : (set : Set) (n : List ℤ) (xs : List Element) → AreGood set (of_numbers n xs)
-numbers_good set n [] = tt
-numbers_good set n (x ∷ xs) = (refl, numbers_good set n xs)
 
 right_parts : (n : List ℤ) (at next : ℕ) (xs ys : List Cell) (ss ts : List Slot) → next ≡ at + length xs → ((k : ℕ) → k < next → has_cell ts k ≡ false)
     → ((k : ℕ) → next ≤ k → has_cell ss k ≡ false) → AreRight n at (xs ++ ys) (ss ++ ts) → AreRight n at xs ss × AreRight n next ys ts
@@ -151,23 +138,23 @@ known_both {set} {n} {at} {next} {es} {fs} {xs} {ys} {ss} {ts} to from is a b = 
       let g = b.outside k (λ low. let p = past (omega arith) in omega arith) in
       (none_in es fs k f.0 g.0, none_joined k ss ts f.1 g.1);
   unsaid = λ k e.
-      let p = or_parts (has_line es k) _ (sym (lines_both es fs k) ∙ e) in none_joined k ss ts (a.unsaid k p.0) (b.unsaid k p.1);
+      let p = or_parts _ _ (sym (lines_both es fs k) ∙ e) in none_joined k ss ts (a.unsaid k p.0) (b.unsaid k p.1);
   said = λ f g d bare.
-      let f' = fine_both es fs f in
+      let f' = all_parts _ es fs f in
       let g' = all_parts _ es fs g in
       let d' = fit_parts xs ys d in
       let p = a.said f'.0 g'.0 d'.0 (λ c k lt e none.
       bare c k (omega (arith, length-append xs ys)) e (none_in es fs k none (b.outside k (λ low. omega arith)).0)
       ∙ ap (λ x. x.default) (get_or_append_left xs ys no_cell c lt)) in
       let q = b.said f'.1 g'.1 d'.1 (λ c k lt e none.
-      bare (length xs + c) k (omega (arith, length-append xs ys)) (omega arith) (none_in es fs k (a.outside k (λ low. omega arith)).0 none)
+      bare _ k (omega (arith, length-append xs ys)) (omega arith) (none_in es fs k (a.outside k (λ low. omega arith)).0 none)
       ∙ ap (λ x. x.default) (get_or-append-add xs ys c no_cell)) in
       (right_both n at next xs ys ss ts is p.0 q.0, to p.1 q.1);
   right = λ r m.
       let r' = right_parts n at next xs ys ss ts is (λ k lt. (b.outside k (λ low. omega arith)).1) (λ k le. (a.outside k (λ low. omega arith)).1) r in
       let p = a.right r'.0 (from m).0 in
       let q = b.right r'.1 (from m).1 in
-      (fine_then es fs p.0 q.0, all_both _ es fs p.1 q.1);
+      (all_both _ es fs p.0 q.0, all_both _ es fs p.1 q.1);
 }
 
 same_bytes : {set : Set} {n : List ℤ} {at : ℕ} {es : List Entry} {cells : List Cell} {ss ts : List Slot} {N : Type 0}
@@ -198,13 +185,13 @@ module _ (set : Set) (n : List ℤ) (short : AreShort n) (x : Element) (cell : C
   number_unsaid k false t c e = refl
 
   hidden : (b : Bool) → has_cell (byte b) at ≡ false → b ≡ false
-  hidden true h = sym (eq-eqb x.cell at here) ∙ (or_parts (x.cell == at) false h).0
+  hidden true h = cc (eq-eqb x.cell at here, (or_parts (x.cell == at) false h).0)
   hidden false h = refl
 
   number_said : (b t : Bool) → x.present ≡ b → AreFine (line t) → FitsCell cell cell.default
       → (has_line (line t) at ≡ false → get_or n at (pos 0) ≡ cell.default) → IsRight n (byte b) at cell
   number_said b true p f d bare =
-      let r = reason_fits cell x.present (get_or n x.cell (pos 0)) (sym (line_number x n cell what (short x.cell)) ∙ f.0) in
+      let r = reason_fits cell _ _ (sym (line_number x n cell what (short x.cell)) ∙ f.0) in
       record { fits = rw here at r.fits; absent = λ h. rw here at (r.absent (p ∙ hidden b h)) }
   number_said b false p f d bare = let is = bare refl in record { fits = rw is d; absent = λ h. is }
 
@@ -213,8 +200,8 @@ module _ (set : Set) (n : List ℤ) (short : AreShort n) (x : Element) (cell : C
     outside = λ k h.
         let ne : x.cell ≡ k → ⊥ = λ e. (let g : at + 1 ≤ k = h (omega arith) in omega arith) in
         let e = ne_eqb x.cell k ne in (
-          if_holds (λ l. has_line (of_numbers n l) k ≡ false) t (x ∷ []) [] (rw e refl) refl,
-          if_holds (λ l. has_cell l k ≡ false) b (slot ∷ []) [] (rw e refl) refl,
+          if_both (λ l. has_line (of_numbers n l) k ≡ false) t _ [] (rw e refl) refl,
+          if_both (λ l. has_cell l k ≡ false) b _ [] (rw e refl) refl,
         );
     unsaid = λ k e. number_unsaid k b t c e;
     said = λ f g d bare. (
@@ -228,9 +215,9 @@ module _ (set : Set) (n : List ℤ) (short : AreShort n) (x : Element) (cell : C
     );
     right = λ a m.
         let r = a.right 0 at (omega arith) (omega arith) in
-        let fine = line_number x n cell what (short x.cell) ∙ fits_reason cell x.present (get_or n x.cell (pos 0))
+        let fine = line_number x n cell what (short x.cell) ∙ fits_reason cell _ _
         (record { fits = rw here r.fits; absent = λ e. rw here (r.absent (ap (λ (b : Bool). has_cell (byte b) at) (sym p ∙ e))) }) in
-        if_holds (λ l. AreFine (of_numbers n l) × AreGood set (of_numbers n l)) t (x ∷ []) [] ((fine, tt), (refl, tt)) (tt, tt);
+        if_both (λ l. AreFine (of_numbers n l) × AreGood set (of_numbers n l)) t _ [] ((fine, tt), (refl, tt)) (tt, tt);
   }
 
   number_known : (b t : Bool) → x.present ≡ b → (b ≡ true → t ≡ true) → (xs : List Element) (cells : List Cell) (ss : List Slot)
@@ -255,10 +242,9 @@ part set n short at (x ∷ xs) up counted = by_what x.what refl (λ at u. part s
       → CountsUp at (if is_number w then x ∷ numbers_in xs else numbers_in xs)
       → Known set n at (of_numbers n (if x.counted && is_number w then x ∷ printed xs else printed xs)) (cells_with w (cells_of xs))
       (if x.present then slot_of x.cell w ∷ slots_of xs else slots_of xs) (Unit {0})
-  by_what (Number cell) e later u =
-      rw (and-true x.counted) (number_known set n short x cell e at u.0 x.present x.counted refl counted.0 xs _ _ (later (at + 1) u.1))
+  by_what (Number cell) e later u = rw (and-true x.counted) (number_known set n short x cell e at u.0 _ _ refl counted.0 xs _ _ (later (at + 1) u.1))
   by_what _ e later u =
-      rw (and-false x.counted) (same_bytes (λ k. if_holds (λ l. has_cell l k ≡ has_cell (slots_of xs) k) x.present _ (slots_of xs) refl refl) (later at u))
+      rw (and-false x.counted) (same_bytes (λ k. if_both (λ l. has_cell l k ≡ has_cell (slots_of xs) k) x.present _ (slots_of xs) refl refl) (later at u))
 
 first_bare : (n : List ℤ) (at : ℕ) (cell : Cell) (cells : List Cell) (c k : ℕ) → c < suc (length cells) → k ≡ at + c → get_or n at (pos 0) ≡ cell.default
     → AreBare n (at + 1) cells (λ k. false) → get_or n k (pos 0) ≡ (get_or (cell ∷ cells) c no_cell).default

@@ -1,18 +1,13 @@
 -- What is known of a state that agrees with what lines said, and what was said in two parts.
-use Rattle.vms_values_laws.proofs.Facade.{◌≡◌, ℕ, ◌≤◌, List, [], ◌∷◌, ◌++◌, get_or, map, slice_set, ℤ, pos, refl, sym, ap, ◌∙◌, arith, append_assoc, true}
-use Rattle.vms_values_laws.proofs.Facade.{false, if◌then◌else◌, Some, None, same_Some, slice_get, suc, get_or-set_other, Bool, ◌==◌, ◌||◌, length, map-append}
-use Rattle.vms_values_laws.proofs.Facade.{length-append, eq-eqb, or_parts, or_assoc, AllByRecursion, ValuesReason, if_not, Standing, Element, text_of, ranges}
-use Rattle.vms_values_laws.proofs.Facade.{text_append, Said, said_line, Agrees, Meets, AreBelow, AreFrom, put_all, Entry, OfNumber, is_of_cell, has_line, ints}
-use Rattle.vms_values_laws.proofs.Facade.{IsShort, ◌<◌, drop, Option, negsuc, Ok, Err, codes, ◌+◌, get_or-set_same, length-set, signed_decimal, Read, BadLine}
-use Rattle.vms_values_laws.proofs.Facade.{CellLine, put_number, put_line, ◌>>=◌, Number, number_reason, spelled_reason, line_reason, wanted_reason, Kind, U8}
-use Rattle.vms_values_laws.proofs.Facade.{same_number, exceeds, in_range, Cell, first_line, begins_with, number_spelled, spelled_holds}
-use Rattle.vms_values_laws.proofs.Facade.{line_splits, begun, ForNumber, Moved, Taken, lines_of, reason_for}
+use Rattle.vms_values_laws.proofs.Facade.{◌≡◌, ℕ, ◌≤◌, List, [], ◌∷◌, ◌++◌, get_or, map, slice_set, ℤ, pos, refl, sym, ◌∙◌, arith, append_assoc, true, false}
+use Rattle.vms_values_laws.proofs.Facade.{if◌then◌else◌, Some, None, same_Some, suc, get_or-set_other, Bool, ◌==◌, ◌||◌, length, map-append, all_both}
+use Rattle.vms_values_laws.proofs.Facade.{all_more, all_parts, length-append, eq-eqb, or_parts, or_assoc, AllByRecursion, ValuesReason, if_not, Standing}
+use Rattle.vms_values_laws.proofs.Facade.{Element, text_of, ranges, text_append, Said, said_line, Agrees, Meets, AreBelow, AreFrom, put_all, Entry, OfNumber}
+use Rattle.vms_values_laws.proofs.Facade.{is_of_cell, has_line, ints, IsShort, ◌<◌, drop, Option, negsuc, Ok, Err, codes, ◌+◌, get_or-set_same, length-set}
+use Rattle.vms_values_laws.proofs.Facade.{signed_decimal, Read, BadLine, CellLine, put_number, put_line, ◌>>=◌, Number, number_reason, spelled_reason}
+use Rattle.vms_values_laws.proofs.Facade.{line_reason, wanted_reason, Kind, U8, same_number, exceeds, in_range, Cell, first_line, begins_with, number_spelled}
+use Rattle.vms_values_laws.proofs.Facade.{spelled_holds, line_splits, begun, ForNumber, Moved, Taken, lines_of, reason_for}
 use Rattle.vms_spec.specs.declared.ValuesReason.TheVariants as reasons
-
--- either choice has it
-pub if_holds : {A : Type 0} (P : A → Type 0) (b : Bool) (x y : A) → P x → P y → P (if b then x else y)
-if_holds P true x y p q = p
-if_holds P false x y p q = q
 
 pub some_if : {A : Type 0} (b : Bool) (x y : A) → (if b then Some x else None) ≡ Some y → (b ≡ true) × (x ≡ y)
 some_if true x y e = (refl, same_Some x y e)
@@ -21,22 +16,6 @@ some_if false x y e = cc
 pub if_none : (b : Bool) (reason : ValuesReason) → if_not b reason ≡ None → b ≡ true
 if_none true reason e = refl
 if_none false reason e = cc
-
-pub all_from : {A : Type 0} (P : A → Type 0) (xs : List A) → ((k : ℕ) (x : A) → slice_get xs k ≡ Some x → P x) → AllByRecursion P xs
-all_from P [] h = tt
-all_from P (x ∷ xs) h = (h 0 x refl, all_from P xs (λ k y e. h (suc k) y e))
-
-pub all_more : {A : Type 0} {P Q : A → Type 0} (xs : List A) → AllByRecursion P xs → ((x : A) → P x → Q x) → AllByRecursion Q xs
-all_more [] a f = tt
-all_more (x ∷ xs) a f = (f x a.0, all_more xs a.1 f)
-
-pub all_parts : {A : Type 0} (P : A → Type 0) (xs ys : List A) → AllByRecursion P (xs ++ ys) → AllByRecursion P xs × AllByRecursion P ys
-all_parts P [] ys a = (tt, a)
-all_parts P (x ∷ xs) ys a = let p = all_parts P xs ys a.1 in ((a.0, p.0), p.1)
-
-pub all_both : {A : Type 0} (P : A → Type 0) (xs ys : List A) → AllByRecursion P xs → AllByRecursion P ys → AllByRecursion P (xs ++ ys)
-all_both P [] ys a b = b
-all_both P (x ∷ xs) ys a b = (a.0, all_both P xs ys a.1 b)
 
 pub meets_left : (said : List Said) (left left' : List Element) (n : List ℤ) (xs : List Element) → Meets said left n xs → (Agrees said n → left ≡ left')
     → Meets said left' n xs
@@ -66,8 +45,7 @@ agrees_put (s ∷ said) cell n z b a = (get_or-set_other n cell s.element.cell z
 -- what is said of cells above leaves what was said below
 pub agrees_kept : (said more : List Said) (cell : ℕ) (n : List ℤ) → AreBelow cell said → AreFrom cell more → Agrees said n → Agrees said (put_all n more)
 agrees_kept said [] cell n b f a = a
-agrees_kept said (s ∷ more) cell n b f a =
-    agrees_kept said more cell _ b f.1 (agrees_put said s.element.cell n s.number (all_more said b (λ t lt. omega arith)) a)
+agrees_kept said (s ∷ more) cell n b f a = agrees_kept said more cell _ b f.1 (agrees_put said _ n _ (all_more said b (λ t lt. omega arith)) a)
 
 pub put_more : (n : List ℤ) (said more : List Said) → put_all n (said ++ more) ≡ put_all (put_all n said) more
 put_more n [] more = refl
@@ -85,13 +63,13 @@ moved_none line text = record { further = omega arith; texts = refl; fine = tt }
 
 pub moved_one : (line : ℕ) (text : List ℕ) (t : Taken) (rest : List ℕ) → text ≡ t.line ++ 10 ∷ rest → reason_for t.demand (Some (t.line, [])) ≡ None
     → Moved line text (t ∷ []) (suc line) rest
-moved_one line text t rest e f = record { further = omega arith; texts = e ∙ sym (append_assoc t.line (10 ∷ []) rest); fine = (f, tt) }
+moved_one line text t rest e f = record { further = omega arith; texts = cc (append_assoc t.line (10 ∷ []) rest); fine = (f, tt) }
 
 pub moved_then : {line line' line'' : ℕ} {text text' text'' : List ℕ} {taken more : List Taken} → Moved line text taken line' text'
     → Moved line' text' more line'' text'' → Moved line text (taken ++ more) line'' text''
 moved_then {text'' = text''} {taken = taken} {more = more} f g = record {
   further = omega (arith, length-append taken more);
-  texts = f.texts ∙ rw (g.texts, map-append (λ (t : Taken). t.line) taken more, text_append (lines_of taken) (lines_of more))
+  texts = f.texts ∙ rw (g.texts, map-append (λ (t : Taken). t.line) taken more, text_append _ _)
       (sym (append_assoc (text_of (lines_of taken)) _ text''));
   fine = all_both _ taken more f.fine g.fine;
 }
@@ -117,7 +95,7 @@ told_both {low = low} {high = high} {n = n} {m = m} {k = k} {said = said} {more 
   agrees = all_both _ said more (rw (g.numbers) (agrees_kept said more high m below g.from f.agrees)) g.agrees;
   from = all_both _ said more f.from (all_more more g.from (λ s ge. omega arith));
   numbers = rw (g.numbers, f.numbers) (sym (put_more n said more));
-  long = g.long ∙ f.long;
+  long = cc;
   short = all_both _ said more f.short g.short;
 }
 
@@ -207,13 +185,13 @@ module _ (steps : List (ℕ × ℕ)) (path : List ℕ) (present : Bool) (at : �
         → Put here p (record { numbers = slice_set p.numbers at z; line = suc p.line; rest = rest })
     taken z e range f =
         let whole : line ≡ path ++ (codes " = " ++ signed_decimal z) =
-        begun front line begins ∙ ap (λ l. front ++ l) (spelled_holds text z (short c.kind z range) e) ∙ append_assoc path (codes " = ") _ in
+        cc (begun front line begins, spelled_holds text z (short c.kind z range) e, append_assoc path (codes " = ") _) in
         record {
           number = z;
-          rest = splits ∙ ap (λ l. l ++ 10 ∷ rest) whole;
+          rest = cc;
           line = refl;
           numbers = refl;
-          fine = rw (sym whole) (wanted (Some z) e ∙ f);
+          fine = rw (sym whole) (wanted _ e ∙ f);
           short = short c.kind z range;
         }
 
@@ -227,11 +205,11 @@ module _ (steps : List (ℕ × ℕ)) (path : List ℕ) (present : Bool) (at : �
 
     spelled : (o : Option ℤ) → number_spelled text ≡ o → Stepped here p (Some (line, rest)) (put_number its p rest o)
     spelled None e = record { line = refl; bad = wanted None e }
-    spelled (Some z) e = judged z e (in_range c.kind z) (exceeds c.capacities z) (present || same_number z c.default) refl refl refl
+    spelled (Some z) e = judged z e _ (exceeds c.capacities z) _ refl refl refl
 
   by_front : (line rest : List ℕ) → p.rest ≡ line ++ 10 ∷ rest → (b : Bool) → begins_with front line ≡ b
       → Stepped here p (Some (line, rest)) (put_line path its p (Some (line, rest)))
-  by_front line rest splits true e = rw e (spelled line rest splits e (number_spelled (drop (length front) line)) refl)
+  by_front line rest splits true e = rw e (spelled line rest splits e _ refl)
   by_front line rest splits false e = rw e (record { line = refl; bad = rw e refl })
 
   by_line : (o : Option (List ℕ × List ℕ)) → first_line p.rest ≡ o → Stepped here p o (put_line path its p o)
@@ -303,8 +281,7 @@ module _ (total : List ℤ → List Element) (start : Standing) (low : ℕ) wher
 
   pub at_left : {cell : ℕ} {p : Standing} {said : List Said} {left left' : List ℤ → List Element} → ((m : List ℤ) → Agrees said m → left m ≡ left' m)
       → At cell p said left → At cell p said left'
-  at_left {said = said} e a =
-      record { meets = λ m. meets_left said _ _ m (total m) (a.meets m) (e m); below = a.below; up = a.up; told = a.told; moved = a.moved }
+  at_left {said = said} e a = record { meets = λ m. meets_left said _ _ m _ (a.meets m) (e m); below = a.below; up = a.up; told = a.told; moved = a.moved }
 
   pub stay : {cell further : ℕ} {p : Standing} {said : List Said} {left : List ℤ → List Element} → cell ≤ further → At cell p said left
       → Comes further [] said left (Ok p)
@@ -331,12 +308,12 @@ module _ (total : List ℤ → List Element) (start : Standing) (low : ℕ) wher
     after_line q put =
         let s = said_of x p q put in
         record {
-          meets = λ m. meets_more said s (left m) m (total m) (a.meets m);
-          below = all_both _ said (s ∷ []) (all_more said a.below (λ t lt. omega arith)) (omega arith, tt);
+          meets = λ m. meets_more said s _ m _ (a.meets m);
+          below = all_both _ said _ (all_more said a.below (λ t lt. omega arith)) (omega arith, tt);
           up = omega arith;
           told = told_both a.told (told_one x p q put (omega arith)) a.up a.below;
           moved = rw (map-append (λ (s : Said). taken_of s) said (s ∷ []), put.line)
-              (moved_then a.moved (moved_one p.line p.rest (taken_of s) q.rest put.rest put.fine));
+              (moved_then a.moved (moved_one p.line p.rest _ q.rest put.rest put.fine));
         }
 
     pub by_read : (r : Read) → Stepped x p (first_line p.rest) r → Comes (x.cell + 1) (x.cell ∷ []) said left r

@@ -12,8 +12,8 @@ use Rattle.vms_values_laws.proofs.Facade.{reason_for, Taken, Follows, Along, Mov
 use Rattle.vms_values_laws.proofs.Facade.{read_desc, IsSound, AreSound, IsShort, number_holds, shapes, desc_elements, Said, Agrees, Meets, AreBelow, has_line}
 use Rattle.vms_spec.specs.declared.ValuesReason.TheVariants as reasons
 use Rattle.vms_spec.specs.ValuesReading as reading
-pub use Rattle.vms_values_laws.proofs.SaidLaws.{all_taken, moved_none, moved_one, moved_then}
-use Rattle.vms_values_laws.proofs.SaidLaws.{ComesTo, At, meets_all, taken_of, Told, told_none, has_said, said_both, lines_both, lines_said, AreShortSaid}
+use Rattle.vms_values_laws.proofs.SaidLaws.{all_taken, moved_none, ComesTo, At, meets_all, taken_of, Told, told_none, has_said, said_both, lines_both}
+use Rattle.vms_values_laws.proofs.SaidLaws.{lines_said, AreShortSaid}
 use Rattle.vms_values_laws.proofs.Walk.{wrapped, part_comes}
 
 abbrev pub as_bad : ℕ → Option ValuesReason → Option BadLine
@@ -77,7 +77,7 @@ defaults_same n at (x ∷ xs) up room = by_what x.what (λ next. defaults_same n
 module _ (set : Set) where
   pub desc_rules : (d : Desc) (v : ℕ) (n : List ℤ) (at : ℕ) → rules_hold (elements_in set d v n at) ≡ rules_are_true
       (desc_slots (meanings set.structs (length set.structs)) d v n at)
-  desc_rules d v n at = rules_same (elements_in set d v n at) ∙ ap rules_are_true (elements_slots set d v n at)
+  desc_rules d v n at = cc (rules_same (elements_in set d v n at), elements_slots set d v n at)
 
   pub desc_defaults : (d : Desc) (v : ℕ) (n : List ℤ) (at : ℕ) → at + length (desc_cells (struct_cells set) d) ≤ length n
       → have_defaults n (elements_in set d v n at) ≡ are_defaults (desc_cells (struct_cells set) d) (drop at n)
@@ -151,8 +151,8 @@ module _ (set : Set) where
       omega (arith, length-append (desc_cells (struct_cells set) d.desc) (flat_map (λ s. desc_cells (struct_cells set) s.desc) d.subs)) in
       rw (
         lined.own,
-        lined.subs ∙ subs_past (suc line) image.numbers xs subs,
-        subs_judged d image 0 (own_cells set d) d.subs image.came next room,
+        lined.subs ∙ subs_past _ _ xs subs,
+        subs_judged d image 0 _ d.subs _ next room,
         ← (desc_rules d.desc image.version image.numbers 0),
         parts_past set (suc line) image.numbers xs subs,
       ) (section_judged (rules_hold (elements_in set d.desc image.version image.numbers 0)) line (parts_from set next subs))
@@ -211,7 +211,7 @@ follows_meets (s ∷ said) left n [] more P short said-short h p = absurd h
 follows_meets (s ∷ said) left n (x ∷ xs) more P short said-short h p = (
   ap ForNumber h.0,
   λ e. follows_meets said left n xs more P short said-short.1
-      (h.1 (number_same s.element.name _ s.number (short s.element.cell) said-short.0 (rw (h.0) at e))) p,
+      (h.1 (number_same _ _ _ (short s.element.cell) said-short.0 (rw (h.0) at e))) p,
 )
 
 pub along_meets : (said : List Said) (left : List Element) (n : List ℤ) (xs : List Element) (more : List Entry) (P : List Entry → Type 0) → Agrees said n
@@ -259,7 +259,7 @@ module _ {set : Set} {d : Desc} {at : ℕ} {p q : Standing} (n : NumbersRead set
       let xs = printed (elements_in set d d.version numbers at) in
       let on : p.line + length xs ≡ q.line =
       omega (arith, ap length (n.heard numbers agrees) ∙ length-map n.said (λ (s : Said). s.element), length-map n.said (λ (s : Said). taken_of s)) in
-      subs_past p.line numbers xs es ∙ ap (λ l. sub_numbers l es) on
+      subs_past p.line _ xs es ∙ ap (λ l. sub_numbers l es) on
 
 abbrev pub NumbersCome : Set → Desc → ℕ → Standing → Read → Type 0
 NumbersCome set d at p (Ok q) = NumbersRead set d at p q
@@ -279,8 +279,8 @@ module _ (set : Set) (d : Desc) (at : ℕ) (p : Standing) where
       record {
         said = said;
         told = a.told;
-        follows = λ n more short. rw (← (entries_are n)) (follows_meets said (left n) n (total n) more (Then more) short a.short (a.meets n) (next n more));
-        along = λ n more agrees. rw (← (entries_are n)) (along_meets said (left n) n (total n) more (Then more) agrees (a.meets n) (next n more));
+        follows = λ n more short. rw (← (entries_are n)) (follows_meets said _ n _ more _ short a.short (a.meets n) (next n more));
+        along = λ n more agrees. rw (← (entries_are n)) (along_meets said _ n _ more _ agrees (a.meets n) (next n more));
         moved = rw (← is) a.moved;
       }
 
@@ -289,7 +289,7 @@ module _ (set : Set) (d : Desc) (at : ℕ) (p : Standing) where
       record {
         whole = said_of_at q.line (λ more es. es ≡ more) f.stands refl (λ n more. refl);
         below = f.stands.below;
-        heard = λ n agrees. sym (map-id _) ∙ meets_all f.said [] n (total n) agrees (f.stands.meets n) ∙ append-nil (map (λ (s : Said). s.element) f.said);
+        heard = λ n agrees. sym (map-id _) ∙ meets_all f.said [] n _ agrees (f.stands.meets n) ∙ append-nil (map (λ (s : Said). s.element) f.said);
       }
   from_comes (Err e) s =
       record {
@@ -305,4 +305,4 @@ module _ (set : Set) (d : Desc) (at : ℕ) (p : Standing) where
   numbers_come structs sound room =
       let started : At total p at at p [] (λ m. total m ++ []) =
       record { meets = λ m. sym (append-nil (total m)); below = tt; up = omega arith; told = told_none at p.numbers; moved = moved_none p.line p.rest } in
-      from_comes (read_desc (readers set) d d.version [] true at p) (part_comes total p at set d at p [] (λ m. []) structs sound room started).comes
+      from_comes _ (part_comes total p at set d at p [] (λ m. []) structs sound room started).comes

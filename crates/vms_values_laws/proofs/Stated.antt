@@ -1,16 +1,17 @@
 -- The laws of values texts, as they are stated.
-use Rattle.vms_values_laws.proofs.{SaidLaws.if_holds, Meeting.clean_named, SecondPass.parts_from, AllCome.images_of, AllCome.good_devices}
+use Rattle.vms_values_laws.proofs.{Meeting.clean_named, SecondPass.parts_from, AllCome.images_of, AllCome.good_devices}
 use Rattle.vms_values_laws.proofs.Accepted.{Match, inside_of, matched, devices_same, answer_by, none_answers, none_says, none_good, says_ready, named_machine}
 use Rattle.vms_values_laws.proofs.BadLines.{FirstPass, NoneBad, first_pass, TakenOf}
-use Rattle.vms_values_laws.proofs.Facade.{◌≡◌, inl, inr, ℕ, List, ◌++◌, Option, Some, None, sym, ap, ◌∙◌, subst, arith, ◌∷◌, map, refl, codes, append-nil, []}
-use Rattle.vms_values_laws.proofs.Facade.{◌+◌, length, suc, ◌≤◌, sum_by, ℤ, length-append, length-map, sum_by-cons, ValuesReason, Set, Device, Desc, Sub}
-use Rattle.vms_values_laws.proofs.Facade.{ValuesRead, Bad, machine_named, BadLine, Values, values_read, Entry, entries, devices_entries, entry_line, OfNumber}
-use Rattle.vms_values_laws.proofs.Facade.{number_entries, subs_entries, device_entries, IsBadLine, IsMachineOf, Says, IsText, Refused, Reads, Taken}
-use Rattle.vms_values_laws.proofs.Facade.{Image, own_cells, first_line, IsConfiguration, IsTrailer, optional, configuration, trailer, written, AreReady}
-use Rattle.vms_values_laws.proofs.Facade.{WellFormed, text_of, section_line, printed, values_text, IsFit, well_good, entry_law, text_is, ReadLaw, OnlyLaw}
-use Rattle.vms_values_laws.proofs.Facade.{AcceptedLaw, PrintedLaw, device_lines, most_lines, LineLaw, machine_short, few_devices, Takes, one_stream_holds}
-use Rattle.vms_values_laws.proofs.Facade.{written_holds, FitsText, WrittenLaw, PackedLaw, ShownLaw, desc_cells, struct_cells, Element, cells_of, elements_in}
-use Rattle.vms_values_laws.proofs.Facade.{walks, AreShaped, AreFine, is_number, cells_with, Number, What, and-true, and-false, if◌then◌else◌, ◌&&◌}
+use Rattle.vms_values_laws.proofs.Facade.{if_both, ◌≡◌, inl, inr, ℕ, List, ◌++◌, Option, Some, None, sym, ap, ◌∙◌, subst, arith, ◌∷◌, map, refl, codes}
+use Rattle.vms_values_laws.proofs.Facade.{append-nil, [], ◌+◌, length, suc, ◌≤◌, sum_by, ℤ, length-append, length-map, sum_by-cons, ValuesReason, Set, Device}
+use Rattle.vms_values_laws.proofs.Facade.{Desc, Sub, ValuesRead, Bad, machine_named, BadLine, Values, values_read, Entry, entries, devices_entries}
+use Rattle.vms_values_laws.proofs.Facade.{entry_line, OfNumber, number_entries, subs_entries, device_entries, IsBadLine, IsMachineOf, Says, IsText, Refused}
+use Rattle.vms_values_laws.proofs.Facade.{Reads, Taken, Image, own_cells, first_line, IsConfiguration, IsTrailer, optional, configuration, trailer, written}
+use Rattle.vms_values_laws.proofs.Facade.{AreReady, WellFormed, text_of, section_line, printed, values_text, IsFit, well_good, entry_law, text_is, ReadLaw}
+use Rattle.vms_values_laws.proofs.Facade.{OnlyLaw, AcceptedLaw, PrintedLaw, device_lines, most_lines, LineLaw, machine_short, few_devices, Takes}
+use Rattle.vms_values_laws.proofs.Facade.{one_stream_holds, written_holds, FitsText, WrittenLaw, PackedLaw, ShownLaw, desc_cells, struct_cells, Element}
+use Rattle.vms_values_laws.proofs.Facade.{cells_of, elements_in, walks, AreShaped, AreFine, is_number, cells_with, Number, What, and-true, and-false}
+use Rattle.vms_values_laws.proofs.Facade.{if◌then◌else◌, ◌&&◌}
 use Rattle.vms_values_laws.proofs.Meeting.{AreClean, Ends, Same, meet, NoFeed, line_first, section_feed, AreCleanDevices, clean_entries, clean_devices}
 use Rattle.vms_values_laws.proofs.ReadyParts.{sub_cells, first_part, bad_part_found, good_none, text_says}
 
@@ -18,7 +19,7 @@ use Rattle.vms_values_laws.proofs.ReadyParts.{sub_cells, first_part, bad_part_fo
 
 -- the first line of a text that has this line first
 first_is : (text line : List ℕ) (lines : List (List ℕ)) → NoFeed line → text ≡ text_of (line ∷ lines) → first_line text ≡ Some (line, text_of lines)
-first_is text line lines clean e = ap first_line e ∙ line_first line (text_of lines) clean
+first_is text line lines clean e = cc (line_first line (text_of lines) clean)
 
 by_devices : (set : Set) (text : List ℕ) (devices : List Device) (images : List Image) → AreCleanDevices devices
     → text ≡ text_of (map entry_line (devices_entries set devices images)) → machine_named set.machines (first_line text) ≡ None
@@ -29,7 +30,7 @@ by_devices set text _ _ clean e = rw e
 
 named_by : (set : Set) → WellFormed set → (text : List ℕ) (machine : Option (List ℕ)) (images : List Image) → IsMachineOf set machine
     → text ≡ text_of (map entry_line (entries set machine images)) → machine_named set.machines (first_line text) ≡ machine
-named_by set well text None images named e = by_devices set text set.devices images (clean_devices set well) e
+named_by set well text None images named e = by_devices set text _ images (clean_devices set well) e
 named_by set well text (Some name) images named e =
     let lines = map entry_line (devices_entries set set.devices images) in
     ap (machine_named set.machines)
@@ -50,14 +51,14 @@ module _ {set : Set} {text : List ℕ} {machine' : Option (List ℕ)} {taken : L
 
   against : {line : ℕ} {reason : ValuesReason} (x : IsBadLine set text line reason) → AreClean (entries set x.machine x.images)
       → Same taken x.before o (Some reason)
-  against x clean = beside x.machine x.images x.before x.after x.rest _ x.named x.shaped x.state (rw (x.state) at clean) x.fine x.begins x.bad
+  against x clean = beside _ _ _ _ x.rest _ x.named x.shaped x.state (rw (x.state) at clean) x.fine x.begins x.bad
 
   its_lines : WellFormed set → (machine : Option (List ℕ)) (images : List Image) → Says set text machine images
       → Same taken (entries set machine images) o None
   its_lines well machine images says =
       let es = entries set machine images in
       let clean : AreClean (es ++ []) = subst AreClean (sym (append-nil es)) (clean_entries set well machine images says.named) in
-      beside machine images es [] [] None (sym (named_by set well text machine images says.named says.printed)) says.shaped (sym (append-nil es)) clean
+      beside _ images es [] [] None (sym (named_by set well text _ images says.named says.printed)) says.shaped (sym (append-nil es)) clean
       says.fine (says.printed ∙ sym (append-nil _)) (refl, refl)
 
 bad_back : (set : Set) (text : List ℕ) (line : ℕ) (reason : ValuesReason) (x : IsBadLine set text line reason) → AreClean (entries set x.machine x.images)
@@ -79,18 +80,18 @@ module _ (set : Set) (well : WellFormed set) (text : List ℕ) (machine : Option
 
   module _ (v : ValuesRead) (n : NoneBad set text v) where
     same_machine : n.machine ≡ machine
-    same_machine = n.named ∙ named_by set well text machine images says.named says.printed
+    same_machine = cc (named_by set well text machine images says.named says.printed)
 
     same_images : images_of n.all.devices ≡ images
     same_images =
         let read = images_of n.all.devices in
         let m : Match (entries set n.machine read) (entries set n.machine images) =
         matched n.taken (entries set n.machine read) (entries set n.machine images) (n.follows read n.shaped) n.along (n.follows images says.shaped)
-        ((its_lines n.took well machine images says).lines ∙ ap (λ m. map entry_line (entries set m images)) (sym same_machine)) in
-        devices_same set set.devices read images n.shaped says.shaped n.unsaid says.unsaid (same_devices n.machine read images m)
+        ((its_lines n.took well _ images says).lines ∙ ap (λ m. map entry_line (entries set m images)) (sym same_machine)) in
+        devices_same set set.devices read images n.shaped says.shaped n.unsaid says.unsaid (same_devices _ read images m)
 
   pub says_answers : (v : ValuesRead) → FirstPass set text v → v ≡ answer_by machine images (parts_from set 1 (entries set machine images))
-  says_answers v (inl b) = let e = (its_lines b.took well machine images says).reason in cc
+  says_answers v (inl b) = let e = (its_lines b.took well _ images says).reason in cc
   says_answers v (inr n) = none_answers set text v n ∙ rw (same_machine v n, same_images v n) refl
 
 -- ---- The laws of reading, as they are stated.
@@ -116,16 +117,16 @@ by_parts set text machine images (Some b) fit says e =
     })
 by_parts set text machine images None fit says e = record {
   named = says.named;
-  ready = says_ready set fit.well (well_good set fit.well fit.heads) text machine images says (none_good set 1 (entries set machine images) e);
-  printed = says.printed ∙ ap text_of (entry_law set machine images) ∙ text_is set machine images;
+  ready = says_ready set fit.well (well_good set fit.well fit.heads) text _ images says (none_good set 1 _ e);
+  printed = cc (entry_law set machine images, text_is set machine images);
 }
 
 by_pass : (set : Set) (text : List ℕ) (v : ValuesRead) → IsFit set → FirstPass set text v → Reads set text v
 by_pass set text v fit (inl b) = rw (b.is) (inl b.is_bad)
-by_pass set text v fit (inr n) = rw (none_answers set text v n) (by_parts set text n.machine (images_of n.all.devices) _ fit (none_says set text v n) refl)
+by_pass set text v fit (inr n) = rw (none_answers set text v n) (by_parts set text _ _ _ fit (none_says set text v n) refl)
 
 pub read_holds : ReadLaw
-read_holds set text fit = by_pass set text (values_read set text) fit (its_first_pass set text fit)
+read_holds set text fit = by_pass set text _ fit (its_first_pass set text fit)
 
 pub accepted_holds : AcceptedLaw
 accepted_holds set text machine images fit e = rw e at (read_holds set text fit)
@@ -133,9 +134,8 @@ accepted_holds set text machine images fit e = rw e at (read_holds set text fit)
 text_back : (set : Set) (text : List ℕ) (machine : Option (List ℕ)) (images : List Image) → IsFit set → IsText set text machine images
     → values_read set text ≡ Values machine images
 text_back set text machine images fit t =
-    let s = text_says set text machine images t in
-    says_answers set fit.well text machine images s.says (values_read set text) (its_first_pass set text fit)
-    ∙ rw (good_none set 1 (entries set machine images) s.good) refl
+    let s = text_says set text _ images t in
+    says_answers set fit.well text machine images s.says (values_read set text) (its_first_pass set text fit) ∙ rw (good_none set 1 _ s.good) refl
 
 refused_back : (set : Set) (text : List ℕ) (line : ℕ) (reason : ValuesReason) → IsFit set → Refused set text line reason
     → values_read set text ≡ Bad line reason
@@ -147,7 +147,7 @@ refused_back set text line reason fit (inr x) =
     ∙ rw (x.state, bad_part_found set 1 x.before x.entry x.after reason x.good x.bad, here) refl
 
 pub only_holds : OnlyLaw
-only_holds set text (Values machine images) fit r = text_back set text machine images fit r
+only_holds set text (Values machine images) fit r = text_back set text _ images fit r
 only_holds set text (Bad line reason) fit r = refused_back set text line reason fit r
 
 pub printed_holds : PrintedLaw
@@ -169,15 +169,14 @@ trailed (Some text) h = (h, refl)
 pub takes : (set : Set) → WellFormed set → (machine described : Option (List ℕ)) (images : List Image) → IsMachineOf set machine → FitsText described
     → AreReady set images → Takes set set.machines (written set machine images described) (length (written set machine images described)) machine images
 takes set well machine described images named fits ready =
-    let few = few_devices set well in
     let stream = written set machine images described in
-    rw (append-nil stream) at (written_holds set set.machines (omega arith) machine described images (configured set well machine named)
-    (trailed described fits) ready [] (λ e. refl))
+    rw (append-nil stream) at (written_holds set set.machines (omega (arith, few_devices set well)) machine described images (configured set well _ named)
+    (trailed _ fits) ready [] (λ e. refl))
 
 pub written_only : WrittenLaw
 written_only set machine described images fit named fits ready =
     let stream = written set machine images described in
-    let whole = takes set fit.well machine described images named fits ready in
+    let whole = takes set fit.well _ _ images named fits ready in
     record {
       whole = whole;
       only = λ taken other others t.
@@ -188,7 +187,7 @@ written_only set machine described images fit named fits ready =
 pub packed_holds : PackedLaw
 packed_holds set text machine described images fit fits e =
     let is = accepted_holds set text machine images fit e in
-    record { machine = machine; images = images; whole = takes set fit.well machine described images is.named fits is.ready; printed = sym is.printed }
+    record { machine = machine; images = images; whole = takes set fit.well _ _ images is.named fits is.ready; printed = sym is.printed }
 
 pub shown_holds : ShownLaw
 shown_holds set machine described images fit named fits ready text s =
@@ -204,7 +203,7 @@ few_printed (x ∷ xs) = by_what x.what (few_printed xs) where
   by_what : (w : What) → length (printed xs) ≤ length (cells_of xs)
       → length (if x.counted && is_number w then x ∷ printed xs else printed xs) ≤ length (cells_with w (cells_of xs))
   by_what (Number cell) h =
-      rw (and-true x.counted) (if_holds (λ l. length l ≤ suc (length (cells_of xs))) x.counted (x ∷ printed xs) (printed xs) (omega arith) (omega arith))
+      rw (and-true x.counted) (if_both (λ l. length l ≤ suc (length (cells_of xs))) x.counted (x ∷ printed xs) (printed xs) (omega arith) (omega arith))
   by_what _ h = rw (and-false x.counted) h
 
 few_numbers : (set : Set) (d : Desc) (n : List ℤ) (at : ℕ) → length (number_entries set d n at) ≤ length (desc_cells (struct_cells set) d)

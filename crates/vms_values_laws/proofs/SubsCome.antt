@@ -1,14 +1,14 @@
 -- The subsections of a device, read as entries.
-use Rattle.vms_values_laws.proofs.Facade.{◌≡◌, ℕ, suc, ◌+◌, ◌≤◌, List, ◌∷◌, ◌++◌, length, map, Bool, true, false, if◌then◌else◌, Option, Some, None, ℤ, Ok, Err}
-use Rattle.vms_values_laws.proofs.Facade.{AllByRecursion, Result, refl, sym, ap, ◌∙◌, arith, append_assoc, [], length-append, length-map, flat_map, bytes_eq}
-use Rattle.vms_values_laws.proofs.Facade.{bytes_eq-Decides, Sub, Device, Set, desc_cells, struct_cells, Image, first_line, Standing, Read, BadLine, ReadSubs}
-use Rattle.vms_values_laws.proofs.Facade.{readers, read_desc, read_subs, read_sub, sub_said, also, then_subs, next_line, rest_of, IsSound, AreSound}
-use Rattle.vms_values_laws.proofs.Facade.{line_splits, sub_line, Entry, OfSub, number_entries, subs_entries, has_line, IsAtVersion, AreAtVersions, Said, Agrees}
-use Rattle.vms_values_laws.proofs.Facade.{Demand, ForSub, ForNumber, reason_for, Taken, Follows, Along, Begins, Moved, Desc}
+use Rattle.vms_values_laws.proofs.Facade.{all_parts, ◌≡◌, ℕ, suc, ◌+◌, ◌≤◌, List, ◌∷◌, ◌++◌, length, map, Bool, true, false, if◌then◌else◌, Option, Some}
+use Rattle.vms_values_laws.proofs.Facade.{None, ℤ, Ok, Err, AllByRecursion, Result, refl, sym, ap, ◌∙◌, arith, append_assoc, [], length-append, length-map}
+use Rattle.vms_values_laws.proofs.Facade.{flat_map, bytes_eq, bytes_eq-Decides, Sub, Device, Set, desc_cells, struct_cells, Image, first_line, Standing, Read}
+use Rattle.vms_values_laws.proofs.Facade.{BadLine, ReadSubs, read_subs, read_sub, sub_said, also, then_subs, next_line, rest_of, IsSound, AreSound}
+use Rattle.vms_values_laws.proofs.Facade.{line_splits, sub_line, Entry, OfSub, number_entries, subs_entries, has_line, IsAtVersion, AreAtVersions, Said}
+use Rattle.vms_values_laws.proofs.Facade.{Agrees, Demand, ForSub, ForNumber, reason_for, Taken, Follows, Along, Begins, Moved, Desc}
 use Rattle.vms_spec.specs.declared.ValuesReason.TheVariants as reasons
-use Rattle.vms_values_laws.proofs.SecondPass.{moved_none, moved_one, moved_then, AreShort, all_taken, NumbersRead, NumbersStop, NumbersCome, numbers_come}
+use Rattle.vms_values_laws.proofs.SecondPass.{AreShort, NumbersRead, NumbersStop, NumbersCome, numbers_come}
 use Rattle.vms_values_laws.proofs.SecondPass.{heard_on, lines_on, sub_numbers, follows_then, along_then}
-use Rattle.vms_values_laws.proofs.SaidLaws.{all_parts, Told, told_none, told_both, has_said}
+use Rattle.vms_values_laws.proofs.SaidLaws.{all_taken, moved_none, moved_one, moved_then, Told, told_none, told_both, has_said}
 
 pub line_taken : (text line rest : List ℕ) → first_line text ≡ Some (line, rest) → text ≡ line ++ 10 ∷ rest_of (first_line text)
 line_taken text line rest e = line_splits text line rest e ∙ rw e refl
@@ -31,7 +31,7 @@ said_by s line rest came is fine version = record { rest = rest; is = rw is refl
 
 by_tests : (s : Sub) (line rest : List ℕ) (a b : Bool) → bytes_eq line (sub_line s (Some s.desc.version)) ≡ a → bytes_eq line (sub_line s None) ≡ b
     → SubLine s (Some (line, rest)) (if a then Some (Some s.desc.version) else if b then Some None else None)
-by_tests s line rest true b e f = said_by s line rest (Some s.desc.version) ((bytes_eq-Decides line _).0 e) (rw e refl) refl
+by_tests s line rest true b e f = said_by s line rest _ ((bytes_eq-Decides line _).0 e) (rw e refl) refl
 by_tests s line rest false true e f = said_by s line rest None ((bytes_eq-Decides line _).0 f) (rw (e, f) refl) tt
 by_tests s line rest false false e f = rw (e, f) refl
 
@@ -151,12 +151,12 @@ module _ (set : Set) (d : Device) where
       versions = r.versions;
       follows = λ image came more long short.
           let later = those j next subs image came ++ more in
-          rw append_assoc (follows_then (all_taken n.said) r.taken (λ l. l ≡ later) (Then more) _ (n.follows image.numbers later short)
+          rw append_assoc (follows_then _ _ (λ l. l ≡ later) _ _ (n.follows image.numbers later short)
           (λ l is. rw is (r.follows image came more long short)));
       along = λ image more agrees.
           let all = all_parts _ n.said r.said agrees in
           let later = those j next subs image came ++ more in
-          rw append_assoc (along_then (all_taken n.said) r.taken (λ l. l ≡ later) (Then more) _ (n.along image.numbers later all.0)
+          rw append_assoc (along_then _ _ (λ l. l ≡ later) _ _ (n.along image.numbers later all.0)
           (λ l is. rw is (r.along image more all.1)));
       moved = moved_then n.moved r.moved;
     }
@@ -166,9 +166,9 @@ module _ (set : Set) (d : Device) where
     behind q (Ok r) n x = record {
       whole = went_behind n x.whole;
       heard = λ image agrees c.
-          let all = all_parts _ n.said x.said agrees in heard_on n image.numbers _ x.said c all.0 (x.heard image all.1 c);
+          let all = all_parts _ n.said x.said agrees in heard_on n _ _ x.said c all.0 (x.heard image all.1 c);
       lines = λ image agrees.
-          let all = all_parts _ n.said x.said agrees in x.lines image all.1 ∙ sym (lines_on n image.numbers _ all.0);
+          let all = all_parts _ n.said x.said agrees in x.lines image all.1 ∙ sym (lines_on n _ _ all.0);
     }
     behind q (Err e) n x = record { demand = x.demand; came = x.came; numbers = x.numbers; rest = x.rest; before = went_behind n x.before; wrong = x.wrong }
 
@@ -182,7 +182,7 @@ module _ (set : Set) (d : Device) where
   module _ (s : Sub) (subs : List Sub) (j at : ℕ) (p : Standing) where
     refused : reason_for (ForSub s) (first_line p.rest) ≡ Some reasons.Form
         → Stop (those j at (s ∷ subs)) (s ∷ subs) at p (record { line = p.line; reason = reasons.Form })
-    refused e = stopped_first (those j at (s ∷ subs)) (s ∷ subs) at p (ForSub s) first_sub e where
+    refused e = stopped_first _ _ at p _ first_sub e where
       first_sub : (image : Image) (came : List (Option ℕ)) (more : List Entry) → length came ≡ suc (length subs)
           → Begins (ForSub s) (subs_entries set d image j at (s ∷ subs) came ++ more)
       first_sub image [] more long = absurd (omega arith)
@@ -212,7 +212,7 @@ module _ (set : Set) (d : Device) where
         versions = (head.version, w.versions);
         follows = λ image came more long short. follows_head w.taken (Then more) image came more long (λ came long. w.follows image came more long short);
         along = λ image more agrees. (refl, w.along image more agrees);
-        moved = moved_then (moved_one p.line p.rest head_taken _ (line_taken p.rest (sub_line s came) head.rest head.is) head.fine) w.moved;
+        moved = moved_then (moved_one p.line p.rest _ _ (line_taken p.rest _ _ head.is) head.fine) w.moved;
       }
 
       sub_comes : (o : Result ReadSubs BadLine) → Come own subs at (next_line p) o → Come (those j at (s ∷ subs)) (s ∷ subs) at p (also came p.line o)
@@ -227,8 +227,8 @@ module _ (set : Set) (d : Device) where
   by_head s subs j at p None structs sound e here later = refused s subs j at p e
   by_head s subs j at p (Some came) structs sound e here later =
       sub_comes s subs j at p came e _
-      (numbers_first s.desc at (suc j) (at + size_of s) subs (next_line p) refl (read_desc (readers set) s.desc s.desc.version [] true at (next_line p)) _
-      (numbers_come set s.desc at (next_line p) structs sound here) (λ q n. later q n.told.long))
+      (numbers_first s.desc at _ _ subs (next_line p) refl _ _
+      (numbers_come set s.desc at _ structs sound here) (λ q n. later q n.told.long))
 
   pub subs_come : AreSound set.structs → (subs : List Sub) (j at : ℕ) (p : Standing) → AreSoundSubs subs → at + cells_long subs ≤ length p.numbers
       → Come (λ image came. subs_entries set d image j at subs came) subs at p (read_subs set at subs p)

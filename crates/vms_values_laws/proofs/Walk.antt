@@ -10,7 +10,7 @@ use Rattle.vms_values_laws.proofs.Facade.{read_elements, read_array, read_field,
 use Rattle.vms_values_laws.proofs.Facade.{IsSoundField, AreSoundFields, IsSound, AreSound, there_same, elements_same, place_next, drop_next, zero_plus}
 use Rattle.vms_values_laws.proofs.Facade.{place_first, first_long, readers_cells, two_more, shapes_cells, Said, Agrees}
 use Rattle.vms_spec.specs.ValuesReading.{cells_of}
-use Rattle.vms_values_laws.proofs.SaidLaws.{Knows, AllKnown, At, Comes, at_left, stay, then_comes, spot, one_line, by_read}
+use Rattle.vms_values_laws.proofs.SaidLaws.{Knows, AllKnown, At, Comes, at_left, stay, then_comes, one_line, by_read}
 
 -- ---- The printed elements under a path.
 
@@ -26,7 +26,7 @@ module _ (f u v : Element → Element) (same : (x : Element) → u (f x) ≡ v x
     (kept : (x : Element) → ((f x).counted && is_number (f x).what) ≡ (x.counted && is_number x.what)) where
   printed_map : (xs : List Element) → map u (printed (map f xs)) ≡ map v (printed xs)
   printed_map [] = refl
-  printed_map (x ∷ xs) = rw (kept x) (go (x.counted && is_number x.what) (printed_map xs)) where
+  printed_map (x ∷ xs) = rw (kept x) (go _ (printed_map xs)) where
     go : (b : Bool) → map u (printed (map f xs)) ≡ map v (printed xs)
         → map u (if b then f x ∷ printed (map f xs) else printed (map f xs)) ≡ map v (if b then x ∷ printed xs else printed xs)
     go true more = rw (same x, more) refl
@@ -39,15 +39,14 @@ module _ (steps : List (ℕ × ℕ)) (text : List ℕ) (present : Bool) where
   pub wrapped_behind : (step : ℕ × ℕ) (name : List ℕ) (p : Bool) (xs : List Element)
       → wrapped steps text present (map (behind step name true p) xs) ≡ wrapped (steps ++ step ∷ []) (text ++ name) (present && p) xs
   wrapped_behind step name p xs =
-      printed_map (behind step name true p) (under steps text present) (under (steps ++ step ∷ []) (text ++ name) (present && p))
-      (λ x. rw (append_assoc steps (step ∷ []) x.path, append_assoc text name x.name, and_assoc present p x.present) refl) (λ x. refl) xs
+      printed_map _ _ _ (λ x. rw (append_assoc steps (step ∷ []) x.path, append_assoc text name x.name, and_assoc present p x.present) refl) (λ x. refl) xs
 
   pub wrapped_none : (step : ℕ × ℕ) (name : List ℕ) (p : Bool) (xs : List Element) → wrapped steps text present (map (behind step name false p) xs) ≡ []
   wrapped_none step name p [] = refl
   wrapped_none step name p (x ∷ xs) = wrapped_none step name p xs
 
   pub wrapped_dotted : (xs : List Element) → wrapped steps text present (map dotted xs) ≡ wrapped steps (text ++ codes ".") present xs
-  wrapped_dotted xs = printed_map dotted (under steps text present) _ (λ x. rw (append_assoc text (codes ".") x.name) refl) (λ x. refl) xs
+  wrapped_dotted xs = printed_map dotted _ _ (λ x. rw (append_assoc text (codes ".") x.name) refl) (λ x. refl) xs
 
 -- ---- Reading the fields of a description, beside its elements.
 
@@ -62,14 +61,13 @@ module _ (steps : List (ℕ × ℕ)) (path : List ℕ) (present : Bool) (f : Fie
   past_count : (e k at : ℕ) → stand.count ≤ e → wrapped steps path present (array_elements f stand part step e k at) ≡ []
   past_count e zero at le = refl
   past_count e (suc k) at le =
-      rw (wrapped_append steps path present, le-ltb e stand.count le, wrapped_none steps path present, past_count (suc e) k (at + step) (omega arith)) refl
+      rw (wrapped_append steps path _, le-ltb e stand.count le, wrapped_none steps path _, past_count (suc e) k (at + step) (omega arith)) refl
 
   -- the first element of an array that has some, and those after it
   first_counted : (e k m at : ℕ) → stand.count ≡ e + suc m → wrapped steps path present (array_elements f stand part step e (suc k) at)
       ≡ wrapped (steps ++ (stand.number, e) ∷ []) (path ++ (f.name ++ index_text f.count e)) (present && stand.there) (part at)
       ++ wrapped steps path present (array_elements f stand part step (suc e) k (at + step))
-  first_counted e k m at c =
-      rw (wrapped_append steps path present, lt-ltb e stand.count (omega arith), and-true stand.there, wrapped_behind steps path present) refl
+  first_counted e k m at c = rw (wrapped_append steps path _, lt-ltb e stand.count (omega arith), and-true stand.there, wrapped_behind steps path _) refl
 
 dropped : (fields : List Field) (i : ℕ) (f : Field) (fs : List Field) → drop i fields ≡ f ∷ fs → get_or fields i no_field ≡ f
 dropped (g ∷ fields) (suc i) f fs e = dropped fields i f fs e
@@ -97,12 +95,11 @@ known_next : (cs : List (List Cell)) (d : Desc) (base i at : ℕ) (f : Field) (f
     → (j : ℕ) → IsEarlier d.fields (suc i) j → Knows more (place_of cs d.fields 0 base d.fields j)
 known_next cs d base i at f fs said more is here grows known k j x =
     ⊎_elim (λ (lt : j < i).
-    let before = known j (record { earlier = lt; there = x.there; number = x.number; one = x.one }) in
-    record { known = λ m n a b. before.known m n (grows m a) (grows n b) })
+    record { known = λ m n a b. (known j (record { earlier = lt; there = x.there; number = x.number; one = x.one })).known m n (grows m a) (grows n b) })
     (λ (ge : i ≤ j).
     let same : j ≡ i = omega arith in
-    let this : get_or d.fields j no_field ≡ f = rw same (dropped d.fields i f fs is) in
-    rw (same, ← here) (is_known f.count f.item at more (rw this at x.number) (rw this at x.one) k)) (cases_lt j i)
+    let this : get_or d.fields j no_field ≡ f = rw same (dropped _ i f fs is) in
+    rw (same, ← here) (is_known _ f.item at more (rw this at x.number) (rw this at x.one) k)) (cases_lt j i)
 
 module _ (total : List ℤ → List Element) (start : Standing) (low : ℕ) where
   abbrev Here : ℕ → Standing → List Said → (List ℤ → List Element) → Type 0
@@ -131,13 +128,12 @@ module _ (total : List ℤ → List Element) (start : Standing) (low : ℕ) wher
         → Here at p said (λ m. wrapped steps path present (item_elements ss item caps f.default m at) ++ left m)
         → Came end (single_cell item at) said left (read_item rs f caps path present at item p)
     item_comes f (Num kind) caps steps path present at end p said left e room a =
-        let c : Cell = record { kind = kind; capacities = caps; default = f.default } in
-        rw e (by_read total start low (spot steps path present at c) p said left (omega arith)
+        rw e (by_read total start low _ p said left (omega arith)
         (at_left total start low (λ m g. ap (λ x. x ∷ left m) (rw (append-nil steps, append-nil path, and-true present) refl)) a) _
-        (one_line steps path present at c p))
+        (one_line steps path present at (record { kind = kind; capacities = caps; default = f.default }) p))
     item_comes f (Struct j) caps steps path present at end p said left e room a =
         (reads j).shape_comes steps (path ++ codes ".") present at end p said left (omega (arith, ap length (cells_get rs j))) room
-        (at_left total start low (λ m g. rw (wrapped_dotted steps path present ((get_or ss j no_shape).elements m at))) a)
+        (at_left total start low (λ m g. rw (wrapped_dotted steps path _ _)) a)
     item_comes f _ caps steps path present at end p said left e room a = stay total start low (omega arith) a
 
     module _ (f : Field) (stand : Stand) (caps : List ℕ) (steps : List (ℕ × ℕ)) (path : List ℕ) (present : Bool) where
@@ -157,17 +153,15 @@ module _ (total : List ℤ → List Element) (start : Standing) (low : ℕ) wher
           → Came end [] said left (read_elements rs f caps (path ++ f.name) (present && stand.there) at size e m p)
       unfolding brackets
       items_comes many e k zero at end p said left c le is room a =
-          stay total start low (omega arith)
-          (at_left total start low (λ n g. rw (past_count steps path present f stand (part n) size e k at (omega arith))) a)
+          stay total start low (omega arith) (at_left total start low (λ n g. rw (past_count steps path _ f stand _ size e k at (omega arith))) a)
       items_comes many e zero (suc m) at end p said left c le is room a = absurd (omega arith)
       items_comes many e (suc k) (suc m) at end p said left c le is room a =
           let b = present && stand.there in
           let element = path ++ f.name ++ codes "[" ++ decimal e ++ codes "]" in
-          let name : path ++ (f.name ++ index_text f.count e) ≡ element =
-          rw (many e) (sym (append_assoc path f.name (brackets e)) ∙ element_path (path ++ f.name) e) in
+          let name : path ++ (f.name ++ index_text f.count e) ≡ element = rw (many e) (sym (append_assoc path f.name (brackets e)) ∙ element_path _ e) in
           let later : List ℤ → List Element = λ n. parts (suc e) k (at + size) n ++ left n in
           then_comes total start low (read_item rs f caps element b at f.item p) _
-          (item_comes f f.item caps (steps ++ (stand.number, e) ∷ []) element b at (at + size) p said later refl (omega arith)
+          (item_comes f f.item caps _ _ b at _ p said later refl (omega arith)
           (at_left total start low (λ n g. ap (λ l. l ++ left n) (first_counted steps path present f stand (part n) size e k m at c)
           ∙ append_assoc (wrapped (steps ++ (stand.number, e) ∷ []) (path ++ (f.name ++ index_text f.count e)) b (part n at)) _ (left n)
           ∙ ap (λ l. wrapped (steps ++ (stand.number, e) ∷ []) l b (part n at) ++ later n) name) a))
@@ -179,7 +173,7 @@ module _ (total : List ℤ → List Element) (start : Standing) (low : ℕ) wher
           → Came end (single_cell f.item at) said left (read_item rs f caps (path ++ f.name) (present && stand.there) at f.item p)
       one_comes one at end p said left c is room a =
           let b = present && stand.there in
-          item_comes f f.item caps (steps ++ (stand.number, 0) ∷ []) (path ++ f.name) b at end p said left is room
+          item_comes f f.item caps _ _ b at end p said left is room
           (at_left total start low (λ n g. ap (λ l. l ++ left n)
           (first_counted steps path present f stand (part n) size 0 0 0 at (omega arith)
           ∙ append-nil _ ∙ ap (λ l. wrapped (steps ++ (stand.number, 0) ∷ []) (path ++ l) b (part n at))
@@ -219,8 +213,7 @@ module _ (total : List ℤ → List Element) (start : Standing) (low : ℕ) wher
           let settled : (m : List ℤ) → Agrees said m → (j : ℕ) → IsEarlier d.fields i j → own m j ≡ old j = λ m g j x.
           rw ((known j x).known m p.numbers g a.agrees) in
           let same : (m : List ℤ) → Agrees said m → stand_of i f v (own m) ≡ stand = λ m g.
-          let there = there_same d.fields i v f.since old (own m) (settled m g) f.test sound.test in
-          rw (elements_same d.fields i old (own m) (settled m g) f.count sound.count, there) refl in
+          rw (elements_same d.fields i old (own m) (settled m g) f.count sound.count, (there_same _ i v _ old _ (settled m g) f.test sound.test)) refl in
           array_comes f stand caps steps path present old f.count refl refl at end p said left (omega (arith, field_size (cells_of rs) d.fields i f)) room
           (at_left total start low (λ m g. rw (cells, same m g)) a)
 
@@ -263,7 +256,7 @@ module _ (total : List ℤ → List Element) (start : Standing) (low : ℕ) wher
           (λ m g. rw (cells, wrapped_append steps path present (fields m) (last cs m) ∙ append-nil (lines (fields m)))) a)
 
   same_cells : (ds : List Desc) (k : ℕ) → cells_in (first shape ds k) ≡ cells_of (first reader ds k)
-  same_cells ds k = shapes_cells ds k ∙ sym (readers_cells ds k)
+  same_cells ds k = cc (shapes_cells ds k, readers_cells ds k)
 
   all_read : (ds : List Desc) → AreSound ds → (k : ℕ) → k ≤ length ds → (j : ℕ)
       → ReadsShape (get_or (first reader ds k) j no_reader) (get_or (first shape ds k) j no_shape)
@@ -277,7 +270,7 @@ module _ (total : List ℤ → List Element) (start : Standing) (low : ℕ) wher
       two_more ReadsShape no_reader no_shape none_reads rs ss (first_long reader ds k ∙ sym (first_long shape ds k)) before (reader rs d) (shape ss d)
       (record {
         shape_comes = λ steps path present at end p said left e room a.
-            desc_comes rs ss (same_cells ds k) before d d.version steps path present at end p said left (sound k (omega arith)) e room a;
+            desc_comes rs ss (same_cells ds k) before d _ steps path _ at end p said left (sound k (omega arith)) e room a;
       })
       j
 

@@ -1,12 +1,12 @@
 -- What a cursor's call sees, and what the judge says; a unit between sections after the fields.
-use Rattle.vms_stream.proofs.{Facade.JudgedLaw, Finding.There.next_at, Streams.UnitRows.Line, Streams.UnitRows.mark_never}
+use Rattle.vms_stream.proofs.{Facade.JudgedLaw, Finding.There.next_at, Streams.UnitRows.Line, Streams.UnitRows.mark_never, Streams.UnitRows.start_never}
 use Rattle.std.proofs.Math.Bool.{and-false}
 use Rattle.vms_stream.proofs.Facade.{NextLaw, SeenLaw, ◌≡◌, if_both, if_so, ℕ, ◌+◌, List, ◌∷◌, length, get_or, Option, Some, None, refl, ap, ◌∙◌, Bool, true}
 use Rattle.vms_stream.proofs.Facade.{false, not, nat_lt, ◌==◌, ◌&&◌, if◌then◌else◌, [], ◌||◌, zero, suc, ◌++◌, take, both_ways, not-true, or-not_self}
 use Rattle.vms_stream.proofs.Facade.{LONGEST_NAME, Reason, Set, Image, number_at, bytes_at, Verdict, Faulty, Over, Piece, Configuration, Long, Head, End, Start}
 use Rattle.vms_stream.proofs.Facade.{Mark, Number, Constant, Filler, SubHead, Foot, if_true, Tail, Unknown, Footed, Bare, Known, Due, Between, AfterFields}
 use Rattle.vms_stream.proofs.Facade.{begins_next, rules_hold, AMagic, AVersion, Field, AfterEnd, Nothing, is_foot, is_next, due_field, Found, Whole, Cut, needs}
-use Rattle.vms_stream.proofs.Facade.{between_at, unit_at, sub_at, behind_at, cut_in, first_of, is_between, wants_foot, is_ram, Row, first_row, alone, asking}
+use Rattle.vms_stream.proofs.Facade.{between_at, unit_at, sub_at, behind_at, cut_in, first_of, is_between, wants_foot, Row, first_row, alone, asking}
 use Rattle.vms_stream.proofs.Facade.{other_constant, large_count, bad_foot, judge, judge_found, by_row, owes, State, Free, Inside, due_by, known_at, slots_at}
 use Rattle.vms_stream.proofs.Facade.{after, by_state, Spot, Before, Headed, Ended, open_at, width, Slot, Bad, seen_in, seen_by, judge_seen, ask, begins_section}
 use Rattle.vms_stream.specs.{State.Over as IsOver}
@@ -52,15 +52,7 @@ module _ (set : Set) (names : List (List ℕ)) (machine : Option (List ℕ)) (im
     needs_outer m x h = if_both IsOuter (nat_lt (length rest) m) Cut (Whole x m) (rw e) h
 
     start_outer : (m its : ℕ) (name : List ℕ) → IsOuter (Whole (Start its name) m)
-    start_outer m its name = by (is_ram name)
-      where
-        by : (b : Bool)
-            → by_row (by_state set names) (if b then Some (None, reasons.Ram) else if not b || false then Some (None, reasons.Iterative) else None) m
-            (after set inner (Start its name))
-            ≡ by_row (by_state set names) (if b then Some (None, reasons.Ram) else if not b || false then Some (None, reasons.Iterative) else None) m
-            (after set outer (Start its name))
-        by true = refl
-        by false = refl
+    start_outer m its name = some_row set names _ _ m _ (start_never set names (Between false false) (known_at set outer) its name)
 
     between_outer : (b : ℕ) → ((m : ℕ) → IsOuter (Whole (Mark b) m)) → IsOuter (between_at false b rest)
     unfolding between_at

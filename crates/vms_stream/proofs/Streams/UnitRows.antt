@@ -1,69 +1,44 @@
--- What it means for a unit that no row of the table takes it.
-use Rattle.vms_stream.proofs.Facade.{◌≡◌, ℕ, zero, suc, ◌<◌, List, ◌∷◌, length, Option, Some, None, refl, ap, arith, Bool, true, false, not, ◌==◌}
-use Rattle.vms_stream.proofs.Facade.{if◌then◌else◌, [], ◌||◌, slice_get, bytes_eq, ltb-false, le-ltb, eqb-true, eq-eqb, not-false, bytes_eq-Decides}
-use Rattle.vms_stream.proofs.Facade.{Reason, at_option, position, Set, Device, Sub, IsVersionOf, magic, is_one_of, Piece, Magic, Version, Configuration, Head}
-use Rattle.vms_stream.proofs.Facade.{SubHead, Foot, End, Start, Mark, subs_of, device_named, found_is, sub_is, Known, Due, first_of, is_between}
-use Rattle.vms_stream.proofs.Facade.{wants_foot, is_after_end, is_ram, test_some, is_none}
-use Rattle.vms_spec.specs.declared.Reason.TheVariants as reasons
+-- What it means for a unit that no row of the table takes it. Each proof searches the unit's rows, whichever they are.
+use Rattle.vms_stream.proofs.Facade.{◌≡◌, ℕ, zero, suc, ◌<◌, List, ◌∷◌, length, Option, Some, None, refl, ap, arith, Bool, true, false, not, [], slice_get}
+use Rattle.vms_stream.proofs.Facade.{bytes_eq, le-ltb, eq-eqb, bytes_eq-Decides, Reason, at_option, position, Set, Device, Sub, IsVersionOf, magic, is_one_of}
+use Rattle.vms_stream.proofs.Facade.{Piece, Magic, Version, Configuration, Head, SubHead, Foot, End, Start, Mark, subs_of, device_named, found_is, sub_is}
+use Rattle.vms_stream.proofs.Facade.{Known, Due, first_of, is_between, wants_foot, is_after_end, test_some, is_none}
 
 abbrev pub Line : Type 0
 Line = Option (Option ℕ × Reason)
-
--- one row, and the rows after it
-abbrev pub row_or : Bool → Option ℕ → Reason → Line → Line
-row_or b section reason rest = if b then Some (section, reason) else rest
-
-not_taken : (b : Bool) (row : Option ℕ × Reason) (rest : Line) → (if b then Some row else rest) ≡ None → (b ≡ false) × (rest ≡ None)
-not_taken true row rest e = cc
-not_taken false row rest e = (refl, e)
-
-pub passed_by : (b : Bool) (section : Option ℕ) (reason : Reason) (rest : Line) → b ≡ false → row_or b section reason rest ≡ rest
-passed_by b section reason rest e = rw e
 
 module _ (set : Set) (names : List (List ℕ)) (d : Due) (so_far : Known) where
   abbrev row_of : Piece → Line
   row_of x = first_of set names d so_far x
 
   pub magic_is : (bytes : List ℕ) → row_of (Magic bytes) ≡ None → bytes ≡ magic
-  magic_is bytes e = (bytes_eq-Decides bytes magic).0 (not-false (bytes_eq bytes magic) (not_taken _ _ _ e).0)
+  magic_is bytes e = (bytes_eq-Decides bytes magic).0 (grind arith)
 
   pub version_is_3 : (v : ℕ) → row_of (Version v) ≡ None → v ≡ 3
-  version_is_3 v e =
-      let a = not_taken _ _ _ e in
-      let two : (v == 2) ≡ false = a.0 in
-      let b : (v == 2 || v == 3) ≡ true = not-false (v == 2 || v == 3) (not_taken _ _ _ a.1).0 in
-      eqb-true v 3 (rw two at b)
+  version_is_3 v e = grind arith
 
   pub name_is_one : (name : List ℕ) → row_of (Configuration name) ≡ None → is_one_of names name ≡ true
-  name_is_one name e = not-false (is_one_of names name) (not_taken _ _ _ e).0
+  name_is_one name e = grind arith
 
   pub name_passes : (name : List ℕ) → is_one_of names name ≡ true → row_of (Configuration name) ≡ None
   name_passes name e = rw e
 
   pub start_never : (id : ℕ) (name : List ℕ) → row_of (Start id name) ≡ None → ⊥
-  start_never id name e = by (is_ram name) e
-    where
-      by : (b : Bool) → row_or b None reasons.Ram (row_or (not b || false) None reasons.Iterative None) ≡ None → ⊥
-      by true e = cc
-      by false e = cc
+  start_never id name e = grind arith
 
   pub end_is : row_of End ≡ None → position not 0 so_far.came ≡ None
-  end_is e = by (position not 0 so_far.came) e
-    where
-      by : (o : Option ℕ) → row_or (not (is_none o)) o reasons.MissingSection None ≡ None → o ≡ None
-      by None e = refl
-      by (Some j) e = cc
+  end_is e = grind arith
 
   pub end_passes : position not 0 so_far.came ≡ None → row_of End ≡ None
   end_passes e = rw e
 
   pub foot_is : (id : ℕ) → row_of (Foot id) ≡ None → id ≡ so_far.id
-  foot_is id e = eqb-true id so_far.id (not-false (id == so_far.id) (not_taken _ _ _ e).0)
+  foot_is id e = grind arith
 
   pub foot_passes : (id : ℕ) → id ≡ so_far.id → row_of (Foot id) ≡ None
   foot_passes id e = rw (eq-eqb id so_far.id e)
 
-  -- ---- marks that begin nothing: grind goes through their rows
+  -- ---- marks that begin nothing
 
   pub mark_never : (b : ℕ) → is_between d ≡ true → row_of (Mark b) ≡ None → ⊥
   mark_never b s e = let f = rw s at e in grind arith
@@ -96,8 +71,7 @@ module _ (set : Set) (names : List (List ℕ)) (d : Due) (so_far : Known) where
           let f = found_is set.devices 0 name instance j n in
           let same : f.i ≡ j = (omega arith) in
           let there = rw same at f.there in
-          let a = not_taken _ _ _ (rw n at e) in
-          let b = not_taken _ _ _ (rw there at a.1) in
+          let free = rw there at (rw n at e) in
           record {
             k = j;
             device = f.device;
@@ -105,8 +79,8 @@ module _ (set : Set) (names : List (List ℕ)) (d : Due) (so_far : Known) where
             there = there;
             name_is = (bytes_eq-Decides f.device.desc.name name).0 f.name_is;
             instance_is = f.instance_is;
-            new = a.0;
-            version = (ltb-false v f.device.desc.minimum (not_taken _ _ _ b.1).0, ltb-false f.device.desc.version v b.0);
+            new = grind arith;
+            version = (grind arith, grind arith);
           }
 
   pub head_passes : (id : ℕ) (name : List ℕ) (instance v k : ℕ) (device : Device) → device_named set name instance ≡ Some k
@@ -134,16 +108,15 @@ module _ (set : Set) (names : List (List ℕ)) (d : Due) (so_far : Known) where
           let f = sub_is subs 0 name j n in
           let same : f.i ≡ j = (omega arith) in
           let there = rw same at f.there in
-          let a = not_taken _ _ _ (rw (is, n, there) at e) in
-          let b = not_taken _ _ _ a.1 in
+          let free = rw (is, n, there) at e in
           record {
             j = j;
             sub = f.sub;
             named = n;
             there = there;
             name_is = (bytes_eq-Decides f.sub.desc.name name).0 f.name_is;
-            new = (not_taken _ _ _ b.1).0;
-            version = (ltb-false v f.sub.desc.minimum b.0, ltb-false f.sub.desc.version v a.0);
+            new = grind arith;
+            version = (grind arith, grind arith);
           }
 
   pub sub_passes : (subs : List Sub) (name : List ℕ) (v j : ℕ) (sub : Sub) → subs_of (at_option set.devices so_far.section) ≡ subs

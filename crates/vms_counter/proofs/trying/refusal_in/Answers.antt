@@ -19,7 +19,7 @@ returns-in-Err-Refused c =
         fault = fault;
         untaken = λ n machine states t.
             never_both_holds set set.machines
-            (well_of set c.args.new.now.set.well_formed) c.args.new.now.set.heads bytes ok n machine states r.at r.section r.reason content.0 t fault;
+            (well_of set c.args.new.now.lean.set.well_formed) c.args.new.now.lean.set.heads bytes ok n machine states r.at r.section r.reason content.0 t fault;
       };
       taken = λ none. absurd (cc);
       set = c.in-Err-Refused.ensures.set;

@@ -1,8 +1,10 @@
-use Rattle.vms_load.proofs.Facade.{rules, refl, ◌≡◌, ℕ, List, ◌+◌, ◌<◌, ◌≤◌, Option, Some, None, Err, length, ap, ◌∙◌, arith, err_from_is_err_and, Set}
-use Rattle.vms_load.proofs.Facade.{Device, intake, Stand, held_long, described, device_at, Open, Onward, reach, IsMoved, part_due, subs_due}
+use Rattle.vms_load.proofs.{ReadLemmas.goes_here, ReadLemmas.goes_on, ReadLemmas.goes_still, parts.read_section.Given.Over}
+use Rattle.vms_load.proofs.Facade.{rules, refl, ◌≡◌, ℕ, List, ◌+◌, ◌<◌, ◌≤◌, Option, Some, None, length, ap, ◌∙◌, arith, err_from_is_err_and, Result, Set, State}
+use Rattle.vms_load.proofs.Facade.{Device, GoesOn, Intake, LoadFault, Section, Typed, intake, Stand, held_long, described, device_at, Open, Onward, reach, IsMoved, part_due, subs_due}
 use Rattle.vms_load.proofs.Facade.{bytes_of_part, in_fields, after_fields, after_part, section_due, FOOT_LENGTH, LONGEST_SUB_HEAD, LONGEST_HEAD}
-use Rattle.vms_load.proofs.ReadLemmas.{goes_here, goes_further, goes_on, goes_still}
+use Rattle.vms_desc.specs.declared.set.DescSet.{DescSet}
 use Rattle.vms_image.specs.Typed.{state_of as untyped}
+use Rattle.vms_load.proofs.parts.read_section.Goals.{After-read_fields, After-read_after_fields}
 use Rattle.vms_load.proofs.parts.read_section.Goals as goal
 
 pub loop-next-init : goal.loop-next-init
@@ -34,6 +36,43 @@ read_after_fields-requires g c =
       cursor = search rules;
     }
 
+-- what has been read of the section from its first part on
+abbrev Goes : {X : Type 0} (set : DescSet) (section : Section) (image : Typed) (names : List (List ℕ)) (state : State) (from : Stand) (a b : Intake) (next : X → Onward) (to : Stand) (result : Result X LoadFault) → Type 0
+Goes set section image names state from a b next to result = GoesOn a b (section_due set section image + LONGEST_HEAD) (in_fields (described set) names state section None (untyped image)) next from to result
+
+-- once the fields of a part were read, or refused
+on_fields : (g : Over) (c : After-read_fields g) (names : List (List ℕ)) (state : State) → c.args.section.now.device < length state.images
+    → Goes c.args.set.now c.args.section.now c.args.image.now names state c.args.cursor.now (intake g.S.Source c.args.source.now) (intake g.S.Source c.read_fields.new.source)
+    (λ _. after_fields (described c.args.set.now) names state c.loop-next.section c.in-Some.part.sub (untyped c.read_fields.new.image)) c.read_fields.new.cursor c.read_fields.result
+on_fields g c names state room =
+    let set = described c.args.set.now in
+    let loop = c.loop-next in
+    let d = device_at set loop.section.device in
+    let bytes = bytes_of_part set d c.in-Some.part.sub in
+    let same = loop.invariant.same in
+    let inside : loop.section.device < length state.images = omega arith in
+    goes_on bytes _ bytes (λ _. 0) (in_fields set names state c.args.section.now None (untyped c.args.image.now)) (after_part set names state loop.section (untyped loop.image) (Some c.in-Some.part))
+    (λ _. after_fields set names state loop.section c.in-Some.part.sub (untyped c.read_fields.new.image)) c.args.cursor.now loop.cursor c.read_fields.new.cursor c.read_fields.result
+    loop.invariant.from loop.invariant.onward c.read_fields.ensures.moves (omega (arith, ap (λ o. part_due set d loop.image.came o) c.in-Some.is)) (rw c.in-Some.is at (loop.invariant.reads names state room)) (c.read_fields.ensures.reads names state inside)
+
+-- once what follows them was read, or refused
+on_after : (g : Over) (c : After-read_after_fields g) (names : List (List ℕ)) (state : State) → c.args.section.now.device < length state.images
+    → Goes c.args.set.now c.args.section.now c.args.image.now names state c.args.cursor.now (intake g.S.Source c.args.source.now) (intake g.S.Source c.read_fields.new.source)
+    (λ _. after_fields (described c.args.set.now) names state c.loop-next.section c.in-Some.part.sub (untyped c.read_fields.new.image)) c.read_fields.new.cursor c.read_fields.result
+    → Goes c.args.set.now c.args.section.now c.args.image.now names state c.args.cursor.now (intake g.S.Source c.args.source.now) (intake g.S.Source c.read_after_fields.new.source)
+    (after_part (described c.args.set.now) names state c.read_after_fields.new.section (untyped c.read_after_fields.new.image)) c.read_after_fields.new.cursor c.read_after_fields.result
+on_after g c names state room on =
+    let set = described c.args.set.now in
+    let loop = c.loop-next in
+    let d = device_at set loop.section.device in
+    let one = c.in_ok-read_fields.ensures.moves in
+    let same = loop.invariant.same in
+    let inside : loop.section.device < length state.images = omega arith in
+    goes_on LONGEST_SUB_HEAD _ (subs_due set d.subs c.read_fields.new.image.came + FOOT_LENGTH) (part_due set d c.read_after_fields.new.image.came) (in_fields set names state c.args.section.now None (untyped c.args.image.now))
+    (after_fields set names state loop.section c.in-Some.part.sub (untyped c.read_fields.new.image)) (after_part set names state c.read_after_fields.new.section (untyped c.read_after_fields.new.image))
+    c.args.cursor.now c.read_fields.new.cursor c.read_after_fields.new.cursor c.read_after_fields.result (omega arith) (omega arith) c.read_after_fields.ensures.moves (omega (arith, ap (λ o. part_due set d loop.image.came o) c.in-Some.is))
+    (rw c.in_ok-read_fields.was at on) (c.read_after_fields.ensures.reads names state c.in-Some.part.sub inside)
+
 pub loop-next-preserved : goal.loop-next-preserved
 loop-next-preserved g c =
     let set = described c.args.set.now in
@@ -42,9 +81,6 @@ loop-next-preserved g c =
     let d = device_at set section.device in
     let same = loop.invariant.same in
     let still = c.in_ok-next.ensures.section in
-    let from = c.args.cursor.now in
-    let mid = c.read_fields.new.cursor in
-    let sub = c.in-Some.part.sub in
     let due = ap (λ o. part_due set d loop.image.came o) c.in-Some.is in
     let kept = ap (λ image. subs_due set d.subs image.came) c.in_ok-read_fields.ensures.image.kept in
     let later = ap (λ k. part_due set (device_at set k) c.read_after_fields.new.image.came c.in_ok-next.next) still.0 in
@@ -54,13 +90,8 @@ loop-next-preserved g c =
       same = (still.0 ∙ same.0, still.1 ∙ same.1);
       held = c.in_ok-next.ensures.next.held;
       reads = λ names state room.
-          let inside : section.device < length state.images = omega arith in
-          let here = in_fields set names state c.args.section.now None (untyped c.args.image.now) in
-          let middle = after_fields set names state section sub (untyped c.read_fields.new.image) in
-          goes_further here middle (after_part set names state c.read_after_fields.new.section (untyped c.read_after_fields.new.image) c.in_ok-next.next) from mid c.read_after_fields.new.cursor
-          (omega arith) two.0 (omega arith) two.1
-          (goes_further here (after_part set names state section (untyped loop.image) (Some c.in-Some.part)) middle from loop.cursor mid loop.invariant.from one.0 loop.invariant.onward one.1
-          (rw c.in-Some.is at (loop.invariant.reads names state room)) (c.in_ok-read_fields.ensures.reads names state inside)) (c.in_ok-next.ensures.reads names state sub inside);
+          let at = goal.at.loop-next-preserved g c in
+          rw c.in_ok-next.was at (on_after g at.After-read_after_fields names state room (on_fields g at.After-read_fields names state room));
       next_is = rw still.0 c.in_ok-next.ensures.next.opens;
       shaped = rw still.0 c.in_ok-next.ensures.shaped;
       from = omega arith;
@@ -71,23 +102,14 @@ loop-next-preserved g c =
 pub returns-in_err-read_fields : goal.returns-in_err-read_fields
 returns-in_err-read_fields g c =
     let set = described c.args.set.now in
-    let loop = c.loop-next in
-    let section = loop.section in
-    let from = c.args.cursor.now in
     let end = c.read_fields.new.cursor in
-    let due = ap (λ o. part_due set (device_at set section.device) loop.image.came o) c.in-Some.is in
-    let e = c.in_err-read_fields.field-0.0 in
-    let most = section_due c.args.set.now c.args.section.now c.args.image.now + LONGEST_HEAD in
     let p = err_from_is_err_and c.from_residual.result c.from_residual.ensures.1 in
     record {
       reads = λ names state room.
-          let inside : section.device < length state.images = omega arith in
-          let here = in_fields set names state c.args.section.now None (untyped c.args.image.now) in
-          let next : Unit {0} → Onward = λ x. after_fields set names state section c.in-Some.part.sub (untyped c.read_fields.new.image) in
+          let next : Unit {0} → Onward = λ x. after_fields set names state c.loop-next.section c.in-Some.part.sub (untyped c.read_fields.new.image) in
           rw (p.1, p.2)
-          (goes_still (Unit {0}) (Unit {0}) most here next (λ x. after_part set names state section (untyped c.read_fields.new.image) None) from end end e
-          (goes_on {X = Unit {0}} (bytes_of_part set (device_at set section.device) c.in-Some.part.sub) most here (after_part set names state section (untyped loop.image) (Some c.in-Some.part)) next from loop.cursor end (Err e)
-          loop.invariant.from tt loop.invariant.onward tt (omega arith) (rw c.in-Some.is at (loop.invariant.reads names state room)) (c.in_err-read_fields.ensures.reads names state inside)));
+          (goes_still (Unit {0}) (Unit {0}) _ (in_fields set names state c.args.section.now None (untyped c.args.image.now)) next (λ x. after_part set names state c.loop-next.section (untyped c.read_fields.new.image) None) c.args.cursor.now end end
+          c.in_err-read_fields.field-0.0 (rw c.in_err-read_fields.was at (on_fields g (goal.at.returns-in_err-read_fields g c).After-read_fields names state room)));
       section = search rules;
       moves = rw (p.1) tt;
       shaped = search rules;
@@ -95,29 +117,15 @@ returns-in_err-read_fields g c =
 
 pub returns-in_err-next : goal.returns-in_err-next
 returns-in_err-next g c =
-    let set = described c.args.set.now in
-    let loop = c.loop-next in
-    let section = loop.section in
-    let from = c.args.cursor.now in
-    let mid = c.read_fields.new.cursor in
+    let at = goal.at.returns-in_err-next g c in
     let end = c.read_after_fields.new.cursor in
-    let sub = c.in-Some.part.sub in
-    let due = ap (λ o. part_due set (device_at set section.device) loop.image.came o) c.in-Some.is in
-    let one = c.in_ok-read_fields.ensures.moves in
-    let e = c.in_err-next.field-0.0 in
-    let most = section_due c.args.set.now c.args.section.now c.args.image.now + LONGEST_HEAD in
     let p = err_from_is_err_and c.from_residual-in_err-next.result c.from_residual-in_err-next.ensures.1 in
     record {
       reads = λ names state room.
-          let inside : section.device < length state.images = omega arith in
-          let here = in_fields set names state c.args.section.now None (untyped c.args.image.now) in
-          let middle = after_fields set names state section sub (untyped c.read_fields.new.image) in
-          let next : Option Open → Onward = after_part set names state c.read_after_fields.new.section (untyped c.read_after_fields.new.image) in
+          let next = after_part (described c.args.set.now) names state c.read_after_fields.new.section (untyped c.read_after_fields.new.image) in
           rw (p.1, p.2)
-          (goes_still (Option Open) (Unit {0}) most here next (λ x. next None) from end end e
-          (goes_on {X = Option Open} LONGEST_SUB_HEAD most here middle next from mid end (Err e) (omega arith) tt (omega arith) tt (omega arith)
-          (goes_further here (after_part set names state section (untyped loop.image) (Some c.in-Some.part)) middle from loop.cursor mid loop.invariant.from one.0 loop.invariant.onward one.1
-          (rw c.in-Some.is at (loop.invariant.reads names state room)) (c.in_ok-read_fields.ensures.reads names state inside)) (c.in_err-next.ensures.reads names state sub inside)));
+          (goes_still (Option Open) (Unit {0}) _ (in_fields (described c.args.set.now) names state c.args.section.now None (untyped c.args.image.now)) next (λ x. next None) c.args.cursor.now end end
+          c.in_err-next.field-0.0 (rw c.in_err-next.was at (on_after g at.After-read_after_fields names state room (on_fields g at.After-read_fields names state room))));
       section = search rules;
       moves = rw (p.1) tt;
       shaped = search rules;

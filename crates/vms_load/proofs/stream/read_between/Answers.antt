@@ -1,27 +1,37 @@
-use Rattle.vms_load.proofs.Facade.{rules, Option, Some, None, Ok, Err, false, ap, arith, err_from_is_err_and, reads_as, reads_both, judge, Free, by_state, reading_on}
-use Rattle.vms_load.proofs.Facade.{described, held_long, Between, accepted_of, state_of, spot_of, spot_at, is_first, is_configured}
-use Rattle.vms_frames.specs.declared.units.Step.TheVariants as steps
+use Rattle.vms_load.proofs.{Facade.is_configured, stream.read_between.Given.Over, stream.read_between.Goals.After-between}
+use Rattle.vms_load.proofs.Facade.{rules, Option, Some, None, Result, Ok, Err, IfErr, false, ◌≡◌, ◌≤◌, ◌+◌, ap, arith, err_from_is_err_and, reads_as}
+use Rattle.vms_load.proofs.Facade.{reads_both, judge, ask, Free, by_state, reading_on, described, held_long, Between, Step, Staged, LoadFault, intake}
+use Rattle.vms_load.proofs.Facade.{unit_of_step, GoesOn, IsRefused, Settles, LONGEST_HEAD, accepted_of, due_at, read_from, state_of, spot_of, spot_at, is_first}
 use Rattle.vms_load.proofs.ReadLemmas.{spent_by, goes_judged, goes_still, same_course}
 use Rattle.vms_load.proofs.StreamReads.{turn_fault, turn_settled, turn_section}
+use Rattle.vms_frames.specs.{Calls.step_long, Reads.BetweenReads}
+use Rattle.vms_frames.specs.declared.units.Step.TheVariants as steps
 use Rattle.vms_load.proofs.stream.read_between.Goals as goal
+
+-- a unit that is judged where it ends: the reading goes on after it, or it is invalid
+judged : (g : Over) (c : After-between g) (step : Step) (new : Staged) (result : Result (Option Between) LoadFault) → IfErr result IsRefused
+    → c.between.new.self.at ≡ c.args.cursor.now.at + step_long step → c.between.new.self.held ≡ None → step_long step ≤ due_at c.args.set.now c.args.staged.now (Some c.args.between) + LONGEST_HEAD
+    → Settles (ask (described c.args.set.now) (accepted_of (described c.args.set.now) c.args.only) (state_of (described c.args.set.now) c.args.staged.now (spot_of c.args.between)) (unit_of_step step) (step_long step)) c.at-at.result
+    (λ next. state_of (described c.args.set.now) new (spot_at next)) (step_long step) result
+    → BetweenReads (intake g.S.Source c.args.source.now) (intake g.S.Source c.between.new.source) c.args.between c.args.cursor.now (Ok step)
+    → GoesOn (intake g.S.Source c.args.source.now) (intake g.S.Source c.between.new.source) (due_at c.args.set.now c.args.staged.now (Some c.args.between) + LONGEST_HEAD) (read_from c.args.set.now c.args.only c.args.staged.now (spot_of c.args.between))
+    (λ next. read_from c.args.set.now c.args.only new (spot_at next)) c.args.cursor.now c.between.new.self result
+judged g c step new result refused place held short settled reads =
+    let set = described c.args.set.now in
+    let from = c.args.cursor.now in
+    let to = c.between.new.self in
+    let now = ap held_long held in
+    goes_judged result refused (reads_as (λ n l. spent_by from to _ result n (omega arith) (omega arith))
+    (λ rest left h. turn_settled set (accepted_of set c.args.only) c.args.staged.now c.args.between {Y = Option Between} from to (Some rest) (Some left) step (λ next. state_of set new (spot_at next)) result h place held
+    (rw c.at-at.ensures at settled)) reads)
 
 pub returns-in-Ok-Configuration : goal.returns-in-Ok-Configuration
 returns-in-Ok-Configuration g c =
-    let set = described c.args.set.now in
-    let names = accepted_of set c.args.only in
-    let at = c.args.between in
-    let from = c.args.cursor.now in
-    let to = c.between.new.self in
-    let step = steps.Configuration c.in-Ok-Configuration.name in
-    let reads = rw c.in-Ok-Configuration.field-0-is at c.in-Ok-Configuration.ensures.reads in
     let place = rw c.in-Ok-Configuration.field-0-is at c.in-Ok-Configuration.ensures.place in
-    let held = c.in-Ok-Configuration.ensures.held in
-    let now = ap held_long held in
-    let settled = rw c.at-at.ensures at (c.configure.ensures.settles (is_first at) (is_configured at)) in
+    let now = ap held_long c.in-Ok-Configuration.ensures.held in
     record {
-      reads = goes_judged c.configure.result c.configure.ensures.refused
-          (reads_as (λ n l. spent_by from to _ c.configure.result n (omega arith) (omega arith))
-          (λ rest left h. turn_settled set names c.args.staged.now at {Y = Option Between} from to (Some rest) (Some left) step (λ next. state_of set c.configure.new.staged (spot_at next)) c.configure.result h place held settled) reads);
+      reads = judged g (goal.at.returns-in-Ok-Configuration g c).After-between (steps.Configuration c.in-Ok-Configuration.name) c.configure.new.staged c.configure.result c.configure.ensures.refused place c.in-Ok-Configuration.ensures.held
+          (omega arith) (c.configure.ensures.settles (is_first c.args.between) (is_configured c.args.between)) (rw c.in-Ok-Configuration.field-0-is at c.in-Ok-Configuration.ensures.reads);
       moves = search rules;
       next = search rules;
       whole = c.configure.ensures.whole;
@@ -29,20 +39,11 @@ returns-in-Ok-Configuration g c =
 
 pub returns-in-Ok-End : goal.returns-in-Ok-End
 returns-in-Ok-End g c =
-    let set = described c.args.set.now in
-    let names = accepted_of set c.args.only in
-    let at = c.args.between in
-    let from = c.args.cursor.now in
-    let to = c.between.new.self in
-    let reads = rw c.in-Ok-End.field-0-is at c.in-Ok-End.ensures.reads in
     let place = rw c.in-Ok-End.field-0-is at c.in-Ok-End.ensures.place in
-    let held = c.in-Ok-End.ensures.held in
-    let now = ap held_long held in
-    let settled = rw c.at-at.ensures at (c.take_end_mark.ensures.settles set names (is_first at) (is_configured at)) in
+    let now = ap held_long c.in-Ok-End.ensures.held in
     record {
-      reads = goes_judged c.take_end_mark.result c.take_end_mark.ensures.refused
-          (reads_as (λ n l. spent_by from to _ c.take_end_mark.result n (omega arith) (omega arith))
-          (λ rest left h. turn_settled set names c.args.staged.now at {Y = Option Between} from to (Some rest) (Some left) steps.End (λ next. state_of set c.args.staged.now (spot_at next)) c.take_end_mark.result h place held settled) reads);
+      reads = judged g (goal.at.returns-in-Ok-End g c).After-between steps.End c.args.staged.now c.take_end_mark.result c.take_end_mark.ensures.refused place c.in-Ok-End.ensures.held (omega arith)
+          (c.take_end_mark.ensures.settles (described c.args.set.now) (accepted_of (described c.args.set.now) c.args.only) (is_first c.args.between) (is_configured c.args.between)) (rw c.in-Ok-End.field-0-is at c.in-Ok-End.ensures.reads);
       moves = search rules;
       next = search rules;
       whole = c.requires.can.whole;

@@ -1,5 +1,5 @@
-use Rattle.dev_board.proofs.{Facade.wires_of, Facade.Wire, Facade.Before, KeepLaws.after-ack, KeptLaws.calm-read, KeptLaws.calm-write}
-use Rattle.dev_board.proofs.Facade.{◌≡◌, ℕ, sym, ap, subst, ◌∙◌, int_of, lines_of, IsCalm, IsSound, State, names_wire, settled, wires_after, calm_after, parts_view}
+use Rattle.dev_board.proofs.{Facade.wires_of, Facade.Wire, Facade.IsBefore, KeepLaws.after-ack, KeptLaws.calm-read, KeptLaws.calm-write}
+use Rattle.dev_board.proofs.Facade.{◌≡◌, ℕ, sym, ap, subst, ◌∙◌, int_of, IsCalm, IsSound, State, names_wire, settled, wires_after, calm_after, parts_view}
 use Rattle.dev_board.proofs.StayLaws.{after-ack as ack-stays, after-read, after-write}
 use Rattle.dev_board.proofs.WireBits.{named-bound, wires_of-are, wires_after-are}
 use Rattle.dev_board.specs.{Kept.IsKept, declared.kept.Kept.Kept}
@@ -7,15 +7,11 @@ use Rattle.dev_board.proofs.parts.Parts.event.Goals as goal
 
 pub settle-kept-requires-clause-stays : goal.settle-kept-requires-clause-stays
 settle-kept-requires-clause-stays c =
-    after-read c.args.self.now c.requires.sound (record { lines = c.lines-lines.result; int = c.args.kept.now.int })
-    (record { lines = c.lines-lines.ensures ∙ ap (λ (m : State). lines_of m.pair) c.self.view_is; int = c.requires.kept.int })
-    c.in-Read.port _ _ _ c.read-value.ensures.touch c.read-value.ensures.step
+    after-read c.args.self.now c.requires.sound c.before-before.result c.before-before.ensures c.in-Read.port _ _ _ c.read-value.ensures.touch c.read-value.ensures.step
 
 pub settle-kept-requires-in-Write-clause-stays : goal.settle-kept-requires-in-Write-clause-stays
 settle-kept-requires-in-Write-clause-stays c =
-    after-write c.args.self.now c.requires.sound (record { lines = c.lines-lines.result; int = c.args.kept.now.int })
-    (record { lines = c.lines-lines.ensures ∙ ap (λ (m : State). lines_of m.pair) c.self.view_is; int = c.requires.kept.int })
-    c.in-Write.port c.in-Write.value _ _ c.write-touch.ensures.touch c.write-touch.ensures.step
+    after-write c.args.self.now c.requires.sound c.before-before.result c.before-before.ensures c.in-Write.port c.in-Write.value _ _ c.write-touch.ensures.touch c.write-touch.ensures.step
 
 pub with_wire-wires-requires : goal.with_wire-wires-requires
 with_wire-wires-requires c = named-bound c.args.event c.in-Wire.input c.in-Wire.up c.requires.wire c.in-Wire.is
@@ -30,9 +26,8 @@ invariant_of-self c = after-ack (parts_view c.self.inside) c.self.invariant c.ac
 
 pub settle-kept-requires-in-Ack-clause-stays : goal.settle-kept-requires-in-Ack-clause-stays
 settle-kept-requires-in-Ack-clause-stays c =
-    let before : Before = record { lines = c.lines-lines.result; int = c.args.kept.now.int } in
-    ack-stays (parts_view c.self.inside) (subst IsSound (sym c.self.view_is) c.requires.sound) before
-    (record { lines = c.lines-lines.ensures; int = cc (c.requires.kept.int, c.self.view_is) })
+    ack-stays (parts_view c.self.inside) (subst IsSound (sym c.self.view_is) c.requires.sound) c.before-before.result
+    (subst (IsBefore c.before-before.result) (sym c.self.view_is) c.before-before.ensures)
     c.ack-value.result c.ack-value.new.self _ c.ack_touches.ensures c.ack-value.ensures
 
 -- What is known of a board whose lines were updated.

@@ -1,13 +1,11 @@
 use Rattle.dev_board.proofs.{KeptLaws.calm-wait, StayLaws.after-time}
-use Rattle.dev_board.proofs.Facade.{◌<◌, arith, sym, ap, subst, ◌∙◌, nat_tests, lines_of, IsCalm, State, settled, Stays, Before, Touch}
+use Rattle.dev_board.proofs.Facade.{◌<◌, arith, sym, subst, nat_tests, IsCalm, settled, Stays, Touch}
 use Rattle.dev_board.proofs.parts.Parts.pass.Goals as goal
 
 pub settle-kept-requires-clause-stays : goal.settle-kept-requires-clause-stays
 settle-kept-requires-clause-stays c =
-    let before : Before = record { lines = c.lines-lines.result; int = c.args.kept.now.int } in
-    subst (λ (touch : Touch). Stays touch before c.wait-edge.new.self) (sym c.time_touches.ensures)
-    (after-time c.args.self.now c.requires.sound before
-    (record { lines = c.lines-lines.ensures ∙ ap (λ (m : State). lines_of m.pair) c.self.view_is; int = c.requires.kept.int })
+    subst (λ (touch : Touch). Stays touch c.before-before.result c.wait-edge.new.self) (sym c.time_touches.ensures)
+    (after-time c.args.self.now c.requires.sound c.before-before.result c.before-before.ensures
     c.later_by-to.result _ _ _ c.wait-edge.ensures
     (λ e. let early : c.later_by-to.result < c.args.kept.now.calm = grind
     (arith, nat_tests) in (c.requires.kept.calm c.later_by-to.result c.later_by-to.ensures.after early).0))

@@ -1,6 +1,5 @@
+use Rattle.vms_analyze.proofs.{Facade.is_name_byte, Walks.name_there}
 use Rattle.vms_analyze.proofs.Facade.{le-leb, ◌≤◌, ◌+◌, ◌-◌, length, length-take, take, drop, sym, ap, ◌∙◌, arith, list_all, and-false, LONGEST_NAME}
-use Rattle.vms_analyze.proofs.Facade.{is_name_byte}
-use Rattle.vms_analyze.proofs.Walks.{name_there}
 use Rattle.vms_analyze.proofs.walk.Walk.machine_name.Goals as goal
 
 pub returns-then-are_name_bytes : goal.returns-then-are_name_bytes

@@ -12,6 +12,6 @@ returns-clause-ends g c =
     let r = ending_of c.write_finding.result in
     let found = answer_of old c.in_ok-finding.finding in
     let fit : IsFit old = record { well = well_of old c.args.sets.old.well_formed; heads = c.args.sets.old.heads } in
-    let fit' : IsFit new = record { well = well_of new c.in_ok-loader.loader.set.well_formed; heads = c.in_ok-loader.loader.set.heads } in
+    let fit' : IsFit new = record { well = well_of new c.in_ok-loader.loader.lean.set.well_formed; heads = c.in_ok-loader.loader.lean.set.heads } in
     let ends = rw (c.set.ensures ∙ c.in_ok-finding.ensures.set) at c.write_finding.ensures.ends in
     rw c.in_ok-loader.ensures.set at (rw (answered old new fit fit' found c.in_ok-finding.ensures.found) at ends)
