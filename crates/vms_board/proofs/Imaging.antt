@@ -154,6 +154,26 @@ made_of set lists images device r m e =
           subst (λ (i : Typed). IsImageOf set k i) (sym is) (is-of set k (get_or lists k []) (fit_each set lists r k (omega arith)));
     }
 
+-- the images below an index are filled again
+pub record Refilled (set : Set) (lists : List (List ℤ)) (images old : List Typed) (device : ℕ) : Type 0 where
+  pub long : length images ≡ length old
+  pub before : (k : ℕ) → k < device → get_or images k no_typed ≡ typed_of set k (get_or lists k [])
+  pub after : (k : ℕ) → device ≤ k → get_or images k no_typed ≡ get_or old k no_typed
+
+pub refilled_made : (set : Set) (lists : List (List ℤ)) (images old : List Typed) (device : ℕ) → Refilled set lists images old device → AreImagesOf set old
+    → length images ≤ device → Made set lists images (length set.devices)
+refilled_made set lists images old device r of all =
+    record { long = r.long ∙ of.one_each; each = λ k lt. r.before k (omega (arith, lt, all, r.long, of.one_each)) }
+
+-- an image that isn't filled yet is one of its device
+pub still_of : (set : Set) (lists : List (List ℤ)) (images old : List Typed) (k : ℕ) (image : Typed) → Refilled set lists images old k → AreImagesOf set old
+    → k < length images → image ≡ get_or images k image → IsImageOf set k image
+still_of set lists images old k image r of lt is =
+    let same : get_or images k image ≡ get_or images k no_typed =
+    same_at images k _ _ (slice_get-get_or images k image lt) (slice_get-get_or images k no_typed lt) in
+    let below : k < length old = omega (arith, lt, r.long) in
+    of.each k image (slice_get-get_or old k no_typed below ∙ ap Some (sym (is ∙ same ∙ r.after k (omega arith))))
+
 -- ---- the images of a board, under a set
 
 pub listed : (set own : Set) (lists : List (List ℤ)) (k : ℕ) → AreReady own (images_of own own.devices lists) → set ≡ own → k < length set.devices

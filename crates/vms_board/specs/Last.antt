@@ -1,18 +1,21 @@
 -- A description that is kept from a save.
 use Rattle.std.specs.Prelude.{◌≡◌, ◌<◌, ℕ, IfSome, List, Option, length, map, string_bytes}
 use Rattle.vms_board.specs.Family.{Family}
-use Rattle.vms_board.specs.Imaging.{AreSavedIn, CanSave, IsSetOf}
+use Rattle.vms_board.specs.Imaging.{AreOfSet, AreSavedIn, CanSave, IsSetOf}
 use Rattle.vms_board.specs.declared.last.Kept.{Kept}
 use Rattle.vms_board.specs.declared.last.LastDescription.{LastDescription}
 use Rattle.vms_desc.specs.Described.{described}
 use Rattle.vms_desc.specs.declared.set.DescSet.{DescSet}
-use Rattle.vms_image.specs.Typed.{Typed, state_of}
+use Rattle.vms_image.specs.Typed.{AreImagesOf, Typed, state_of}
 use Rattle.vms_selfdesc.specs.Tree.{described_text}
 use Rattle.vms_spec.specs.Streams.{AreReady, longest_text}
 
 module _ {S : Type 0} (f : Family S) where
-  -- The images are ready under the set with their number, and the text describes them and fits a stream.
+  -- The images are ready under the set with their number, and the text describes them and fits a stream. There is one of each
+  -- device, and of the spare ones too.
   pub record IsKept (kept : Kept) : Type 0 where
+    pub of : AreImagesOf (f.set kept.number) kept.images.items
+    pub spare : IfSome kept.spare (λ images. AreImagesOf (f.set kept.number) images.items)
     pub ready : AreReady (f.set kept.number) (map state_of kept.images.items)
     pub text : string_bytes kept.text ≡ described_text (f.set kept.number) (map state_of kept.images.items)
     pub short : length (string_bytes kept.text) < longest_text
@@ -24,6 +27,7 @@ module _ {S : Type 0} (f : Family S) where
   -- The images are ready under the set, which is that of the family with this number, and what is kept is of the family.
   pub record CanDescribe (number : ℕ) (set : DescSet) (images : List Typed) (last : Option Kept) : Type 0 where
     pub own : IsSetOf f set number
+    pub of : AreOfSet set images
     pub ready : AreReady (described set) (map state_of images)
     pub kept : IfSome last IsKept
 

@@ -1,13 +1,14 @@
 // The description of a board's last save, kept for the next one.
-ghost use Rattle.std.specs.Prelude.{IfOk, map};
-ghost use Rattle.vms_board.specs.Imaging.{IsSetOf};
+ghost use Rattle.std.specs.Prelude.{◌≡◌, IfOk, IfSome, map};
+ghost use Rattle.vms_board.specs.Imaging.{AreOfSet, IsSetOf};
 ghost use Rattle.vms_board.specs.Last.{CanDescribe, Describes, IsLast};
 ghost use Rattle.vms_desc.specs.Described.{described};
-ghost use Rattle.vms_image.specs.Typed.{state_of};
+ghost use Rattle.vms_image.specs.Typed.{AreImagesOf, state_of};
 ghost use Rattle.vms_spec.specs.Streams.{AreReady};
 
 use crate::machine::Machine;
 use std::alloc::Global;
+use std::mem::replace;
 use vms_desc::DescSet;
 use vms_image::Image;
 use vms_io::NoMemory;
@@ -19,6 +20,8 @@ pub(crate) struct Kept {
     pub(crate) number: u8,
     pub(crate) images: Vec<Image>,
     pub(crate) text: String,
+    // The images of the save before, to be filled again.
+    pub(crate) spare: Option<Vec<Image>>,
 }
 
 /// The description of the last save of a family's board, so that the next save doesn't make it again
@@ -40,6 +43,19 @@ impl LastDescription {
     /// Returns the allocator of the description.
     pub fn alloc(&self) -> Global {
         self.alloc
+    }
+}
+
+/// Takes the spare images out of `last`, if they are of the set with the number `number`.
+pub(crate) fn take_spare<M: Machine>(last: &mut LastDescription, number: u8) -> Option<Vec<Image>>
+    requires { IsLast M.family last.old }
+    ensures of { IfSome result (λ images. AreImagesOf (M.family.set number) images.items) }
+    ensures last { IsLast M.family last.new }
+    ensures alloc { last.new.alloc ≡ last.old.alloc }
+{
+    match &mut last.kept {
+        Some(kept) if kept.number == number => kept.spare.take(),
+        _ => None,
     }
 }
 
@@ -67,7 +83,7 @@ pub(crate) fn describe_by<M: Machine>(
         return describe_anew::<M>(alloc, number, own, images);
     };
     if last.number == number && are_alike(own, &last.images, &images) {
-        last.images = images;
+        last.spare = Some(replace(&mut last.images, images));
         return Ok(last);
     }
     describe_anew::<M>(alloc, number, own, images)
@@ -89,6 +105,7 @@ pub(crate) fn describe_anew<M: Machine>(
     images: Vec<Image>,
 ) -> Result<Kept, NoMemory>
     requires own { IsSetOf M.family own.now number }
+    requires of { AreOfSet own.now images.items }
     requires ready { AreReady (described own.now) (map state_of images.items) }
     ensures { IfOk result (Describes M.family own.now images.items) }
 {
@@ -97,5 +114,6 @@ pub(crate) fn describe_anew<M: Machine>(
         number,
         images,
         text,
+        spare: None,
     })
 }

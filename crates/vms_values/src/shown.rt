@@ -1,6 +1,6 @@
 // Prints the lines of a description: arrays up to their counts, and structures.
 ghost use Rattle.vms_values.specs.declared.line.TheConstants.{LONGEST, NUMBER_ROOM};
-ghost use Rattle.std.specs.Prelude.{◌+◌, ◌≤◌, ◌++◌, [], codes, length};
+ghost use Rattle.std.specs.Prelude.{◌≡◌, ◌+◌, ◌≤◌, ◌++◌, [], codes, length};
 ghost use Rattle.std.specs.Fmt.{signed_decimal};
 ghost use Rattle.vms_io.specs.Told.{outlet};
 ghost use Rattle.vms_io.specs.Writing.{Wrote};
@@ -187,7 +187,21 @@ fn print_number<K: Sink>(number: i128, line: &mut Line, sink: &mut K) -> Result<
 {
     let mut digits = Buffer::new();
     line.push(b" = ");
-    line.push(digits.format(number).as_bytes());
+    line.push(spelled(number, &mut digits).as_bytes());
     line.push(b"\n");
     write_all_of(sink, line.text())
+}
+
+// Returns the digits of `number` with its sign, written to `digits`. Nearly all numbers have 64 bits,
+// for which less is executed.
+#[inline(always)]
+fn spelled(number: i128, digits: &mut Buffer) -> &str
+    ensures text { result.now ≡ signed_decimal number }
+    ensures short { length result.now ≤ 40 }
+{
+    if number >= 0 && number <= u64::MAX as i128 {
+        digits.format(number as u64)
+    } else {
+        digits.format(number)
+    }
 }
