@@ -1,10 +1,5 @@
 // The boards of the versions 1 and 2 of the clock chip.
-ghost use Rattle.std.specs.Prelude.{◌≡◌, IfOk};
-ghost use Rattle.dev_base.specs.Levels.{IsUpTo};
-ghost use Rattle.vms_board.specs.Clock.{clock_machine};
-ghost use Rattle.vms_desc.specs.Described.{described};
-ghost use Rattle.vms_desc.specs.Formed.{clock_set as clock_set_of};
-ghost use Rattle.vms_rtc.specs.declared.limits.TheConstants.{NEWEST_CLOCK as newest};
+ghost use Rattle.std.specs.Prelude.{◌≡◌};
 
 use crate::board::MachineBoard;
 use crate::cells::clock_cells_in;
@@ -19,7 +14,6 @@ use vms_image::Image;
 use vms_io::NoMemory;
 use vms_kinds::DevCells;
 use vms_rtc::NEWEST_CLOCK;
-use vms_shipped::clock_machine;
 
 impl Machine for ClockDevices {
     ghost use Rattle.dev_clock.specs.Sound.{IsSound};
@@ -94,34 +88,6 @@ impl Machine for ClockDevices {
     }
 
     ghost stands = { clock_stands };
-}
-
-/// Returns the shipped clock set with the number `c`, 1 or 2.
-///
-/// # Errors
-///
-/// [`NoMemory`] if memory runs out.
-///
-/// # Requires
-///
-/// `c` is 1 or 2.
-pub fn clock_set(alloc: Global, c: u8) -> Result<DescSet, NoMemory>
-    requires { IsUpTo newest c }
-    ensures { IfOk result (λ set. described set ≡ clock_set_of c) }
-{
-    DescSet::clock(alloc, c)
-}
-
-/// Returns the machine's name of a board with the version `version`: `clk-1` or `clk-2`.
-///
-/// # Requires
-///
-/// `version` is 1 or 2.
-pub fn clock_machine_name(version: u8) -> &'static str
-    requires { IsUpTo newest version }
-    ensures { result.now ≡ clock_machine version }
-{
-    clock_machine(version)
 }
 
 impl MachineBoard<ClockDevices> {

@@ -12,7 +12,6 @@ mod restore;
 mod save;
 
 pub use board::MachineBoard;
-pub use clock::{clock_machine_name, clock_set};
 pub use dev_board::{Answer, Devices, Event};
 pub use dev_clock::ClockDevices;
 pub use isa::machine_name;

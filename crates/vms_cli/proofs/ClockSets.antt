@@ -1,8 +1,8 @@
 -- `check @c1 @c2` accepts.
+use Rattle.vms_cli.proofs.{Facade.Check, Facade.asked_of, Facade.of_both, Facade.pair_of, KindLaws.numbers_of}
 use Rattle.vms_cli.proofs.Facade.{◌≡◌, ℕ, zero, suc, ◌+◌, ◌≤◌, ◌++◌, if◌then◌else◌, List, [], ◌∷◌, Option, Some, None, codes, ap, sym, subst, refl, arith}
-use Rattle.vms_cli.proofs.Facade.{option_map, bytes_eq, decimal_digit, or_else, NEWEST, NEWEST_CLOCK, sets_are_compatible, Mismatch, done, Isa, Clock, Shipped}
-use Rattle.vms_cli.proofs.Facade.{named_set, number_after, set_word, shipped_word, HasText, compatible_text, verdict, ClockSetsLaw}
-use Rattle.vms_cli.proofs.Facade.{Check, asked_of, of_both, pair_of}
+use Rattle.vms_cli.proofs.Facade.{option_map, bytes_eq, decimal_digit, sets_are_compatible, Mismatch, done, BoardKind, Clock, SetOf, Shipped, ◌-◌, first_kind}
+use Rattle.vms_cli.proofs.Facade.{first_set, kinds, newest_of, set_front, named_set, number_after, set_word, HasText, compatible_text, verdict, ClockSetsLaw}
 
 -- ---- numbers of one digit, whose words are computed
 
@@ -14,21 +14,25 @@ by_digits : (front : List ℕ) (first count : ℕ) (word : List ℕ) → first +
 by_digits front first zero word le = refl
 by_digits front first (suc count) word le = cc (decimal_digit first (omega (arith, le)), by_digits front (suc first) count word (omega (arith, le)))
 
-shipped_is : (word : List ℕ) → shipped_word word
-    ≡ or_else (option_map Isa (digit_after (codes "@") 0 (suc NEWEST) word)) (option_map Clock (digit_after (codes "@c") 1 NEWEST_CLOCK word))
-shipped_is word = cc (by_digits (codes "@") 0 (suc NEWEST) word (omega arith), by_digits (codes "@c") 1 NEWEST_CLOCK word (omega arith))
+-- the same for the sets of each kind
+by_kinds : (word : List ℕ) (of : List BoardKind)
+    → first_kind (λ kind. option_map (SetOf kind) (number_after (set_front kind) (first_set kind) (suc (newest_of kind) - first_set kind) word)) of
+    ≡ first_kind (λ kind. option_map (SetOf kind) (digit_after (set_front kind) (first_set kind) (suc (newest_of kind) - first_set kind) word)) of
+by_kinds word [] = refl
+by_kinds word (kind ∷ of) =
+    cc (by_digits (set_front kind) (first_set kind) (suc (newest_of kind) - first_set kind) word (numbers_of kind).few, by_kinds word of)
 
 -- ---- the words of both sets
 
-first : set_word (codes "@c1") ≡ Some (Shipped (Clock 1))
-first = ap (named_set (codes "@c1")) (shipped_is (codes "@c1"))
+first : set_word (codes "@c1") ≡ Some (Shipped (SetOf Clock 1))
+first = ap (named_set (codes "@c1")) (by_kinds (codes "@c1") kinds)
 
-second : set_word (codes "@c2") ≡ Some (Shipped (Clock 2))
-second = ap (named_set (codes "@c2")) (shipped_is (codes "@c2"))
+second : set_word (codes "@c2") ≡ Some (Shipped (SetOf Clock 2))
+second = ap (named_set (codes "@c2")) (by_kinds (codes "@c2") kinds)
 
-asks : asked_of (codes "check" ∷ codes "@c1" ∷ codes "@c2" ∷ []) ≡ Some (Check (Shipped (Clock 1)) (Shipped (Clock 2)))
+asks : asked_of (codes "check" ∷ codes "@c1" ∷ codes "@c2" ∷ []) ≡ Some (Check (Shipped (SetOf Clock 1)) (Shipped (SetOf Clock 2)))
 unfolding pair_of
-asks = rw first (ap (of_both Check (Some (Shipped (Clock 1)))) second)
+asks = rw first (ap (of_both Check (Some (Shipped (SetOf Clock 1)))) second)
 
 pub clock_sets_hold : ClockSetsLaw
 clock_sets_hold input held =

@@ -4,7 +4,7 @@ use Rattle.vms_cli.proofs.Facade.{◌≡◌, ◌⊎◌, ℕ, zero, suc, ◌<◌,
 use Rattle.vms_cli.proofs.Facade.{◌+◌, ◌^◌, Bool, false, true, Result, Ok, Err, IfSome, length-map, slice_get-get_or, Keeps, string_bytes, IsFit, Image}
 use Rattle.vms_cli.proofs.Facade.{device_cells, Set, written, device_at, AreKept, described_text, carried, Compatible, first_mismatch, IsStreamFor, LosesFirst}
 use Rattle.vms_cli.proofs.Facade.{AreBack, recast_each, KeepsAll, Loses, OfCell, OfDevice, OfMachine, first_cell, numbers_in}
-use Rattle.vms_cli.proofs.Facade.{answered, same_backs, one_lost, newest_kinds, recast_long, fit_word, Isa, Shipped, IsInNewest, newest, Converts, ConvertGives}
+use Rattle.vms_cli.proofs.Facade.{answered, same_backs, one_lost, newest_kinds, recast_long, fit_word, Isa, SetOf, Shipped, IsInNewest, newest, Converts, ConvertGives}
 use Rattle.vms_cli.proofs.Facade.{ConvertsBy, ConvertsStream, ConvertsWith, IsDone, IsLost, IsMismatch, LacksLine, LacksMemory, NamesCell, Rewrites, WouldLose}
 use Rattle.vms_cli.proofs.Facade.{agreed, agrees, lost_line, ArrayVec, Held, Intake, Outlet, Stock, reads_as, IsBytes, Refusal, LoadReads, name_of}
 use Rattle.vms_cli.proofs.Facade.{loads_kept, Mismatch, ConvertFault, Ending, EndsSo, Risen, is_among, EndsAs, WritesAs, status_of, refused_line, Outcome, done}
@@ -21,7 +21,7 @@ use Rattle.vms_commands.specs.declared.ending.Ending.TheVariants as endings
 -- ---- One thing is answered of a machine and images of the newest set: a stream, or what would be lost first.
 
 pub newest_fit : IsFit newest
-newest_fit = fit_word None (Shipped (Isa 4))
+newest_fit = fit_word None (Shipped (SetOf Isa 4))
 
 -- a list of which an item isn't empty has that item
 inside : (lists : List (List ℤ)) (k c : ℕ) → c < length (get_or lists k []) → k < length lists

@@ -1,15 +1,12 @@
 -- From how a call ends and why to what it answers.
-use Rattle.vms_cli.proofs.{Entries.fits_of, RowLemmas.caused_so, RowLemmas.row_so, CheckLemmas.verdict_so}
-use Rattle.vms_cli.proofs.Facade.{ℕ, List, length, Option, None, Some, subst, ◌≡◌, [], append-nil, refl, ap, ◌∙◌, IfSome, Alike, clock, Family, isa, LoadsBy}
-use Rattle.vms_cli.proofs.Facade.{Traces, scripted, boards_go_on, stream_with, BoardsGoOn, Outcome, Outside, DoesOrStops, Step, Gives, Both, both, next}
-use Rattle.vms_cli.proofs.Facade.{ScriptLine, events_of, HasOutcome, Asked, IsaBoard, ClockBoard, Load, Show, asked_of, Continuation, ContinuesBy, goes_on}
-use Rattle.vms_cli.proofs.Facade.{Held, HoldsAll, Image, Set, written, WellFormed, Compatible, carried, Takes, upgrade_stands, SetText, fetched_set, named_sets}
-use Rattle.vms_cli.proofs.Facade.{set_in, sets_in, word_set, SetWord, FitStep, fit_word, AreCompatible, CheckThenShowLaw, ShowsBy, IsWritten, Upgrade}
-use Rattle.vms_cli.proofs.Facade.{UpgradesTo, shown_newer, Intake, Outlet, Stock, Serves, Ending, Tells, around, outcome_so, Runs, moment, task_of, IsFit}
+use Rattle.vms_cli.proofs.{Entries.fits_of, RowLemmas.caused_so, RowLemmas.row_so, CheckLemmas.verdict_so, KindLaws.AlikeOf, KindLaws.goes_on_of}
+use Rattle.vms_cli.proofs.Facade.{ℕ, List, length, Option, None, Some, subst, ◌≡◌, [], append-nil, refl, ap, ◌∙◌, IfSome, Family, LoadsBy, Traces, scripted}
+use Rattle.vms_cli.proofs.Facade.{stream_with, BoardsGoOn, Outcome, Outside, DoesOrStops, Step, Gives, Both, both, next, ScriptLine, events_of, HasOutcome}
+use Rattle.vms_cli.proofs.Facade.{Asked, BoardOf, IsSoundOf, family_of, Load, Show, asked_of, Continuation, ContinuesBy, goes_on, Held, HoldsAll, Image, Set}
+use Rattle.vms_cli.proofs.Facade.{written, WellFormed, Compatible, carried, Takes, upgrade_stands, SetText, fetched_set, named_sets, set_in, sets_in, word_set}
+use Rattle.vms_cli.proofs.Facade.{SetWord, FitStep, fit_word, AreCompatible, CheckThenShowLaw, ShowsBy, IsWritten, Upgrade, UpgradesTo, shown_newer, Intake}
+use Rattle.vms_cli.proofs.Facade.{Outlet, Stock, Serves, Ending, Tells, around, outcome_so, Runs, moment, task_of, IsFit}
 use Rattle.vms_cli.specs.{Answers.Answers, Commands.ShowCommand.Values as Printed}
-use Rattle.dev_board.specs.Sound.{IsSound}
-use Rattle.dev_clock.specs.Sound.{Alike as AlikeClocks, IsSound as IsSoundClock}
-use Rattle.vms_board_streams.proofs.ClockLaws.{boards_go_on as clocks_go_on}
 
 -- ---- A stream that a board wrote is loaded as that board going on.
 
@@ -25,10 +22,8 @@ module _ {S : Type 0} (f : Family S) (Alike : S → S → Type 0) (IsSound : S �
 
 pub continues_so : (asked : Option Asked) (status : ℕ) (old new : Outside)
     → ((o : Outcome) → HasOutcome asked old.input.left old.shelf.held o → DoesOrStops status old new o) → Continuation asked status old new
-continues_so (Some (Load (IsaBoard level) script)) status old new all =
-    continues_by isa Alike IsSound boards_go_on level (scripted None old.shelf.held script) status old new all
-continues_so (Some (Load (ClockBoard version) script)) status old new all =
-    continues_by clock AlikeClocks IsSoundClock clocks_go_on version (scripted None old.shelf.held script) status old new all
+continues_so (Some (Load (BoardOf kind number) script)) status old new all =
+    continues_by (family_of kind) (AlikeOf kind) (IsSoundOf kind) (goes_on_of kind) number (scripted None old.shelf.held script) status old new all
 continues_so asked status old new all = tt
 
 -- ---- What an older set wrote is shown as carried.

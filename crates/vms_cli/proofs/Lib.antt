@@ -6,6 +6,7 @@ pub mod ConvertLemmas
 pub mod EndLemmas
 pub mod Entries
 pub mod Facade
+pub mod KindLaws
 pub mod Limits
 pub mod OutcomeLaws
 pub mod PackLemmas

@@ -1,5 +1,5 @@
 -- One command after the other: what was written is read again.
-use Rattle.vms_cli.proofs.{PackLemmas.pack_gives, Entries.words_ask, EndLemmas.named_both}
+use Rattle.vms_cli.proofs.{PackLemmas.pack_gives, Entries.words_ask, EndLemmas.named_both, Facade.Answers, Facade.AlwaysNamedLaw, Facade.Prints}
 use Rattle.vms_cli.proofs.Facade.{RefusesSo, StateLaw, ◌≡◌, ℕ, ◌≤◌, Bool, true, false, nat_le, if◌then◌else◌, List, [], ◌∷◌, length, Option, Some, None, IfSome}
 use Rattle.vms_cli.proofs.Facade.{refl, sym, ap, subst, arith, ◌∙◌, ◌-◌, ℤ, ◌++◌, append-nil, LONGEST_TEXT, Held, Image, Set, AreReady, is_one_of}
 use Rattle.vms_cli.proofs.Facade.{configuration, end_mark, optional, stream_head, trailer, written, written_sections, values_text, ValuesRead, Values, Bad}
@@ -8,13 +8,13 @@ use Rattle.vms_cli.proofs.Facade.{described_text, short_holds, Listing, Text, Li
 use Rattle.vms_cli.proofs.Facade.{fetched_set, longest_file, set_in, word_set, named_sets, too_large_line, Part, Outcome, done, ended, Step, Untold, Gives}
 use Rattle.vms_cli.proofs.Facade.{Ends, HasText, next, Both, FitStep, fit_word, fetched_gives, IsListing, PackThenAnalyzeLaw, ShowThenAnalyzeLaw, PrintsAlike}
 use Rattle.vms_cli.proofs.Facade.{SaveThenAnalyzeLaw, PackThenShowLaw, ShowThenPackLaw, CanBeAsked, described_stream, packed_by, packed_parts, packs}
-use Rattle.vms_cli.proofs.Facade.{with_values, Shows, ShowsBy, Refuses, ReachesSet, sound_stays_on, AreEvents, Event, clock, clock_stands, Family, IsNumber}
-use Rattle.vms_cli.proofs.Facade.{images_saved, isa, isa_stands, saved_stream, AreStepLines, scripted_lines, saved_after, scripted, after_events, Isa, Clock}
-use Rattle.vms_cli.proofs.Facade.{SetWord, Shipped, ScriptLine, after_number, lines_are_events, events_of, IsaBoard, ClockBoard, Fault, further_holds, Mismatch}
-use Rattle.vms_cli.proofs.Facade.{Counters, Finds, always_holds, named_holds, machine_known, Answers, AlwaysNamedLaw, Prints}
+use Rattle.vms_cli.proofs.Facade.{with_values, Shows, ShowsBy, Refuses, ReachesSet, AreEvents, Event, Family, family_of, IsNumber, images_saved, saved_stream}
+use Rattle.vms_cli.proofs.Facade.{AreStepLines, scripted_lines, saved_after, scripted, after_events, BoardOf, SetOf, SetWord, Shipped, ScriptLine, after_number}
+use Rattle.vms_cli.proofs.Facade.{lines_are_events, events_of, Fault, further_holds, Mismatch, Counters, Finds, always_holds, named_holds, machine_known}
+use Rattle.vms_cli.proofs.KindLaws.{numbers_of, sound_of, stands_of}
 use Rattle.vms_cli.specs.{Commands.ShowCommand.Values as Printed}
 use Rattle.vms_analyze.proofs.Shown.{shown_holds as shown_listing}
-use Rattle.dev_clock.proofs.SoundLaws.{sound_stays_on as clock_stays_sound}
+use Rattle.dev_base.specs.Levels.{IsUpTo}
 use Rattle.vms_board.specs.Family.{Stands}
 use Rattle.vms_check.proofs.SelfLaws.{is_among}
 use Rattle.vms_counter_laws.specs.Counters.{Refusal, State}
@@ -216,13 +216,11 @@ module _ {S : Type 0} (f : Family S) {IsSound : S → Type 0} {AreTold : List (L
   saved_prints script stream has = by_step (scripted None held script) stream (scripted_lines None held script) has
 
 pub save_then_analyze : SaveThenAnalyzeLaw
-save_then_analyze words (IsaBoard level) set script stream input held asked has =
+save_then_analyze words (BoardOf kind number) set script stream input held asked has =
     let can = subst CanBeAsked asked (words_ask words) in
-    saved_prints isa isa_stands sound_stays_on.power_on sound_stays_on.events held (Shipped (Isa set)) level set refl can.0 can.1 script stream has
-save_then_analyze words (ClockBoard version) set script stream input held asked has =
-    let can = subst CanBeAsked asked (words_ask words) in
-    saved_prints clock clock_stands clock_stays_sound.power_on clock_stays_sound.events held
-    (Shipped (Clock set)) version set refl can.0 can.1 script stream has
+    let of = numbers_of kind in
+    saved_prints (family_of kind) (stands_of kind) (sound_of kind).power_on (sound_of kind).events held (Shipped (SetOf kind set)) number set
+    (ap Gives (of.set set)) (subst (λ (n : ℕ). IsUpTo n number) of.newest can.0) (subst (λ (n : ℕ). ReachesSet n number set) of.newest can.1) script stream has
 
 -- ---- What follows where `counter` names a state.
 

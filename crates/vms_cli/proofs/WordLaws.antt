@@ -1,7 +1,8 @@
 -- Words name boards that there are.
-use Rattle.vms_cli.proofs.Facade.{◌≡◌, ℕ, zero, suc, ◌+◌, ◌<◌, ◌≤◌, ◌++◌, Bool, true, false, if◌then◌else◌, List, Option, Some, None, IfSome, codes, arith}
-use Rattle.vms_cli.proofs.Facade.{refl, sym, ap, ◌∙◌, decimal, option_map, nat_tests, bytes_eq, IsLevel, ReachesSet, NEWEST, NEWEST_CLOCK, or_else, Isa, Clock}
-use Rattle.vms_cli.proofs.Facade.{ShippedSet, SetWord, number_after, is_set_of, is_shelf_name, Asked, BoardWord, IsaBoard, ClockBoard, Save, board_word}
+use Rattle.vms_cli.proofs.Facade.{◌≡◌, ℕ, zero, suc, ◌+◌, ◌<◌, ◌≤◌, ◌++◌, Bool, true, false, if◌then◌else◌, List, Option, Some, None, IfSome, arith}
+use Rattle.vms_cli.proofs.Facade.{refl, sym, ap, ◌∙◌, decimal, option_map, nat_tests, bytes_eq, IsLevel, ReachesSet, or_else, Isa}
+use Rattle.vms_cli.proofs.Facade.{ShippedSet, SetWord, number_after, is_set_of, is_shelf_name, Asked, BoardWord, BoardOf, SetOf, Save, board_word}
+use Rattle.vms_cli.proofs.Facade.{[], ◌∷◌, ◌&&◌, BoardKind, board_front, first_kind, kinds, newest_of, same_kind}
 use Rattle.vms_cli.proofs.Facade.{drill_of, isa_level, of_both, save_of, save_on, with_file, CanBeAsked, IsBoard, MaySaveOn}
 
 -- ---- boards
@@ -27,24 +28,27 @@ either-there : (x y : Option BoardWord) → IsThere x → IsThere y → IsThere 
 either-there None y p q = q
 either-there (Some board) y p q = p
 
-pub word-board : (word : List ℕ) → IsThere (board_word word)
-word-board word =
-    either-there (option_map IsaBoard (number_after (codes "isa-") 1 NEWEST word)) (option_map ClockBoard (number_after (codes "clk-") 1 NEWEST_CLOCK word))
-    (isa (number_after (codes "isa-") 1 NEWEST word) refl) (clock (number_after (codes "clk-") 1 NEWEST_CLOCK word) refl) where
-      isa : (o : Option ℕ) → number_after (codes "isa-") 1 NEWEST word ≡ o → IsThere (option_map IsaBoard o)
-      isa None e = tt
-      isa (Some level) e = let r = after-range (codes "isa-") word 1 NEWEST level e in record { first = r.0; last = omega arith }
+named : (kind : BoardKind) (word : List ℕ) (o : Option ℕ) → number_after (board_front kind) 1 (newest_of kind) word ≡ o
+    → IsThere (option_map (BoardOf kind) o)
+named kind word None e = tt
+named kind word (Some number) e =
+    let r = after-range (board_front kind) word 1 (newest_of kind) number e in record { first = r.0; last = omega (arith, r.1) }
 
-      clock : (o : Option ℕ) → number_after (codes "clk-") 1 NEWEST_CLOCK word ≡ o → IsThere (option_map ClockBoard o)
-      clock None e = tt
-      clock (Some version) e = let r = after-range (codes "clk-") word 1 NEWEST_CLOCK version e in record { first = r.0; last = omega arith }
+among : (word : List ℕ) (of : List BoardKind)
+    → IsThere (first_kind (λ kind. option_map (BoardOf kind) (number_after (board_front kind) 1 (newest_of kind) word)) of)
+among word [] = tt
+among word (kind ∷ of) =
+    either-there (option_map (BoardOf kind) (number_after (board_front kind) 1 (newest_of kind) word)) _ (named kind word _ refl) (among word of)
+
+pub word-board : (word : List ℕ) → IsThere (board_word word)
+word-board word = among word kinds
 
 -- one of isa-1 to isa-4 has a level
 abbrev pub HasLevel : Option ℕ → Type 0
 HasLevel level = IfSome level IsLevel
 
 level-of : (board : Option BoardWord) → IsThere board → HasLevel (isa_level board)
-level-of (Some (IsaBoard level)) is = is
+level-of (Some (BoardOf Isa level)) is = is
 level-of _ is = tt
 
 pub word-level : (word : List ℕ) → HasLevel (isa_level (board_word word))
@@ -75,18 +79,16 @@ pub all-some : {A : Type 0} {P : A → Type 0} (what : Option A) → ((a : A) �
 all-some None all = tt
 all-some (Some a) all = all a
 
-under-asked : (board : BoardWord) (newest number set : ℕ) (script : List ℕ) (b : Bool) → is_set_of newest number set ≡ b → IsBoard board
+under-asked : (board : BoardWord) (newest number set : ℕ) (script : List ℕ) (same b : Bool) → (same && is_set_of newest number set) ≡ b → IsBoard board
     → (ReachesSet newest number set → MaySaveOn board set)
     → CanBeAsked (option_map (λ (number : ℕ). Save board number script) (if b then Some set else None))
-under-asked board newest number set script true e is may =
+under-asked board newest number set script same true e is may =
     (is, may (record { level_le_set = grind (arith, nat_tests, e); set_le_newest = grind (arith, nat_tests, e) }))
-under-asked board newest number set script false e is may = tt
+under-asked board newest number set script same false e is may = tt
 
 on-asked : (script : List ℕ) (board : Option BoardWord) (set : Option ShippedSet) → IsThere board → CanBeAsked (save_on script board set)
-on-asked script (Some (IsaBoard level)) (Some (Isa set)) is =
-    under-asked (IsaBoard level) NEWEST level set script (is_set_of NEWEST level set) refl is (λ may. may)
-on-asked script (Some (ClockBoard version)) (Some (Clock set)) is =
-    under-asked (ClockBoard version) NEWEST_CLOCK version set script (is_set_of NEWEST_CLOCK version set) refl is (λ may. may)
+on-asked script (Some (BoardOf kind number)) (Some (SetOf of set)) is =
+    under-asked (BoardOf kind number) (newest_of kind) number set script (same_kind kind of) _ refl is (λ may. may)
 on-asked script _ _ is = tt
 
 pub save-asked : (board : Option BoardWord) (set : Option ShippedSet) (script : List ℕ) → IsThere board → CanBeAsked (save_of board set script)

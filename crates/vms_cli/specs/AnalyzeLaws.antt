@@ -6,10 +6,9 @@ use Rattle.vms_spec.specs.Sets.{Set}
 use Rattle.vms_spec.specs.Streams.{AreReady, is_one_of}
 use Rattle.vms_commands.specs.Fetching.{word_set}
 use Rattle.vms_commands.specs.Outcomes.{done}
-use Rattle.vms_commands.specs.SetWords.{Isa, Clock, ShippedSet, SetWord, Shipped}
+use Rattle.vms_commands.specs.SetWords.{BoardWord, BoardOf, ShippedSet, SetOf, SetWord, Shipped}
 use Rattle.vms_commands.specs.Steps.{Gives}
 use Rattle.vms_cli.specs.Answers.{HasOutcome}
-use Rattle.vms_cli.specs.Boards.{BoardWord, IsaBoard, ClockBoard}
 use Rattle.vms_cli.specs.Commands.{Show, Analyze, Pack, Save, asked_of}
 use Rattle.vms_cli.specs.Commands.PackCommand.{described_stream}
 
@@ -36,8 +35,7 @@ pub record PrintsAlike (word : SetWord) (stream : List ℕ) (held : Option Held)
 
 -- The set with this number of the board's kind.
 abbrev pub set_on : BoardWord → ℕ → ShippedSet
-set_on (IsaBoard level) set = Isa set
-set_on (ClockBoard version) set = Clock set
+set_on (BoardOf kind number) set = SetOf kind set
 
 -- If `save` writes a stream, `show` with the set of its words and `analyze` print the same text for it.
 abbrev pub SaveThenAnalyzeLaw : Type 0

@@ -1,39 +1,25 @@
 -- Arguments that name a board, a script on it, or a number. See docs/commands.md, "Arguments".
-use Rattle.std.specs.Prelude.{◌≡◌, ℕ, length, ◌≤◌, List, Option, Some, None, Result, Ok, Err, codes}
-use Rattle.std.specs.Option.{option_map}
+use Rattle.std.specs.Prelude.{◌≡◌, ℕ, length, ◌≤◌, List, Option, Some, None, Result, Ok, Err}
 use Rattle.vms_io.specs.Shelves.{Held}
-use Rattle.vms_spec.specs.Lists.{or_else}
 use Rattle.vms_spec.specs.Spelling.{number_spelled}
-use Rattle.dev_base.specs.Levels.{IsLevel, IsUpTo}
-use Rattle.dev_base.specs.declared.limits.TheConstants.{NEWEST}
-use Rattle.vms_rtc.specs.declared.limits.TheConstants.{NEWEST_CLOCK}
+use Rattle.dev_base.specs.Levels.{IsUpTo}
 use Rattle.vms_script.specs.Lines.{ScriptLine}
 use Rattle.vms_script.specs.Script.{script_read}
 use Rattle.vms_script.specs.Views.{number_read}
 use Rattle.vms_script.specs.declared.line.ScriptReason.{ScriptReason}
-use Rattle.vms_commands.specs.SetWords.{number_after}
+use Rattle.vms_commands.specs.Kinds.{newest_of}
+use Rattle.vms_commands.specs.SetWords.{BoardWord, BoardOf}
+use Rattle.vms_commands.specs.declared.kinds.BoardKind.TheVariants.{Isa}
 use Rattle.vms_board_commands.specs.Scripts.{longest_script}
-
--- A board: one of isa-1 to isa-4, by its level, or clk-1 or clk-2, by its version.
-pub data BoardWord : Type 0 where
-  IsaBoard : ℕ → BoardWord
-  ClockBoard : ℕ → BoardWord
 
 -- An existing board.
 abbrev pub IsBoard : BoardWord → Type 0
-IsBoard (IsaBoard level) = IsLevel level
-IsBoard (ClockBoard version) = IsUpTo NEWEST_CLOCK version
-
--- The board that a word names: `isa-` and its level, or `clk-` and its version.
-abbrev pub board_word : List ℕ → Option BoardWord
-board_word word =
-    or_else (option_map IsaBoard (number_after (codes "isa-") 1 NEWEST word)) (option_map ClockBoard (number_after (codes "clk-") 1 NEWEST_CLOCK word))
+IsBoard (BoardOf kind number) = IsUpTo (newest_of kind) number
 
 -- The level of a board, if it is one of isa-1 to isa-4.
 abbrev pub isa_level : Option BoardWord → Option ℕ
-isa_level None = None
-isa_level (Some (IsaBoard level)) = Some level
-isa_level (Some (ClockBoard version)) = None
+isa_level (Some (BoardOf Isa level)) = Some level
+isa_level _ = None
 
 -- The number of a result, if it has one.
 abbrev pub told : Result ℕ ScriptReason → Option ℕ

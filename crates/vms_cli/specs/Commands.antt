@@ -13,13 +13,13 @@ use Rattle.std.specs.Prelude.{◌≡◌, ℕ, false, if◌then◌else◌, List, 
 use Rattle.std.specs.Option.{option_map}
 use Rattle.std.specs.Str.{bytes_eq}
 use Rattle.vms_script.specs.Names.{is_shelf_name}
-use Rattle.vms_commands.specs.Asks.{set_asked}
+use Rattle.vms_commands.specs.Asks.{board_asked, set_asked}
 use Rattle.vms_commands.specs.Lines.{bad_words}
 use Rattle.vms_commands.specs.Outcomes.{ended}
-use Rattle.vms_commands.specs.SetWords.{ShippedSet, SetWord, set_word, shipped_word}
+use Rattle.vms_commands.specs.SetWords.{BoardWord, ShippedSet, SetWord, board_word, set_word, shipped_word}
 use Rattle.vms_board_commands.specs.Runs.{Task, unread_task}
-use Rattle.vms_cli.specs.Asks.{board_asked, saved_asked}
-use Rattle.vms_cli.specs.Boards.{BoardWord, board_word, isa_level, number_word}
+use Rattle.vms_cli.specs.Asks.{saved_asked}
+use Rattle.vms_cli.specs.Boards.{isa_level, number_word}
 use Rattle.vms_cli.specs.Commands.AnalyzeCommand.{analyze_entry}
 use Rattle.vms_cli.specs.Commands.CheckCommand.{check_entry}
 use Rattle.vms_cli.specs.Commands.ConvertCommand.{convert_entry, convertible}

@@ -1,20 +1,17 @@
 -- What `load` does with streams that boards wrote.
 use Rattle.std.specs.Prelude.{◌≡◌, ℕ, List, length, Option, None, Some}
 use Rattle.dev_base.specs.Levels.{ReachesSet}
-use Rattle.dev_board.specs.Sound.{IsSound}
-use Rattle.dev_clock.specs.Sound.{IsSound as IsSoundClock}
-use Rattle.vms_board.specs.Clock.{clock}
 use Rattle.vms_board.specs.Family.{Family}
-use Rattle.vms_board.specs.Isa.{isa}
 use Rattle.vms_board_commands.specs.Scripts.{scripted}
 use Rattle.vms_board.specs.Saving.{stream_with}
 use Rattle.vms_board_streams.specs.Streams.{HasRoomFor}
 use Rattle.vms_commands.specs.Outcomes.{Outcome, Outside, DoesOrStops, done}
+use Rattle.vms_commands.specs.SetWords.{BoardOf}
 use Rattle.vms_commands.specs.Steps.{Step, Untold, Gives, Ends}
 use Rattle.vms_script.specs.Lines.{ScriptLine}
 use Rattle.vms_session.specs.Events.{events_of, trace_from}
-use Rattle.vms_cli.specs.Boards.{IsaBoard, ClockBoard}
 use Rattle.vms_cli.specs.Commands.{Asked, Load}
+use Rattle.vms_cli.specs.Kinds.{IsSoundOf, family_of}
 
 module _ {S : Type 0} (f : Family S) where
   -- The outcome of `load` for what a board saved under a set, with or without a description: the trace of that
@@ -34,8 +31,6 @@ module _ {S : Type 0} (f : Family S) where
 
 -- The continuation clause of a command: it is about `load`.
 abbrev pub Continuation : Option Asked → ℕ → Outside → Outside → Type 0
-Continuation (Some (Load (IsaBoard level) script)) status old new =
-    ContinuesBy isa IsSound level (scripted None old.shelf.held script) status old new
-Continuation (Some (Load (ClockBoard version) script)) status old new =
-    ContinuesBy clock IsSoundClock version (scripted None old.shelf.held script) status old new
+Continuation (Some (Load (BoardOf kind number) script)) status old new =
+    ContinuesBy (family_of kind) (IsSoundOf kind) number (scripted None old.shelf.held script) status old new
 Continuation asked status old new = Unit {0}

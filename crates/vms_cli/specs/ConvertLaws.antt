@@ -11,11 +11,11 @@ use Rattle.vms_convert.specs.Converted.{recast_each}
 use Rattle.vms_convert.specs.Lost.{numbers_in}
 use Rattle.vms_commands.specs.Fetching.{word_set}
 use Rattle.vms_commands.specs.Outcomes.{done}
-use Rattle.vms_commands.specs.SetWords.{Isa, SetWord, Shipped}
+use Rattle.vms_commands.specs.SetWords.{BoardOf, SetOf, SetWord, Shipped}
 use Rattle.vms_commands.specs.Steps.{Gives}
+use Rattle.vms_commands.specs.declared.kinds.BoardKind.TheVariants.{Isa}
 use Rattle.vms_cli.specs.AnalyzeLaws.{PrintsAlike}
 use Rattle.vms_cli.specs.Answers.{HasOutcome}
-use Rattle.vms_cli.specs.Boards.{IsaBoard}
 use Rattle.vms_cli.specs.Commands.{Convert, Load, Show}
 use Rattle.vms_cli.specs.Commands.ConvertCommand.{newest}
 
@@ -36,7 +36,7 @@ pub record StandsFor (word : SetWord) (input stream : List ℕ) (held : Option H
   pub loaded : List Image
   pub loads : Takes newest newest.machines stream (length stream) machine loaded
   pub cells : numbers_in loaded ≡ recast_each to newest.devices (numbers_in images)
-  pub shown : HasOutcome (Some (Show (Shipped (Isa NEWEST)))) (Some stream) held (done (values_text newest machine loaded) held (length stream))
+  pub shown : HasOutcome (Some (Show (Shipped (SetOf Isa NEWEST)))) (Some stream) held (done (values_text newest machine loaded) held (length stream))
   pub again : HasOutcome (Some (Convert word)) (Some stream) held (done stream held (length stream))
 
 -- This is so if `convert` writes a stream.
@@ -49,5 +49,5 @@ ConvertAgainLaw = (word : SetWord) (input stream : List ℕ) (held : Option Held
 abbrev pub ConvertThenLoadLaw : Type 0
 ConvertThenLoadLaw = (word : SetWord) (level : ℕ) (input stream script trace : List ℕ) (held : Option Held) (n k : ℕ) → IsLevel level
     → HasOutcome (Some (Convert word)) (Some input) held (done stream held n)
-    → HasOutcome (Some (Load (IsaBoard level) script)) (Some input) held (done trace held k)
-    → HasOutcome (Some (Load (IsaBoard level) script)) (Some stream) held (done trace held (length stream))
+    → HasOutcome (Some (Load (BoardOf Isa level) script)) (Some input) held (done trace held k)
+    → HasOutcome (Some (Load (BoardOf Isa level) script)) (Some stream) held (done trace held (length stream))

@@ -8,6 +8,7 @@ pub mod Commands
 pub mod Continuation
 pub mod ConvertLaws
 pub mod Entry
+pub mod Kinds
 pub mod Laws
 pub mod Limits
 pub mod Needs

@@ -1,39 +1,26 @@
 // Arguments that name a board or a number.
 ghost use Rattle.std.specs.Prelude.{◌≡◌};
 ghost use Rattle.std.specs.Option.{option_map};
-ghost use Rattle.vms_cli.specs.Asks.{board_asked};
-ghost use Rattle.vms_cli.specs.Boards.{board_word, isa_level, number_word};
+ghost use Rattle.vms_commands.specs.SetWords.{board_word};
+ghost use Rattle.vms_cli.specs.Boards.{isa_level, number_word};
 ghost use Rattle.vms_cli.specs.Commands.DrillCommand.{few_events};
 
-use crate::boards::{BoardWord, ClockBoard, IsaBoard};
-use dev_base::NEWEST;
-use vms_commands::number_after;
-use vms_rtc::NEWEST_CLOCK;
+use crate::boards::IsaBoard;
+use vms_commands::{BoardKind, board_word};
 use vms_script::number_of;
 
 /// The most events that a drill may have.
 const MOST_EVENTS: u64 = 1_000_000;
-
-/// Returns the board whose name is `word`: `isa-` and its level, or `clk-` and its version.
-pub(crate) fn board_word(word: &str) -> Option<BoardWord>
-    ensures { option_map board_asked result ≡ board_word word.now }
-{
-    if let Some(level) = number_after(b"isa-", 1, NEWEST, word) {
-        return Some(BoardWord::Isa(IsaBoard { level }));
-    }
-    match number_after(b"clk-", 1, NEWEST_CLOCK, word) {
-        Some(version) => Some(BoardWord::Clock(ClockBoard { version })),
-        None => None,
-    }
-}
 
 /// Returns the board `isa-1` to `isa-4` that `word` names.
 pub(crate) fn isa_board(word: &str) -> Option<IsaBoard>
     ensures { option_map (λ board. board.level) result ≡ isa_level (board_word word.now) }
 {
     match board_word(word) {
-        Some(BoardWord::Isa(board)) => Some(board),
-        Some(BoardWord::Clock(_)) | None => None,
+        Some(board) if board.kind == BoardKind::Isa => Some(IsaBoard {
+            level: board.number,
+        }),
+        _ => None,
     }
 }
 

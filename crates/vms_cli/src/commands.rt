@@ -19,19 +19,20 @@ mod save;
 mod show;
 
 use crate::Words;
-use crate::boards::{BoardWord, IsaBoard, SavedBoard};
+use crate::boards::{IsaBoard, SavedBoard};
+use crate::kinds::{Loading, load, save};
 use analyze::analyze_input;
 use check::{check, check_of};
 use convert::{convert, convert_of};
 use counter::{counter, counter_of};
 use drill::{drill, drill_of};
-use load::{Loading, load, load_of};
+use load::load_of;
 use pack::{pack, pack_of};
 use play::{play, play_of};
-use save::{save, save_of};
+use save::save_of;
 use show::{show, show_of};
 use std::alloc::Global;
-use vms_commands::{Ending, SetWord};
+use vms_commands::{BoardWord, Ending, SetWord};
 use vms_io::{Shelf, Sink, Source};
 
 /// The command that the arguments form.

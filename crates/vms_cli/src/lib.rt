@@ -5,6 +5,7 @@
 mod board_words;
 mod boards;
 mod commands;
+mod kinds;
 /// Laws of the whole program.
 pub mod laws;
 mod running;

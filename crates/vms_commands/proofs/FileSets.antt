@@ -4,11 +4,10 @@ use Rattle.std.proofs.Common.{◌≡◌, ℕ, zero, suc, ◌+◌, ◌≤◌, Boo
 use Rattle.std.specs.{List.slice_get, Option.option_and_then}
 use Rattle.serde_json.specs.{Data.Data, Data.Items, Data.no_items, Data.item, Find.get, Find.as_array, Find.as_number, Find.as_u64}
 use Rattle.vms_spec.specs.{Sets.Formula, Sets.Desc, Sets.Sub, Sets.Device, Sets.Set, WellFormed.SetFault, WellFormed.first_fault, Good.IsFit}
-use Rattle.vms_desc.proofs.{Bounds.none_is, ClockHeads.clock_heads, Formed.clock_formed, Formed.fit_number}
-use Rattle.vms_desc.specs.Formed.{clock_set}
 use Rattle.vms_io.specs.Shelves.{Held}
+use Rattle.vms_commands.proofs.KindSets.{fit_kind}
 use Rattle.vms_commands.specs.Fetching.{SetText, Number, Text, fetched_set, said_set, set_in, word_set}
-use Rattle.vms_commands.specs.SetWords.{Isa, Clock, SetWord}
+use Rattle.vms_commands.specs.SetWords.{SetOf, SetWord}
 use Rattle.vms_commands.specs.Steps.{Step, Untold, Gives, Ends, next as after}
 use Rattle.vms_json.specs.{Keys.fits, Names.Names, Names.Scope, Names.names_if}
 use Rattle.vms_json.specs.Answers.{Answer, good, bad, under, next, changed, each_from, each_of, list_of}
@@ -260,12 +259,8 @@ fit_said name Syntax h = tt
 fit_said name (Shape path) h = tt
 fit_said name (IllFormed fault) h = tt
 
-fit_clock : (c : ℕ) → IsFit (clock_set c)
-fit_clock c = record { well = none_is (first_fault (clock_set c)) (clock_formed c); heads = clock_heads c }
-
 pub fit_text : (text : SetText) → FitStep (set_in text)
-fit_text (Number (Isa number)) = fit_number number
-fit_text (Number (Clock number)) = fit_clock number
+fit_text (Number (SetOf kind number)) = fit_kind kind number
 fit_text (Text name text) = fit_said name (file_said text) (file_fit text)
 
 fit_next : {A : Type 0} (s : Step A) (f : A → Step Set) → ((a : A) → FitStep (f a)) → FitStep (after s f)

@@ -2,6 +2,7 @@ pub mod Asks
 pub mod Courses
 pub mod Endings
 pub mod Fetching
+pub mod Kinds
 pub mod Lines
 pub mod Outcomes
 pub mod SetLines

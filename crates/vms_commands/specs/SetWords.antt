@@ -1,24 +1,20 @@
--- Arguments that name a set. See docs/commands.md, "Arguments".
-use Rattle.std.specs.Prelude.{ℕ, zero, suc, ◌++◌, if◌then◌else◌, List, Option, Some, None, codes}
+-- Arguments that name a set or a board. See docs/commands.md, "Arguments".
+use Rattle.std.specs.Prelude.{ℕ, zero, suc, ◌++◌, ◌-◌, if◌then◌else◌, List, Option, Some, None}
 use Rattle.std.specs.Fmt.{decimal}
 use Rattle.std.specs.Option.{option_map}
 use Rattle.std.specs.Str.{bytes_eq}
-use Rattle.dev_base.specs.declared.limits.TheConstants.{NEWEST}
-use Rattle.vms_rtc.specs.declared.limits.TheConstants.{NEWEST_CLOCK}
-use Rattle.vms_desc.specs.Formed.{shipped_set, clock_set}
 use Rattle.vms_script.specs.Names.{is_shelf_name}
-use Rattle.vms_spec.specs.Lists.{or_else}
 use Rattle.vms_spec.specs.Sets.{Set}
+use Rattle.vms_commands.specs.Kinds.{board_front, first_kind, first_set, kinds, newest_of, set_front, set_of}
+use Rattle.vms_commands.specs.declared.kinds.BoardKind.{BoardKind}
 
--- A shipped set by its number: of the boards isa-1 to isa-4, or of the boards clk-1 and clk-2.
+-- A shipped set: that of a kind of boards, with a number.
 pub data ShippedSet : Type 0 where
-  Isa : ℕ → ShippedSet
-  Clock : ℕ → ShippedSet
+  SetOf : BoardKind → ℕ → ShippedSet
 
 -- The set itself.
 abbrev pub shipped : ShippedSet → Set
-shipped (Isa number) = shipped_set number
-shipped (Clock number) = clock_set number
+shipped (SetOf kind number) = set_of kind number
 
 -- The set that an argument names: a shipped one, or a file of this name on the shelf.
 pub data SetWord : Type 0 where
@@ -34,7 +30,7 @@ number_after front first (suc count) word = if bytes_eq word (front ++ decimal f
 -- The shipped set that a word names: `@` and a number, or `@c` and a number for the boards with a clock chip.
 abbrev pub shipped_word : List ℕ → Option ShippedSet
 shipped_word word =
-    or_else (option_map Isa (number_after (codes "@") 0 (suc NEWEST) word)) (option_map Clock (number_after (codes "@c") 1 NEWEST_CLOCK word))
+    first_kind (λ kind. option_map (SetOf kind) (number_after (set_front kind) (first_set kind) (suc (newest_of kind) - first_set kind) word)) kinds
 
 -- The set that a word names, given the shipped set that it names, if any.
 abbrev pub named_set : List ℕ → Option ShippedSet → Option SetWord
@@ -44,3 +40,11 @@ named_set word None = if is_shelf_name word then Some (OnShelf word) else None
 -- The set that a word names.
 abbrev pub set_word : List ℕ → Option SetWord
 set_word word = named_set word (shipped_word word)
+
+-- A board: one of a kind, with a number.
+pub data BoardWord : Type 0 where
+  BoardOf : BoardKind → ℕ → BoardWord
+
+-- The board that a word names: `isa-` and its level, or `clk-` and its version.
+abbrev pub board_word : List ℕ → Option BoardWord
+board_word word = first_kind (λ kind. option_map (BoardOf kind) (number_after (board_front kind) 1 (newest_of kind) word)) kinds

@@ -3,8 +3,7 @@ ghost use Rattle.std.specs.Prelude.{◌≡◌, ◌≤◌, true, IfOk, vec_len};
 ghost use Rattle.vms_io.specs.Told.{stock};
 ghost use Rattle.vms_desc.specs.Described.{described};
 ghost use Rattle.vms_descfile.specs.Files.{file_said};
-ghost use Rattle.vms_commands.specs.Asks.{set_asked, shipped_asked};
-ghost use Rattle.vms_commands.specs.SetWords.{shipped};
+ghost use Rattle.vms_commands.specs.Asks.{set_asked};
 ghost use Rattle.vms_load.specs.Lean.{loads};
 ghost use Rattle.vms_commands.specs.Fetching.{fetched, fetched_set, is_on_shelf, is_text, said_set, set_in, word_set};
 ghost use Rattle.vms_commands.specs.StepEndings.{Asks, AsksIf, FetchCause, HadCause, ReadCause, StepAs, WordCause, text_of};
@@ -105,18 +104,8 @@ pub fn read_fetched(alloc: Global, text: &SetText) -> Result<DescSet, Ending>
     ensures ends { ReadCause (is_text (text_of text.now)) result }
 {
     match text {
-        SetText::Shipped(set) => Ok(make_shipped(alloc, *set)?),
+        SetText::Shipped(set) => Ok(set.kind.make_set(alloc, set.number)?),
         SetText::Text { name, text } => read_file(alloc, name, text),
-    }
-}
-
-// Makes the shipped set `set`. It fails only if memory runs out.
-fn make_shipped(alloc: Global, set: ShippedSet) -> Result<DescSet, NoMemory>
-    ensures { IfOk result (λ made. described made ≡ shipped (shipped_asked set)) }
-{
-    match set {
-        ShippedSet::Isa(set) => DescSet::shipped(alloc, set.number),
-        ShippedSet::Clock(set) => DescSet::clock(alloc, set.number),
     }
 }
 

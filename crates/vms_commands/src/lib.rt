@@ -7,6 +7,7 @@
 
 mod ending;
 mod fetching;
+mod kinds;
 mod line_parts;
 mod notes;
 mod refused;
@@ -17,10 +18,11 @@ mod words;
 
 pub use ending::Ending;
 pub use fetching::{LONGEST_FILE, SetText, fetch, fetch_set, loader_of, read_fetched, set_of};
+pub use kinds::BoardKind;
 pub use line_parts::append_number;
 pub use notes::{not_there_line, too_large_line};
 pub use refused::{NoteLine, append_section, refusal_line, refused_line};
 pub use set_notes::{mismatch_line, rule_line, shape_line, syntax_line};
-pub use set_words::{IsaSet, SetWord, ShippedSet};
+pub use set_words::{BoardWord, SetWord, ShippedSet};
 pub use texts::write_text;
-pub use words::{number_after, set_word, shipped_set};
+pub use words::{board_word, set_word, shipped_set};

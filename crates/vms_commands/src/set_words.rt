@@ -1,8 +1,9 @@
-// What an argument that names a set means.
+// What an argument that names a set or a board means.
 ghost use Rattle.std.specs.Prelude.{◌≤◌};
 ghost use Rattle.dev_base.specs.Levels.{IsUpTo};
-ghost use Rattle.dev_base.specs.declared.limits.TheConstants.{NEWEST};
-ghost use Rattle.vms_rtc.specs.declared.limits.TheConstants.{NEWEST_CLOCK};
+ghost use Rattle.vms_commands.specs.Kinds.{first_set, newest_of};
+
+use crate::kinds::BoardKind;
 
 /// The set that an argument names.
 #[derive(Clone, Copy)]
@@ -15,25 +16,21 @@ pub enum SetWord<'a> {
 
 /// A shipped set.
 #[derive(Clone, Copy)]
-pub enum ShippedSet {
-    /// `@0` to the newest: a set of the boards `isa-1` to `isa-4`.
-    Isa(IsaSet),
-    /// `@c1` or `@c2`: a set of the boards `clk-1` and `clk-2`.
-    Clock(ClockSet),
+pub struct ShippedSet {
+    /// The kind of boards that have this set.
+    pub kind: BoardKind,
+    /// The number of the set, from the first of its kind to the newest.
+    pub number: u8,
+    ghost first: { first_set kind ≤ number },
+    ghost last: { number ≤ newest_of kind },
 }
 
-/// A shipped set of the boards `isa-1` to `isa-4`.
+/// The board that an argument names.
 #[derive(Clone, Copy)]
-pub struct IsaSet {
-    /// The number of the set, from 0 to the newest.
+pub struct BoardWord {
+    /// The kind of the board.
+    pub kind: BoardKind,
+    /// The number of the board, from 1 to the highest of its kind.
     pub number: u8,
-    ghost shipped: { number ≤ NEWEST },
-}
-
-/// A shipped set of the boards `clk-1` and `clk-2`.
-#[derive(Clone, Copy)]
-pub struct ClockSet {
-    /// The number of the set, from 1 to the newest.
-    pub number: u8,
-    ghost shipped: { IsUpTo NEWEST_CLOCK number },
+    ghost board: { IsUpTo (newest_of kind) number },
 }

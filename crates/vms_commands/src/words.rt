@@ -1,12 +1,11 @@
-// Arguments that name a set.
+// Arguments that name a set or a board.
 ghost use Rattle.std.specs.Prelude.{◌≡◌, ◌-◌, ◌≤◌, suc, IfSome};
 ghost use Rattle.std.specs.Option.{option_map};
-ghost use Rattle.vms_commands.specs.Asks.{set_asked, shipped_asked};
-ghost use Rattle.vms_commands.specs.SetWords.{number_after, set_word, shipped_word};
+ghost use Rattle.vms_commands.specs.Asks.{board_asked, set_asked, shipped_asked};
+ghost use Rattle.vms_commands.specs.SetWords.{board_word, number_after, set_word, shipped_word};
 
-use crate::set_words::{ClockSet, IsaSet, SetWord, ShippedSet};
-use dev_base::NEWEST;
-use vms_rtc::NEWEST_CLOCK;
+use crate::kinds::KINDS;
+use crate::set_words::{BoardWord, SetWord, ShippedSet};
 use vms_script::{is_shelf_name, number_of};
 
 /// Returns the set that `word` names: a shipped set by its word, or a file by its name on the
@@ -28,17 +27,33 @@ pub fn set_word(word: &str) -> Option<SetWord<'_>>
 pub fn shipped_set(word: &str) -> Option<ShippedSet>
     ensures { option_map shipped_asked result ≡ shipped_word word.now }
 {
-    if let Some(number) = number_after(b"@", 0, NEWEST, word) {
-        return Some(ShippedSet::Isa(IsaSet { number }));
+    for kind in KINDS {
+        if let Some(number) = number_after(
+            kind.set_front(),
+            kind.first_set(),
+            kind.newest(),
+            word,
+        ) {
+            return Some(ShippedSet { kind, number });
+        }
     }
-    match number_after(b"@c", 1, NEWEST_CLOCK, word) {
-        Some(number) => Some(ShippedSet::Clock(ClockSet { number })),
-        None => None,
+    None
+}
+
+/// Returns the board whose name is `word`: `isa-` and its level, or `clk-` and its version.
+pub fn board_word(word: &str) -> Option<BoardWord>
+    ensures { option_map board_asked result ≡ board_word word.now }
+{
+    for kind in KINDS {
+        if let Some(number) = number_after(kind.board_front(), 1, kind.newest(), word) {
+            return Some(BoardWord { kind, number });
+        }
     }
+    None
 }
 
 /// Returns the number whose decimal text `word` has after `front`, if it is from `first` to `last`.
-pub fn number_after(front: &[u8], first: u8, last: u8, word: &str) -> Option<u8>
+fn number_after(front: &[u8], first: u8, last: u8, word: &str) -> Option<u8>
     ensures number { result ≡ number_after front.now first (suc last - first) word.now }
     ensures within { IfSome result (λ number. (first ≤ number) × (number ≤ last)) }
 {

@@ -12,9 +12,9 @@ pub use Rattle.dev_board.specs.declared.event.Event.TheVariants.{Ack, Byte, Read
 unfoldable pub use Rattle.dev_board.specs.Step.{acted, after_act, step}
 pub use Rattle.dev_clock.specs.State.{ClockState}
 unfoldable pub use Rattle.dev_clock.specs.Step.{follows_line}
-pub use Rattle.vmstate_board_c.specs.{Kinds.now_of, Kinds.step_of, declared.answer.CAnswer.CAnswer, declared.held.AnyBoard.AnyBoard}
+pub use Rattle.vmstate_board_c.specs.{Kinds.now_of, Kinds.step_of, declared.answer.CAnswer.CAnswer, declared.kinds.AnyBoard.AnyBoard}
 pub use Rattle.vmstate_board_c.specs.Answers.{IsAccess, Reaches, acts, acts_after, event_at, said, time_to}
-pub use Rattle.vmstate_board_c.specs.declared.held.AnyBoard.TheVariants.{Clock, Isa}
+pub use Rattle.vmstate_board_c.specs.declared.kinds.AnyBoard.TheVariants.{Clock, Isa}
 pub use base.Fml.{flft, fsep, ftrue}
 pub use base.Logic.{SProp, emp, ent, fst∗, id⊢, never}
 pub use contract.BorrowLft.{◌⊑◌}

@@ -11,7 +11,7 @@ use Rattle.vmstate_board_c.specs.Kinds.{IsDueAt, is_made, now_of, output_of, pow
 use Rattle.vmstate_board_c.specs.declared.answer.CAnswer.{CAnswer}
 use Rattle.vmstate_board_c.specs.declared.answer.CNumber.{CNumber}
 use Rattle.vmstate_board_c.specs.declared.handle.Handle.{Handle}
-use Rattle.vmstate_board_c.specs.declared.held.AnyBoard.{AnyBoard}
+use Rattle.vmstate_board_c.specs.declared.kinds.AnyBoard.{AnyBoard}
 
 -- The board that a handle owns, if it owns one.
 abbrev pub board_of : Handle → Option AnyBoard

@@ -1,9 +1,7 @@
 -- The results of saving and restoring, for a board or none.
 use Rattle.std.specs.Prelude.{◌≡◌, ◌⊎◌, ◌&&◌, ℕ, Bool, true, false, nat_le, nat_lt, if◌then◌else◌, Result, Ok, Err, OnErr, List, ◌++◌, length, drop, Option, Some, None}
-use Rattle.vms_board.specs.Clock.{clock}
 use Rattle.vms_board.specs.Comes.{RestoreReads}
 use Rattle.vms_board.specs.Family.{Family}
-use Rattle.vms_board.specs.Isa.{isa}
 use Rattle.vms_board.specs.Saving.{saved_stream, stream_with}
 use Rattle.vms_board.specs.Standing.{Standing}
 use Rattle.vms_board.specs.declared.restore.RestoreFault.{RestoreFault}
@@ -11,10 +9,10 @@ use Rattle.vms_board.specs.declared.restore.RestoreFault.TheVariants as faults
 use Rattle.vms_frames.specs.declared.fault.Refusal.{Refusal}
 use Rattle.vms_io.specs.Told.{Intake}
 use Rattle.vmstate_board_c.specs.Answers.{no_number}
+use Rattle.vmstate_board_c.specs.Kinds.{HoldsBetween, by_kind}
 use Rattle.vms_spec.specs.Reasons.{reason_number, rule_of}
 use Rattle.vmstate_board_c.specs.declared.answer.CNumber.{CNumber}
-use Rattle.vmstate_board_c.specs.declared.held.AnyBoard.{AnyBoard}
-use Rattle.vmstate_board_c.specs.declared.held.AnyBoard.TheVariants.{Isa, Clock}
+use Rattle.vmstate_board_c.specs.declared.kinds.AnyBoard.{AnyBoard}
 use Rattle.vmstate_board_c.specs.declared.stream.CRestored.{CRestored}
 
 -- ---- saving
@@ -23,20 +21,18 @@ use Rattle.vmstate_board_c.specs.declared.stream.CRestored.{CRestored}
 abbrev pub may_save_in : {S : Type 0} → Family S → ℕ → Standing S → Bool
 may_save_in f set board = nat_le (f.number board.state) set && nat_le set f.newest
 
--- Whether a board of either kind may be saved under this set.
+-- Whether a board of any kind may be saved under this set.
 abbrev pub may_save : ℕ → AnyBoard → Bool
-may_save set (Isa board) = may_save_in isa set board
-may_save set (Clock board) = may_save_in clock set board
+may_save set board = by_kind (λ S f b. may_save_in f set b) board
 
 -- The board's stream under this set, with or without its description.
 abbrev pub stream_in : {S : Type 0} → Family S → ℕ → Bool → Standing S → List ℕ
 stream_in f set describe board =
     if describe then saved_stream f set board.state else stream_with f set board.state None
 
--- The stream of a board of either kind.
+-- The stream of a board of any kind.
 abbrev pub stream_of : ℕ → Bool → AnyBoard → List ℕ
-stream_of set describe (Isa board) = stream_in isa set describe board
-stream_of set describe (Clock board) = stream_in clock set describe board
+stream_of set describe board = by_kind (λ S f b. stream_in f set describe b) board
 
 -- The bytes are at the beginning of the buffer, or it is too small for them and unchanged.
 pub record Lands (bytes old new : List ℕ) (answer : CNumber) : Type 0 where
@@ -100,12 +96,9 @@ pub record IsRestored {S : Type 0} (f : Family S) (stream : List ℕ) (old new :
   pub same : OnErr result (new ≡ old)
   pub said : Said new.taken result answer
 
--- The same for a board of either kind, which stays of its kind.
+-- The same for a board of any kind, which stays of its kind.
 abbrev pub RestoredTo : List ℕ → AnyBoard → AnyBoard → CRestored → Type 0
-RestoredTo stream (Isa old) (Isa new) answer = IsRestored isa stream old new answer
-RestoredTo stream (Clock old) (Clock new) answer = IsRestored clock stream old new answer
-RestoredTo stream (Isa old) (Clock new) answer = ⊥
-RestoredTo stream (Clock old) (Isa new) answer = ⊥
+RestoredTo stream old new answer = HoldsBetween (λ S f before after. IsRestored f stream before after answer) old new
 
 -- The same for a board, if there is one. Otherwise the status is 3.
 abbrev pub HasRestored : List ℕ → (old new : Option AnyBoard) → CRestored → Type 0

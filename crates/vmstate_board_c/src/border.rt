@@ -10,8 +10,8 @@ ghost use Rattle.vmstate_board_c.specs.Kinds.{is_made, power_on_of};
 
 use crate::answer::{CAnswer, answered, brief, nothing};
 use crate::handle::Handle;
-use crate::held::{AnyBoard, Held};
-use crate::kinds::is_kind;
+use crate::held::Held;
+use crate::kinds::{AnyBoard, is_kind};
 use crate::status::{DONE, NO_BOARD, NO_MEMORY, NONE_SUCH, PAST};
 use dev_board::{Event, is_wire};
 use std::alloc::Global;

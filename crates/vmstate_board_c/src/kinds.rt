@@ -1,16 +1,37 @@
-// The calls of boards of both kinds.
+// The boards of each kind, and their calls.
 ghost use Rattle.std.specs.Prelude.{◌≡◌, ◌-◌, ◌<◌, ◌≤◌, [], IsTrue, IfOk, IfSome, MatchOption, Some, None, true, false};
 ghost use Rattle.dev_board.specs.Touch.{saying};
 ghost use Rattle.dev_board.specs.declared.event.Event.TheVariants.{Wait};
 ghost use Rattle.dev_board.specs.Step.{names_wire};
 ghost use Rattle.vmstate_board_c.specs.Answers.{MayAct, Reaches, event_at, said, time_to};
-ghost use Rattle.vmstate_board_c.specs.declared.held.AnyBoard.TheVariants.{Isa};
+ghost use Rattle.vmstate_board_c.specs.declared.kinds.AnyBoard.TheVariants.{Isa};
+ghost use Rattle.vmstate_board_c.specs.Streams.{RestoredTo, SavedIf, may_save, stream_of};
 ghost use Rattle.vmstate_board_c.specs.Kinds.{IsDueAt, character_of, has_port_of, int_of, is_made, level_of, now_of, output_of, power_on_of, room_of, step_of};
 
-use crate::held::AnyBoard;
+use crate::answer::CNumber;
+use crate::stream::{CRestored, restore, save};
 use dev_board::{Answer, Event};
 use std::alloc::Global;
 use vms_board::{Board, ClockBoard, NoMemory};
+
+/// A board of one of the kinds.
+#[derive(Drop)]
+pub enum AnyBoard {
+    /// A board `isa-1` to `isa-4`.
+    Isa(Board),
+    /// A board `clk-1` or `clk-2`.
+    Clock(ClockBoard),
+}
+
+// Makes the same call on a board of any kind.
+macro_rules! of_any {
+    ($any:expr, $board:ident => $call:expr) => {
+        match $any {
+            AnyBoard::Isa($board) => $call,
+            AnyBoard::Clock($board) => $call,
+        }
+    };
+}
 
 /// The number of the kind of `isa-1` to `isa-4`.
 const ISA: u8 = 0;
@@ -52,10 +73,7 @@ impl AnyBoard {
         requires { IsTrue (names_wire event) }
         ensures { (result, self.new) ≡ step_of event self.old }
     {
-        match self {
-            AnyBoard::Isa(board) => board.event(event),
-            AnyBoard::Clock(board) => board.event(event),
-        }
+        of_any!(self, board => board.event(event))
     }
 
     /// Lets time pass up to `moment` and returns the interrupt output, if it can be told at once that
@@ -120,30 +138,21 @@ impl AnyBoard {
     pub(crate) fn now(&self) -> u64
         ensures { result ≡ now_of self.now }
     {
-        match self {
-            AnyBoard::Isa(board) => board.now(),
-            AnyBoard::Clock(board) => board.now(),
-        }
+        of_any!(self, board => board.now())
     }
 
     /// Returns the level, or the version of the clock chip.
     pub(crate) fn level(&self) -> u8
         ensures { result ≡ level_of self.now }
     {
-        match self {
-            AnyBoard::Isa(board) => board.number(),
-            AnyBoard::Clock(board) => board.number(),
-        }
+        of_any!(self, board => board.number())
     }
 
     /// Reports whether the interrupt output is high.
     pub(crate) fn int(&self) -> bool
         ensures { result ≡ int_of self.now }
     {
-        match self {
-            AnyBoard::Isa(board) => board.int(),
-            AnyBoard::Clock(board) => board.int(),
-        }
+        of_any!(self, board => board.int())
     }
 
     /// Reports whether OUT of counter `counter` is high at the present moment.
@@ -151,40 +160,28 @@ impl AnyBoard {
         requires { counter < 3 }
         ensures { result ≡ output_of counter self.now }
     {
-        match self {
-            AnyBoard::Isa(board) => board.output(counter),
-            AnyBoard::Clock(board) => board.output(counter),
-        }
+        of_any!(self, board => board.output(counter))
     }
 
     /// Reports whether a device uses the port `port`.
     pub(crate) fn has_port(&self, port: u16) -> bool
         ensures { result ≡ has_port_of port self.now }
     {
-        match self {
-            AnyBoard::Isa(board) => board.has_port(port),
-            AnyBoard::Clock(board) => board.has_port(port),
-        }
+        of_any!(self, board => board.has_port(port))
     }
 
     /// Returns how many bytes may arrive on the serial line before one is lost.
     pub(crate) fn room(&self) -> u8
         ensures { result ≡ room_of self.now }
     {
-        match self {
-            AnyBoard::Isa(board) => board.room(),
-            AnyBoard::Clock(board) => board.room(),
-        }
+        of_any!(self, board => board.room())
     }
 
     /// Returns the time of one character on the serial line, in nanoseconds.
     pub(crate) fn character(&self) -> u64
         ensures { result ≡ character_of self.now }
     {
-        match self {
-            AnyBoard::Isa(board) => board.character(),
-            AnyBoard::Clock(board) => board.character(),
-        }
+        of_any!(self, board => board.character())
     }
 
     /// Returns the least wait, in nanoseconds, after which the interrupt output has changed or bytes
@@ -192,10 +189,22 @@ impl AnyBoard {
     pub(crate) fn due(&self) -> Option<u64>
         ensures { IsDueAt self.now result }
     {
-        match self {
-            AnyBoard::Isa(board) => board.due(),
-            AnyBoard::Clock(board) => board.due(),
-        }
+        of_any!(self, board => board.due())
+    }
+
+    /// Writes the board's stream under set `set` to `room`, as the call of C does.
+    pub(crate) fn save(&self, alloc: Global, set: u8, describe: bool, room: &mut [u8]) -> CNumber
+        ensures { SavedIf (may_save set self.now) (stream_of set describe self.now)
+            room.old room.new result }
+    {
+        of_any!(self, board => save(alloc, board, set, describe, room))
+    }
+
+    /// Restores the board from `stream`, as the call of C does.
+    pub(crate) fn restore(&mut self, stream: &[u8]) -> CRestored
+        ensures { RestoredTo stream.now self.old self.new result }
+    {
+        of_any!(self, board => restore(board, stream))
     }
 }
 

@@ -7,7 +7,7 @@ ghost use Rattle.vmstate_board_c.specs.Kinds.{character_of, has_port_of, int_of,
 
 use crate::answer::{CNumber, flag, no_number, number, wait_number};
 use crate::handle::Handle;
-use crate::held::AnyBoard;
+use crate::kinds::AnyBoard;
 use crate::status::{NO_BOARD, NONE_SUCH};
 use std::alloc::Global;
 

@@ -1,11 +1,10 @@
 // Saves a board's stream to the caller's memory, and restores it from there.
 ghost use Rattle.std.specs.Prelude.{◌≡◌};
 ghost use Rattle.vmstate_board_c.specs.Answers.{board_of};
-ghost use Rattle.vmstate_board_c.specs.Streams.{HasRestored, HasSaved, IsRestored, Lands, RestoredTo, SavedIf, may_save, may_save_in, nothing_restored, refused_said, stream_in, stream_of};
+ghost use Rattle.vmstate_board_c.specs.Streams.{HasRestored, HasSaved, IsRestored, Lands, SavedIf, may_save_in, nothing_restored, refused_said, stream_in};
 
 use crate::answer::{CNumber, no_number};
 use crate::handle::Handle;
-use crate::held::AnyBoard;
 use crate::status::{DONE, NO_BOARD, NO_MEMORY, NONE_SUCH, REFUSED, TOO_SMALL};
 use std::alloc::Global;
 use vms_board::{Machine, MachineBoard, Refusal, RestoreFault};
@@ -53,22 +52,13 @@ pub extern "C" fn vmstate_board_save(
     let Some(held) = handle.take(alloc) else {
         return no_number(NO_BOARD);
     };
-    let answer = save_any(alloc, &held.board, set, describe, room);
+    let answer = held.board.save(alloc, set, describe, room);
     *handle = Handle::of(held);
     answer
 }
 
-fn save_any(alloc: Global, board: &AnyBoard, set: u8, describe: bool, room: &mut [u8]) -> CNumber
-    ensures { SavedIf (may_save set board.now) (stream_of set describe board.now)
-        room.old room.new result }
-{
-    match board {
-        AnyBoard::Isa(board) => save(alloc, board, set, describe, room),
-        AnyBoard::Clock(board) => save(alloc, board, set, describe, room),
-    }
-}
-
-fn save<M: Machine>(
+/// Writes the stream of a board of one kind to `room`, as [`vmstate_board_save`] does.
+pub(crate) fn save<M: Machine>(
     alloc: Global,
     board: &MachineBoard<M>,
     set: u8,
@@ -127,21 +117,13 @@ pub extern "C" fn vmstate_board_restore(
     let Some(mut held) = handle.take(alloc) else {
         return nothing(NO_BOARD);
     };
-    let answer = restore_any(&mut held.board, stream);
+    let answer = held.board.restore(stream);
     *handle = Handle::of(held);
     answer
 }
 
-fn restore_any(board: &mut AnyBoard, stream: &[u8]) -> CRestored
-    ensures { RestoredTo stream.now board.old board.new result }
-{
-    match board {
-        AnyBoard::Isa(board) => restore(board, stream),
-        AnyBoard::Clock(board) => restore(board, stream),
-    }
-}
-
-fn restore<M: Machine>(board: &mut MachineBoard<M>, stream: &[u8]) -> CRestored
+/// Restores a board of one kind from `stream`, as [`vmstate_board_restore`] does.
+pub(crate) fn restore<M: Machine>(board: &mut MachineBoard<M>, stream: &[u8]) -> CRestored
     ensures { IsRestored M.family stream.now board.old board.new result }
 {
     let mut source = Lent::new(stream);

@@ -1,9 +1,8 @@
 -- `load` has one outcome, and a board goes on if its stream and a script can be read.
-use Rattle.vms_cli.proofs.Facade.{ℕ, List, Option, Some, None, refl, sym, inl, inr, none-some, Held, IsBytes, FitsHeads, WellFormed, done, ended, Step}
-use Rattle.vms_cli.proofs.Facade.{Untold, Gives, Ends, IsSound, clock, clock_stands, Family, isa, isa_stands, Back, Restores, script_gives, sound_script}
-use Rattle.vms_cli.proofs.Facade.{loads_one, LoadsBy, Traces, scripted, answers_to, trace_of, events_of, ScriptLine, IsaBoard, BoardWord, ClockBoard, HasOne}
-use Rattle.vms_cli.proofs.Facade.{CanBeRead, load_entry}
-use Rattle.vms_cli.proofs.RowFacts.{IsDone, IsRow, spares_none, spares_text}
+use Rattle.vms_cli.proofs.{KindLaws.stands_of, RowFacts.IsDone, RowFacts.IsRow, RowFacts.spares_none, RowFacts.spares_text}
+use Rattle.vms_cli.proofs.Facade.{ℕ, List, Option, Some, None, refl, sym, inl, inr, none-some, Held, IsBytes, FitsHeads, WellFormed, done, ended, Step, Untold}
+use Rattle.vms_cli.proofs.Facade.{Gives, Ends, IsSound, Family, Back, Restores, script_gives, sound_script, loads_one, LoadsBy, Traces, scripted, answers_to}
+use Rattle.vms_cli.proofs.Facade.{trace_of, events_of, ScriptLine, BoardOf, BoardWord, HasOne, family_of, CanBeRead, load_entry}
 
 abbrev OneLoads : {S : Type 0} → Family S → ℕ → Step (List ScriptLine) → List ℕ → Held → Type 0
 OneLoads f number step input held = HasOne (λ o. LoadsBy f number step (Some input) (Some held) o)
@@ -22,8 +21,8 @@ module _ {S : Type 0} (f : Family S) (well : WellFormed (f.set f.newest)) (heads
 
 one_loaded : (board : BoardWord) (script input : List ℕ) (held : Held) → IsBytes input
     → HasOne (λ o. (load_entry board script).task.has (Some input) (Some held) o)
-one_loaded (IsaBoard level) script input held ok = one_scripted isa isa_stands.well isa_stands.heads level script input held ok
-one_loaded (ClockBoard version) script input held ok = one_scripted clock clock_stands.well clock_stands.heads version script input held ok
+one_loaded (BoardOf kind number) script input held ok =
+    one_scripted (family_of kind) (stands_of kind).well (stands_of kind).heads number script input held ok
 
 module _ {S : Type 0} (f : Family S) (number : ℕ) (script : List ℕ) (map : Held) (can : CanBeRead None script map) where
   loaded_then : (bytes : List ℕ) (board : S) (taken : ℕ) → Restores f number bytes (Back board taken)
@@ -34,14 +33,10 @@ module _ {S : Type 0} (f : Family S) (number : ℕ) (script : List ℕ) (map : H
 
 loaded : (board : BoardWord) (script : List ℕ) (input : Option (List ℕ)) (held : Option Held) → (load_entry board script).needs input held
     → IsDone (load_entry board script).task input held
-loaded (IsaBoard level) script input None can = absurd can.0
-loaded (IsaBoard level) script None (Some map) can = absurd can.1
-loaded (IsaBoard level) script (Some bytes) (Some map) can =
-    record { outcome = _; is = loaded_then isa level script map can.0 bytes can.1.0 can.1.1 can.1.2; status = refl }
-loaded (ClockBoard version) script input None can = absurd can.0
-loaded (ClockBoard version) script None (Some map) can = absurd can.1
-loaded (ClockBoard version) script (Some bytes) (Some map) can =
-    record { outcome = _; is = loaded_then clock version script map can.0 bytes can.1.0 can.1.1 can.1.2; status = refl }
+loaded (BoardOf kind number) script input None can = absurd can.0
+loaded (BoardOf kind number) script None (Some map) can = absurd can.1
+loaded (BoardOf kind number) script (Some bytes) (Some map) can =
+    record { outcome = _; is = loaded_then (family_of kind) number script map can.0 bytes can.1.0 can.1.1 can.1.2; status = refl }
 
 pub load_row : (board : BoardWord) (script : List ℕ) → IsRow (load_entry board script)
 load_row board script = record {

@@ -1,12 +1,10 @@
 -- `save` has one outcome, and a board after a script that can be read is saved.
-use Rattle.vms_cli.proofs.Facade.{ℕ, List, Option, Some, None, refl, inl, inr, Held, done, HasText, one_text, clock, Family, isa}
-use Rattle.vms_cli.proofs.Facade.{IsSound, saved_stream, script_gives, sound_saved, saved_after, after_events, events_of, saved_on, IsaBoard}
-use Rattle.vms_cli.proofs.Facade.{BoardWord, ClockBoard, CanBeRead, save_entry}
+use Rattle.vms_cli.proofs.Facade.{ℕ, List, Option, Some, None, refl, inl, inr, Held, done, HasText, one_text, Family, IsSound, saved_stream, script_gives}
+use Rattle.vms_cli.proofs.Facade.{sound_saved, saved_after, after_events, events_of, saved_on, BoardOf, BoardWord, CanBeRead, family_of, save_entry}
 use Rattle.vms_cli.proofs.RowFacts.{IsDone, IsRow, spares_none, spares_text}
 
 sound_on : (board : BoardWord) (set : ℕ) (held : Option Held) (script : List ℕ) → IsSound held (saved_on board set held script)
-sound_on (IsaBoard level) set held script = sound_saved isa level set held script
-sound_on (ClockBoard version) set held script = sound_saved clock version set held script
+sound_on (BoardOf kind number) set held script = sound_saved (family_of kind) number set held script
 
 module _ {S : Type 0} (f : Family S) (number : ℕ) (script : List ℕ) (map : Held) (can : CanBeRead None script map) where
   saved_then : (set : ℕ)
@@ -19,8 +17,8 @@ module _ {S : Type 0} (f : Family S) (number : ℕ) (script : List ℕ) (map : H
 saved : (board : BoardWord) (set : ℕ) (script : List ℕ) (input : Option (List ℕ)) (held : Option Held) → (save_entry board set script).needs input held
     → IsDone (save_entry board set script).task input held
 saved board set script input None can = absurd can
-saved (IsaBoard level) set script input (Some map) can = record { outcome = _; is = saved_then isa level script map can set; status = refl }
-saved (ClockBoard version) set script input (Some map) can = record { outcome = _; is = saved_then clock version script map can set; status = refl }
+saved (BoardOf kind number) set script input (Some map) can =
+    record { outcome = _; is = saved_then (family_of kind) number script map can set; status = refl }
 
 pub save_row : (board : BoardWord) (set : ℕ) (script : List ℕ) → IsRow (save_entry board set script)
 save_row board set script = record {

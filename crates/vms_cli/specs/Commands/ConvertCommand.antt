@@ -29,20 +29,20 @@ use Rattle.vms_commands.specs.Fetching.{is_on_shelf, word_set}
 use Rattle.vms_commands.specs.Lines.{refused_line, section_text}
 use Rattle.vms_commands.specs.Outcomes.{Outcome, done, ended}
 use Rattle.vms_commands.specs.SetLines.{mismatch_line}
-use Rattle.vms_commands.specs.SetWords.{Isa, Clock, SetWord, Shipped, OnShelf}
+use Rattle.vms_commands.specs.SetWords.{SetOf, SetWord, Shipped, OnShelf}
 use Rattle.vms_commands.specs.Steps.{Step, Gives, Ends, HasBy, next}
 use Rattle.vms_commands.specs.declared.ending.Ending.{Ending}
+use Rattle.vms_commands.specs.declared.kinds.BoardKind.TheVariants.{Isa}
 use Rattle.vms_commands.specs.declared.ending.Ending.TheVariants as endings
 use Rattle.vms_board_commands.specs.Seen.{WithGiven}
 use Rattle.vms_board_commands.specs.Runs.{RunsBehind}
 use Rattle.vms_cli.specs.Entry.{Entry}
 
--- A set that isn't one of the clock boards.
+-- A set that `convert` takes: a shipped one of the boards isa-1 to isa-4, or a file on the shelf.
 abbrev pub convertible : Option SetWord → Option SetWord
-convertible (Some (Shipped (Clock number))) = None
-convertible (Some (Shipped (Isa number))) = Some (Shipped (Isa number))
+convertible (Some (Shipped (SetOf Isa number))) = Some (Shipped (SetOf Isa number))
 convertible (Some (OnShelf name)) = Some (OnShelf name)
-convertible None = None
+convertible _ = None
 
 -- The set whose streams are read.
 abbrev pub newest : Set

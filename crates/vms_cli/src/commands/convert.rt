@@ -16,7 +16,7 @@ use super::Command;
 use arrayvec::ArrayVec;
 use std::alloc::Global;
 use vms_commands::{
-    Ending, NoteLine, SetWord, ShippedSet, append_section, mismatch_line, refused_line, set_of,
+    BoardKind, Ending, NoteLine, SetWord, append_section, mismatch_line, refused_line, set_of,
     set_word,
 };
 use vms_convert::{ConvertFault, convert_with, newest_loader};
@@ -28,12 +28,12 @@ use vms_words::append;
 /// A bound above the length of each path of a cell in the newest set, in bytes.
 const PATH_ROOM: u32 = 64;
 
-/// Returns the command `convert` of the set that a word names, if it isn't one of the clock boards.
+/// Returns the command `convert` of the set that a word names, if `convert` takes it.
 pub(crate) fn convert_of(set: &str) -> Option<Command<'_>>
     ensures { option_map asked result ≡ option_map Convert (convertible (set_word set.now)) }
 {
     match set_word(set) {
-        Some(SetWord::Shipped(ShippedSet::Clock(_))) => None,
+        Some(SetWord::Shipped(set)) if set.kind != BoardKind::Isa => None,
         Some(set) => Some(Command::Convert { set }),
         None => None,
     }

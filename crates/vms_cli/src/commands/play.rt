@@ -4,7 +4,8 @@ ghost use Rattle.std.specs.Option.{option_map};
 ghost use Rattle.vms_io.specs.Told.{outlet, stock};
 ghost use Rattle.vms_commands.specs.Endings.{ending_of};
 ghost use Rattle.vms_board_commands.specs.Runs.{RunsAside};
-ghost use Rattle.vms_cli.specs.Boards.{board_word, isa_level};
+ghost use Rattle.vms_commands.specs.SetWords.{board_word};
+ghost use Rattle.vms_cli.specs.Boards.{isa_level};
 ghost use Rattle.vms_cli.specs.Commands.{Play, asked, doing, with_file};
 
 use super::Command;

@@ -1,4 +1,4 @@
-use Rattle.vms_cli.proofs.commands.load.load.Goals as goal
+use Rattle.vms_cli.proofs.kinds.load.Goals as goal
 
 pub returns-in-Isa : goal.returns-in-Isa
 returns-in-Isa g c = rw c.in-Isa.is c.load_board.ensures

@@ -1,6 +1,6 @@
 use Rattle.vmstate_board_c.proofs.{Facade.rules, Facade.step_of, Facade.Isa, Silent.at_reached}
 use Rattle.std.proofs.Common.{◌≡◌}
-use Rattle.vmstate_board_c.proofs.held.AnyBoard.quick_event.Goals as goal
+use Rattle.vmstate_board_c.proofs.kinds.AnyBoard.quick_event.Goals as goal
 
 pub returns-then-reach : goal.returns-then-reach
 returns-then-reach c =

@@ -1,4 +1,4 @@
-use Rattle.vms_cli.proofs.commands.save.save.Goals as goal
+use Rattle.vms_cli.proofs.kinds.save.Goals as goal
 
 pub returns-in-Isa : goal.returns-in-Isa
 returns-in-Isa g c = rw c.in-Isa.is c.save_board.ensures
