@@ -107,8 +107,8 @@ impl<S: Source> Walker for Reader<'_, S> {
         read_step(step, self.image, self.cursor, self.source)
     }
 
-    // As the trait has it. A hint on a provided method isn't taken, so it is inlined here.
-    #[inline(always)]
+    // As the trait has it. It isn't marked for inlining: with it `walk` would be too large for its own
+    // mark, which the compiler would drop.
     fn rules(&mut self, set: &DescSet, spot: PartAt) -> Result<(), FrameFault> {
         let holds = set.holds_rules(spot.part, spot.base, spot.version, self);
         self.step(WalkStep::Rule { holds })
