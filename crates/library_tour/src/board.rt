@@ -3,9 +3,7 @@ use anyhow::{Context, Result, bail};
 use std::alloc::Global;
 use vms_board::{Board, Event};
 use vms_io::{MemSink, MemSource};
-
-/// The newest level, and the number of the newest set.
-const NEWEST: u8 = 4;
+use vms_kinds::NEWEST_SET;
 
 /// Writes that set the serial port to 9600 baud, switch its FIFOs on and send two bytes.
 const WRITES: [(u16, u8); 7] = [
@@ -53,13 +51,13 @@ fn sent(board: &mut Board) -> Option<u8> {
 // Returns the board that the stream of `board` restores.
 fn carried(alloc: Global, board: &Board) -> Result<Board> {
     let level = board.number();
-    if level < 1 || level > NEWEST {
+    if level < 1 || level > NEWEST_SET {
         bail!("no such level");
     }
     let mut sink = MemSink::new(alloc, 65536, Vec::new(alloc))
         .ok()
         .context("memory")?;
-    board.save(alloc, NEWEST, &mut sink)?;
+    board.save(alloc, NEWEST_SET, &mut sink)?;
     let stream = sink.bytes().to_vec(alloc)?;
     let mut source = MemSource::new(stream, Vec::new(alloc), Vec::new(alloc));
     let mut other = Board::new(alloc, level).ok().context("memory")?;

@@ -1,10 +1,10 @@
--- Images of the newest clock set, and the room for the numbers of the boards isa-1 to isa-4.
+-- Images of the newest clock set, and the room for the numbers of the boards without a clock chip.
 use Rattle.vms_board.proofs.Facade.{◌≡◌, ℕ, zero, suc, ◌<◌, ◌≤◌, List, length, get_or, refl, sym, ap, ◌∙◌, arith, ◌-◌, [], ◌∷◌, take, drop, map, ℤ, subst}
 use Rattle.vms_board.proofs.Facade.{leb-true, slice_get-get_or, take_rest, MOST_CELLS, NEWEST, device_at, shipped_set, clock_set, Typed, AreImagesOf}
 use Rattle.vms_board.proofs.Facade.{IsImageOf, state_of, device_cells, first, ArrayVec, BoardCells, ClockCells, cells_in, NEWEST_CLOCK}
 use Rattle.dev_images.specs.Images.{cells_in as board_cells_in}
 
--- ---- The room for the numbers of the devices of the boards isa-1 to isa-4.
+-- ---- The room for the numbers of the devices of the newest shipped set.
 
 few : (k : ℕ) → k < 5 → length (device_cells (shipped_set NEWEST) (device_at (shipped_set NEWEST) k)) ≤ MOST_CELLS
 unfolding first

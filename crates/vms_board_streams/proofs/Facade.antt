@@ -10,6 +10,7 @@ pub use Rattle.vms_spec.specs.{Heads.FitsHeads, Names.is_name, Sets.Desc, Sets.D
 pub use Rattle.vms_spec.specs.{Streams.is_one_of, Streams.written, declared.Count.Count, declared.Reason.Reason, declared.Count.TheVariants.One}
 pub use Rattle.vms_spec.specs.Images.{Image, own_cells}
 pub use Rattle.vms_spec.specs.Layout.{counted, desc_cells, no_desc, struct_cells}
+pub use Rattle.vms_spec.specs.Shipped.{shipped_sets}
 pub use Rattle.vms_spec.specs.WellFormed.{WellFormed, device_rules, first_fault, struct_rules, sub_rules}
 unfoldable pub use Rattle.vms_spec.specs.Layout.{first}
 pub use Rattle.vms_stream.proofs.Stated.{either_holds, never_both_holds, one_fault_holds, one_stream_holds}
@@ -30,7 +31,7 @@ pub use Rattle.vms_check.proofs.{SelfLaws.is_among, ShippedLaws.shipped_compatib
 pub use Rattle.vms_check.specs.{Comparing.Compatible}
 unfoldable pub use Rattle.vms_check.specs.Comparing.{first_mismatch}
 pub use Rattle.vms_check_laws.proofs.Streaming.{upgrade_stands}
-pub use Rattle.vms_desc.proofs.{Bounds.none_is, Formed.clock_formed, Formed.formed}
+pub use Rattle.vms_desc.proofs.{Bounds.none_is, Formed.by_number, Formed.clock_formed, Formed.formed}
 pub use Rattle.vms_desc.specs.Formed.{clock_set, shipped_set}
 pub use Rattle.vms_load.proofs.StreamLengths.{devices_long, stream_le}
 pub use Rattle.vms_selfdesc.proofs.{Bounds.clock_holds, Bounds.shipped_holds, JsonBytes.sub_letters, JsonBytes.text_good, JsonBytes.word}

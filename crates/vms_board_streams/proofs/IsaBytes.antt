@@ -1,5 +1,5 @@
--- The streams of the boards isa-1 to isa-4 are short, and are bytes.
-use Rattle.vms_board_streams.proofs.Facade.{ℕ, zero, suc, ◌<◌, ◌≤◌, arith, NEWEST, none_is, formed, shipped_set, devices_long, shipped_holds, first, WellFormed}
+-- The streams of the boards isa-1 to the newest are short, and are bytes.
+use Rattle.vms_board_streams.proofs.Facade.{◌≡◌, ℕ, ◌<◌, ◌≤◌, Bool, true, list_all, refl, arith, by_number, ltb-true, nat_lt, Set, shipped_sets, NEWEST, none_is, formed, shipped_set, devices_long, shipped_holds, first, WellFormed}
 use Rattle.vms_board_streams.proofs.Facade.{first_fault, isa, machine_of, StreamsAreShort, StreamsAreBytes}
 use Rattle.dev_board.specs.Sound.{IsSound}
 use Rattle.vms_board_streams.proofs.FamilyBytes.{IsMachineName, IsSmall, family_short, family_bytes}
@@ -7,14 +7,16 @@ use Rattle.vms_board_streams.proofs.FamilyBytes.{IsMachineName, IsSmall, family_
 pub well : (set : ℕ) → WellFormed (shipped_set set)
 well set = none_is (first_fault (shipped_set set)) (formed set)
 
-sections-short : (set : ℕ) → set ≤ NEWEST → devices_long (shipped_set set) (shipped_set set).devices < 4096
+-- The sections of each shipped set, by computation.
+abbrev are_short : Set → Bool
+are_short set = nat_lt (devices_long set set.devices) 4096
+
+all-short : list_all are_short shipped_sets ≡ true
 unfolding first
-sections-short zero le = omega arith
-sections-short (suc zero) le = omega arith
-sections-short (suc (suc zero)) le = omega arith
-sections-short (suc (suc (suc zero))) le = omega arith
-sections-short (suc (suc (suc (suc zero)))) le = omega arith
-sections-short (suc (suc (suc (suc (suc set))))) le = absurd (omega (arith, le))
+all-short = refl
+
+sections-short : (set : ℕ) → set ≤ NEWEST → devices_long (shipped_set set) (shipped_set set).devices < 4096
+sections-short set le = ltb-true (devices_long (shipped_set set) (shipped_set set).devices) 4096 (by_number are_short all-short set)
 
 named : (level : ℕ) → level ≤ NEWEST → IsMachineName (machine_of level)
 named level le = record { short = omega arith; octets = (omega arith, (omega arith, (omega arith, (omega arith, (omega arith, tt))))) }

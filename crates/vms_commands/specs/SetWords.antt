@@ -27,7 +27,7 @@ abbrev pub number_after : List ℕ → (first count : ℕ) → List ℕ → Opti
 number_after front first zero word = None
 number_after front first (suc count) word = if bytes_eq word (front ++ decimal first) then Some first else number_after front (suc first) count word
 
--- The shipped set that a word names: `@` and a number, or `@c` and a number for the boards with a clock chip.
+-- The shipped set that a word names: what the sets of its kind have in front, as `@` or `@c`, and its number.
 abbrev pub shipped_word : List ℕ → Option ShippedSet
 shipped_word word =
     first_kind (λ kind. option_map (SetOf kind) (number_after (set_front kind) (first_set kind) (suc (newest_of kind) - first_set kind) word)) kinds
@@ -45,6 +45,6 @@ set_word word = named_set word (shipped_word word)
 pub data BoardWord : Type 0 where
   BoardOf : BoardKind → ℕ → BoardWord
 
--- The board that a word names: `isa-` and its level, or `clk-` and its version.
+-- The board that a word names: what the boards of its kind have in front, as `isa-`, and its number.
 abbrev pub board_word : List ℕ → Option BoardWord
 board_word word = first_kind (λ kind. option_map (BoardOf kind) (number_after (board_front kind) 1 (newest_of kind) word)) kinds

@@ -22,8 +22,8 @@ pub fn set_word(word: &str) -> Option<SetWord<'_>>
     }
 }
 
-/// Returns the shipped set whose word is `word`: `@` and the number of a set, or `@c` and the
-/// number of a clock set.
+/// Returns the shipped set whose word is `word`: what the sets of its kind have in front, as `@`
+/// or `@c`, and its number.
 pub fn shipped_set(word: &str) -> Option<ShippedSet>
     ensures { option_map shipped_asked result ≡ shipped_word word.now }
 {
@@ -40,7 +40,8 @@ pub fn shipped_set(word: &str) -> Option<ShippedSet>
     None
 }
 
-/// Returns the board whose name is `word`: `isa-` and its level, or `clk-` and its version.
+/// Returns the board whose name is `word`: what the boards of its kind have in front, as `isa-`,
+/// and its number.
 pub fn board_word(word: &str) -> Option<BoardWord>
     ensures { option_map board_asked result ≡ board_word word.now }
 {

@@ -1,5 +1,6 @@
 -- The boards of each kind.
 use Rattle.std.specs.Prelude.{ℕ, ◌==◌, Bool, false, ◌&&◌, ◌||◌, nat_le, if◌then◌else◌, Option}
+use Rattle.dev_base.specs.declared.limits.TheConstants.{NEWEST}
 use Rattle.dev_board.specs.State.{State}
 use Rattle.dev_board.specs.declared.event.Answer.{Answer}
 use Rattle.dev_board.specs.declared.event.Event.{Event}
@@ -12,10 +13,10 @@ use Rattle.vms_board.specs.Standing.{Standing}
 use Rattle.vmstate_board_c.specs.declared.kinds.AnyBoard.{AnyBoard}
 use Rattle.vmstate_board_c.specs.declared.kinds.AnyBoard.TheVariants.{Isa, Clock}
 
--- Whether such a board exists: isa-1 to isa-4 have kind 0, and clk-1 and clk-2 have kind 1.
+-- Whether such a board exists: isa-1 to the newest have kind 0, and clk-1 and clk-2 have kind 1.
 abbrev pub is_made : (kind level : ℕ) → Bool
 is_made kind level =
-    if kind == 0 then nat_le 1 level && nat_le level 4
+    if kind == 0 then nat_le 1 level && nat_le level NEWEST
     else (if kind == 1 then nat_le 1 level && nat_le level 2 else false)
 
 -- A board at power on, which was never restored.

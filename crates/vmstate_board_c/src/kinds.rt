@@ -10,6 +10,7 @@ ghost use Rattle.vmstate_board_c.specs.Kinds.{IsDueAt, character_of, has_port_of
 
 use crate::answer::CNumber;
 use crate::stream::{CRestored, restore, save};
+use dev_base::NEWEST;
 use dev_board::{Answer, Event};
 use std::alloc::Global;
 use vms_board::{Board, ClockBoard, NoMemory};
@@ -17,7 +18,7 @@ use vms_board::{Board, ClockBoard, NoMemory};
 /// A board of one of the kinds.
 #[derive(Drop)]
 pub enum AnyBoard {
-    /// A board `isa-1` to `isa-4`.
+    /// A board `isa-1` to the newest.
     Isa(Board),
     /// A board `clk-1` or `clk-2`.
     Clock(ClockBoard),
@@ -33,7 +34,7 @@ macro_rules! of_any {
     };
 }
 
-/// The number of the kind of `isa-1` to `isa-4`.
+/// The number of the kind of `isa-1` to the newest.
 const ISA: u8 = 0;
 
 /// The number of the kind of `clk-1` and `clk-2`.
@@ -44,7 +45,7 @@ pub(crate) fn is_kind(kind: u8, level: u8) -> bool
     ensures { result ≡ is_made kind level }
 {
     match kind {
-        ISA => 1 <= level && level <= 4,
+        ISA => 1 <= level && level <= NEWEST,
         CLOCK => 1 <= level && level <= 2,
         _ => false,
     }
