@@ -60,27 +60,22 @@ module _ {S : Type 0} (f : Family S) (well : WellFormed (f.set f.newest)) (heads
       one-refusal place other section section' reason reason' (inl d) (inl g) =
           let one = one_fault_holds (f.set f.newest) (f.machine number ∷ []) bytes ok place other section section' reason reason' d.0 g.0 d.1 g.1 in
           ap (λ (n : ℕ). refused n section reason) one.places ∙ ap (λ (s : Option ℕ). refused other s reason) one.sections ∙ ap (refused other section') one.reasons
-      one-refusal place other section section' reason reason' (inl d) (inr g) = absurd (no_fault other g.images place section reason g.taken d)
-      one-refusal place other section section' reason reason' (inr d) (inl g) = absurd (no_fault place d.images other section' reason' d.taken g)
+      one-refusal place other section section' reason reason' (inl d) (inr g) = absurd (no_fault other _ place _ reason g.taken d)
+      one-refusal place other section section' reason reason' (inr d) (inl g) = absurd (no_fault place _ other _ _ d.taken g)
       one-refusal place other section section' reason reason' (inr d) (inr g) =
-          let stream = one-stream place other d.images g.images d.taken g.taken in
-          let misfit = same_err d.misfit g.misfit (f.restored number (lists_in g.images)) (sym (same-cells place other d.images g.images d.taken g.taken) ∙ d.fails) g.fails in
-          ap (λ (n : ℕ). refused n section reason) stream.0
+          let misfit = same_err _ _ _ (sym (same-cells place other _ _ d.taken g.taken) ∙ d.fails) g.fails in
+          ap (λ (n : ℕ). refused n section reason) (one-stream place other _ _ d.taken g.taken).0
           ∙ ap (λ (s : Option ℕ). refused other s reason) (d.section_is ∙ ap misfit_section misfit ∙ sym g.section_is)
           ∙ ap (refused other section') (d.reason_is ∙ ap misfit_reason misfit ∙ sym g.reason_is)
 
       pub one_restore : (a b : Restore S) → Restores f number bytes a → Restores f number bytes b → a ≡ b
       one_restore (Back m n) (Back m' k) r s =
-          let stream = one-stream n k r.0 s.0 r.1 s.1 in
-          let boards = same_ok m m' (f.restored number (lists_in s.0)) (sym (same-cells n k r.0 s.0 r.1 s.1) ∙ r.2) s.2 in
-          ap (λ (x : S). back x n) boards ∙ ap (back m') stream.0
-      one_restore (Back m n) (Refused place section reason) r (inl d) = absurd (no_fault n r.0 place section reason r.1 d)
-      one_restore (Back m n) (Refused place section reason) r (inr d) =
-          absurd (never_each m d.misfit (f.restored number (lists_in d.images)) (sym (same-cells n place r.0 d.images r.1 d.taken) ∙ r.2) d.fails)
-      one_restore (Refused place section reason) (Back m n) (inl d) s = absurd (no_fault n s.0 place section reason s.1 d)
-      one_restore (Refused place section reason) (Back m n) (inr d) s =
-          absurd (never_each m d.misfit (f.restored number (lists_in d.images)) (sym (same-cells n place s.0 d.images s.1 d.taken) ∙ s.2) d.fails)
-      one_restore (Refused place section reason) (Refused other section' reason') d g = one-refusal place other section section' reason reason' d g
+          ap (λ (x : S). back x n) (same_ok m m' _ (sym (same-cells n k r.0 s.0 r.1 s.1) ∙ r.2) s.2) ∙ ap (back m') (one-stream n k r.0 s.0 r.1 s.1).0
+      one_restore (Back m n) (Refused place section reason) r (inl d) = absurd (no_fault n r.0 place _ reason r.1 d)
+      one_restore (Back m n) (Refused place section reason) r (inr d) = absurd (never_each m _ _ (sym (same-cells n place r.0 _ r.1 d.taken) ∙ r.2) d.fails)
+      one_restore (Refused place section reason) (Back m n) (inl d) s = absurd (no_fault n s.0 place _ reason s.1 d)
+      one_restore (Refused place section reason) (Back m n) (inr d) s = absurd (never_each m _ _ (sym (same-cells n place s.0 _ s.1 d.taken) ∙ s.2) d.fails)
+      one_restore (Refused place section reason) (Refused other section' reason') d g = one-refusal place other _ _ reason _ d g
 
   pub bytes_are_one : BytesAreOne f
   bytes_are_one = record { some = bytes_come; one = one_restore }

@@ -6,7 +6,7 @@ pub clock_streams_stand : StreamsStand clock Alike IsSound
 clock_streams_stand = record {
   well = λ set last. well set;
   compatible = sets_are_compatible.newest;
-  described = λ set m last. let l = clock_holds.clock set (saved_images set m) in omega (arith, l);
+  described = λ set m last. let l = clock_holds.clock set (saved_images set m) in omega arith;
   back = λ set m s may.
       let back = images_come_back.back set m s may in
       record { back = back.back; restored = back.restored; alike = back.alike };

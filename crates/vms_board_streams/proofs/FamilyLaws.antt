@@ -29,7 +29,7 @@ takes_under set names others input taken machine images h t =
       text = t.text;
       stream = record {
         named = s.named;
-        configured = configured_under names others machine s.named h s.configured;
+        configured = configured_under names others _ _ h s.configured;
         one_each = s.one_each;
         order = s.order;
         each_once = s.each_once;
@@ -48,7 +48,7 @@ takes_under set names others input taken machine images h t =
     }
 
 alone : (set : Set) (names : List (List ℕ)) (input : List ℕ) (taken : ℕ) (name : List ℕ) (images : List Image) → Takes set names input taken (Some name) images → Takes set (name ∷ []) input taken (Some name) images
-alone set names input taken name images t = takes_under set names (name ∷ []) input taken (Some name) images (named-alone name) t
+alone set names input taken name images t = takes_under set names _ input taken _ images (named-alone name) t
 
 module _ {S : Type 0} (f : Family S) (Alike : S → S → Type 0) {IsSound : S → Type 0} {AreTold : List (List ℤ) → Type 0} (stands : Stands f IsSound AreTold) (st : StreamsStand f Alike IsSound) where
   -- ---- the stream of a board
@@ -64,7 +64,7 @@ module _ {S : Type 0} (f : Family S) (Alike : S → S → Type 0) {IsSound : S �
     least = (stands.numbered m s).first
 
     set-least : 1 ≤ set
-    set-least = let a = least in let b = may.level_le_set in omega (arith, a, b)
+    set-least = let a = least in omega arith
 
     newest-well : WellFormed (f.set f.newest)
     newest-well = stands.well
@@ -85,7 +85,7 @@ module _ {S : Type 0} (f : Family S) (Alike : S → S → Type 0) {IsSound : S �
         (append-nil stream) (whole.taken [] (λ e. refl))
 
     takes : Takes (f.set f.newest) (f.machine (f.number m) ∷ []) stream (length stream) (Some (f.machine (f.number m))) images-back
-    takes = alone (f.set f.newest) (f.set f.newest).machines stream (length stream) (f.machine (f.number m)) images-back taken-all
+    takes = alone _ _ stream _ _ _ taken-all
 
     abbrev back-to : S
     back-to = (st.back set m s may).back
@@ -112,8 +112,7 @@ module _ {S : Type 0} (f : Family S) (Alike : S → S → Type 0) {IsSound : S �
     never-refused : IsBytes stream → (place : ℕ) (section : Option ℕ) (reason : Reason) → Restores f (f.number m) stream (Refused place section reason) → ⊥
     never-refused bytes place section reason (inl fault) =
         never_both_holds (f.set f.newest) (f.machine (f.number m) ∷ []) newest-well stands.heads stream bytes (length stream) (Some (f.machine (f.number m))) images-back place section reason fault.0 takes fault.1
-    never-refused bytes place section reason (inr misfit) =
-        never_each _ misfit.misfit _ (same-restore misfit.images place misfit.taken) misfit.fails
+    never-refused bytes place section reason (inr misfit) = never_each _ misfit.misfit _ (same-restore _ place misfit.taken) misfit.fails
 
   -- ---- the stream of a board, with its own description
 
@@ -150,11 +149,11 @@ module _ {S : Type 0} (f : Family S) (Alike : S → S → Type 0) {IsSound : S �
   goes-on : (set : ℕ) (m : S) (text : Option (List ℕ)) (events : List Event) → IsSound m → MaySaveIn f m set → HasRoomFor text → IsContinued f set m text events
   goes-on set m text events s may room =
       let back = st.back set m s may in
-      let same : answers_to f events back.back ≡ answers_to f events m = alike-answers events m back.back back.alike in
+      let same : answers_to f events back.back ≡ answers_to f events m = alike-answers events m _ back.alike in
       record {
         there = record { board = back.back; restored = there set m text room s may; trace_is = ap trace_of (sym same) };
         only = λ taken trace goes.
-            let is = only-back set m text room s may goes.board taken goes.restored in
+            let is = only-back set m text room s may _ taken goes.restored in
             (is.1, goes.trace_is ∙ ap (λ (n : S). trace_of (answers_to f events n)) is.0 ∙ ap trace_of same);
       }
 

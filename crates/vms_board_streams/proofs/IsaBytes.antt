@@ -1,11 +1,11 @@
 -- The streams of the boards isa-1 to the newest are short, and are bytes.
 use Rattle.vms_board_streams.proofs.Facade.{◌≡◌, ℕ, ◌<◌, ◌≤◌, Bool, true, list_all, refl, arith, by_number, ltb-true, nat_lt, Set, shipped_sets, NEWEST, none_is, formed, shipped_set, devices_long, shipped_holds, first, WellFormed}
-use Rattle.vms_board_streams.proofs.Facade.{first_fault, isa, machine_of, StreamsAreShort, StreamsAreBytes}
+use Rattle.vms_board_streams.proofs.Facade.{isa, machine_of, StreamsAreShort, StreamsAreBytes}
 use Rattle.dev_board.specs.Sound.{IsSound}
 use Rattle.vms_board_streams.proofs.FamilyBytes.{IsMachineName, IsSmall, family_short, family_bytes}
 
 pub well : (set : ℕ) → WellFormed (shipped_set set)
-well set = none_is (first_fault (shipped_set set)) (formed set)
+well set = none_is _ (formed set)
 
 -- The sections of each shipped set, by computation.
 abbrev are_short : Set → Bool
@@ -27,13 +27,11 @@ small = record {
   sections = sections-short;
   text = λ set images le. shipped_holds.shipped set le images;
   machine = λ set m may.
-      let a = may.level_le_set in
-      let b = may.set_le_newest in
-      named m.level (omega (arith, a, b));
+      named _ (omega arith);
 }
 
 pub streams_are_short : StreamsAreShort isa IsSound
-streams_are_short = family_short isa small IsSound
+streams_are_short = family_short isa small _
 
 pub streams_are_bytes : StreamsAreBytes isa IsSound
-streams_are_bytes = family_bytes isa small IsSound
+streams_are_bytes = family_bytes isa small _

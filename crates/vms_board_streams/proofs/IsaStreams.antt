@@ -12,7 +12,7 @@ unfolding first_mismatch first
 newest_itself = refl
 
 pub compatible : (s : ℕ) → 1 ≤ s → s ≤ NEWEST → Compatible (shipped_set s) (shipped_set NEWEST)
-compatible s l h = at (nat_lt s NEWEST) refl where
+compatible s l h = at _ refl where
   at : (b : Bool) → nat_lt s NEWEST ≡ b → Compatible (shipped_set s) (shipped_set NEWEST)
   at true e = shipped_compatible s NEWEST l (ltb-true s NEWEST e) (omega arith)
   at false e =
@@ -24,7 +24,7 @@ pub isa_streams_stand : StreamsStand isa Alike IsSound
 isa_streams_stand = record {
   well = λ set last. well set;
   compatible = compatible;
-  described = λ set m last. let l = shipped_holds.shipped set last (saved_images set m) in omega (arith, l);
+  described = λ set m last. let l = shipped_holds.shipped set last (saved_images set m) in omega arith;
   back = λ set m s may.
       let back = images_come_back.back set m s may in
       record { back = back.back; restored = back.restored; alike = back.alike };

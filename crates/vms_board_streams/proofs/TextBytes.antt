@@ -1,13 +1,12 @@
 -- The description of a set's devices is bytes: names are, and the rest is ASCII.
-use Rattle.vms_board_streams.proofs.Facade.{◌≡◌, ℕ, ◌+◌, ◌<◌, ◌&&◌, List, [], ◌∷◌, ◌++◌, length, get_or, ℤ, Bool, true, false, refl, sym, subst, arith, Option}
-use Rattle.vms_board_streams.proofs.Facade.{Some, None, is_some, decimal, codes, and_parts, get_or_from_slice_get, AllByRecursion, slice_get, items_of, Kind}
-use Rattle.vms_board_streams.proofs.Facade.{width, Count, One, Image, own_cells, Clean, get_none, struct_clean, device_parts, sub_clean, no_desc, counted}
-use Rattle.vms_board_streams.proofs.Facade.{desc_cells, struct_cells, is_name, Field, Desc, Sub, Device, Set, WellFormed, struct_rules, device_rules, sub_rules}
-use Rattle.vms_board_streams.proofs.Facade.{AllSubs, AllParts, EachPart, all_parts, AreBytes, is_named, parts_named, What, Number, Constant, Filler, Rule}
-use Rattle.vms_board_streams.proofs.Facade.{Element, index_text, all_from, elements_each, elements_in, Entry, cell_entry, sent_entry, listed_if, entry_of}
-use Rattle.vms_board_streams.proofs.Facade.{entries_of, part_entries, sub_trees, device_tree, device_trees, described_tree, described_text, HasLetters}
-use Rattle.vms_board_streams.proofs.Facade.{ItemsHave, Allows, IsSpelled, AreSpelled, all_both, decimal_good, text_good, word, kind_letters, sub_letters}
-use Rattle.vms_board_streams.proofs.Facade.{device_letters, devices_letters}
+use Rattle.vms_board_streams.proofs.Facade.{◌≡◌, ℕ, ◌+◌, ◌<◌, List, [], ◌∷◌, length, get_or, ℤ, Bool, true, false, refl, sym, subst, arith, Option, Some, None}
+use Rattle.vms_board_streams.proofs.Facade.{is_some, codes, and_parts, get_or_from_slice_get, AllByRecursion, slice_get, items_of, Kind, width, Count, One}
+use Rattle.vms_board_streams.proofs.Facade.{Image, own_cells, Clean, get_none, struct_clean, device_parts, sub_clean, no_desc, counted, desc_cells}
+use Rattle.vms_board_streams.proofs.Facade.{struct_cells, is_name, Field, Desc, Sub, Device, Set, WellFormed, AllSubs, AllParts, EachPart, all_parts, AreBytes}
+use Rattle.vms_board_streams.proofs.Facade.{is_named, parts_named, What, Number, Constant, Filler, Rule, Element, index_text, all_from, elements_each, Entry}
+use Rattle.vms_board_streams.proofs.Facade.{cell_entry, sent_entry, listed_if, entry_of, entries_of, part_entries, sub_trees, device_tree, device_trees}
+use Rattle.vms_board_streams.proofs.Facade.{described_tree, described_text, HasLetters, ItemsHave, Allows, IsSpelled, AreSpelled, all_both, decimal_good}
+use Rattle.vms_board_streams.proofs.Facade.{text_good, word, kind_letters, sub_letters, device_letters, devices_letters}
 
 abbrev Byte : ℕ → Type 0
 Byte b = b < 256
@@ -32,7 +31,7 @@ IsNamed f = AllByRecursion Byte f.name
 
 index-bytes : (count : Count) (e : ℕ) → AllByRecursion Byte (index_text count e)
 index-bytes One e = tt
-index-bytes _ e = (omega arith, all_both Byte (decimal e) (codes "]") (decimal_good allows e) (omega arith, tt))
+index-bytes _ e = (omega arith, all_both Byte _ _ (decimal_good allows e) (omega arith, tt))
 
 -- ---- their entries
 
@@ -45,7 +44,7 @@ cell-listed true path kind z p = record { path = p; type = kind_letters allows k
 cell-listed false path kind z p = record { path = p; type = kind_letters allows kind }
 
 what-listed : (w : What) (counted present : Bool) (path : List ℕ) → AllByRecursion Byte path → AreSpelled Byte (entry_of w counted present path)
-what-listed (Number cell) counted present path p = listed-entries counted (cell_entry present path cell.kind cell.default) (cell-listed present path cell.kind cell.default p)
+what-listed (Number cell) counted present path p = listed-entries _ _ (cell-listed _ path _ _ p)
 what-listed (Constant kind z) counted present path p =
     listed-entries present (sent_entry path (width kind) (codes "equal")) (record { path = p; type = word allows (codes "equal") refl })
 what-listed (Filler n) counted present path p = listed-entries present (sent_entry path n (codes "unused")) (record { path = p; type = word allows (codes "unused") refl })
@@ -53,9 +52,7 @@ what-listed (Rule holds) counted present path p = tt
 
 elements-listed : (sent : Bool) (xs : List Element) → AllByRecursion HasBytes xs → AreSpelled Byte (entries_of sent [] xs)
 elements-listed sent [] p = tt
-elements-listed sent (x ∷ xs) p =
-    all_both _ (entry_of x.what x.counted (sent && x.present) x.name) (entries_of sent [] xs)
-    (what-listed x.what x.counted (sent && x.present) x.name p.0) (elements-listed sent xs p.1)
+elements-listed sent (x ∷ xs) p = all_both _ _ _ (what-listed x.what _ _ x.name p.0) (elements-listed sent xs p.1)
 
 -- ---- sets
 
@@ -67,19 +64,18 @@ record IsTold (d : Desc) : Type 0 where
 module _ (set : Set) (structs : (j : ℕ) → AllByRecursion IsNamed (get_or set.structs j no_desc).fields) where
   part-bytes : (d : Desc) (sent : Bool) (n : List ℤ) (at : ℕ) → AllByRecursion IsNamed d.fields → AreSpelled Byte (part_entries set d sent n at)
   part-bytes d sent n at named =
-      elements-listed sent (elements_in set d d.version n at)
-      (elements_each IsNamed HasBytes HasBytes (λ f good caps at. tt) (λ x p. (omega arith, p))
-      (λ f good number e c p x h. all_both Byte (f.name ++ index_text f.count e) x.name (all_both Byte f.name _ good (index-bytes f.count e)) h)
-      (λ at b. tt) (λ x h. h) set structs d d.version named n at)
+      elements-listed sent _
+      (elements_each _ _ _ (λ f good caps at. tt) (λ x p. (omega arith, p))
+      (λ f good number e c p x h. all_both Byte _ x.name (all_both Byte f.name _ good (index-bytes _ e)) h)
+      (λ at b. tt) (λ x h. h) set structs d _ named n at)
 
   subs-bytes : (n : List ℤ) (at : ℕ) (subs : List Sub) (came : List (Option ℕ)) → AllSubs IsTold subs → ItemsHave Byte (items_of (sub_trees set n at subs came))
-  subs-bytes n at [] came named = tt
-  subs-bytes n at (s ∷ subs) [] named = tt
   subs-bytes n at (s ∷ subs) (c ∷ came) named =
       let es = part_entries set s.desc (is_some c) n at in (
         sub_letters allows es s.desc.name (is_some c) s.desc.version (part-bytes s.desc (is_some c) n at named.0.fields) named.0.name,
         subs-bytes n (at + length (desc_cells (struct_cells set) s.desc)) subs came named.1,
       )
+  subs-bytes n at _ _ named = tt
 
   device-bytes : (d : Device) (image : Image) → IsTold d.desc → AllSubs IsTold d.subs → HasLetters Byte (device_tree set d image)
   device-bytes d image named subs =
@@ -87,9 +83,8 @@ module _ (set : Set) (structs : (j : ℕ) → AllByRecursion IsNamed (get_or set
       (part-bytes d.desc true image.numbers 0 named.fields) named.name (subs-bytes image.numbers (own_cells set d) d.subs image.came subs)
 
   devices-bytes : (devices : List Device) (images : List Image) → AllParts IsTold devices → ItemsHave Byte (items_of (device_trees set devices images))
-  devices-bytes [] images named = tt
-  devices-bytes (d ∷ devices) [] named = tt
   devices-bytes (d ∷ devices) (image ∷ images) named = (device-bytes d image named.0 named.1, devices-bytes devices images named.2)
+  devices-bytes _ _ named = tt
 
   described-bytes : (images : List Image) → AllParts IsTold set.devices → AreBytes (described_text set images)
   described-bytes images named =
@@ -100,25 +95,23 @@ module _ (set : Set) (structs : (j : ℕ) → AllByRecursion IsNamed (get_or set
 
 clean_named : (k : ℕ) (d : Desc) (rules : List Bool) → Clean k d rules → AllByRecursion IsNamed d.fields
 clean_named k d rules c =
-    all_from IsNamed d.fields (λ i f e. of_bytes f.name (is_named 32 f.name (omega arith) (and_parts (is_name 32 f.name) _ (c.fields i f e).0).0).octets)
+    all_from _ _ (λ i f e. of_bytes f.name (is_named 32 f.name (omega arith) (and_parts (is_name 32 f.name) _ (c.fields i f e).0).0).octets)
 
 module _ (set : Set) (well : WellFormed set) where
   struct_named : (j : ℕ) (o : Option Desc) → slice_get set.structs j ≡ o → AllByRecursion IsNamed (get_or set.structs j no_desc).fields
-  struct_named j None e = subst (λ (d : Desc). AllByRecursion IsNamed d.fields) (sym (get_none set.structs j no_desc e)) tt
+  struct_named j None e = subst (λ (d : Desc). AllByRecursion IsNamed d.fields) (sym (get_none _ j _ e)) tt
   struct_named j (Some d) e =
-      subst (λ (d : Desc). AllByRecursion IsNamed d.fields) (sym (get_or_from_slice_get set.structs j d no_desc e))
-      (clean_named j d (struct_rules set.structs j d) (struct_clean set well j d e))
+      subst (λ (d : Desc). AllByRecursion IsNamed d.fields) (sym (get_or_from_slice_get _ j d _ e)) (clean_named j d _ (struct_clean set well j d e))
 
   parts_told : EachPart IsTold set.devices
   parts_told k d e =
       let named = parts_named set well k d e in (
-        record { name = of_bytes d.desc.name named.0.octets; fields = clean_named (length set.structs) d.desc (device_rules set k d) (device_parts set well k d e).0 },
+        record { name = of_bytes _ named.0.octets; fields = clean_named _ d.desc _ (device_parts set well k d e).0 },
         λ j s f. record {
-          name = of_bytes s.desc.name (named.1 j s f).octets;
-          fields = clean_named (length set.structs) s.desc (sub_rules d j s) (sub_clean set well k j d s e f);
+          name = of_bytes _ (named.1 j s f).octets;
+          fields = clean_named _ s.desc _ (sub_clean set well k j d s e f);
         },
       )
 
   pub text_is_bytes : (images : List Image) → AreBytes (described_text set images)
-  text_is_bytes images =
-      described-bytes set (λ j. struct_named j (slice_get set.structs j) refl) images (all_parts IsTold set.devices parts_told)
+  text_is_bytes images = described-bytes set (λ j. struct_named j _ refl) images (all_parts IsTold set.devices parts_told)

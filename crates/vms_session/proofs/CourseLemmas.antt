@@ -22,8 +22,8 @@ rose_since a b c le rose = omega arith
 cause_since : (out out' out'' : Outlet) (shelf shelf' shelf'' : Stock) (result : Result Unit PlayFault) → out.faults ≤ out'.faults
     → shelf.faults ≤ shelf'.faults
     → HasPlayCause out' out'' shelf' shelf'' result → HasPlayCause out out'' shelf shelf'' result
-cause_since out out' out'' shelf shelf' shelf'' (Err WriteFault) p q h = rose_since out.faults out'.faults out''.faults p h
-cause_since out out' out'' shelf shelf' shelf'' (Err ShelfFault) p q h = rose_since shelf.faults shelf'.faults shelf''.faults q h
+cause_since out out' out'' shelf shelf' shelf'' (Err WriteFault) p q h = rose_since _ _ _ p h
+cause_since out out' out'' shelf shelf' shelf'' (Err ShelfFault) p q h = rose_since _ _ _ q h
 cause_since out out' out'' shelf shelf' shelf'' _ p q h = h
 
 -- what calls before it did
@@ -92,21 +92,20 @@ module _ (i : ℕ) (line : ScriptLine) (left : List ScriptLine) (parts : List Pa
       rw add-one (record {
         holds = between.held;
         told = ends.1;
-        rest = rw ends.2 (rw (rest_next (part_of line text between) course.rest.1 i parts next) course.rest.4);
-        text = rw (text_next (part_of line text between) course.rest.1 i parts next)
-            (Appends-trans out.written out'.written out''.written (text_of (take i parts)) text course.text
+        rest = rw ends.2 (rw (rest_next _ _ i parts next) course.rest.4);
+        text = rw (text_next _ _ i parts next)
+            (Appends-trans _ _ _ _ text course.text
             (rw (append-nil text) at ends.0));
-        held = cc (held_next (part_of line text between) course.rest.1 i shelf.held parts next);
+        held = cc (held_next _ _ i _ parts next);
       })
 
   -- all of the lines before this one has been written, where this one writes nothing
   behind : Appends out'.written out''.written [] → Appends out.written out''.written (text_of (take i parts))
-  behind none =
-      rw (append-nil (text_of (take i parts))) at (Appends-trans out.written out'.written out''.written (text_of (take i parts)) [] course.text none)
+  behind none = rw (append-nil (text_of (take i parts))) at (Appends-trans _ _ _ _ [] course.text none)
 
   -- the result of this one is the result of all
   comes_behind : ComesTo out' out'' shelf' shelf'' (part_of line text between ∷ []) → ComesTo out out'' shelf shelf'' parts
-  comes_behind comes = by (one_part out' out'' shelf' shelf'' (part_of line text between) comes)
+  comes_behind comes = by (one_part out' out'' shelf' _ _ comes)
     where
       by : (Appends out'.written out''.written [] × (shelf''.held ≡ shelf'.held))
           ⊎ ((n : ℕ) × Appends out'.written out''.written (take n text) × (shelf''.held ≡ Some between.held))
@@ -114,15 +113,15 @@ module _ (i : ℕ) (line : ScriptLine) (left : List ScriptLine) (parts : List Pa
       by (inl none) = record {
         begun = i;
         bytes = length (text_of parts);
-        text = subst (Appends out.written out''.written) (sym (begun_whole i (length (text_of parts)) parts (omega arith))) (behind none.0);
+        text = subst (Appends out.written out''.written) (sym (begun_whole i _ parts (omega arith))) (behind none.0);
         held = cc;
       }
       by (inr some) = record {
         begun = suc i;
         bytes = some.0;
-        text = rw (begun_next (part_of line text between) course.rest.1 i some.0 parts next)
-            (Appends-trans out.written out'.written out''.written (text_of (take i parts)) (take some.0 text) course.text some.1);
-        held = cc (held_next (part_of line text between) course.rest.1 i shelf.held parts next);
+        text = rw (begun_next _ _ i some.0 parts next)
+            (Appends-trans _ _ _ _ _ course.text some.1);
+        held = cc (held_next _ _ i _ parts next);
       }
 
   -- where this one is done, or nothing of it is
@@ -135,9 +134,9 @@ module _ (i : ℕ) (line : ScriptLine) (left : List ScriptLine) (parts : List Pa
       whole : Appends out'.written out''.written (text ++ []) → shelf''.held ≡ Some between.held → DoesSome out out'' shelf shelf'' parts
       whole all held = record {
         done = suc i;
-        text = rw (text_next part course.rest.1 i parts next) (Appends-trans out.written out'.written out''.written (text_of (take i parts)) text course.text
+        text = rw (text_next part _ i parts next) (Appends-trans _ _ _ _ text course.text
             (rw (append-nil text) at all));
-        held = cc (held_next part course.rest.1 i shelf.held parts next);
+        held = cc (held_next part _ i _ parts next);
       }
 
       by : (k : ℕ) → Appends out'.written out''.written (text_of (take k (part ∷ []))) → shelf''.held ≡ held_after shelf'.held (take k (part ∷ []))
@@ -160,7 +159,7 @@ module _ (i : ℕ) (line : ScriptLine) (left : List ScriptLine) (parts : List Pa
       by zero none but = record {
         done = i;
         text = behind none;
-        rose = rose_since shelf.faults shelf'.faults shelf''.faults le fails.rose;
+        rose = rose_since _ _ _ le fails.rose;
         held = rw (ap stored_next next) (rw course.held at but);
       }
       by (suc zero) none but = absurd but
@@ -181,6 +180,6 @@ pub course_ends : (i : ℕ) (parts : List Part) (new : Session) (board : State) 
     → InCourse i [] parts new board out out' shelf shelf' → LinesEnd parts new out out' shelf shelf' board (Ok tt)
 course_ends i parts new board out out' shelf shelf' course = (
   rw (text_all i parts course.rest.0) at course.text,
-  course.held ∙ held_all i shelf.held parts course.rest.0,
+  course.held ∙ held_all i _ parts course.rest.0,
   ap (λ s. s.board) (sym course.rest.1),
 )

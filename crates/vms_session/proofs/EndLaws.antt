@@ -32,7 +32,7 @@ put held name bytes other = if bytes_eq other name then Some bytes else held oth
 puts-under : (held : Held) (name bytes : List ℕ) → PutsUnder held (put held name bytes) name bytes
 puts-under held name bytes = record {
   there = rw ((bytes_eq-Decides name name).1 refl) refl;
-  others = λ other ne. rw (false_from_ne_true (bytes_eq other name) (λ e. ne ((bytes_eq-Decides other name).0 e))) refl;
+  others = λ other ne. rw (false_from_ne_true _ (λ e. ne ((bytes_eq-Decides other name).0 e))) refl;
 }
 
 -- ---- lines
@@ -71,7 +71,7 @@ bytes-end name bytes old true e there comes held =
       does = rw there (IsTooLarge (grind (arith, nat_tests, e)) (record { text_is = refl; new_is = refl }));
       held = held;
     }
-bytes-end name bytes old false e there comes held = restored-ends name bytes old comes.0 there (grind (arith, nat_tests, e)) comes.1 held
+bytes-end name bytes old false e there comes held = restored-ends name bytes old _ there (grind (arith, nat_tests, e)) comes.1 held
 
 held-end : (name : List ℕ) (old : Session) (under : Option (List ℕ)) → old.held name ≡ under → HeldComes old.board.level under
     → still old.board.level old.held → LineEnds (Loads name) old
@@ -81,7 +81,7 @@ held-end name old None there comes held = record {
   does = rw there (record { text_is = refl; new_is = refl });
   held = held;
 }
-held-end name old (Some bytes) there comes held = bytes-end name bytes old (nat_lt longest_file (length bytes)) refl there comes held
+held-end name old (Some bytes) there comes held = bytes-end name bytes old _ refl there comes held
 
 pub may_save : (m : State) (set : ℕ) → is_set_of NEWEST m.level set ≡ true → MaySaveIn isa m set
 may_save m set e = record { level_le_set = grind (arith, nat_tests, e); set_le_newest = grind (arith, nat_tests, e) }
@@ -93,7 +93,7 @@ saved-ends set name old may s held =
     record {
       text = saved_line (length (saved_stream isa set old.board));
       new = record old { held = put old.held name (saved_stream isa set old.board) };
-      does = record { text_is = refl; board = refl; held = puts-under old.held name (saved_stream isa set old.board) };
+      does = record { text_is = refl; board = refl; held = puts-under _ name _ };
       held = λ other. either (HeldComes old.board.level) (bytes_eq other name) (Some (saved_stream isa set old.board)) (old.held other)
           (Back back.back (length (saved_stream isa set old.board)), back.restores) (held other);
     }
@@ -106,7 +106,7 @@ line-ends (Happens event) old good s held = record {
   held = held;
 }
 line-ends (Saves set name) old good s held = saved-ends set name old (may_save old.board set good.0) s held
-line-ends (Loads name) old good s held = held-end name old (old.held name) refl (held name) held
+line-ends (Loads name) old good s held = held-end name old _ refl (held name) held
 
 -- ---- scripts
 
@@ -128,5 +128,5 @@ lines-end level (line ∷ lines) old at good s held =
 pub sessions_end : SessionsEnd
 sessions_end = record {
   ends = λ lines old good s held.
-      lines-end old.board.level lines old refl good s (λ name. held-comes old.board.level (old.held name) (held name));
+      lines-end _ lines old refl good s (λ name. held-comes _ _ (held name));
 }

@@ -1,14 +1,13 @@
 -- What bytes are to a restore is one thing, and what a line does is one thing.
-use Rattle.vms_session.proofs.Facade.{◌≡◌, ◌≢◌, ℕ, Bool, true, false, List, Option, Some, None, arith, refl, sym, ap, ◌∙◌, bytes_eq, bytes_eq-Decides}
-use Rattle.vms_session.proofs.Facade.{NEWEST, State, step, shipped_set, Held, PutsUnder, ScriptLine, Happens, Saves, trace_line, IsBytes, bytes_are_one}
-use Rattle.vms_session.proofs.Facade.{Restore, Back, Refused, saved_stream, HoldsBytes, ReadsBytes, LinesAreOne, IsOneEnd, restored_line, missing_line}
-use Rattle.vms_session.proofs.Facade.{too_large_line, refused_line, Session, Leaves, ComesTo, IsTooLarge, IsLoaded, LoadsBytes, LoadsHeld, Does, isa}
+use Rattle.vms_session.proofs.Facade.{◌≡◌, ◌≢◌, ℕ, Bool, true, false, List, Option, Some, None, arith, refl, sym, ap, ◌∙◌, bytes_eq, bytes_eq-Decides, State}
+use Rattle.vms_session.proofs.Facade.{step, Held, PutsUnder, ScriptLine, Happens, Saves, trace_line, IsBytes, bytes_are_one, Restore, Back, Refused, HoldsBytes}
+use Rattle.vms_session.proofs.Facade.{ReadsBytes, LinesAreOne, IsOneEnd, Session, Leaves, ComesTo, IsTooLarge, IsLoaded, LoadsBytes, LoadsHeld, Does}
 use Rattle.vms_script.specs.Lines.{Restores as Loads}
 
 -- ---- lines
 
 same-held : (old a b : Held) (name bytes : List ℕ) → PutsUnder old a name bytes → PutsUnder old b name bytes → (other : List ℕ) → a other ≡ b other
-same-held old a b name bytes p q other = by (bytes_eq other name) refl
+same-held old a b name bytes p q other = by _ refl
   where
     by : (t : Bool) → bytes_eq other name ≡ t → a other ≡ b other
     by true e =
@@ -31,19 +30,19 @@ same-left said after text text' new new' a b = record { texts = cc; ends = cc }
 
 same-bytes : (bytes : List ℕ) (old : Session) (text text' : List ℕ) (new new' : Session) → IsBytes bytes → LoadsBytes bytes old text new
     → LoadsBytes bytes old text' new' → IsOneEnd text text' new new'
-same-bytes bytes old text text' new new' ok (IsTooLarge long a) (IsTooLarge long' b) = same-left too_large_line old text text' new new' a b
+same-bytes bytes old text text' new new' ok (IsTooLarge long a) (IsTooLarge long' b) = same-left _ old text text' new new' a b
 same-bytes bytes old text text' new new' ok (IsTooLarge long a) (IsLoaded r few restores b) = absurd (omega arith)
 same-bytes bytes old text text' new new' ok (IsLoaded r few restores a) (IsTooLarge long b) = absurd (omega arith)
 same-bytes bytes old text text' new new' ok (IsLoaded r few restores a) (IsLoaded r' few' restores' b) =
     come r' (rw (bytes_are_one.one old.board.level bytes ok r r' restores restores') at a) b
   where
     come : (x : Restore State) → ComesTo x old text new → ComesTo x old text' new' → IsOneEnd text text' new new'
-    come (Back m taken) a b = same-left (restored_line taken) (record old { board = m }) text text' new new' a b
-    come (Refused place section reason) a b = same-left (refused_line (shipped_set NEWEST) place section reason) old text text' new new' a b
+    come (Back m taken) a b = same-left _ _ text text' new new' a b
+    come (Refused place section reason) a b = same-left _ old text text' new new' a b
 
 same-under : (held : Option (List ℕ)) (old : Session) (text text' : List ℕ) (new new' : Session) → HoldsBytes held → LoadsHeld held old text new
     → LoadsHeld held old text' new' → IsOneEnd text text' new new'
-same-under None old text text' new new' ok a b = same-left missing_line old text text' new new' a b
+same-under None old text text' new new' ok a b = same-left _ old text text' new new' a b
 same-under (Some bytes) old text text' new new' ok a b = same-bytes bytes old text text' new new' ok a b
 
 pub one_end : (line : ScriptLine) (old : Session) (text text' : List ℕ) (new new' : Session) → ReadsBytes line old → Does line old text new
@@ -53,9 +52,9 @@ one_end (Happens event) old text text' new new' ok a b =
 one_end (Saves set name) old text text' new new' ok a b =
     record {
       texts = cc;
-      ends = rw (a.board ∙ sym b.board) (ap (session new'.board) (one_map old.held new.held new'.held name (saved_stream isa set old.board) a.held b.held));
+      ends = rw (a.board ∙ sym b.board) (ap (session new'.board) (one_map _ _ _ name _ a.held b.held));
     }
-one_end (Loads name) old text text' new new' ok a b = same-under (old.held name) old text text' new new' ok a b
+one_end (Loads name) old text text' new new' ok a b = same-under _ old text text' new new' ok a b
 
 pub lines_are_one : LinesAreOne
 lines_are_one = record { line = one_end }

@@ -35,8 +35,8 @@ module _ (part : Part) (rest : List Part) where
 
 -- a number of complete parts
 pub begun_whole : (i n : ℕ) (parts : List Part) → length (text_of parts) ≤ n → text_begun parts i n ≡ text_of (take i parts)
-begun_whole (suc zero) n (x ∷ parts) le = cc (take_all n x.text (omega (arith, le, length-append x.text (text_of parts))), append-nil x.text)
-begun_whole (suc (suc i)) n (x ∷ parts) le = rw (begun_whole (suc i) n parts (omega (arith, le, length-append x.text (text_of parts))))
+begun_whole (suc zero) n (x ∷ parts) le = cc (take_all n x.text (omega (arith, length-append x.text (text_of parts))), append-nil x.text)
+begun_whole (suc (suc i)) n (x ∷ parts) le = rw (begun_whole (suc i) n parts (omega (arith, length-append x.text (text_of parts))))
 begun_whole _ n _ le = refl
 
 -- nothing is left

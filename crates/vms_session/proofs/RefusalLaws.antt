@@ -42,12 +42,12 @@ leaves-so : (name : List ℕ) (old : Session) (text said : List ℕ) (new : Sess
 leaves-so name old text said new (IsMissing none is) does = rw is (rw none at does)
 leaves-so name old text said new (IsLarge bytes there long is) does = rw is (large-leaves bytes old said new long (rw there at does))
 leaves-so name old text said new (IsRefused bytes place section reason there ok few refused is) does =
-    rw is (refused-leaves bytes place section reason old said new ok few refused (rw there at does))
+    rw is (refused-leaves bytes place _ reason old said new ok few refused (rw there at does))
 
 later-so : (name : List ℕ) (lines : List ScriptLine) (old : Session) (text : List ℕ) (parts : List Part) (new : Session) → BringsNone name old text
     → Plays (Loads name ∷ lines) old parts new → GoesOnWithout (Loads name) lines old text parts new
 later-so name lines old text parts new none plays =
-    let left = leaves-so name old text plays.0 plays.2 none plays.3 in
+    let left = leaves-so name old text _ _ none plays.3 in
     record {
       later = plays.1;
       parts_are = plays.5 ∙ ap (λ (t : List ℕ). part_of (Loads name) t plays.2 ∷ plays.1) left.text_is

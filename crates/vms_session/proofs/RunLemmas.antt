@@ -35,7 +35,7 @@ events_back [] = refl
 events_back (event ∷ events) = rw (events_back events)
 
 pub are_events : (play : Option ℕ) (events : List Event) → AreLines play (event_lines events) → AreEvents events
-are_events play events are = subst AreEvents (events_back events) (lines_are_events play (event_lines events) are)
+are_events play events are = subst AreEvents (events_back events) (lines_are_events play _ are)
 
 -- ---- the board
 

@@ -1,8 +1,7 @@
 -- A script of a session leaves one trace and one session, and the shelf still holds bytes.
 use Rattle.vms_session.proofs.{EndLaws.may_save, OneLaws.one_end, SessionLaws.line_level, SoundLaws.load_keeps, SoundLaws.sessions_stay_sound}
-use Rattle.vms_session.proofs.Facade.{◌≡◌, ℕ, List, [], ◌∷◌, Some, refl, sym, ap, ◌∙◌, subst, IsSound, saved_stream, puts_bytes}
-use Rattle.vms_session.proofs.Facade.{Held, HoldsAll, AreLines, IsLine, ScriptLine, Happens, Saves, streams_are_bytes, Part, Plays, part_of, IsOneCourse}
-use Rattle.vms_session.proofs.Facade.{ReadsBytes, SessionsAreOne, Session, Does, isa}
+use Rattle.vms_session.proofs.Facade.{◌≡◌, ℕ, List, [], ◌∷◌, Some, refl, sym, ap, ◌∙◌, subst, IsSound, puts_bytes, Held, HoldsAll, AreLines, IsLine, ScriptLine}
+use Rattle.vms_session.proofs.Facade.{Happens, Saves, streams_are_bytes, Part, Plays, part_of, IsOneCourse, ReadsBytes, SessionsAreOne, Session, Does}
 use Rattle.vms_script.specs.Lines.{Restores as Loads}
 
 -- ---- the shelf still holds bytes
@@ -19,7 +18,7 @@ pub line_holds : (line : ScriptLine) (old : Session) (text : List ℕ) (new : Se
     → HoldsAll old.held → HoldsAll new.held
 line_holds (Happens event) old text new good does s holds = subst HoldsAll (sym (ap held-of does.new_is)) holds
 line_holds (Saves set name) old text new good does s holds =
-    puts_bytes old.held new.held name (saved_stream isa set old.board) does.held (streams_are_bytes.bytes set old.board s (may_save old.board set good.0)) holds
+    puts_bytes _ _ name _ does.held (streams_are_bytes.bytes set old.board s (may_save old.board set good.0)) holds
 line_holds (Loads name) old text new good does s holds = subst HoldsAll (sym (load_keeps (old.held name) old text new does).held) holds
 
 -- ---- scripts
@@ -64,5 +63,5 @@ sessions_are_one = record {
   one = λ lines old parts parts' new new' are sound holds p q.
       lines-one old.board.level lines old parts parts' new new' are (record { at = refl; sound = sound; holds = holds }) p q;
   holds = λ lines old parts new are sound holds p.
-      (lines-follow old.board.level lines old parts new are (record { at = refl; sound = sound; holds = holds }) p).holds;
+      (lines-follow _ lines old parts new are (record { at = refl; sound = sound; holds = holds }) p).holds;
 }

@@ -32,7 +32,7 @@ normal-in : (set : Set) (footed : Bool) (images : List Image) (order : List ℕ)
 normal-in set footed images [] came bytes once spelled k d image new here there = absurd (none_left came k once new)
 normal-in set footed images (j ∷ order) came bytes once spelled k d image new here there =
     elim (set-or-same came j k) [
-      | inl e ↦ of-section set footed j (slice_get set.devices j) (slice_get images j) spelled.0 d image spelled.2
+      | inl e ↦ of-section set footed j _ _ _ d image spelled.2
           (ap (slice_get set.devices) (sym e) ∙ here) (ap (slice_get images) (sym e) ∙ there)
       | inr e ↦ normal-in set footed images order (slice_set came j true) spelled.1 once.1 spelled.3 k d image (e ∙ new) here there
     ]
@@ -77,7 +77,7 @@ bytes-keep bytes old text new (IsTooLarge long left) = all-kept old new left.new
 bytes-keep bytes old text new (IsLoaded (Back m taken) few restores left) = rw left.new_is (record {
   held = refl;
   level = restored_is_sound.level old.board.level (cells_in restores.0) m restores.2;
-  sound = λ s. back_is_sound old.board.level bytes m taken s.devices.level restores;
+  sound = λ s. back_is_sound _ bytes m taken s.devices.level restores;
 })
 bytes-keep bytes old text new (IsLoaded (Refused place section reason) few restores left) = all-kept old new left.new_is
 
@@ -90,13 +90,13 @@ pub line_sound : (play : Option ℕ) (line : ScriptLine) (old : Session) (text :
 line_sound play (Happens event) old text new good does s =
     subst IsSound (sym (rw (does.new_is))) (sound_stays_on.event event old.board (event_is event (line_event play event good)) s)
 line_sound play (Saves set name) old text new good does s = same-board old new does.board s
-line_sound play (Loads name) old text new good does s = (load_keeps (old.held name) old text new does).sound s
+line_sound play (Loads name) old text new good does s = (load_keeps _ old text new does).sound s
 
 lines-sound : (play : Option ℕ) (lines : List ScriptLine) (old : Session) (parts : List Part) (new : Session) → AreLines play lines
     → Plays lines old parts new → IsSound old.board → IsSound new.board
 lines-sound play [] old parts new good plays s = same-board old new (rw (plays.1)) s
 lines-sound play (line ∷ lines) old parts new good plays s =
-    lines-sound play lines plays.2 plays.1 new good.1 plays.4 (line_sound play line old plays.0 plays.2 good.0 plays.3 s)
+    lines-sound play lines plays.2 plays.1 new good.1 plays.4 (line_sound play line old _ _ good.0 plays.3 s)
 
 pub sessions_stay_sound : SessionsStaySound
 sessions_stay_sound = record { line = line_sound; lines = lines-sound }

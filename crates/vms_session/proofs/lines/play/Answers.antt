@@ -8,33 +8,27 @@ loop-line-init g c = record {
   level = refl;
   lines = c.requires;
   sets = c.new-sets.ensures;
-  course = λ held parts new told plays.
-      in_course (lines_view c.args.lines.now) parts new c.args.board.now.state held (outlet g.K.Sink c.args.out.now)
-      (stock g.H.Shelf c.args.shelf.now) told plays;
+  course = λ held parts new told plays. in_course _ parts new _ held _ _ told plays;
   serves = serves_none (outlet g.K.Sink c.args.out.now);
   reaches = reaches_none (stock g.H.Shelf c.args.shelf.now);
 }
 
 pub play_line-requires-clause-line : goal.play_line-requires-clause-line
 play_line-requires-clause-line g c =
-    let lines = c.args.lines.now in
     let i = c.loop-line.line-index in
-    rw c.loop-line.invariant.level (rw (lines_next lines i c.line-item.result (omega arith) c.line-item.is) at c.loop-line.invariant.lines).0
+    rw c.loop-line.invariant.level (rw (lines_next c.args.lines.now i c.line-item.result (omega arith) c.line-item.is) at c.loop-line.invariant.lines).0
 
 pub loop-line-preserved : goal.loop-line-preserved
 loop-line-preserved g c =
     let lines = c.args.lines.now in
     let i = c.loop-line.line-index in
-    let left = lines_view (drop (i + 1) lines) in
     let split = lines_next lines i c.line-item.result (omega arith) c.line-item.is in
     record {
       level = c.in-Ok.ensures.level ∙ c.loop-line.invariant.level;
       lines = (rw split at c.loop-line.invariant.lines).1;
       sets = c.in-Ok.ensures.sets;
       course = λ held parts new told plays.
-          course_goes i (line_view c.line-item.result) left parts new c.loop-line.board.state c.play_line.new.board.state
-          (outlet g.K.Sink c.args.out.now) (outlet g.K.Sink c.loop-line.out) (outlet g.K.Sink c.play_line.new.out)
-          (stock g.H.Shelf c.args.shelf.now) (stock g.H.Shelf c.loop-line.shelf) (stock g.H.Shelf c.play_line.new.shelf)
+          course_goes i _ (lines_view (drop (i + 1) lines)) parts new _ _ _ _ _ _ _ _
           (rw split at (c.loop-line.invariant.course held parts new told plays)) c.in-Ok.ensures.content;
       serves = serves_both c.loop-line.invariant.serves c.in-Ok.ensures.goes.serves;
       reaches = reaches_both c.loop-line.invariant.reaches c.in-Ok.ensures.goes.reaches;

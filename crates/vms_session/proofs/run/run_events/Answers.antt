@@ -19,7 +19,7 @@ loop-event-preserved g c =
     let split = left_next events i (omega arith) in
     let done : m' ≡ (g.M.Machine.family.step event m).1 = ap (λ s. s.1) c.event.ensures.step in
     record {
-      events = later_events event (drop (i + 1) events) (drop i events) split c.loop-event.invariant.events;
+      events = later_events event _ _ split c.loop-event.invariant.events;
       left = after_next g.M.Machine.family event (drop (i + 1) events) (drop i events) m m' split done ∙ c.loop-event.invariant.left;
       sound = c.event.ensures.sound;
     }
