@@ -89,8 +89,7 @@ fits_count : (cs : List (List Cell)) (all : List Field) (numbers : List ℤ) (at
 fits_count cs all numbers at i f (Counted by most) is e fits c =
     let s = single_at cs all all 0 by numbers at c.field c.stands c.steady fits in
     let z : 0 + by ≡ by = omega arith in
-    let high = counted_at (λ m. s.number ≤ℤ pos m) by most i all f is e (rw z at s.fits.1) in
-    rw s.is (counting_below c.field.item _ c.field.default s.number most c.kind s.fits high)
+    rw s.is (counting_below _ _ c.field.default s.number most c.kind s.fits (counted_at (λ m. s.number ≤ℤ pos m) by most i all f is e (rw z at s.fits.1)))
 fits_count cs all numbers at i f _ is e fits known = tt
 
 pub old_fields : (cs : List (List Cell)) (below : ℕ) (all : List Field) (numbers : List ℤ) (at : ℕ) → FitsAt (cells_from cs all 0 all) numbers at
@@ -192,8 +191,7 @@ module _ (sides : Sides) where
         | inl c ↦ let one = rw (covers_unused e.field.item e.field.count f.field.item c.covers).1 at single in let bad = rw is at one in absurd (cc)
         | inr m ↦
             let p = paired o n _ _ j most is m.count m.room in
-            let counts : e.field.count ≡ Counted i p.1 = rw (at_i p.0 p.3) at p.2 in
-            at_most_more z p.1 most (counted_at (λ m. z ≤ℤ pos m) i p.1 e.index a.fields e.field met.known.field counts all) p.4
+            at_most_more z p.1 most (counted_at (λ m. z ≤ℤ pos m) i p.1 e.index a.fields e.field met.known.field (rw (at_i p.0 p.3) at p.2) all) p.4
       ]
 
   fits_arrays : (new : NewFields below' (is_steady_in b) b.fields) (z : ℤ) (i j : ℕ) (es fs : List Entry) → ((by : ℕ) → same_place (o by) (n j) ≡ true → by ≡ i)
@@ -224,6 +222,5 @@ module _ (sides : Sides) where
       → z ≤ℤ highest kind → AllByRecursion (λ m. z ≤ℤ pos m) (counted e.index a.fields) → AllZip (Met sides) es (present_from news b.fields w 0 0 b.fields)
       → NewFields below' (is_steady_in b) b.fields → AllByRecursion (λ m. z ≤ℤ pos m) (counted f.index b.fields)
   caps_follow kind es e f z is at_e m high caps met new =
-      let le : z ≤ℤ pos (bound e.field.item (counted e.index a.fields)) = rw is (at_most_bound kind _ z high caps) in
       let arrays = fits_arrays new z _ _ es _ at_e caps met in
-      all_counted (λ m. z ≤ℤ pos m) f.index b.fields (each_array z f.index _ 0 0 b.fields le m.absent arrays)
+      all_counted (λ m. z ≤ℤ pos m) f.index b.fields (each_array z f.index _ 0 0 b.fields (rw is (at_most_bound kind _ z high caps)) m.absent arrays)

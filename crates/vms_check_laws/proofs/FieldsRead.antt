@@ -78,7 +78,7 @@ module _ (sides : Sides) where
   items_sized i j d (suc m) (suc most) k lt = rw (length-append, item_sized i j d k lt, items_sized i j d m most (k + old_size i) lt) (grind arith)
 
   field_sized : (e : Entry) (i : ℕ) (f : Field) → ItemBelow below' f.item → length (one_field e f) ≡ length (cells_at i f)
-  field_sized e i f lt = items_sized e.field.item f.item f.default _ _ _ lt ∙ sym (field_size news b.fields i f)
+  field_sized e i f lt = cc (items_sized e.field.item f.item f.default _ _ _ lt, field_size news b.fields i f)
 
   next_sized : (i : ℕ) (g : Field) (pr : Option (Option Formula)) (es : List Entry) → ItemBelow below' g.item
       → length (next_field i g pr es) ≡ length (cells_at i g)
@@ -198,7 +198,7 @@ module _ (sides : Sides) where
     settled = settled_empty _ y [] [] refl;
   }
   item_reads (Unused m) (Unused r) caps caps' d d' x y pair constant fits held = record {
-    carries = carries_filler numbers numbers' (Filler m ∷ []) r (filler_length numbers m ∙ eqb-true m r pair.same);
+    carries = carries_filler numbers numbers' _ r (filler_length numbers m ∙ eqb-true m r pair.same);
     settled = settled_empty _ y [] [] refl;
   }
   item_reads (Struct i) (Struct j) caps caps' d d' x y pair constant fits held = ((table.rows j pair.low').meets i pair.low pair.structs x fits).reads y held
@@ -306,7 +306,7 @@ module _ (sides : Sides) where
         let le = if_least t _ _ (elements_fit e.field.count own) in
         let le' = if_least t _ _ (elements_room e.field.count f.field.count m.count m.room) in
         let pair : Pairs two below below' e.field.item f.field.item = record { same = m.item; structs = p.good.structs; low = p.old.item; low' = p.new.item } in
-        rw is (items_read e.field.item f.field.item _ _ e.field.default f.field.default _ _ _ 0 0 0 0 _ _ pair m.constant le le' p.fits (rw is at held))
+        rw is (items_read _ _ _ _ e.field.default f.field.default _ _ _ 0 0 0 0 _ _ pair m.constant le le' p.fits (rw is at held))
 
     pub pair_reads : (e f : Entry) → Opposite e f → Holds numbers' (at' + f.place) (one_field e f.field)
         → ReadsHere e f (slots_at ms a.fields v own numbers at e.index e.place e.field) (slots_at ns b.fields w own' numbers' at' f.index f.place f.field)

@@ -151,9 +151,7 @@ module _ (old new : Set) (good_old : WellFormed old) (good_new : WellFormed new)
 
     taken : (c k : ℕ) → slice_get (ps ++ qs) c ≡ Some (Some k) → has c ≡ true → (c < length ps) ⊎ IsBehind (length ps) c
         → get_or whole k (pos 0) ≡ get_or numbers c (pos 0)
-    taken c k f is_in (inl lt) =
-        let own : has_own c ≡ true = cc (or-false (has_own c), has_both c, came_none c (omega (arith, own_goes.paired.long))) in
-        taken_own c k (sym (at_left ps qs c lt) ∙ f) own
+    taken c k f is_in (inl lt) = taken_own c k (sym (at_left ps qs c lt) ∙ f) (cc (or-false (has_own c), has_both c, came_none c (omega (arith, own_goes.paired.long))))
     taken c k f is_in (inr b) =
         let c_is : c ≡ own_cells old d + b.more = omega (arith, own_goes.paired.long) in
         rw c_is (taken_sub b.more k (stands_in old _ _ d.subs b.more _ sized (behind_at ps qs c b f)) (rw c_is at is_in))
@@ -246,11 +244,11 @@ module _ (old new : Set) (good_old : WellFormed old) (good_new : WellFormed new)
       none_has : (k : ℕ) → k < length (device_cells new e)
           → ((c : ℕ) → slice_get (device_partners old new d e) c ≡ Some (Some k) → has_cell (image_slots old d image) c ≡ false)
           → get_or a k (pos 0) ≡ get_or b k (pos 0)
-      none_has k lt none = p.other k lt none ∙ sym (q.other k lt none)
+      none_has k lt none = cc (p.other k lt none, q.other k lt none)
 
       by_has : (k c : ℕ) → k < length (device_cells new e) → slice_get (device_partners old new d e) c ≡ Some (Some k) → (h : Bool)
           → has_cell (image_slots old d image) c ≡ h → get_or a k (pos 0) ≡ get_or b k (pos 0)
-      by_has k c lt f true h = p.taken c k f h ∙ sym (q.taken c k f h)
+      by_has k c lt f true h = cc (p.taken c k f h, q.taken c k f h)
       by_has k c lt f false h = none_has k lt (λ c' g. rw ((device_paired old new good_old good_new i d e there).once c' c k g f) h)
 
 pub carried_stands : CarriedLaw

@@ -125,7 +125,7 @@ pub settled_append : {s t : List Slot} {at next : ℕ} {xs ys : List Cell} {zs u
     → Settled t next ys us → Settled (s ++ t) at (xs ++ ys) (zs ++ us)
 settled_append {s} {t} {at} {next} {xs} {ys} {zs} {us} size h e k = record { each = λ c lt. by c lt (before_or_behind _ c) } where
   sizes : length (defaults xs) ≡ length zs
-  sizes = defaults_size xs ∙ sym size
+  sizes = cc (defaults_size xs)
 
   by : (c : ℕ) → c < length (zs ++ us) → (c < length zs) ⊎ IsBehind (length zs) c
       → (has_cell (s ++ t) (at + c) ≡ true) ⊎ (get_or (zs ++ us) c (pos 0) ≡ get_or (defaults (xs ++ ys)) c (pos 0))
@@ -202,7 +202,7 @@ module _ {cells_a cells_b others_a others_b : List Cell} {numbers : List ℤ} {x
   taken_at : (c r : ℕ) → HasIt c r → has_cell (xs ++ ys) (at + c) ≡ true → (c < length p) ⊎ IsBehind (length p) c
       → get_or (s ++ t) r (pos 0) ≡ get_or numbers (at + c) (pos 0)
   taken_at c r e f (inl lt) =
-      let place : slice_get p c ≡ Some (Some (at' + r)) = sym (at_left p q c lt) ∙ e in
+      let place : slice_get p c ≡ Some (Some (at' + r)) = cc (at_left p q c lt) in
       let pair = h.paired.pairs c (at' + r) place in
       get_or_append_left s t (pos 0) r (omega arith) ∙ h.taken c r place (sym (has_first _ (omega arith)) ∙ f)
   taken_at c r e f (inr b) =

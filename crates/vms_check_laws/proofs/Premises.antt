@@ -215,7 +215,7 @@ module _ (ms ns : List Meaning) (numbers numbers' : List ℤ) (own own' : ℕ �
   covered_slots (Equal k z) One (Unused r) One caps caps' x y step step' covers single single' =
       (r, refl, constant_length numbers k z ∙ eqb-true (width k) r covers)
   covered_slots (Num k) One (Unused r) One caps caps' x y step step' covers single single' =
-      (r, refl, numbers_length numbers k caps 1 x step ∙ omega (arith, eqb-true (width k) r covers))
+      (r, refl, numbers_length _ k caps 1 x step ∙ omega (arith, eqb-true (width k) r covers))
   covered_slots (Num k) (Fixed p) (Unused r) One caps caps' x y step step' covers single single' =
       (r, refl, numbers_length _ k caps p x step ∙ eqb-true (p * width k) r covers)
   covered_slots _ _ _ _ caps caps' x y step step' covers single single' = absurd (cc)
@@ -278,7 +278,7 @@ module _ (structs : List Meaning) (all : List Field) (v : ℕ) (numbers : List �
 
   -- a field of which nothing of the test is left is there
   pub known_there : (e : Entry) → IsKnown e → e.rest ≡ None → (own parent : ℕ → ℕ) → is_there e.field.test e.field.since v own parent ≡ true
-  known_there e known plain own parent = presence_there e.field.test e.field.since v own parent ∙ rw (known.left, plain)
+  known_there e known plain own parent = presence_there e.field.test _ v own parent ∙ rw (known.left, plain)
 
   abbrev pub AreKnown : List Entry → Type 0
   AreKnown es = AllByRecursion IsKnown es

@@ -189,9 +189,7 @@ module _ (old new : Set) (good_old : WellFormed old) (good_new : WellFormed new)
   configured : (machine : Option (List ℕ)) → IfSome machine (λ m. is_one_of old.machines m ≡ true)
       → IsConfiguration new.machines machine (optional configuration machine)
   configured None h = refl
-  configured (Some name) h =
-      let r = rules old new good_old good_new none in
-      (every_one _ _ name r.machines h, omega (arith, machine_short old good_old name h), refl)
+  configured (Some name) h = (every_one _ _ name (rules old new good_old good_new none).machines h, omega (arith, machine_short old good_old name h), refl)
 
   one_each : (images : List Image) → length (carried old new images) ≡ length new.devices
   unfolding carried

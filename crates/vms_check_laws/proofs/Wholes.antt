@@ -215,7 +215,7 @@ module _ (old new : Set) (good_old : WellFormed old) (good_new : WellFormed new)
         | inl is ↦ let bad : sub_came old new None (slice_get image.came 0) ≡ Some v = rw is at f.2 in absurd (cc)
         | inr g ↦
             let found : find_sub 0 e.subs g.sub.desc.name ≡ Some l = rw g.name_is (sub_found new good_new k l e f.0 at_k f.1) in
-            order_has d.subs image.came g.number l v g.sub g.there (came_from _ g.number v (rw g.found at f.2)) (ap index found)
+            order_has d.subs _ _ l v g.sub g.there (came_from _ g.number v (rw g.found at f.2)) (ap index found)
       ]
 
   module _ (held : Holds numbers' (own_cells new e) rest) where

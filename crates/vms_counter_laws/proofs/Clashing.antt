@@ -21,7 +21,7 @@ entry_field all v i p f (Some rest) es h e more = ((e, h), more)
 pub present_fields : (y : List (List Cell)) (all : List Field) (v i p : ℕ) (fs : List Field) → RestAt all i fs → AreFields all v (present_from y all v i p fs)
 present_fields y all v i p [] h = tt
 present_fields y all v i p (f ∷ fs) h =
-    entry_field all v i p f (presence v f.test f.since) _ refl (at_first (slice_get all) i h)
+    entry_field all v i p f _ _ refl (at_first (slice_get all) i h)
     (present_fields y all v (suc i) (p + length (field_cells y all i f)) fs (one_on (slice_get all) i h))
 
 -- ---- constants

@@ -25,9 +25,7 @@ first_before : {X Y : Type 0} (f : ℕ → X → Option Y) (i : ℕ) (x : X) (xs
     → ((k : ℕ) (y : X) → suc k < n → slice_get xs k ≡ Some y → f (suc i + k) y ≡ None)
     → (k : ℕ) (y : X) → k < n → slice_get (x ∷ xs) k ≡ Some y → f (i + k) y ≡ None
 first_before f i x xs n none more zero y lt e =
-    let zero_more : i + 0 ≡ i = omega arith in
-    let same : x ≡ y = cc in
-    rw (zero_more, ← same) none
+    let zero_more : i + 0 ≡ i = omega arith in let same : x ≡ y = cc in rw (zero_more, ← same) none
 first_before f i x xs n none more (suc k) y lt e = let one_more : suc i + k ≡ i + suc k = omega arith in rw one_more at (more k y lt e)
 
 pub first_some : {X Y : Type 0} (f : ℕ → X → Option Y) (i : ℕ) (xs : List X) (m : Y) → first_answer f i xs ≡ Some m → FirstSome f i xs m
@@ -39,8 +37,13 @@ first_some f i (x ∷ xs) m h =
       | inr e ↦
           let r = first_some f (suc i) xs m e.1 in
           let one_more : suc i + r.number ≡ i + suc r.number = omega arith in
-          let before = first_before f i x xs (suc r.number) e.0 (λ k y lt same. r.before k y (omega arith) same) in
-          record { number = suc r.number; item = r.item; stands = r.stands; answers = rw one_more at r.answers; before = before }
+          record {
+            number = suc r.number;
+            item = r.item;
+            stands = r.stands;
+            answers = rw one_more at r.answers;
+            before = first_before f i x xs _ e.0 (λ k y lt same. r.before k y (omega arith) same);
+          }
     ]
 
 -- one rule, at one pair of places
@@ -187,13 +190,9 @@ module _ (old new : Set) where
         ]
       ]
 
-  pub not_early : (i k : ℕ) (d e : Device) (m : Mismatch) → OfDevice i k d e m → 3 < m.rule
-  not_early i k d e m (Version r f) = omega arith
-  not_early i k d e m (Own lt c) = omega arith
-  not_early i k d e m (Below lt c) = omega arith
-
   compared_early : (i : ℕ) (d : Device) (o : Option ℕ) (p : Option Device) (m : Mismatch) → compare_device old new i d o p ≡ Some m → 3 < m.rule
-  compared_early i d (Some k) (Some e) m h = not_early i k d e m (of_device i k d e m h)
+  compared_early i d (Some k) (Some e) m h =
+      elim (of_device i k d e m h) [ Version r f ↦ omega arith | Own lt c ↦ omega arith | Below lt c ↦ omega arith ]
   compared_early i d _ _ m h = absurd (cc)
 
   -- ---- which rule is the first
@@ -205,7 +204,7 @@ module _ (old new : Set) where
 
   -- which rule it is, and where
   which_fails : (m : Mismatch) → first_mismatch old new ≡ Some m
-      → ((list_all (is_one_of new.machines) old.machines ≡ false) × (m.rule ≡ 1)) ⊎ ((m.rule ≡ 2) ⊎ ((m.rule ≡ 3) ⊎ DeviceFails m))
+      → ((list_all (is_one_of new.machines) old.machines ≡ false) × (m.rule ≡ 1)) ⊎ (((1 < m.rule) × (m.rule < 4)) ⊎ DeviceFails m)
   unfolding first_mismatch
   which_fails m h =
       let old_in = λ (i : ℕ) (d : Device). failing_pair ((2, is_in new d) ∷ []) (here (parts.Device i)) (here parts.Set) in
@@ -213,10 +212,10 @@ module _ (old new : Set) where
       elim (else_some _ _ m h) [
         | inl r ↦ let one = one_rule 1 (list_all (is_one_of new.machines) old.machines) (here parts.Set) (here parts.Set) m r in inl (one.0, one.1)
         | inr r ↦ elim (else_some (first_answer old_in 0 old.devices) _ m r.1) [
-          | inl s ↦ let f = first_some old_in 0 old.devices m s in inr (inl (one_rule 2 (is_in new f.item) _ _ m f.answers).1)
+          | inl s ↦ let f = first_some old_in 0 _ m s in let two = (one_rule 2 (is_in new f.item) _ _ m f.answers).1 in inr (inl (omega arith, omega arith))
           | inr s ↦ elim (else_some (first_answer new_in 0 new.devices) _ m s.1) [
-            | inl t ↦ let f = first_some new_in 0 new.devices m t in inr (inr (inl (one_rule 3 (is_in old f.item) _ _ m f.answers).1))
-            | inr t ↦ inr (inr (inr (record { all_in = s.0; answers = first_some (λ i d. compared old new i d) 0 _ m t.1 })))
+            | inl t ↦ let f = first_some new_in 0 _ m t in let three = (one_rule 3 (is_in old f.item) _ _ m f.answers).1 in inr (inl (omega arith, omega arith))
+            | inr t ↦ inr (inr (record { all_in = s.0; answers = first_some (λ i d. compared old new i d) 0 _ m t.1 }))
           ]
         ]
       ]
@@ -224,17 +223,13 @@ module _ (old new : Set) where
   pub machine_fails : (m : Mismatch) → first_mismatch old new ≡ Some m → m.rule ≡ 1 → list_all (is_one_of new.machines) old.machines ≡ false
   machine_fails m h one = elim (which_fails m h) [
     | inl r ↦ r.0
-    | inr (inl two) ↦ absurd (omega arith)
-    | inr (inr (inl three)) ↦ absurd (omega arith)
-    | inr (inr (inr d)) ↦
-        let f = d.answers in
-        absurd (omega (arith, compared_early _ f.item _ _ m f.answers))
+    | inr (inl between) ↦ absurd (omega arith)
+    | inr (inr d) ↦ absurd (omega (arith, compared_early _ d.answers.item _ _ m d.answers.answers))
   ]
 
   pub device_fails : (m : Mismatch) → first_mismatch old new ≡ Some m → 3 < m.rule → DeviceFails m
   device_fails m h late = elim (which_fails m h) [
     | inl r ↦ absurd (omega arith)
-    | inr (inl two) ↦ absurd (omega arith)
-    | inr (inr (inl three)) ↦ absurd (omega arith)
-    | inr (inr (inr d)) ↦ d
+    | inr (inl between) ↦ absurd (omega arith)
+    | inr (inr d) ↦ d
   ]
