@@ -4,7 +4,7 @@ use Rattle.vms_check_laws.proofs.{Presence.covers_unused, Presence.filler_length
 use Rattle.vms_check_laws.proofs.Facade.{◌≡◌, inl, inr, ℕ, zero, suc, ◌+◌, ◌*◌, ◌≤◌, Bool, true, false, List, ◌∷◌, length, get_or, Option, None, refl, sym}
 use Rattle.vms_check_laws.proofs.Facade.{eq-eqb, ◌∙◌, arith, ℤ, pos, if◌then◌else◌, ◌++◌, Some, eqb-true, leb-true, slice_get, ap, [], length-append, cells_in}
 use Rattle.vms_check_laws.proofs.Facade.{Kind, Item, Num, Equal, Unused, Struct, width, Count, One, Fixed, Counted, Formula, Field, is_there, Slot, Number}
-use Rattle.vms_check_laws.proofs.Facade.{Filler, no_parent, times, counted, capacity_of, item_cells, field_cells, elements_of, item_slots, numbers_of, Entry}
+use Rattle.vms_check_laws.proofs.Facade.{no_parent, times, counted, capacity_of, item_cells, field_cells, elements_of, item_slots, numbers_of, Entry}
 use Rattle.vms_check_laws.proofs.Facade.{same_rest, same_count, same_kind, same_constant, holds_as_much, entry_of, present_from, defaults, carry_item}
 use Rattle.vms_check_laws.proofs.Facade.{carry_items, carry_field, Holds, FitsAt, Carries, size_same, elements_fit, ItemBelow, same_number_is, here, presence}
 use Rattle.vms_check_laws.proofs.Facade.{Cell, cells_from, slots_from, kind_of, is_steady_in, is_num, is_one, same_item, position_from, same_place, carry_next}

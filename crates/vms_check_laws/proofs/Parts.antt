@@ -11,7 +11,7 @@ use Rattle.vms_check_laws.proofs.Facade.{carrying, cells_first, Holds, Sub, Devi
 use Rattle.vms_check_laws.proofs.Facade.{came_slots, carried_sub, defaults, rules_append, ◌++◌, Spells, zeroed, own_slots, present, position_from}
 use Rattle.vms_check_laws.proofs.Facade.{is_earlier_in, Field, numbers_of, Entry, IsPartOf, IsRead, FrontAligns}
 use Rattle.vms_check_laws.proofs.Premises.{Table, by_less, Meets, fields_below, Reads, GoodCells, FitCells, fit_append, fit_defaults, fit_length, IsKnown}
-use Rattle.vms_check_laws.proofs.Premises.{AreKnown, all_known, PairGood, Two, Sides, OldFields, Met, Row}
+use Rattle.vms_check_laws.proofs.Premises.{AreKnown, all_known, PairGood, Sides, OldFields, Met, Row}
 use Rattle.vms_spec.specs.declared.Part.TheVariants as parts
 
 abbrev pub meanings_of : List Desc → List Meaning

@@ -1,10 +1,10 @@
 -- The defaults show three kinds of mismatch, where they are ready.
 use Rattle.vms_counter_laws.proofs.{Devices.Comes, Devices.comes, Clashing.present_fields, Clashing.clashes}
-use Rattle.vms_counter_laws.proofs.Facade.{◌==◌, if◌then◌else◌, ℕ, subst, ◌≡◌, inl, inr, ◌+◌, ◌^◌, ◌<◌, true, false, List, [], ◌++◌, length, map, Option, Some}
+use Rattle.vms_counter_laws.proofs.Facade.{◌==◌, if◌then◌else◌, ℕ, subst, ◌≡◌, inl, inr, ◌+◌, ◌<◌, true, false, List, [], ◌++◌, length, map, Option, Some}
 use Rattle.vms_counter_laws.proofs.Facade.{None, refl, sym, ap, ◌∙◌, arith, append_assoc, append-nil, ℤ, slice_get, list_all, lacking, IsBytes, Field}
 use Rattle.vms_counter_laws.proofs.Facade.{Device, Set, FitsHeads, struct_cells, desc_cells, Image, Spells, default_image, own_slots, own_cells}
 use Rattle.vms_counter_laws.proofs.Facade.{zeroed, IsVersionOf, be32, magic, stream_head, section_head, configuration, end_mark, foot, written}
-use Rattle.vms_counter_laws.proofs.Facade.{written_sections, written_subs, AreReady, IsReady, Magic, Version, WellFormed, here, find_device, few_devices}
+use Rattle.vms_counter_laws.proofs.Facade.{written_sections, written_subs, AreReady, Magic, Version, WellFormed, here, find_device, few_devices}
 use Rattle.vms_counter_laws.proofs.Facade.{machine_short, reading_on, falses, defaults_of, version_decides, bytes_rest, well_good, device_found, Unknown}
 use Rattle.vms_counter_laws.proofs.Facade.{AtMagic, AtVersion, judge, reading, Headed, at_start, between, by_state, Takes, unit_on, taken_holds, Mismatch}
 use Rattle.vms_counter_laws.proofs.Facade.{presence, reduced, compare_device, compare_fields, comparers, Comparer, Entry, first_mismatch, is_kept, present}
