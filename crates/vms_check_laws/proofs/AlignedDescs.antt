@@ -106,17 +106,12 @@ module _ (sides : Sides) where
       → (body r r' : List ℕ) → Spells numbers' (if t' then times (elements_of d own') (item_slots ns j caps' numbers') y step' else []) body
       → body ++ r' ≡ zeroed numbers (if t then times (elements_of c own) (item_slots ms i caps numbers) x step else []) ++ r
       → residue (width (kind_of i)) (get_or numbers x (pos 0)) ≡ residue (width (kind_of j)) (get_or numbers' y (pos 0))
-  number_same (Num l) (Num k) One One true true caps caps' x y step step' num one same counts is is' body r r' s h =
-      one_same k l caps caps' x y (kinds_same k l same) body r r' s h
+  number_same (Num l) (Num k) One One true true caps caps' x y step step' num one same counts is is' body r r' s h = grind (arith, one_same, kinds_same)
   number_same _ _ _ _ _ _ caps caps' x y step step' num one same counts is is' body r r' s h = absurd (cc)
 
   pair_same : (e f : Entry) → Met sides e f → is_steady_in b f.index ≡ true
       → (body r r' : List ℕ) → Spells numbers' (NewSlots f) body → body ++ r' ≡ zeroed numbers (OldSlots e) ++ r → own e.index ≡ own' f.index
-  pair_same e f met is body r r' spells h =
-      let q = named_pair sides e f met is in
-      met.known.number ∙ number_same _ _ _ _ _ _ _ _ _ _ _ _
-      q.plain.item q.plain.count q.matched.item q.matched.count q.there_is
-      (known_there ns b.fields w numbers' at' f met.known' q.rest own' _) body r r' spells h ∙ sym met.known'.number
+  pair_same e f met is body r r' spells h = grind (arith, named_pair, number_same, known_there)
 
   -- ---- position by position
 

@@ -1,12 +1,11 @@
 -- A number that fits its cell is at most every capacity that it counts, and one that fits the older capacities fits the newer.
-use Rattle.vms_check_laws.proofs.{Facade.cells_in, Facade.AllZip, Segments.fits_right, Presence.Steady, Presence.covers_unused}
-use Rattle.vms_check_laws.proofs.Facade.{◌≤ℤ◌, ◌≡◌, inl, inr, ℕ, zero, suc, ◌+◌, ◌*◌, ◌^◌, ◌≤◌, true, List, ◌∷◌, ◌++◌, length, get_or, Some, refl, arith, ℤ}
-use Rattle.vms_check_laws.proofs.Facade.{pos, negsuc, if◌then◌else◌, AllByRecursion, slice_get, mod-le, eq-eqb, ints, ◌<◌, [], min, Bool, false, Option, None}
+use Rattle.vms_check_laws.proofs.{Segments.fits_right, Presence.Steady, Presence.covers_unused, Positioned.at_or_later, Positioned.Above}
+use Rattle.vms_check_laws.proofs.Facade.{cells_in, AllZip, ◌≤ℤ◌, ◌≡◌, inl, inr, ℕ, zero, suc, ◌+◌, ◌≤◌, true, List, ◌∷◌, ◌++◌, length, get_or, Some, refl}
+use Rattle.vms_check_laws.proofs.Facade.{arith, ℤ, pos, negsuc, if◌then◌else◌, AllByRecursion, slice_get, eq-eqb, ints, ◌<◌, [], min, Bool, false, Option, None}
 use Rattle.vms_check_laws.proofs.Facade.{sym, nat_le, and_parts, eqb-true, leb-true, Kind, U8, U16, U32, Item, Num, width, residue, Count, One, Counted, Field}
 use Rattle.vms_check_laws.proofs.Facade.{Cell, times, counted, capacity_of, item_cells, field_cells, cells_from, place_of, no_field, kind_of, FitsCell, is_num}
 use Rattle.vms_check_laws.proofs.Facade.{is_one, ItemBelow, FitsAt, all_right, Desc, is_steady_in, no_desc, Struct, highest, Formula, presence, Entry, entry_of}
 use Rattle.vms_check_laws.proofs.Facade.{present_from, position_from, same_place, same_count, holds_as_much, absent_hold, bound, least_of, greatest, has_room}
-use Rattle.vms_check_laws.proofs.Positioned.{at_or_later, Above}
 use Rattle.vms_check_laws.proofs.Premises.{IsSingle, CountFits, OldFields, DefaultsGood, NamesEarlier, NewFields, RulesNamed, Sides, Matched, decoded, Met}
 
 -- the number of field k of these, the first of which has the number i and begins at a place
@@ -53,7 +52,7 @@ IsCounting (Num U32) = Unit {0}
 IsCounting _ = ⊥
 
 below_cap : (w : ℕ) (z : ℤ) (most : ℕ) → pos 0 ≤ℤ z → z ≤ℤ pos most → residue w z ≤ most
-below_cap w (pos m) most low high = let h : m ≤ most = omega (arith, ints) in omega (arith, mod-le m (2 ^ (8 * w)))
+below_cap w (pos m) most low high = grind arith
 below_cap w (negsuc m) most low high = absurd (omega arith)
 
 counting_below : (item : Item) (caps : List ℕ) (d z : ℤ) (most : ℕ) → IsCounting item

@@ -86,7 +86,7 @@ module _ (structs : List Pairer) (cs : List Carrier) (ms : List Meaning) (y : Li
     carry_none : (a b : Item) (caps' : List ℕ) (d' : ℤ) (step m at q t : ℕ)
         → carry_items cs x y numbers a b (defaults (item_cells y b [] d')) step 0 m at ≡ defaults (times m (λ _. item_cells y b caps' d') q t)
     carry_none a b caps' d' step zero at q t = refl
-    carry_none a b caps' d' step (suc m) at q t = rw (same_defaults y b [] caps' d', carry_none a b caps' d' step m at (q + t) t) (sym (defaults_append _ _))
+    carry_none a b caps' d' step (suc m) at q t = grind (arith, same_defaults, defaults_append, carry_none a b caps' d' step m at (q + t) t)
 
     array_goes : (a b : Item) (caps caps' : List ℕ) (d d' : ℤ) (most n m at at' p s q t : ℕ) → n ≤ most → ItemBelow k a → ItemBelow k' b
         → Goes (times most (λ _. item_cells x a caps d) p s) (times m (λ _. item_cells y b caps' d') q t) numbers
@@ -318,7 +318,7 @@ module _ (old new : Set) (good_old : WellFormed old) (good_new : WellFormed new)
       (struct_below new good_new j (omega arith)))
 
   pairer_at : (m i : ℕ) → i < m → get_or (pairers_to m) i no_pairer ≡ pairer_of (pairers_to i) xs y es (get_or ds i no_desc)
-  pairer_at m i lt = first_at (λ earlier d. pairer_of earlier xs y es d) ds _ m i lt
+  pairer_at m i lt = grind (arith, first_at)
 
   go_to : (m : ℕ) → m ≤ length ds → (l : ℕ) → l ≤ length es → Go m l
   go_to m le l le' i j at at' lt lt' =

@@ -37,11 +37,7 @@ module _ (old new : Set) (good_old : WellFormed old) (good_new : WellFormed new)
 
   -- two newer subsections that have one cell are one
   names_of : (s s' : Sub) (c c' k : ℕ) → IsSubPair s c k → IsSubPair s' c' k → s.desc.name ≡ s'.desc.name
-  names_of s s' c c' k p q =
-      let same : p.f.number ≡ q.f.number =
-      one_part new (own_cells new e) e.subs _ _ k _ _ p.f.there q.f.there (omega arith) (omega arith) (omega arith) (omega arith) in
-      let one : p.f.sub ≡ q.f.sub = cc in
-      cc
+  names_of s s' c c' k p q = grind (arith, one_part)
 
   -- ---- the device
 

@@ -43,7 +43,7 @@ at_left (x ∷ xs) ys (suc c) lt = at_left xs ys c (omega arith)
 
 pub at_right : {A : Type 0} (xs ys : List A) (c : ℕ) → slice_get (xs ++ ys) (length xs + c) ≡ slice_get ys c
 at_right [] ys c = let z : 0 + c ≡ c = omega arith in ap (slice_get ys) z
-at_right (x ∷ xs) ys c = let z : suc (length xs) + c ≡ suc (length xs + c) = omega arith in ap (slice_get (x ∷ xs ++ ys)) z ∙ at_right xs ys c
+at_right (x ∷ xs) ys c = grind (arith, at_right xs ys c)
 
 pub at_none : (n c k : ℕ) → slice_get (replicate n None) c ≡ Some (Some k) → ⊥
 at_none (suc n) (suc c) k e = at_none n c k e
@@ -188,10 +188,10 @@ module _ {cells_a cells_b others_a others_b : List Cell} {numbers : List ℤ} {x
     (g : Goes cells_b others_b numbers ys next next' q t) where
   -- before the seam the second slots have none, and after it the first
   has_first : (c : ℕ) → c < next → has_cell (xs ++ ys) c ≡ has_cell xs c
-  has_first c lt = rw (names_append xs ys c, false_from_ne_true (has_cell ys c) (λ e. omega (arith, (g.within.in_range c e).0)), or-false (has_cell xs c))
+  has_first c lt = grind (arith, names_append, false_from_ne_true, or-false)
 
   has_second : (c : ℕ) → next ≤ c → has_cell (xs ++ ys) c ≡ has_cell ys c
-  has_second c le = rw (names_append xs ys c, false_from_ne_true (has_cell xs c) (λ e. omega (arith, (h.within.in_range c e).1)))
+  has_second c le = grind (arith, names_append, false_from_ne_true)
 
   paired : AreFrom (cells_a ++ cells_b) (others_a ++ others_b) at' (p ++ q)
   paired = paired_append h.paired seam' g.paired

@@ -31,12 +31,10 @@ carries_to olds news k = carriers (cells_of olds) (cells_of news) olds news k
 module _ (x y : List (List Cell)) (olds news : List Desc) where
   comparer_at : (k j : ℕ) → j < k
       → get_or (comparers x y olds news k) j no_comparer ≡ comparer_of (comparers x y olds news j) x y olds j (get_or news j no_desc)
-  comparer_at k j lt =
-      let row = λ (earlier : List Comparer) (d : Desc). comparer_of earlier x y olds (length earlier) d in
-      first_at row news _ k j lt ∙ rw (first_long row news j)
+  comparer_at k j lt = grind (arith, first_at, first_long)
 
   pub carrier_at : (k j : ℕ) → j < k → get_or (carriers x y olds news k) j no_carrier ≡ carrier_of (carriers x y olds news j) x y olds (get_or news j no_desc)
-  carrier_at k j lt = first_at (λ (earlier : List Carrier) (d : Desc). carrier_of earlier x y olds d) news _ k j lt
+  carrier_at k j lt = grind (arith, first_at)
 
 module _ (olds news : List Desc) (numbers numbers' : List ℤ) (old : StructsGood olds) (new : StructsGood news) where
   abbrev KnownTable : ℕ → Type 0

@@ -73,7 +73,7 @@ module _ (old new : Set) (good_old : WellFormed old)
       }
 
   pub back : (i : ℕ) (d : Device) → slice_get old.devices i ≡ Some d → (p : Pair i d) → find_device 0 old.devices p.device.desc.name p.device.instance ≡ Some i
-  back i d e p = rw (p.name_is, p.instance_is) (device_found old good_old i d e)
+  back i d e p = grind (arith, device_found)
 
 -- ---- devices by name and instance
 
