@@ -52,7 +52,7 @@ module _ (old new : Set) (good_old : WellFormed old) (good_new : WellFormed new)
     image = default_image old d
 
     fails_here : compare_device old new i d (Some p.number) (Some p.device) ≡ Some m
-    fails_here = let z : 0 + i ≡ i = omega arith in rw (z, p.compared_is) at fails.answers.answers
+    fails_here = grind arith
 
     -- an accepted reading has its section
     arrives : IsBytes (written old None images None) → (n : ℕ) (machine : Option (List ℕ)) (states : List Image)
@@ -144,7 +144,7 @@ module _ (old new : Set) (good_old : WellFormed old) (good_new : WellFormed new)
         is_device = rw part tt
 
         here_or : IsWithin (parts.Device i) m → m.in_old.part ≡ parts.Device i
-        here_or x = elim x.place [ inl e ↦ e | inr s ↦ absurd (struct_no_device _ s is_device) ]
+        here_or x = grind (arith, struct_no_device)
 
         fields : m.in_old.part ≡ parts.Device i → compare_fields ks d.desc p.device.desc v v (parts.Device i) (parts.Device p.number) (position_from 0 es)
             (position_from 0 fs) es fs ≡ Some m → ⊥

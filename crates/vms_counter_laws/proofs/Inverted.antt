@@ -24,8 +24,7 @@ pub record FirstSome {X Y : Type 0} (f : ℕ → X → Option Y) (i : ℕ) (xs :
 first_before : {X Y : Type 0} (f : ℕ → X → Option Y) (i : ℕ) (x : X) (xs : List X) (n : ℕ) → f i x ≡ None
     → ((k : ℕ) (y : X) → suc k < n → slice_get xs k ≡ Some y → f (suc i + k) y ≡ None)
     → (k : ℕ) (y : X) → k < n → slice_get (x ∷ xs) k ≡ Some y → f (i + k) y ≡ None
-first_before f i x xs n none more zero y lt e =
-    let zero_more : i + 0 ≡ i = omega arith in let same : x ≡ y = cc in rw (zero_more, ← same) none
+first_before f i x xs n none more zero y lt e = grind arith
 first_before f i x xs n none more (suc k) y lt e = let one_more : suc i + k ≡ i + suc k = omega arith in rw one_more at (more k y lt e)
 
 pub first_some : {X Y : Type 0} (f : ℕ → X → Option Y) (i : ℕ) (xs : List X) (m : Y) → first_answer f i xs ≡ Some m → FirstSome f i xs m
@@ -49,7 +48,7 @@ first_some f i (x ∷ xs) m h =
 -- one rule, at one pair of places
 pub one_rule : (r : ℕ) (b : Bool) (p q : Place) (m : Mismatch) → failing_pair ((r, b) ∷ []) p q ≡ Some m → (b ≡ false) × (m.rule ≡ r) × (m.in_old ≡ p)
 one_rule r true p q m h = absurd (cc)
-one_rule r false p q m h = let same : record { rule = r; in_old = p; in_new = q } ≡ m = cc in (refl, rw (← same), rw (← same))
+one_rule r false p q m h = grind arith
 
 -- ---- parts
 
@@ -122,7 +121,7 @@ desc_within structs x y a b v w part part' m within h =
     ]
 
 struct_is : (i : ℕ) (m : Mismatch) → IsWithin (parts.Struct i) m → (4 < m.rule) × IsStruct m.in_old.part
-struct_is i m r = (r.rule, elim r.place [ inl e ↦ rw e tt | inr s ↦ s ])
+struct_is i m r = grind arith
 
 -- the comparers of the structures answer within them
 pub tables_within : (x y : List (List Cell)) (olds news : List Desc) (k : ℕ) → StructsWithin (comparers x y olds news k)
@@ -148,7 +147,7 @@ struct_no_device (parts.Struct i) s d = d
 struct_no_device _ s d = s
 
 sub_part : (i j : ℕ) (m : Mismatch) → IsWithin (parts.Sub i j) m → (4 < m.rule) × (IsDevice m.in_old.part → ⊥)
-sub_part i j m r = (r.rule, λ d. elim r.place [ inl e ↦ rw e at d | inr s ↦ struct_no_device _ s d ])
+sub_part i j m r = grind (arith, struct_no_device)
 
 module _ (old new : Set) where
   set_tables : StructsWithin (comparers (struct_cells old) (struct_cells new) old.structs new.structs (length new.structs))
@@ -159,15 +158,11 @@ module _ (old new : Set) where
 
   no_sub : (i j k : ℕ) (m : Mismatch) → record { rule = 13; in_old = here (parts.Sub i j); in_new = here (parts.Device k) } ≡ m
       → (4 < m.rule) × (IsDevice m.in_old.part → ⊥)
-  no_sub i j k m e = sub_part i j m (within_of _ _ m e (record { rule = omega arith; place = inl refl }))
+  no_sub i j k m e = grind (arith, within_of)
 
   sub_within : (i k j : ℕ) (s : Sub) (l : Option ℕ) (t : Option Sub) (m : Mismatch) → compare_sub old new i k j s l t ≡ Some m
       → (4 < m.rule) × (IsDevice m.in_old.part → ⊥)
-  sub_within i k j s (Some l) (Some t) m h =
-      elim (else_some (failing_pair ((14, is_version_of t.desc s.desc.version) ∷ []) (here (parts.Sub i j)) (here (parts.Sub k l))) _ m h) [
-        | inl e ↦ sub_part i j m (failing_within ((14, is_version_of t.desc s.desc.version) ∷ []) _ _ m (omega arith, tt) e)
-        | inr e ↦ sub_part i j m (part_within s.desc t.desc s.desc.version (parts.Sub i j) (parts.Sub k l) m e.1)
-      ]
+  sub_within i k j s (Some l) (Some t) m h = grind (arith, else_some, failing_within, part_within)
   sub_within i k j s None t m h = no_sub i j k m cc
   sub_within i k j s (Some l) None m h = no_sub i j k m cc
 
@@ -191,8 +186,7 @@ module _ (old new : Set) where
       ]
 
   compared_early : (i : ℕ) (d : Device) (o : Option ℕ) (p : Option Device) (m : Mismatch) → compare_device old new i d o p ≡ Some m → 3 < m.rule
-  compared_early i d (Some k) (Some e) m h =
-      elim (of_device i k d e m h) [ Version r f ↦ omega arith | Own lt c ↦ omega arith | Below lt c ↦ omega arith ]
+  compared_early i d (Some k) (Some e) m h = grind (arith, of_device)
   compared_early i d _ _ m h = absurd (cc)
 
   -- ---- which rule is the first

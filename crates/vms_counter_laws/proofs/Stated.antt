@@ -38,7 +38,7 @@ abbrev EachReady : Set → List Device → List Image → Type 0
 EachReady set ds ims = (k : ℕ) (d : Device) (image : Image) → slice_get ds k ≡ Some d → slice_get ims k ≡ Some image → IsReady set d image
 
 all_ready_decides : (set : Set) (ds : List Device) (ims : List Image) → Decides (all_ready set ds ims) ((length ims ≡ length ds) × EachReady set ds ims)
-all_ready_decides set [] [] = (λ e. (refl, λ k d image e f. cc), λ h. refl)
+all_ready_decides set [] [] = grind arith
 all_ready_decides set (x ∷ ds) (im ∷ ims) =
     Decides-like _ (λ h. (rw h.1.0, each h.0 h.1.1)) (λ h. (h.1 0 x im refl refl, (omega arith, λ k. h.1 (suc k))))
     (Decides-and _ _ (ready_decides set x im) (all_ready_decides set ds ims))
