@@ -1,5 +1,5 @@
 -- The endings of the commands of boards, by their steps.
-use Rattle.vms_board_commands.proofs.Facade.{◌≡◌, ℕ, Bool, true, false, ◌||◌, ◌==◌, List, [], ◌∷◌, ◌++◌, Result, Ok, Err, refl, Option}
+use Rattle.vms_board_commands.proofs.Facade.{◌≡◌, ℕ, Bool, true, false, ◌||◌, List, [], ◌∷◌, ◌++◌, Result, Ok, Err, refl, Option}
 use Rattle.vms_board_commands.proofs.Facade.{Some, None, or_right, Keeps-refl, ArrayVec, Saves, SaveFault, Rose, Looks, Intake, Outlet, Stock, serves_none}
 use Rattle.vms_board_commands.proofs.Facade.{Goes, PlayFault, asked, draws_none, looked_so, same_so, unshelved_so, writes_serve, wrong, mapped_by, Course}
 use Rattle.vms_board_commands.proofs.Facade.{Draws, EndsSo, Risen, is_among, of_shelf, text_course, SetCause, WritesAs, status_of, Ending, Refused, BadText}
@@ -18,15 +18,15 @@ or_here false c d e f = f e
 -- a status is in a joined list if it is in its first part
 pub among_left : (xs ys : List ℕ) (k : ℕ) → is_among xs k ≡ true → is_among (xs ++ ys) k ≡ true
 among_left [] ys k e = absurd (cc)
-among_left (n ∷ xs) ys k e = or_here (n == k) (is_among xs k) (is_among (xs ++ ys) k) e (among_left xs ys k)
+among_left (n ∷ xs) ys k e = or_here _ _ _ e (among_left xs ys k)
 
 pub among_right : (xs ys : List ℕ) (k : ℕ) → is_among ys k ≡ true → is_among (xs ++ ys) k ≡ true
 among_right [] ys k e = e
-among_right (n ∷ xs) ys k e = or_right (n == k) (is_among (xs ++ ys) k) (among_right xs ys k e)
+among_right (n ∷ xs) ys k e = or_right _ _ (among_right xs ys k e)
 
 -- the statuses of the shelf are included if the command reads the shelf
 pub shelf_has : (own : List ℕ) (asks : Bool) (k : ℕ) → asks ≡ true → is_among (of_shelf true) k ≡ true → is_among (own ++ of_shelf asks) k ≡ true
-shelf_has own asks k is one = among_right own (of_shelf asks) k (rw is (one))
+shelf_has own asks k is one = among_right own _ k (rw is (one))
 
 -- ---- a set or a script that isn't available
 
@@ -36,7 +36,7 @@ pub record MayAsk (course : Course) (asks : Bool) : Type 0 where
   pub memory : is_among course.statuses 10 ≡ true
 
 pub text_asks : (own takes : List ℕ) (asks : Bool) → is_among own 10 ≡ true → MayAsk (text_course own takes asks) asks
-text_asks own takes asks ten = record { held = shelf_has own asks; memory = among_left own (of_shelf asks) 10 ten }
+text_asks own takes asks ten = record { held = shelf_has own asks; memory = among_left own _ 10 ten }
 
 pub save_asks : MayAsk save_course true
 save_asks = text_asks (0 ∷ 6 ∷ 10 ∷ []) [] true refl
@@ -53,11 +53,11 @@ module _ (course : Course) (asks : Bool) (may : MayAsk course asks) (i : Intake)
   untouched e can risen = looked_so i o course e looks same can risen
 
   pub unset_so : (e : Option Ending) → SetCause asks s s' e → EndsSo i i o o s s' course e
-  unset_so (Some (BadText line)) c = untouched (Some (BadText line)) (may.held 3 c refl) tt
-  unset_so (Some ShelfFault) c = untouched (Some ShelfFault) (may.held 7 c.0 refl) c.1
-  unset_so (Some (NotThere line)) c = untouched (Some (NotThere line)) (may.held 8 c refl) tt
-  unset_so (Some (TooLarge line)) c = untouched (Some (TooLarge line)) (may.held 9 c refl) tt
-  unset_so (Some NoMemory) c = untouched (Some NoMemory) may.memory tt
+  unset_so (Some (BadText line)) c = untouched _ (may.held 3 c refl) tt
+  unset_so (Some ShelfFault) c = untouched _ (may.held 7 c.0 refl) c.1
+  unset_so (Some (NotThere line)) c = untouched _ (may.held 8 c refl) tt
+  unset_so (Some (TooLarge line)) c = untouched _ (may.held 9 c refl) tt
+  unset_so (Some NoMemory) c = untouched _ may.memory tt
   unset_so e c = absurd c
 
 -- ---- a text is written
@@ -68,7 +68,7 @@ module _ (i : Intake) (s : Stock) (o o' : Outlet) where
       unshelved_so s save_course None refl tt (λ f. absurd (wrong f)) (λ f. refl) (draws_none i) (record { later = h.later; promise = h.promise })
   saved_so bytes (Err saves.WriteFault) h =
       unshelved_so s save_course (Some WriteFault) refl h.rose (λ f. absurd (wrong f)) (λ f. refl) (draws_none i) (record { later = h.puts.later; promise = h.puts.promise })
-  saved_so bytes (Err saves.NoMemory) h = rw h (same_so i o s save_course (Some NoMemory) refl tt)
+  saved_so bytes (Err saves.NoMemory) h = rw h (same_so i o s _ _ refl tt)
 
   pub drilled_so : (text : List ℕ) (e : Option Ending) → WritesAs text o o' e → EndsSo i i o o' s s drill_course e
   drilled_so text None w = unshelved_so s drill_course None refl tt (λ f. absurd (wrong f)) (λ f. refl) (draws_none i) (writes_serve text o o' None w)
@@ -113,6 +113,5 @@ module _ (i : Intake) {o o' : Outlet} {s s' : Stock} where
 
   pub played_so : (r : Result Unit PlayFault) → Goes o o' s s' r → EndsSo i i o o' s s' play_course (mapped_by ending_by r)
   played_so (Ok u) g = played None refl tt refl g
-  played_so (Err plays.WriteFault) g = played (Some WriteFault) refl g.cause refl g
-  played_so (Err plays.ShelfFault) g = played (Some ShelfFault) refl g.cause refl g
-  played_so (Err plays.NoMemory) g = played (Some NoMemory) refl tt refl g
+  played_so (Err plays.NoMemory) g = played _ refl tt refl g
+  played_so _ g = played _ refl g.cause refl g

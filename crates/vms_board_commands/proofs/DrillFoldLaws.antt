@@ -3,7 +3,7 @@ use Rattle.vms_board_commands.proofs.{Facade.IsAsUnsaved, Facade.SavesLeaveCount
 use Rattle.vms_board_commands.proofs.Facade.{◌≡◌, ℕ, zero, suc, ◌+◌, ◌≤◌, Bool, true, false, if◌then◌else◌, arith, refl, ap, ◌∙◌, NEWEST, IsLevel, alike_stays}
 use Rattle.vms_board_commands.proofs.Facade.{likeness, clock_goes_on, restored_is_sound, saved_comes_back, sound_stays_on, MaySaveUnder, saved, carried}
 use Rattle.vms_board_commands.proofs.Facade.{restored, IsSound, Alike, State, power_on, step, observe, after_all, after_by, answers_by, Event, next_number}
-use Rattle.vms_board_commands.proofs.Facade.{event_of, events_after, Progress, counted, counted_all, set_of, came_back, after_save, with_event, begun, drilled}
+use Rattle.vms_board_commands.proofs.Facade.{event_of, events_after, Progress, counted, counted_all, set_of, came_back, after_save, with_event, drilled}
 
 -- the set of a save is one under which the board may be saved
 pub save_may : (level saves : ℕ) → level ≤ NEWEST → MaySaveUnder level (set_of level saves)
@@ -32,7 +32,7 @@ due-left false set m s may = record { alike = likeness.itself m; sound = s; leve
 
 pub save-left : (events : ℕ) (m : State) → IsSound m → Left m (after_save events m)
 unfolding after_save
-save-left events m s = due-left _ _ m s (save_may m.level _ s.devices.level.last)
+save-left events m s = due-left _ _ m s (save_may _ _ s.devices.level.last)
 
 -- a drill in progress, and a board like its own that goes on without saves
 record GoesAs (count : ℕ) (progress : Progress) (m : State) : Type 0 where
@@ -61,7 +61,7 @@ goes (suc count) progress m a s =
 same : (level seed count : ℕ) → IsLevel level → IsAsUnsaved level seed count
 unfolding power_on
 same level seed count l =
-    let all = goes count (begun level seed) (power_on level) (likeness.itself (power_on level)) (sound_stays_on.power_on level l) in
+    let all = goes count _ _ (likeness.itself (power_on level)) (sound_stays_on.power_on level l) in
     record { counts = all.counts; alike = all.alike; events = omega arith; same_level = all.level; sound = all.sound }
 
 pub saves_leave_counts : SavesLeaveCounts

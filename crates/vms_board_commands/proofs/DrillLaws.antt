@@ -1,8 +1,8 @@
 -- A drill with its streams, and its progress without them.
 use Rattle.vms_board_commands.proofs.{DrillEventLaws.event-is, DrillFoldLaws.saves_leave_counts, DrillFoldLaws.save_may, DrillFoldLaws.save-left}
 use Rattle.vms_board_commands.proofs.Facade.{NumbersAre, ◌≡◌, ℕ, zero, suc, ◌+◌, ◌*◌, ◌-◌, ◌<◌, ◌≤◌, Bool, if◌then◌else◌, arith, refl, sound_stays_on, IsSound}
-use Rattle.vms_board_commands.proofs.Facade.{State, power_on, step, next_number, event_of, drilled, is_save_due, saves_of, streams_are_short, STREAM_ROOM}
-use Rattle.vms_board_commands.proofs.Facade.{Drill, drill_begun, bytes_after, stream_long, with_drill_event, drilled_on, ProgressIsSame, SizesAreSmall}
+use Rattle.vms_board_commands.proofs.Facade.{State, power_on, step, next_number, event_of, drilled, saves_of, streams_are_short, STREAM_ROOM}
+use Rattle.vms_board_commands.proofs.Facade.{Drill, drill_begun, bytes_after, with_drill_event, drilled_on, ProgressIsSame, SizesAreSmall}
 
 progress-same : (count : ℕ) (drill : Drill) → (drilled_on count drill).progress ≡ drilled count drill.progress
 progress-same zero drill = refl
@@ -11,7 +11,7 @@ progress-same (suc count) drill = progress-same count (with_drill_event drill)
 pub progress_is_same : ProgressIsSame
 progress_is_same = record {
   same = λ level seed count l.
-      let progress = progress-same count (drill_begun level seed) in
+      let progress = progress-same count _ in
       let all = saves_leave_counts.same level seed count l in
       record {
         progress = progress;
@@ -29,8 +29,7 @@ due-small due bytes long l = grind arith
 
 after-small : (events : ℕ) (m : State) (bytes : ℕ) → IsSound m → bytes_after events m bytes ≤ bytes + STREAM_ROOM
 unfolding bytes_after
-after-small events m bytes s =
-    due-small (is_save_due events) bytes (stream_long events m) (streams_are_short.short _ m s (save_may m.level (saves_of events - 1) s.devices.level.last))
+after-small events m bytes s = due-small _ bytes _ (streams_are_short.short _ m s (save_may m.level (saves_of events - 1) s.devices.level.last))
 
 small : (count : ℕ) (drill : Drill) → IsSound drill.progress.board → (drilled_on count drill).bytes ≤ drill.bytes + STREAM_ROOM * count
 small zero drill s = omega arith

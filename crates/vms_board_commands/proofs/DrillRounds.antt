@@ -11,7 +11,7 @@ module _ (set : ℕ) (m : State) (stream : List ℕ) (s : IsSound m) (may : MayS
       (back.only other taken (rw is at r)).0 ∙ sym (ap (back_of m) (ap (restored m.level) (sym (saved_is_carried.cells set m s may)) ∙ back.carried))
 
   pub long_back : (other : State) (taken : ℕ) → Restores isa m.level stream (Back other taken) → taken ≡ length stream
-  long_back other taken r = ((streams_come_back.stream set m s may).only other taken (rw is at r)).1 ∙ ap length (sym is)
+  long_back other taken r = cc (((streams_come_back.stream set m s may).only other taken (rw is at r)).1)
 
   pub never_refused : (place : ℕ) (section : Option ℕ) (reason : Reason) → Restores isa m.level stream (Refused place section reason) → ⊥
   never_refused place section reason r = (streams_come_back.stream set m s may).accepted place section reason (rw is at r)

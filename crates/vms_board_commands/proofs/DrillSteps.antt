@@ -31,15 +31,13 @@ module _ (old : Drill) (event : Event) (number : ℕ) (answer : Answer) (board :
       → long ≡ length (saved_stream isa (set_of board.level (saves_of events - 1)) board) → taken ≡ long
       → made events number back counts (old.bytes + long) taken ≡ with_drill_event old
   unfolding after_save bytes_after taken_after
-  goes_saved back long taken due is long-is taken-is =
-      let now : made events number back counts (old.bytes + long) taken ≡ drill_on old (answer, board) = rw (due, next, count, taken-is, long-is, is) refl in
-      now ∙ stepped
+  goes_saved back long taken due is long-is taken-is = (rw (due, next, count, taken-is, long-is, is) refl) ∙ stepped
 
 -- ---- the loop
 
 -- one event more of those that are left
 pub one_more : (left after : ℕ) (drill next whole : Drill) → left ≡ after + 1 → drilled_on left drill ≡ whole → next ≡ with_drill_event drill → drilled_on after next ≡ whole
-one_more left after drill next whole e goes is = let more : left ≡ suc after = omega (arith, e) in rw is (rw more at goes)
+one_more left after drill next whole e goes is = let more : left ≡ suc after = omega arith in rw is (rw more at goes)
 
 pub none_more : (left : ℕ) (drill whole : Drill) → left ≡ 0 → drilled_on left drill ≡ whole → drill ≡ whole
 none_more left drill whole e goes = cc

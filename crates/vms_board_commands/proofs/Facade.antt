@@ -2,40 +2,40 @@
 pub use Rattle.std.proofs.{KnownBytes.Keeps-refl, Math.Nat.mod-add-mod, lemmas.Bool.or_right, lemmas.Option.same_Some, lemmas.Result.err_from_is_err_and}
 pub use Rattle.std.proofs.Common.{Bool, Err, IfOk, IfSome, IsErrAnd, IsTrue, List, None, Ok, Option, Result, Some, [], ap, arith, drop, drop_at, eqb-true}
 pub use Rattle.std.proofs.Common.{false, get_or, if◌then◌else◌, inl, inr, length, length-append, length-drop, map, refl, subst, suc, sym, take, true, zero, ℕ}
-pub use Rattle.std.proofs.Common.{◌%◌, ◌*◌, ◌++◌, ◌+◌, ◌-◌, ◌/◌, ◌<◌, ◌==◌, ◌^◌, ◌||◌, ◌∙◌, ◌∷◌, ◌≡◌, ◌≤◌}
+pub use Rattle.std.proofs.Common.{◌%◌, ◌*◌, ◌++◌, ◌+◌, ◌-◌, ◌/◌, ◌<◌, ◌^◌, ◌||◌, ◌∙◌, ◌∷◌, ◌≡◌, ◌≤◌}
 pub use Rattle.std.specs.{Io.KnownBytes.Appends, Io.KnownBytes.Consumes, Prelude.IsSomeAnd, declared.alloc.Global.Global, declared.vec.Vec.Vec}
 pub use Rattle.vms_kinds.specs.Bytes.{IsBytes}
 pub use Rattle.vms_spec.specs.{Heads.FitsHeads, Images.Image, Sets.Set, WellFormed.WellFormed, declared.Reason.Reason}
 pub use Rattle.vms_stream.proofs.Stated.{one_fault_holds}
 pub use Rattle.vms_stream.specs.Faults.{Fault}
 pub use Rattle.vms_board.proofs.{Restored.within}
-pub use Rattle.vms_board.specs.{Family.Family, Isa.isa, Saving.Saves, Saving.saved_stream, Standing.Standing, declared.save.SaveFault.SaveFault}
-pub use Rattle.vms_board.specs.Comes.{IsRefused, RestoreReads}
+pub use Rattle.vms_board.specs.{Family.Family, Isa.isa, Standing.Standing, declared.save.SaveFault.SaveFault, Comes.IsRefused, Comes.RestoreReads}
 pub use Rattle.vms_board.specs.Restoring.{Back, IsFaultAt, IsMisfitAt, Restore, Restores}
-pub use Rattle.vms_board_commands.specs.{Drill.drill_line, DrillEvents.events_after, DrillEvents.wires, DrillTallies.tally_view, DrillViews.IsInProgress}
-pub use Rattle.vms_board_commands.specs.{DrillViews.progress_view, Load.Faulty, Load.LoadGives, Load.Loads, Load.Traces, Load.Unfit, Play.PlaysAll}
-pub use Rattle.vms_board_commands.specs.{Play.ending_by, Save.saved_after, Scripts.longest_script, Scripts.said_lines, Scripts.scripted, Seen.IsGiven}
-pub use Rattle.vms_board_commands.specs.{Seen.Seen, Seen.SeenAs, Seen.Sees, Seen.WithGiven, declared.drills.schedule.TheConstants.BETWEEN_SAVES}
+pub use Rattle.vms_board.specs.Saving.{Saves, saved_stream}
+pub use Rattle.vms_board_commands.specs.{Drill.drill_line, DrillEvents.events_after, DrillEvents.wires, DrillViews.IsInProgress, DrillViews.progress_view}
+pub use Rattle.vms_board_commands.specs.{Play.PlaysAll, Play.ending_by, Save.saved_after, Scripts.longest_script, Scripts.said_lines, Scripts.scripted}
+pub use Rattle.vms_board_commands.specs.{Seen.IsGiven, Seen.Seen, Seen.SeenAs, Seen.Sees, Seen.WithGiven, declared.drills.schedule.TheConstants.BETWEEN_SAVES}
 pub use Rattle.vms_board_commands.specs.Causes.{drill_course, load_course, play_course, save_course, stream_course}
 pub use Rattle.vms_board_commands.specs.DrillEventLaws.{EventsAreGood, IsAsUnsaved, SavesLeaveCounts}
 pub use Rattle.vms_board_commands.specs.DrillLaws.{NumbersAre, ProgressIsSame, SizesAreSmall}
-pub use Rattle.vms_board_commands.specs.DrillProgress.{Counts, Progress, back_of, begun, counted, counted_all, drilled, saves_of, with_event}
-pub use Rattle.vms_board_commands.specs.Drills.{Drill, drill_begun, drill_on, drilled_on, stream_long, summary_of, with_drill_event}
+pub use Rattle.vms_board_commands.specs.DrillProgress.{Counts, Progress, back_of, counted, counted_all, drilled, saves_of, with_event}
+pub use Rattle.vms_board_commands.specs.Drills.{Drill, drill_begun, drill_on, drilled_on, summary_of, with_drill_event}
+pub use Rattle.vms_board_commands.specs.Load.{Faulty, LoadGives, Loads, Traces, Unfit}
 unfoldable pub use Rattle.vms_board_commands.specs.{DrillEvents.event_by, DrillEvents.event_of, DrillEvents.next_number, Drills.bytes_after, Drills.taken_after}
 unfoldable pub use Rattle.vms_board_commands.specs.DrillProgress.{after_save, came_back, is_save_due, set_of}
 pub use Rattle.vms_board_streams.proofs.{BytesLaws.bytes_come, BytesLaws.no_fault, BytesLaws.one_restore, IsaBytes.streams_are_short, IsaLaws.streams_come_back}
 pub use Rattle.vms_board_streams.specs.{Streams.after_events, Streams.answers_to, Streams.trace_of, declared.memory.TheConstants.STREAM_ROOM}
-pub use Rattle.vms_commands.proofs.{CourseLemmas.wrong, StepLemmas.sound_next, StepLemmas.text_ends, StepLemmas.then_as, StepLemmas.then_text}
-pub use Rattle.vms_commands.proofs.CourseLemmas.{asked, draws_none, draws_took, looked_so, same_so, so_quiet, so_since, unshelved_so, writes_end, writes_serve}
+pub use Rattle.vms_commands.proofs.{CourseLemmas.writes_serve, StepLemmas.first_err, StepLemmas.had_by, StepLemmas.mapped_by, StepLemmas.sound_fetch}
+pub use Rattle.vms_commands.proofs.CourseLemmas.{wrong, asked, draws_none, draws_took, looked_so, same_so, so_quiet, so_since, unshelved_so, writes_end}
 pub use Rattle.vms_commands.proofs.EndLemmas.{comes_to_nothing, quiet_same, takes_nothing, text_written}
-pub use Rattle.vms_commands.proofs.StepLemmas.{ended_by, ending_mapped, ending_passed, err_text, fetched_gives, first_err, had_by, mapped_by, sound_fetch}
-pub use Rattle.vms_commands.specs.{Fetching.fetched, Lines.refused_line, declared.ending.Ending.Ending, declared.ending.Ending.TheVariants.WriteFault}
+pub use Rattle.vms_commands.proofs.StepLemmas.{sound_next, text_ends, then_as, then_text, ended_by, ending_mapped, ending_passed, err_text, fetched_gives}
+pub use Rattle.vms_commands.specs.{Fetching.fetched, Lines.refused_line, declared.ending.Ending.Ending, declared.ending.Ending.TheVariants.WouldLose}
 pub use Rattle.vms_commands.specs.Courses.{Course, Draws, EndsSo, Risen, is_among, of_shelf, text_course}
 pub use Rattle.vms_commands.specs.Endings.{DoneAs, EndsAs, EndsWith, SetCause, WritesAs, ending_of, status_of}
 pub use Rattle.vms_commands.specs.Outcomes.{ComesTo, FailsToStore, Outcome, Part, TakesBytes, done, ended, held_after, text_of}
 pub use Rattle.vms_commands.specs.StepEndings.{Asks, FetchCause, HadCause, ReadCause, StepAs, TextEnds}
 pub use Rattle.vms_commands.specs.Steps.{Ends, Gives, Step, Untold, next}
-pub use Rattle.vms_commands.specs.declared.ending.Ending.TheVariants.{BadText, NoMemory, NotThere, ReadFault, Refused, ShelfFault, TooLarge, WouldLose}
+pub use Rattle.vms_commands.specs.declared.ending.Ending.TheVariants.{WriteFault, BadText, NoMemory, NotThere, ReadFault, Refused, ShelfFault, TooLarge}
 pub use Rattle.vms_frames.specs.declared.fault.Refusal.{Refusal}
 pub use Rattle.vms_io.proofs.{ReadingLemmas.reads_as, ReadingLemmas.reads_told, WritingLemmas.serves_none, WritingLemmas.stops_prefix}
 pub use Rattle.vms_io.specs.{Causes.Rose, Reading.Last, Reading.Reads, Reading.Takes, Shelves.Held, Shelves.HoldsAll, Shelving.Looks}
@@ -53,9 +53,9 @@ pub use Rattle.arrayvec.specs.ArrayVec.{ArrayVec}
 pub use Rattle.dev_base.specs.{Levels.IsLevel, Levels.ReachesSet, declared.limits.TheConstants.NEWEST}
 pub use Rattle.dev_board.proofs.{AlikeLaws.alike_stays, AlikeLaws.likeness, ClockLaws.clock_goes_on, RestoredLaws.restored_is_sound, SavedLaws.saved_comes_back}
 pub use Rattle.dev_board.proofs.{SoundLaws.power_on-sound, SoundLaws.sound_stays_on, WireBits.names}
-pub use Rattle.dev_board.specs.{Saved.MaySaveUnder, Saved.carried, Saved.restored, Saved.saved, Sound.Alike, Sound.IsSound, State.State, Step.after_all}
-pub use Rattle.dev_board.specs.{Step.names_wire, Step.observe, Step.step, Wires.is_wire, declared.event.Answer.Answer, declared.event.Event.Event}
-pub use Rattle.dev_board.specs.Laws.{AreEvents, IsEvent}
+pub use Rattle.dev_board.specs.{Sound.Alike, Sound.IsSound, State.State, Step.after_all, Step.names_wire, Step.observe, Step.step, Wires.is_wire}
+pub use Rattle.dev_board.specs.{declared.event.Answer.Answer, declared.event.Event.Event, Laws.AreEvents, Laws.IsEvent}
+pub use Rattle.dev_board.specs.Saved.{MaySaveUnder, carried, restored, saved}
 pub use Rattle.dev_board.specs.declared.event.Event.TheVariants.{Ack, Byte, Read, Wait, Wire, Write}
 unfoldable pub use Rattle.dev_board.specs.{State.power_on, Step.after_by, Step.answers_by}
 pub use Rattle.dev_images.proofs.BoardCarried.{saved_is_carried}

@@ -1,5 +1,5 @@
 -- The outcome of `load`, from the results of a restore and of a trace.
-use Rattle.vms_board_commands.proofs.Facade.{◌≡◌, inl, inr, ℕ, ◌+◌, ◌≤◌, List, [], ◌∷◌, length, length-append, Option, Some, Ok, Err, arith, refl, ap}
+use Rattle.vms_board_commands.proofs.Facade.{◌≡◌, inl, inr, ℕ, ◌+◌, ◌≤◌, List, length, length-append, Option, Some, Ok, Err, arith, refl, ap}
 use Rattle.vms_board_commands.proofs.Facade.{IsSomeAnd, ArrayVec, Event, IsRefused, RestoreReads, Back, Restores, Family, Standing, one_restore}
 use Rattle.vms_board_commands.proofs.Facade.{answers_to, trace_of, Refusal, Held, Intake, Outlet, Stock, reads_as, WritesAs, refused_line, Outcome, done, ended}
 use Rattle.vms_board_commands.proofs.Facade.{Ending, events_back, events_of, trace_from, ScriptLine, event_lines, FitsHeads, IsBytes, WellFormed}
@@ -45,7 +45,7 @@ module _ {S : Type 0} (kind : Family S) (level : ℕ) (lines : List ScriptLine) 
   refusal_takes held r line input left said (inl f) = record {
     taken = r.at + f.0.0;
     says = rw said (Faulty r.at r.section r.reason f.0.0 f.0.1);
-    within = fault_within (kind.set kind.newest) (kind.machine level ∷ []) input r.at r.section r.reason f.0.0 f.0.1;
+    within = fault_within _ _ input r.at _ _ f.0.0 f.0.1;
     rest = f.1;
   }
   refusal_takes held r line input left said (inr f) =
@@ -61,7 +61,7 @@ module _ {S : Type 0} (kind : Family S) (level : ℕ) (lines : List ScriptLine) 
       → line.items ≡ refused_line (kind.set kind.newest) r.at r.section r.reason → Seen (OfLoads s.held) i i' o o' s s' (Some (endings.Refused line))
   refusal_seen {i} {i'} {o} {o'} {s} new r line reads said =
       seen_refused {P = OfLoads s.held} line (length reads.bytes)
-      (reads_all (λ bytes n. OfLoads s.held bytes (ended 1 line.items n)) reads (λ input left comes. refusal_takes s.held r line.items input left said comes))
+      (reads_all (λ bytes n. OfLoads s.held bytes (ended 1 line.items n)) reads (λ input left comes. refusal_takes s.held r _ input left said comes))
 
 -- ---- the number of bytes that the input gives
 

@@ -41,12 +41,12 @@ module _ {S : Type 0} (kind : Family S) (well : WellFormed (kind.set kind.newest
   by (Refused place section reason) (inl f) = record {
     outcome = ended 1 (refused_line (kind.set kind.newest) place section reason) (place + f.0);
     is = Faulty place section reason f.0 f.1;
-    only = faulty-is place section reason f;
+    only = faulty-is place _ reason f;
   }
   by (Refused place section reason) (inr f) = record {
     outcome = ended 1 (refused_line (kind.set kind.newest) place section reason) place;
     is = Unfit place section reason f;
-    only = unfit-is place section reason f;
+    only = unfit-is place _ reason f;
   }
 
   pub loads_one : OneLoad kind level lines bytes held

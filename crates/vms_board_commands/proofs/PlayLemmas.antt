@@ -35,7 +35,7 @@ module _ (level : ℕ) (lines : List ScriptLine) (i : Intake) (o o' : Outlet) (s
   comes_so parts h = record {
     begun = h.done;
     bytes = length (text_of parts);
-    text = subst (Appends o.written o'.written) (sym (begun_whole h.done (length (text_of parts)) parts (omega arith))) h.text;
+    text = subst (Appends o.written o'.written) (sym (begun_whole h.done _ parts (omega arith))) h.text;
     held = h.held;
   }
 
@@ -72,7 +72,7 @@ module _ (i i' : Intake) (o o' : Outlet) (a b s' : Stock) (held : b.held ≡ a.h
   fails-since c = record {
     done = c.done;
     text = c.text;
-    rose = rose_since a.faults b.faults s'.faults le c.rose;
+    rose = rose_since _ _ _ le c.rose;
     held = rw (ap (λ (h : Option Held). held_after h (take c.done x.parts)) held) at c.held;
   }
 

@@ -7,7 +7,7 @@ use Rattle.vms_board_commands.proofs.Facade.{ReadsLines, ScriptFault}
 module _ {T : Type 0} (lines : T → List ScriptLine) where
   -- lines that are read may be in a script
   pub good_lines : (play : Option ℕ) (text : List ℕ) (t : T) → ReadsLines lines (script_read play text) (Ok t) → AreLines play (lines t)
-  good_lines play text t h = by (script_read play text) refl h
+  good_lines play text t h = by _ refl h
     where
       by : (r : Reading) → script_read play text ≡ r → ReadsLines lines r (Ok t) → AreLines play (lines t)
       by (Ok said) e h = rw h ((reads_exactly.only play text said e).0)
@@ -44,5 +44,5 @@ unfetched_asks {T} {U} {s} {s'} {e} (Err x) h a = rw h (record { looks = a.looks
 -- events that are obtained may be applied
 pub had_events : (text : List ℕ) (read : Result (Vec Event Global) ScriptFault) (r : Result (Vec Event Global) Ending) → ReadsLines (λ (v : Vec Event Global). event_lines v.items) (script_read None text) read
     → IfOk r (λ v. read ≡ Ok v) → IfOk r (λ v. AreEvents v.items)
-had_events text read (Ok v) h same = are_events None v.items (had_lines (λ (v : Vec Event Global). event_lines v.items) None text read (Ok v) h same)
+had_events text read (Ok v) h same = are_events None _ (had_lines (λ (v : Vec Event Global). event_lines v.items) None text read (Ok v) h same)
 had_events text read (Err e) h same = tt

@@ -35,7 +35,7 @@ reads_all Says r so = record {
   bytes = r.bytes;
   takes = r.takes;
   long = refl;
-  says = λ more f. let t = so (r.bytes ++ more) more (r.says more f) in rw (same_length r.bytes more t.taken t.within t.rest) at t.says;
+  says = λ more f. let t = so (r.bytes ++ more) more (r.says more f) in rw (same_length _ more _ t.within t.rest) at t.says;
   cause = tt;
 }
 
@@ -87,7 +87,7 @@ module _ {i i' : Intake} {o o' : Outlet} {s s' : Stock} where
   }
 
   pub seen_refused : {P : List ℕ → Outcome → Type 0} (line : ArrayVec ℕ) (taken : ℕ) → Sees P i i' (ended 1 line.items taken) → Seen P i i' o o' s s' (Some (Refused line))
-  seen_refused {P} line taken sees = record { outcome = ended 1 line.items taken; sees = sees; ends = ended-as P 1 line.items taken sees }
+  seen_refused {P} line taken sees = record { outcome = ended 1 line.items taken; sees = sees; ends = ended-as P 1 _ taken sees }
 
   -- a refused load reads the bytes up to the end of the invalid unit
   pub load_seen : {P : List ℕ → Outcome → Type 0} (set : Set) (names : List (List ℕ)) (images : List Image) (taken : ℕ) (r : Refusal) (line : ArrayVec ℕ) → LoadReads i i' set names images taken (Err (loads.Refused r))
@@ -98,12 +98,12 @@ module _ {i i' : Intake} {o o' : Outlet} {s s' : Stock} where
       (λ input left l. record {
         taken = r.at + l.0;
         says = is input l.0 l.1;
-        within = fault_within set names input r.at r.section r.reason l.0 l.1;
+        within = fault_within set names input r.at _ _ l.0 l.1;
         rest = l.2;
       }))
 
   pub seen_lost : {P : List ℕ → Outcome → Type 0} (line : ArrayVec ℕ) (taken : ℕ) → Sees P i i' (ended 11 line.items taken) → Seen P i i' o o' s s' (Some (WouldLose line))
-  seen_lost {P} line taken sees = record { outcome = ended 11 line.items taken; sees = sees; ends = ended-as P 11 line.items taken sees }
+  seen_lost {P} line taken sees = record { outcome = ended 11 line.items taken; sees = sees; ends = ended-as P 11 _ taken sees }
 
   -- ---- the outcome of a known input
 

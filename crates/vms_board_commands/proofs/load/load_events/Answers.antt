@@ -1,5 +1,5 @@
-use Rattle.vms_board_commands.proofs.{Facade.stream_course, Facade.ending_passed, SeenLemmas.other_seen}
-use Rattle.vms_board_commands.proofs.Facade.{refl, ap, ◌∙◌, arith, Some, Keeps-refl, intake, outlet, comes_to_nothing, event_lines, same_so, NoMemory}
+use Rattle.vms_board_commands.proofs.Facade.{ending_passed, refl, ap, ◌∙◌, arith, Some, Keeps-refl, outlet, comes_to_nothing, event_lines, same_so, NoMemory}
+use Rattle.vms_board_commands.proofs.SeenLemmas.{other_seen}
 use Rattle.vms_board_commands.proofs.load.load_events.Goals as goal
 
 pub returns : goal.returns
@@ -13,8 +13,8 @@ returns-in_err-board g c = rw (ending_passed c.from_residual.result c.from_resid
     let out = outlet g.O.Sink c.args.out.now in
     record {
       runs = record {
-        content = λ shelf shelf' o held loads. comes_to_nothing out out shelf shelf' o.parts (Keeps-refl out.written) held;
-        so = λ shelf asks. same_so (intake g.I.Source c.args.input.now) out shelf (stream_course asks) (Some NoMemory) refl tt;
+        content = λ shelf shelf' o held loads. comes_to_nothing out out shelf shelf' _ (Keeps-refl out.written) held;
+        so = λ shelf asks. same_so _ out shelf _ _ refl tt;
         seen = λ shelf shelf' held. other_seen (Some NoMemory) refl;
       };
       given = omega arith;

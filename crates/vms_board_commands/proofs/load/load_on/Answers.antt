@@ -1,7 +1,7 @@
-use Rattle.vms_board_commands.proofs.{LoadLemmas.refusal_seen, LoadLemmas.trace_seen, LoadLemmas.written_events, LoadOutcome.loads_same}
-use Rattle.vms_board_commands.proofs.{SeenLemmas.content_seen, SeenLemmas.other_seen, Facade.Refused, Facade.event_lines, Facade.Loads, Facade.ending_of}
-use Rattle.vms_board_commands.proofs.CourseLemmas.{refused_so, traced_so, unread_so}
-use Rattle.vms_board_commands.proofs.Facade.{Ok, Err, ap, ◌∙◌, refl, Some, Keeps-refl, within, outlet, draws_took, comes_to_nothing, refused_line, ReadFault}
+use Rattle.vms_board_commands.proofs.{LoadOutcome.loads_same, SeenLemmas.content_seen, SeenLemmas.other_seen, Facade.comes_to_nothing, Facade.refused_line}
+use Rattle.vms_board_commands.proofs.{Facade.ReadFault, CourseLemmas.refused_so, CourseLemmas.traced_so, CourseLemmas.unread_so}
+use Rattle.vms_board_commands.proofs.Facade.{Refused, event_lines, Loads, ending_of, Ok, Err, ap, ◌∙◌, refl, Some, Keeps-refl, within, outlet, draws_took}
+use Rattle.vms_board_commands.proofs.LoadLemmas.{refusal_seen, trace_seen, written_events}
 use Rattle.vms_board_commands.proofs.load.load_on.Goals as goal
 
 -- the board was restored, and its trace was written
@@ -52,7 +52,7 @@ returns-in-Err-ReadFault g c =
     let reads = rw c.in-Err-ReadFault.field-0-is at c.in-Err-ReadFault.ensures.reads in
     record {
       runs = record {
-        content = λ shelf shelf' o held loads. comes_to_nothing out out shelf shelf' o.parts (Keeps-refl out.written) held;
+        content = λ shelf shelf' o held loads. comes_to_nothing out out shelf shelf' _ (Keeps-refl out.written) held;
         so = λ shelf asks. unread_so shelf (draws_took reads.takes) out reads.cause;
         seen = λ shelf shelf' held. other_seen (Some ReadFault) refl;
       };

@@ -1,6 +1,6 @@
 use Rattle.vms_board_commands.proofs.{PlayLemmas.ends_since, CourseLemmas.play_asks, CourseLemmas.unset_so}
 use Rattle.vms_board_commands.proofs.Facade.{List, Some, refl, true, IsSomeAnd, Global, Vec, outlet, stock, quiet_same, ended_by, ending_passed, had_by}
-use Rattle.vms_board_commands.proofs.Facade.{Outcome, ScriptLine, lines_view, Line, so_since, wrong, play_course, PlaysAll, scripted, ending_of}
+use Rattle.vms_board_commands.proofs.Facade.{Outcome, ScriptLine, lines_view, Line, so_since, wrong, play_course, PlaysAll, ending_of}
 use Rattle.vms_board_commands.proofs.play.play_board.Goals as goal
 
 abbrev view : Vec Line Global → List ScriptLine
@@ -16,7 +16,7 @@ returns g c = λ input few.
     let played = c.play_lines.ensures input few in
     record {
       content = λ o has.
-          let plays = had_by view (λ (lines : List ScriptLine) (x : Outcome). IsSomeAnd held (λ map. PlaysAll level lines map x)) (scripted (Some level) held c.args.asked.script.now) c.in_ok-lines.lines o had.read has in
+          let plays = had_by view (λ (lines : List ScriptLine) (x : Outcome). IsSomeAnd held (λ map. PlaysAll level lines map x)) _ _ o had.read has in
           ends_since input input (outlet g.O.Sink c.args.out.now) (outlet g.O.Sink c.play_lines.new.out) shelf (stock g.H.Shelf c.session_of.new.shelf) (stock g.H.Shelf c.play_lines.new.shelf) had.asks.looks.held had.asks.looks.later o e
           (played.content o (rw had.asks.looks.held (rw c.deref.ensures.value plays)));
       so = so_since e refl had.asks.looks played.so;
@@ -25,14 +25,14 @@ returns g c = λ input few.
     }
 
 pub returns-in_err-lines : goal.returns-in_err-lines
-returns-in_err-lines g c = rw (ending_passed c.from_residual.result c.from_residual.ensures.1) (λ input few.
+returns-in_err-lines g c = rw (ending_passed _ c.from_residual.ensures.1) (λ input few.
     let held = g.H.Shelf.held c.args.shelf.now in
     let level = c.args.asked.number in
     let out = outlet g.O.Sink c.args.out.now in
     let had = c.in_err-lines.ensures in
     let e = c.in_err-lines.field-0.0 in
     record {
-      content = λ o has. ended_by view (λ (lines : List ScriptLine) (x : Outcome). IsSomeAnd held (λ map. PlaysAll level lines map x)) (scripted (Some level) held c.args.asked.script.now) input out out (stock g.H.Shelf c.args.shelf.now) (stock g.H.Shelf c.session_of.new.shelf) e o few had.asks.looks.held (quiet_same out (Some e)) had.read has;
+      content = λ o has. ended_by view (λ (lines : List ScriptLine) (x : Outcome). IsSomeAnd held (λ map. PlaysAll level lines map x)) _ input out out _ _ e o few had.asks.looks.held (quiet_same out (Some e)) had.read has;
       so = unset_so play_course true play_asks input out had.asks.looks (λ f. absurd (wrong f)) (Some e) had.asks.cause;
       given = tt;
       seen = λ reads. cc;

@@ -1,6 +1,5 @@
 use Rattle.vms_board_commands.proofs.{PlayLemmas.played_by, SaveLemmas.at_level, CourseLemmas.played_so}
-use Rattle.vms_board_commands.proofs.Facade.{Some, refl, ap, ◌∙◌, Keeps-refl, outlet, stock, lines_view, comes_to_nothing, same_so, ending_mapped}
-use Rattle.vms_board_commands.proofs.Facade.{ending_passed, NoMemory, play_course, ending_by}
+use Rattle.vms_board_commands.proofs.Facade.{refl, ap, ◌∙◌, Keeps-refl, outlet, stock, lines_view, comes_to_nothing, same_so, ending_mapped, ending_passed}
 use Rattle.vms_board_commands.proofs.play.play_lines.Goals as goal
 
 pub play-requires : goal.play-requires
@@ -8,7 +7,7 @@ play-requires g c = rw (ap (λ m. m.level) c.in_ok-board.ensures.state ∙ at_le
 
 pub returns : goal.returns
 returns g c = λ input few.
-    rw (ending_mapped ending_by c.play.result c.map_err.result c.map_err.ensures.cases) (record {
+    rw (ending_mapped _ _ _ c.map_err.ensures.cases) (record {
       content = λ o has. played_by c.args.level (lines_view c.args.lines.now) input (outlet g.O.Sink c.args.out.now) (outlet g.O.Sink c.play.new.out) (stock g.H.Shelf c.args.shelf.now) (stock g.H.Shelf c.play.new.shelf) c.in_ok-board.board.state c.play.new.board.state o c.in_ok-board.ensures.state c.play.result few c.play.ensures.content has;
       so = played_so input c.play.result c.play.ensures.goes;
       given = tt;
@@ -17,7 +16,7 @@ returns g c = λ input few.
 
 -- without memory nothing was done
 pub returns-in_err-board : goal.returns-in_err-board
-returns-in_err-board g c = rw (ending_passed c.from_residual.result c.from_residual.ensures.1) (λ input few.
+returns-in_err-board g c = rw (ending_passed _ c.from_residual.ensures.1) (λ input few.
     let out = outlet g.O.Sink c.args.out.now in
     let shelf = stock g.H.Shelf c.args.shelf.now in
-    record { content = λ o has. comes_to_nothing out out shelf shelf o.parts (Keeps-refl out.written) refl; so = same_so input out shelf play_course (Some NoMemory) refl tt; given = tt; seen = λ reads. cc })
+    record { content = λ o has. comes_to_nothing out out shelf shelf _ (Keeps-refl out.written) refl; so = same_so input out shelf _ _ refl tt; given = tt; seen = λ reads. cc })

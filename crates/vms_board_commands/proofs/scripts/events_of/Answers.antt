@@ -9,11 +9,10 @@ view v = event_lines v.items
 pub returns-clause-read : goal.returns-clause-read
 returns-clause-read g c =
     then_as (λ (t : Vec ℕ Global). t.items) view (λ (text : List ℕ). said_lines (script_read None text))
-    (fetched longest_script (g.H.Shelf.held c.args.shelf.now) c.args.name.now) c.in_ok-text.text c.had.result c.in_ok-text.ensures.fetched
-    (rw c.deref.ensures.value at (c.had.ensures.read view (script_read None c.deref.result.now) c.read_events.ensures))
+    _ _ _ c.in_ok-text.ensures.fetched (rw c.deref.ensures.value at (c.had.ensures.read view (script_read None c.deref.result.now) c.read_events.ensures))
 
 pub returns-clause-good : goal.returns-clause-good
-returns-clause-good g c = had_events c.deref.result.now c.read_events.result c.had.result c.read_events.ensures c.had.ensures.same
+returns-clause-good g c = had_events _ _ _ c.read_events.ensures c.had.ensures.same
 
 pub returns-in_err-text-clause-read : goal.returns-in_err-text-clause-read
 returns-in_err-text-clause-read g c =
@@ -23,7 +22,7 @@ returns-in_err-text-clause-read g c =
     (fetched longest_script (g.H.Shelf.held c.args.shelf.now) c.args.name.now) c.in_err-text.field-0.0 c.in_err-text.ensures.fetched)
 
 pub returns-clause-asks : goal.returns-clause-asks
-returns-clause-asks g c = read_asks c.had.result c.in_ok-text.ensures.asks.looks c.had.ensures.ends
+returns-clause-asks g c = read_asks _ c.in_ok-text.ensures.asks.looks c.had.ensures.ends
 
 pub returns-in_err-text-clause-asks : goal.returns-in_err-text-clause-asks
-returns-in_err-text-clause-asks g c = unfetched_asks c.from_residual.result c.from_residual.ensures.1 c.in_err-text.ensures.asks
+returns-in_err-text-clause-asks g c = unfetched_asks _ c.from_residual.ensures.1 c.in_err-text.ensures.asks
