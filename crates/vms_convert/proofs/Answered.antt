@@ -29,7 +29,7 @@ first_bad P Bad (suc n) either = elim (first_bad P Bad n (λ i lt. either i (ome
 ]
 
 same_or_not : (x y : ℤ) → (x ≡ y) ⊎ (x ≡ y → ⊥)
-same_or_not x y = go (int_eq x y) refl where
+same_or_not x y = go _ refl where
   go : (b : Bool) → int_eq x y ≡ b → (x ≡ y) ⊎ (x ≡ y → ⊥)
   go true e = inl ((signed_Decides x y).0 e)
   go false e = inr (λ same. (let t = (signed_Decides x y).1 same in cc))
@@ -126,7 +126,7 @@ module _ (to new : Set) (fit : IsFit to) (well : WellFormed new) (compatible : C
 
     answered_machine : (machine : Option (List ℕ)) → wanted ≡ there → AllValid → Answered machine
     answered_machine None same valid = inl (record { cells = same; valid = valid; machine_is = tt })
-    answered_machine (Some name) same valid = answered_name name same valid (is_one_of to.machines name) refl
+    answered_machine (Some name) same valid = answered_name name same valid _ refl
 
     answered_all : (machine : Option (List ℕ)) → Answered machine
     answered_all machine =

@@ -19,7 +19,7 @@ all_subs (s ∷ subs) h = (h 0 s refl, all_subs subs (λ j t e. h (suc j) t e))
 
 taken_fits : (numbers : List ℤ) (cell : Cell) (has : Bool) (p : Option ℕ) → FitsCell cell cell.default
     → ((k : ℕ) → p ≡ Some k → InRange cell.kind (get_or numbers k (pos 0))) → FitsCell cell (taken numbers cell has p)
-taken_fits numbers cell true (Some k) fine h = go (exceeds cell.capacities (get_or numbers k (pos 0))) refl where
+taken_fits numbers cell true (Some k) fine h = go _ refl where
   go : (b : Bool) → exceeds cell.capacities (get_or numbers k (pos 0)) ≡ b → FitsCell cell (if b then cell.default else get_or numbers k (pos 0))
   go true e = fine
   go false e = (h k refl, within_all cell.capacities (get_or numbers k (pos 0)) e)
@@ -51,7 +51,7 @@ module _ (to : Set) (well : WellFormed to) (heads : FitsHeads to) (i : ℕ) (d :
     taken_fit : (c : ℕ) → c < length cells → FitsCell (get_or cells c no_cell) (get_or now c (pos 0))
     taken_fit c lt =
         rw (back.are_taken.each c lt)
-        (taken_fits numbers (get_or cells c no_cell) (has_cell (image_slots to d (whole d now)) c) (get_or partners c None) (good.defaults i d there c lt)
+        (taken_fits numbers (get_or cells c no_cell) _ _ (good.defaults i d there c lt)
         (λ k e. let h = paired.kinds c k (at_get partners c k e) in rw h.1 (of_kinds.in_range k h.0)))
 
     -- and so does what is settled
@@ -124,14 +124,14 @@ module _ (to : Set) (well : WellFormed to) (heads : FitsHeads to) (i : ℕ) (d :
         let came = rw (z, still) at (comes_at to d (bare d then_) d.subs 0 j s h.is) in
         let here : in_sub s s.desc.version then_ j c ≡ false =
         part_apart to d then_ (λ xs. has_cell xs c ≡ false) (none_in_both c) (own_cells to d) d.subs came_back none j s s.desc.version h.is came in
-        let before = rw (its_same to s.desc s.desc.version (part_place to d j) good.structs (good.subs i j d s there h.is) now then_ same) at here in
+        let before = rw (its_same to s.desc s.desc.version _ good.structs (good.subs i j d s there h.is) now then_ same) at here in
         same.same c h.low h.high ∙ left c lt (its_above to d.desc d.desc.version 0 now c (omega (arith, sub_place_up to (own_cells to d) d.subs j)))
         (none_else c _ (λ j' s' v e' f. false_from_ne_true _ (other_part c j s h before j' s' v e' f)))
 
     absent : (c : ℕ) → c < length cells → has_cell (image_slots to d (image_of to d then_)) c ≡ false → get_or then_ c (pos 0) ≡ default_at c
     absent c lt none = elim (own_or_sub to d c lt) [
       | inl own ↦ absent_own c lt own parts.0
-      | inr h ↦ by_needed h.0 h.1 h.2 (is_needed to d (whole d now) h.1 h.0) refl
+      | inr h ↦ by_needed h.0 h.1 h.2 _ refl
     ] where
       parts : (in_own then_ c ≡ false) × (in_subs then_ came_back c ≡ false)
       parts = none_in_both c (own_slots to d d.desc.version then_) (came_slots to d then_ (own_cells to d) d.subs came_back) none
@@ -170,7 +170,7 @@ pub may_give : (p p' : List (Option ℕ)) (n n' : List ℤ) (xs : List WalkStep)
     → AreTargets a.kinds n p → length a.kinds ≡ length a.numbers → AreTargets b.kinds n' p' × (length b.kinds ≡ length b.numbers)
 may_give p p' n n' xs a b e f h targets long =
     let kinds : b.kinds ≡ a.kinds = rw h in
-    let numbers : length b.numbers ≡ length a.numbers = ap (λ x. length x.numbers) h ∙ steps_long p n xs a.numbers in
+    let numbers : length b.numbers ≡ length a.numbers = cc (steps_long p n xs a.numbers) in
     (rw (kinds, f, e) targets, rw (kinds, numbers) long)
 
 -- ---- What the partners of cells are given, step by step: that is what is carried.
@@ -195,8 +195,7 @@ module _ (partners : List (Option ℕ)) (numbers : List ℤ) where
       → get_or (gives slots now) k (pos 0) ≡ get_or now k (pos 0)
   given_none [] now k h = refl
   given_none (Number c kind caps ∷ slots) now k h =
-      given_none slots (next c now) k (λ b e. (or_parts (c == b) (has_cell slots b) (h b e)).1)
-      ∙ partner_other (get_or numbers c (pos 0)) (get_or partners c None) now k
+      given_none slots (next c now) k (λ b e. (or_parts (c == b) (has_cell slots b) (h b e)).1) ∙ partner_other (get_or numbers c (pos 0)) _ now k
       (λ e. let bad : false ≡ true = sym (or_parts (c == c) (has_cell slots c) (h c e)).0 ∙ eq-eqb c c refl in cc)
   given_none (_ ∷ slots) now k h = given_none slots now k h
 
@@ -211,7 +210,7 @@ module _ (partners : List (Option ℕ)) (numbers : List ℤ) where
           | inl same ↦
               let put : get_or (next b now) k (pos 0) ≡ z = rw (same, e) (get_or-set_same now k z (pos 0) lt) in
               rw (eq-eqb b c same, put) (elim (has_cell slots c) as (λ h. (if h then z else z) ≡ z) [ true ↦ refl | false ↦ refl ])
-          | inr other ↦ rw (ne_eqb b c other, partner_other (get_or numbers b (pos 0)) (get_or partners b None) now k (λ f. other (once b c k f e)))
+          | inr other ↦ rw (ne_eqb b c other, partner_other (get_or numbers b (pos 0)) _ now k (λ f. other (once b c k f e)))
         ]
     given_at (_ ∷ slots) c k now lt e = given_at slots c k now lt e
 
@@ -227,7 +226,7 @@ given_all old new d e image paired =
       long = cc (gives_long partners image.numbers slots before);
       taken = λ c k f h.
           rw h at (given_at partners image.numbers (λ b c' k' x y. paired.once b c' k' (at_get partners b k' x) (at_get partners c' k' y)) slots c k before
-          (omega (arith, (paired.kinds c k f).0)) (get_or_from_slice_get partners c (Some k) None f));
+          (omega (arith, (paired.kinds c k f).0)) (get_or_from_slice_get partners c _ None f));
       other = λ k lt none.
           given_none partners image.numbers slots before k (λ c f. none c (at_get partners c k f))
           ∙ get_or-map (λ (c : Cell). c.default) (device_cells new e) k no_cell;

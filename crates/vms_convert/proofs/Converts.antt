@@ -17,11 +17,11 @@ use Rattle.vms_convert.specs.declared.fault.ConvertFault.TheVariants as faults
 pub one_stands : OneBackLaw
 one_stands to fit i d there partners numbers x y p q =
     let good = well_good to fit.well fit.heads in
-    one_back to good.structs d (good.devices i d there) (λ j s e. good.subs i j d s there e) partners numbers x y p q
+    one_back to good.structs d (good.devices i d there) (λ j s e. good.subs i j d s there e) _ _ x y p q
 
 pub back_stands : BackLaw
 back_stands to new fit well i d e there numbers kinds image back =
-    back_may to fit.well fit.heads i d there (device_cells new e) (device_partners to new d e) (device_paired to new fit.well well i d e there) numbers kinds
+    back_may to fit.well fit.heads i d there _ _ (device_paired to new fit.well well i d e there) _ kinds
     image back
 
 -- recast twice
@@ -85,8 +85,7 @@ module _ (to new : Set) (fit : IsFit to) (well : WellFormed new) (compatible : C
     converts_stand =
         let keeps = converted.keeps in
         let text = describe backs in
-        let wanted_is : recast_each to new.devices (numbers_in (carried to new backs)) ≡ wanted =
-        rw (← keeps.cells) (each_twice to new.devices (numbers_in images)) in
+        let wanted_is : recast_each to new.devices (numbers_in (carried to new backs)) ≡ wanted = rw (← keeps.cells) (each_twice to _ _) in
         let stream = upgrade_stands to new fit.well well compatible machine (Some text) backs keeps.machine_is (short backs) ready in
         record {
           loaded = carried to new backs;
@@ -100,7 +99,7 @@ module _ (to new : Set) (fit : IsFit to) (well : WellFormed new) (compatible : C
             is = converted.is;
           };
           one = λ others again.
-              let one = same_backs wanted backs again.backs converted.back (rw wanted_is at again.back) in
+              let one = same_backs wanted backs _ converted.back (rw wanted_is at again.back) in
               again.is ∙ ap (λ (b : List Image). written to machine b (Some (describe b))) one ∙ sym converted.is;
         }
 
@@ -145,7 +144,7 @@ module _ (to new : Set) (fit : IsFit to) (well : WellFormed new) (i k : ℕ) (d 
   pub given_carried : (numbers : List ℤ) (image : Image) → IsBack to d ps numbers image
       → gives ps image.numbers (image_slots to d image) (map (λ c. c.default) (device_cells new e)) ≡ (carried_device to new d e image).numbers
   given_carried numbers image back =
-      carried_stands to new fit.well well i k d e at_i at_k image (back_versions to d ps numbers image back)
+      carried_stands to new fit.well well i k d e at_i at_k image (back_versions to d ps _ image back)
       (gives ps image.numbers (image_slots to d image) (map (λ (c : Cell). c.default) (device_cells new e))) (given_all to new d e image paired)
 
 -- ---- as the calls have it
@@ -177,19 +176,17 @@ module _ (to new : Set) (i k : ℕ) (source : List ℤ) (p : IsReturning to new 
       pub targets_of : AreTargets carried.kinds image.numbers partners
       targets_of =
           let normal = (back_stands to new p.fit p.well i d e (there to i p.device) source p.kinds (state_of image) back_of).normal in
-          rw (partners_are, fresh) (targets_are to new p.fit p.well i k d e (there to i p.device) (there new k p.other) (state_of image) normal)
+          rw (partners_are, fresh) (targets_are to new p.fit p.well i k d e (there to i p.device) (there new k p.other) _ normal)
 
       module _ (target : Typed)
           (changes : Changes (give_step partners image.numbers) (steps_of (image_slots to (device_at to i) (state_of image))) carried target) where
         pub given_long : length source ≡ length target.numbers
         given_long =
-            rw (changes, steps_long partners image.numbers (steps_of (image_slots to d (state_of image))) carried.numbers, fresh)
+            rw (changes, steps_long partners image.numbers (steps_of (image_slots to d (state_of image))) _, fresh)
             (omega (arith, length-map (device_cells new e) (λ (c : Cell). c.default)))
 
         pub given_is : target.numbers ≡ (carried_device to new d e (state_of image)).numbers
-        given_is =
-            rw (changes, partners_are, fresh)
-            (given_carried to new p.fit p.well i k d e (there to i p.device) (there new k p.other) source (state_of image) back_of)
+        given_is = rw (changes, partners_are, fresh) (given_carried to new p.fit p.well i k d e (there to i p.device) (there new k p.other) source _ back_of)
 
 -- ---- The answers of the call, from those of its parts.
 

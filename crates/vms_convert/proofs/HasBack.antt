@@ -46,8 +46,7 @@ module _ (ms : List Meaning) (h : MeanKnown ms) (above : MeanAbove ms) where
       → Alike c (times count (item_slots ms item caps k) at step) (times count (item_slots ms item caps n) at step)
   items_known item caps zero at step c n k s = alike c []
   items_known item caps (suc count) at step c n k s =
-      either_part (item_known item caps at c n k s)
-      (items_known item caps count (at + step) step c n k (in_less at (at + step) c c n k (omega arith) (omega arith) s))
+      either_part (item_known item caps at c n k s) (items_known item caps count (at + step) step c n k (in_less at _ c c n k (omega arith) (omega arith) s))
 
   either : (c : ℕ) (b : Bool) (xs ys : List Slot) → Alike c xs ys → Alike c (if b then xs else []) (if b then ys else [])
   either c true xs ys e = e
@@ -91,7 +90,7 @@ module _ (ms : List Meaning) (h : MeanKnown ms) (above : MeanAbove ms) where
 
   desc_known : (d : Desc) (v base c : ℕ) (n k : List ℤ) → IsSound d → SameIn base c n k → Alike c (desc_slots ms d v k base) (desc_slots ms d v n base)
   desc_known d v base c n k sound s =
-      either_part (fields_known d v base 0 base c d.fields n k sound.fields (omega arith) (sym (place_first cs d.fields 0 base d.fields)) refl s)
+      either_part (fields_known d v base 0 base c _ n k sound.fields (omega arith) (sym (place_first cs d.fields 0 base d.fields)) refl s)
       (record { is = refl })
 
 meanings_known : (ds : List Desc) → AreSound ds → (k : ℕ) → k ≤ length ds → MeanKnown (meanings ds k)
@@ -101,7 +100,7 @@ meanings_known ds sound (suc k) le =
     let h : MeanKnown (meanings ds k) = meanings_known ds sound k (omega arith) in
     one_more MeansKnown no_meaning none_known (meanings ds k) h (meaning (meanings ds k) (get_or ds k no_desc))
     (record {
-      means = λ at c n m s. desc_known (meanings ds k) h (meanings_above ds k) (get_or ds k no_desc) (get_or ds k no_desc).version at c n m
+      means = λ at c n m s. desc_known (meanings ds k) h (meanings_above ds k) _ (get_or ds k no_desc).version at c n m
           (sound k (omega arith)) s;
     })
 
@@ -163,7 +162,7 @@ made P n stays next (suc k) le =
     record {
       list = h.list ++ x.0 ∷ [];
       long = omega (arith, length-append h.list (x.0 ∷ []));
-      each = appended (P (h.list ++ x.0 ∷ [])) h.list x.0 (length h.list) refl
+      each = appended (P (h.list ++ x.0 ∷ [])) h.list x.0 _ refl
           (λ i y at. stays h.list x.0 i y (slice_get_within h.list i y at) (h.each i y at)) x.1;
     }
 
@@ -185,8 +184,8 @@ module _ (to : Set) (structs : AreSound to.structs) (d : Device) (own : IsSound 
   pub has_taken : (now : List ℤ) × AreTaken to d partners numbers now
   has_taken =
       let n = length (device_cells to d) in
-      let h = made {A = ℤ} (λ now c z. z ≡ takes now c) n (λ now x c z lt e. e ∙ sym (takes_same c now (now ++ x ∷ []) (same_front now x c (omega arith))))
-      (λ now lt. (takes now (length now), sym (takes_same (length now) now _ (same_front now _ (length now) (omega arith))))) n (omega arith) in
+      let h = made {A = ℤ} (λ now c z. z ≡ takes now c) n (λ now x c z lt e. e ∙ sym (takes_same c now _ (same_front now x c (omega arith))))
+      (λ now lt. (takes now (length now), sym (takes_same _ now _ (same_front now _ _ (omega arith))))) n (omega arith) in
       (h.list, record { long = h.long; each = λ c lt. h.each c _ (slice_get-get_or h.list c (pos 0) (omega arith)) })
 
 -- ---- what is settled, cell by cell
@@ -264,5 +263,5 @@ module _ (to : Set) (structs : AreSound to.structs) (d : Device) (own : IsSound 
 
   pub one_back : (numbers : List ℤ) (x y : Image) → IsBack to d partners numbers x → IsBack to d partners numbers y → y ≡ x
   one_back numbers x y p q =
-      let same : q.now ≡ p.now = one_taken numbers p.now q.now p.are_taken q.are_taken in
-      q.is ∙ ap (image_of to d) (one_settled p.now x.numbers y.numbers p.are_taken.long p.settled (rw same at q.settled)) ∙ sym p.is
+      let same : q.now ≡ p.now = one_taken _ p.now q.now p.are_taken q.are_taken in
+      q.is ∙ ap (image_of to d) (one_settled p.now _ _ p.are_taken.long p.settled (rw same at q.settled)) ∙ sym p.is

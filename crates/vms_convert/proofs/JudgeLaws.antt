@@ -160,7 +160,7 @@ module _ (to new : Set) (images : List Image) (typed : List Typed) (lost : Optio
   first_lost found same = rw (← same) p.returned.first_lost
 
   pub cell_first : (name : Option (List ℕ)) (l : LostCell) → lost ≡ Some l → Loses to new name wants given states (Some l.device) (Some l.cell)
-  cell_first name l same = cell_lost to new p.fit.well well p.compatible states wants long name l (first_lost (Some l) same)
+  cell_first name l same = cell_lost to new p.fit.well well p.compatible states wants long name l (first_lost _ same)
 
   kept_cells : lost ≡ None → wants ≡ given
   kept_cells same = all_carried to new p.fit.well well p.compatible states wants long (first_lost None same)
@@ -168,9 +168,8 @@ module _ (to new : Set) (images : List Image) (typed : List Typed) (lost : Optio
   pub device_first : (name : Option (List ℕ)) → lost ≡ None → (k : ℕ) → FirstInvalid to new states (Some k)
       → Loses to new name wants given states (Some k) (first_cell_at new k)
   device_first name same k h =
-      let at : slice_get new.devices k ≡ Some (device_at new k) = slice_get-get_or new.devices k no_device h.0 in
       let cell : first_cell (get_or wants k []) ≡ first_cell_at new k =
-      same_first (get_or wants k []) (device_cells new (device_at new k)) (newest_kinds to new p.newest images p.kept k (device_at new k) at).long in
+      same_first _ _ (newest_kinds to new p.newest images p.kept k (device_at new k) (slice_get-get_or new.devices k no_device h.0)).long in
       rw (← cell) (OfDevice k h.0 (kept_cells same) h.1 h.2)
 
   pub machine_last : (name : Option (List ℕ)) → lost ≡ None → FirstInvalid to new states None → (m : Result (Option ℕ) Loss) → KeepsMachine to name m

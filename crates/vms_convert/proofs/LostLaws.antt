@@ -88,7 +88,7 @@ module _ (to new : Set) (wanted : List (List ℤ)) where
     lost_next None None next h e is = rw is (all_given None h e)
     lost_next (Some l) None next h e is = rw is (all_given (Some l) h e)
     lost_next None (Some c) next h e is = rw is (lost_here c e (λ i j lt less p. h i j lt p))
-    lost_next (Some l) (Some c) next h e is = rw is (earlier_of l c h e (nat_lt l.device k) refl)
+    lost_next (Some l) (Some c) next h e is = rw is (earlier_of l c h e _ refl)
 
 module _ (to new : Set) (well_to : WellFormed to) (well_new : WellFormed new) (compatible : Compatible to new) where
   -- the older set's device of the name and instance of device k
@@ -134,7 +134,7 @@ module _ (to new : Set) (well_to : WellFormed to) (well_new : WellFormed new) (c
         λ e. (let found = find_device 0 to.devices e.desc.name e.instance in carried_at to new backs e found (slice_get to.devices (index found))) in
         let image = carry e in
         let stands = at_map (λ (image : Image). image.numbers) (map carry new.devices) k image (at_map carry new.devices k e at) in
-        rw (get_or_from_slice_get given k image.numbers [] stands, o.found, o.stands, device_is to o.i o.d o.stands, device_is new k e at)
+        rw (get_or_from_slice_get given k _ [] stands, o.found, o.stands, device_is to o.i o.d o.stands, device_is new k e at)
 
     older_inside : (k : ℕ) (e : Device) (o : Older k e) → o.i < length to.devices
     older_inside k e o = slice_get_within to.devices o.i o.d o.stands
@@ -172,13 +172,13 @@ module _ (to new : Set) (well_to : WellFormed to) (well_new : WellFormed new) (c
         differ : DifferAt (get_or wanted l.device []) (get_or given l.device []) l.cell
         differ =
             let at = h.pair.in_new in
-            let o = older l.device (device_at new l.device) at in
+            let o = older _ (device_at new l.device) at in
             let all = all_in to new well_to well_new compatible in
             let p = pair to new well_to all h.i (device_at to h.i) h.pair.in_old in
             let number : p.number ≡ l.device = cc (p.found, h.pair.found) in
             let device : p.device ≡ device_at new l.device = cc (p.stands, at) in
             let same : o.i ≡ h.i = cc (o.found, rw device at (back to new well_to all h.i (device_at to h.i) h.pair.in_old p)) in
-            rw (there_is l.device (device_at new l.device) at o, same) h.differs
+            rw (there_is _ (device_at new l.device) at o, same) h.differs
 
 -- ---- One device more is brought to the older set.
 
@@ -264,7 +264,7 @@ module _ (to new : Set) (wanted : List (List ℤ)) where
     as_long = cc (length-set routes n route);
     routes_are = λ i x le e. m.routes_are i x (omega arith) (set_above routes n i route x (omega arith) e);
     fresh = λ i x le e. m.fresh i x (omega arith) (set_above images n i image x (omega arith) e);
-    brought = rw (take_more_set images n image (omega arith)) (returned_next to new wanted n k (take n images) lost next image cell m.brought pair is earlier);
+    brought = rw (take_more_set images n image (omega arith)) (returned_next to new wanted n k _ lost next image cell m.brought pair is earlier);
   }
 
   pub midway_last : (n : ℕ) (routes : List Route) (images : List Typed) (lost : Option LostCell) → Midway to new wanted n routes images lost
@@ -283,8 +283,7 @@ module _ (to new : Set) (is : new ≡ newest_set) (images : List Image) (kept : 
   wanted = recast_each to new.devices (numbers_in images)
 
   pub wanted_is : get_or (recast_each to new.devices (numbers_in images)) k [] ≡ recast to (device_at new k) image.numbers
-  wanted_is =
-      recast_at to new.devices (numbers_in images) k (device_at new k) image.numbers (there new k lt) (at_map (λ (x : Image). x.numbers) images k image at)
+  wanted_is = recast_at to _ _ k (device_at new k) image.numbers (there new k lt) (at_map (λ (x : Image). x.numbers) images k image at)
 
   pub recast_for : IsRecastFor to new k image.numbers
   recast_for = record {

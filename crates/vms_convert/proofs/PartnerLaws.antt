@@ -91,7 +91,7 @@ module _ (old new : Set) (well : is_well_formed old ≡ true) where
   row earlier d = pairer_of earlier (struct_cells old) (struct_cells new) new.structs d
 
   agrees : (i : ℕ) → i < length old.structs → (l : ℕ) → l < i → get_or (first row old.structs i) l no_pairer ≡ get_or (table old new) l no_pairer
-  agrees i lt l less = first_at row old.structs no_pairer i l less ∙ sym (first_at row old.structs no_pairer (length old.structs) l (omega arith))
+  agrees i lt l less = cc (first_at row old.structs no_pairer i l less, first_at row old.structs no_pairer (length old.structs) l (omega arith))
 
   -- a structure, each side at its own version
   pub structs_paired : (i j v w at : ℕ) → i < length old.structs → v ≡ (get_or old.structs i no_desc).version → w ≡ (get_or new.structs j no_desc).version
@@ -158,15 +158,14 @@ module _ (structs : List Pairer) (x y : List (List Cell)) (all : List Field) (v 
 
   -- the field isn't there, or has no partner
   pub left_absent : (es : List Entry) → is_absent v here ≡ true → left k es ≡ alone ++ left (k + 1) es
-  left_absent es e = rw (left_here es, nothing (presence v here.test here.since) e)
+  left_absent es e = rw (left_here es, nothing _ e)
 
   pub left_alone : is_absent v here ≡ false → left k [] ≡ alone ++ left (k + 1) []
-  left_alone e = rw (left_here [], (something (presence v here.test here.since) e).is)
+  left_alone e = rw (left_here [], (something _ e).is)
 
   pub left_paired : (f : Entry) (es : List Entry) → is_absent v here ≡ false
       → left k (f ∷ es) ≡ array_partners structs x y here.item f.field.item (capacity_of here.count) (capacity_of f.field.count) f.place ++ left (k + 1) es
-  left_paired f es e =
-      let z : 0 + f.place ≡ f.place = omega arith in rw (left_here (f ∷ es), (something (presence v here.test here.since) e).is, z)
+  left_paired f es e = let z : 0 + f.place ≡ f.place = omega arith in rw (left_here (f ∷ es), (something _ e).is, z)
 
 -- ---- elements
 

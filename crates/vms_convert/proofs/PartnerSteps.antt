@@ -202,8 +202,8 @@ device_pairs old new i k s now is e = rw (e, is)
 pub arrays_are : (s t : Side) (k l : ℕ) → IsSide s → IsSide t → k < length (desc_on s).fields → l < length (desc_on t).fields → HasFew s k
     → AreArrays (arrays_on s k t l)
 arrays_are s t k l in_s in_t lt lt' few = record {
-  one = (uses_here (described s.set.now) s.set.now.well_formed s.part in_s k lt).1;
-  other = (uses_here (described t.set.now) t.set.now.well_formed t.part in_t l lt').1;
+  one = (uses_here _ s.set.now.well_formed s.part in_s k lt).1;
+  other = (uses_here _ t.set.now.well_formed t.part in_t l lt').1;
   few = few_here s k lt few;
 }
 
@@ -228,6 +228,4 @@ elements_all s t k l at =
 -- how far down the structures of a field go
 pub field_depth : (s : Side) (k : ℕ) → IsSide s → k < length (desc_on s).fields
     → depth (get_or (desc_on s).fields k no_field).item ≤ reach (described s.set.now) s.part
-field_depth s k in_s lt =
-    depth_within (reach (described s.set.now) s.part) (get_or (desc_on s).fields k no_field).item
-    (uses_here (described s.set.now) s.set.now.well_formed s.part in_s k lt).0
+field_depth s k in_s lt = depth_within (reach (described s.set.now) s.part) _ (uses_here _ s.set.now.well_formed s.part in_s k lt).0

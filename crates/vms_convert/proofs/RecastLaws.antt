@@ -33,9 +33,7 @@ port_of : (to : Set) (numbers : List ℤ) → AreOfKinds (device_cells newest_se
 port_of to numbers h = go (wants_arrays to) where
   go : (b : Bool) → AreOfKinds (device_cells newest_set serial_at_4) (if b then recast_cells numbers else numbers)
   go false = h
-  go true =
-      from_kinds (device_cells newest_set serial_at_4) (recast_cells numbers)
-      (rw port_kinds (recast_kinds numbers (rw port_kinds at (to_kinds (device_cells newest_set serial_at_4) numbers h))))
+  go true = from_kinds _ _ (rw port_kinds (recast_kinds _ (rw port_kinds at (to_kinds _ _ h))))
 
 device_is : (d e : Device) (numbers : List ℤ) → Some d ≡ Some e → AreOfKinds (device_cells newest_set d) numbers → AreOfKinds (device_cells newest_set e) numbers
 device_is d e numbers h k = let same : e ≡ d = cc in rw same k
@@ -43,12 +41,11 @@ device_is d e numbers h k = let same : e ≡ d = cc in rw same k
 pub recast_of : RecastOfLaw
 recast_of to (a ∷ b ∷ c ∷ d ∷ e ∷ []) l h = each where
   each : AreRecastOf to newest_set (a ∷ b ∷ c ∷ d ∷ e ∷ [])
-  each zero x is = device_is timer x a.numbers is (of_normal timer a (h 0 timer a refl refl))
-  each (suc zero) x is = device_is (i8259_at_4 0) x b.numbers is (of_normal (i8259_at_4 0) b (h 1 (i8259_at_4 0) b refl refl))
-  each (suc (suc zero)) x is = device_is (i8259_at_4 1) x c.numbers is (of_normal (i8259_at_4 1) c (h 2 (i8259_at_4 1) c refl refl))
-  each (suc (suc (suc zero))) x is = device_is i8254_at_2 x d.numbers is (of_normal i8254_at_2 d (h 3 i8254_at_2 d refl refl))
-  each (suc (suc (suc (suc zero)))) x is =
-      device_is serial_at_4 x (recast to serial_at_4 e.numbers) is (port_of to e.numbers (of_normal serial_at_4 e (h 4 serial_at_4 e refl refl)))
+  each zero x is = device_is timer x _ is (of_normal timer a (h 0 timer a refl refl))
+  each (suc zero) x is = device_is (i8259_at_4 0) x _ is (of_normal _ b (h 1 (i8259_at_4 0) b refl refl))
+  each (suc (suc zero)) x is = device_is (i8259_at_4 1) x _ is (of_normal _ c (h 2 (i8259_at_4 1) c refl refl))
+  each (suc (suc (suc zero))) x is = device_is i8254_at_2 x _ is (of_normal _ d (h 3 i8254_at_2 d refl refl))
+  each (suc (suc (suc (suc zero)))) x is = device_is serial_at_4 x _ is (port_of to _ (of_normal _ e (h 4 serial_at_4 e refl refl)))
   each (suc (suc (suc (suc (suc k))))) x is = absurd (cc)
 recast_of to _ l h = absurd (omega arith)
 
@@ -106,7 +103,7 @@ module _ (to new : Set) (machine : Option (List ℕ)) (wanted there : List (List
   never : (section cell : Option ℕ) → KeepsAll to new machine wanted there backs → Lost section cell → ⊥
   never section cell h (OfCell k c before differ) = not_all k c differ h.cells
   never section cell h (OfDevice k inside same before bad) = bad (h.valid k inside)
-  never section cell h (OfMachine name same valid is not) = let e = accepted to machine name h.machine_is is in let f : true ≡ false = cc in absurd (cc)
+  never section cell h (OfMachine name same valid is not) = let e = accepted to _ name h.machine_is is in let f : true ≡ false = cc in absurd (cc)
 
   first_differ : (k c k' c' : ℕ) → ((i : ℕ) → i < k → get_or wanted i [] ≡ get_or there i []) → Differ k c
       → ((i : ℕ) → i < k' → get_or wanted i [] ≡ get_or there i []) → Differ k' c' → k ≡ k'
@@ -130,6 +127,6 @@ module _ (to new : Set) (machine : Option (List ℕ)) (wanted there : List (List
 
 pub one_lost : OneLostLaw
 one_lost to new machine wanted there backs = record {
-  never_both = λ section cell h l. never to new machine wanted there backs section cell h l;
+  never_both = λ section cell h l. never to new _ wanted there backs section cell h l;
   one = λ a b c d p q. one to new machine wanted there backs a b c d p q;
 }

@@ -41,10 +41,10 @@ module _ (set : Set) (well : WellFormed set) (k : ℕ) (d : Device) (there : sli
       → SameIn (part_place set d j) (part_place set d j + sub_size set s) x.numbers y.numbers → is_needed set d y s j ≡ is_needed set d x s j
   needed_same j s e x y own part =
       let cs = struct_cells set in
-      truth_alike (is_steady_in s.desc) (is_steady_in d.desc)
+      truth_alike _ (is_steady_in d.desc)
       (numbers_of cs s.desc x.numbers (part_place set d j)) (numbers_of cs s.desc y.numbers (part_place set d j)) (numbers_of cs d.desc x.numbers 0)
-      (numbers_of cs d.desc y.numbers 0) (λ i h. number_same cs s.desc (part_place set d j) i x.numbers y.numbers h part)
-      (λ i h. number_same cs d.desc 0 i x.numbers y.numbers h own) s.needed s.desc.version ((sub_clean set well k j d s there e).own.1.1.1.0)
+      (numbers_of cs d.desc y.numbers 0) (λ i h. number_same cs s.desc _ i _ _ h part)
+      (λ i h. number_same cs d.desc 0 i _ _ h own) s.needed s.desc.version ((sub_clean set well k j d s there e).own.1.1.1.0)
 
 -- ---- Subsections that aren't needed are put to their defaults one after the other.
 
@@ -107,7 +107,7 @@ module _ (set : Set) (well : WellFormed set) (k : ℕ) (lt : k < length set.devi
             let place : part_place set d i ≡ part_place set d j = ap (part_place set d) same in
             let size : sub_size set t ≡ sub_size set s = ap (sub_size set) sub in
             let not_needed : is_needed set d (whole d before) t i ≡ false = rw (sub, same) (sym (still_needed now j s e h) ∙ n) in
-            rw not_needed (p.inside c (omega (arith, x.low)) (omega (arith, x.high))));
+            rw not_needed (p.inside c (omega arith) (omega arith)));
         left = λ i t c le x.
             p.above c (omega (arith, places_apart set (own_cells set d) d.subs j i s e (omega arith))) ∙ h.left i t c (omega arith) x;
       }
@@ -116,8 +116,8 @@ module _ (set : Set) (well : WellFormed set) (k : ℕ) (lt : k < length set.devi
       → SettledTo set d (j + 1) before b.numbers
   settled_next a b j less h s = go (needed_at set k j a.numbers) refl s where
     go : (t : Bool) → needed_at set k j a.numbers ≡ t → SettlesBy t set k j a b → SettledTo set d (j + 1) before b.numbers
-    go true e s = rw s (settled_needed a.numbers j less h e)
-    go false e s = settled_bare a.numbers b.numbers j less h e s.0
+    go true e s = rw s (settled_needed _ j less h e)
+    go false e s = settled_bare _ _ j less h e s.0
 
 pub all_settled : (set : Set) (d : Device) (before now : List ℤ) (j : ℕ) → j ≡ length d.subs → SettledTo set d j before now → AreSettled set d before now
 all_settled set d before now j end h = record {
@@ -164,8 +164,7 @@ version_if false v w e = cc
 
 needed_version : (set : Set) (d : Device) (image : Image) (i j : ℕ) (subs : List Sub) (s : Sub) (v : ℕ) → slice_get subs j ≡ Some s
     → slice_get (needed_from set d image i subs) j ≡ Some (Some v) → v ≡ s.desc.version
-needed_version set d image i j subs s v e f =
-    version_if (is_needed set d image s (i + j)) s.desc.version v (cc (comes_at set d image subs i j s e))
+needed_version set d image i j subs s v e f = version_if (is_needed set d image s (i + j)) _ v (cc (comes_at set d image subs i j s e))
 
 pub back_versions : (to : Set) (d : Device) (partners : List (Option ℕ)) (numbers : List ℤ) (image : Image) → IsBack to d partners numbers image
     → IsAtVersions d image
