@@ -1,14 +1,12 @@
 -- Of each state of the newer set something comes back, and either all is kept or something is lost first.
+use Rattle.vms_convert.proofs.{BackNormal.gives_long, RecastLaws.recast_long, Converts.given_carried}
 use Rattle.vms_convert.proofs.Facade.{ext_get_or, ◌≡◌, ◌⊎◌, inl, inr, ℕ, zero, suc, ◌<◌, Bool, true, false, List, [], ◌∷◌, length, get_or, map, Option, Some}
 use Rattle.vms_convert.proofs.Facade.{None, ℤ, pos, refl, sym, ◌∙◌, arith, signed_Decides, int_eq, length-map, slice_get-get_or, slice_get_within, slice_get}
 use Rattle.vms_convert.proofs.Facade.{IsFit, Cell, Slot, Rule, device_cells, find_device, Device, Set, Image, RulesHold, image_slots, is_one_of, WellFormed}
 use Rattle.vms_convert.proofs.Facade.{device_at, carried, no_image, Compatible, device_partners, AreOfKinds, pair, all_in, IsBack, IsPairAt, recast_each}
 use Rattle.vms_convert.proofs.Facade.{AnswerLaw, DifferAt, IsValidAt, KeepsAll, Loses, OfCell, OfDevice, OfMachine, first_cell, numbers_in}
-use Rattle.vms_convert.proofs.BackNormal.{gives_long}
 use Rattle.vms_convert.proofs.HasBack.{Made, made, extend, has_back}
 use Rattle.vms_convert.proofs.LostLaws.{older, older_pair, there_is, there_long, no_device}
-use Rattle.vms_convert.proofs.RecastLaws.{recast_long}
-use Rattle.vms_convert.proofs.Converts.{given_carried}
 
 -- ---- the first index at which something doesn't hold
 
@@ -47,7 +45,7 @@ first_differ xs ys long =
 either_valid : (slots : List Slot) → RulesHold slots ⊎ (RulesHold slots → ⊥)
 either_valid [] = inl tt
 either_valid (Rule false ∷ slots) = inr (λ h. (let e : false ≡ true = h.0 in cc))
-either_valid (Rule true ∷ slots) = elim (either_valid slots) [ inl h ↦ inl (refl, h) | inr n ↦ inr (λ h. n h.1) ]
+either_valid (Rule true ∷ slots) = grind (arith, either_valid slots)
 either_valid (_ ∷ slots) = either_valid slots
 
 module _ (to new : Set) (fit : IsFit to) (well : WellFormed new) (compatible : Compatible to new) where

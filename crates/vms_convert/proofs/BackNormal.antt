@@ -1,15 +1,14 @@
 -- The image of numbers has come as needed.
-use Rattle.vms_convert.proofs.Facade.{ne_eqb, cases_eq, ◌≡◌, ℕ, zero, suc, ◌+◌, ◌≤◌, Bool, true, List, [], ◌∷◌, Some, None, refl, ap, ◌∙◌, arith, inl, inr, ◌<◌}
-use Rattle.vms_convert.proofs.Facade.{length, get_or, map, Option, ℤ, pos, sym, false, if◌then◌else◌, length-set, ◌==◌, slice_get, leb-true, eq-eqb, or_parts}
-use Rattle.vms_convert.proofs.Facade.{get_or-map, get_or-set_other, get_or-set_same, length-map, false_from_ne_true, get_or_from_slice_get, Sub, Device, Set}
-use Rattle.vms_convert.proofs.Facade.{Image, FitsCell, has_cell, image_slots, own_slots, own_cells, came_slots, sub_slots, is_needed, needed_from, bare}
-use Rattle.vms_convert.proofs.Facade.{image_of, AreSubs, versions, needed, within_all, InRange, exceeds, Cell, no_cell, Slot, device_cells, WellFormed}
-use Rattle.vms_convert.proofs.Facade.{FitsHeads, IsGood, names_append, none_in_both, its_same, its_below, its_above, SameIn, sub_size, sub_place_up}
-use Rattle.vms_convert.proofs.Facade.{parts_together, part_apart, part_place, well_good, device_parts, sub_clean, IsCellOf, IsBack, taken, whole, ArePartners}
-use Rattle.vms_convert.proofs.Facade.{AreOfKinds, own_or_sub, Typed, WalkStep, changed, Changes, AreTargets, give_partner, give_step, device_partners}
-use Rattle.vms_convert.proofs.Facade.{IsCarried, steps_of, its_in, one_part, Number, at_map, MayBeWritten}
+use Rattle.vms_convert.proofs.{Facade.one_part, Facade.Number, Facade.at_map, Facade.MayBeWritten, Settling.comes_at, Settling.needed_same}
+use Rattle.vms_convert.proofs.Facade.{ne_eqb, ◌≡◌, ℕ, zero, suc, ◌+◌, ◌≤◌, Bool, true, List, [], ◌∷◌, Some, None, refl, ◌∙◌, arith, inl, inr, ◌<◌, length}
+use Rattle.vms_convert.proofs.Facade.{get_or, map, Option, ℤ, pos, false, if◌then◌else◌, length-set, ◌==◌, slice_get, leb-true, eq-eqb, or_parts, get_or-map}
+use Rattle.vms_convert.proofs.Facade.{get_or-set_other, get_or-set_same, length-map, false_from_ne_true, get_or_from_slice_get, Sub, Device, Set, Image}
+use Rattle.vms_convert.proofs.Facade.{FitsCell, has_cell, image_slots, own_slots, own_cells, came_slots, sub_slots, is_needed, needed_from, bare, image_of}
+use Rattle.vms_convert.proofs.Facade.{AreSubs, versions, needed, within_all, InRange, exceeds, Cell, no_cell, Slot, device_cells, WellFormed, FitsHeads, IsGood}
+use Rattle.vms_convert.proofs.Facade.{names_append, none_in_both, its_same, its_below, its_above, SameIn, sub_size, sub_place_up, parts_together, part_apart}
+use Rattle.vms_convert.proofs.Facade.{part_place, well_good, device_parts, sub_clean, IsCellOf, IsBack, taken, whole, ArePartners, AreOfKinds, own_or_sub}
+use Rattle.vms_convert.proofs.Facade.{Typed, WalkStep, changed, Changes, AreTargets, give_partner, give_step, device_partners, IsCarried, steps_of, its_in}
 use Rattle.vms_walk.specs.declared.step.WalkStep.TheVariants.{Number as Step}
-use Rattle.vms_convert.proofs.Settling.{comes_at, needed_same}
 
 pub all_subs : (subs : List Sub) → ((j : ℕ) (s : Sub) → slice_get subs j ≡ Some s → s.desc.minimum ≤ s.desc.version) → AreSubs subs
 all_subs [] h = tt
@@ -89,8 +88,7 @@ module _ (to : Set) (well : WellFormed to) (heads : FitsHeads to) (i : ℕ) (d :
 
     -- a cell that is in no part of the whole image was not taken
     left : (c : ℕ) → c < length cells → in_own now c ≡ false → in_subs now all_came c ≡ false → get_or now c (pos 0) ≡ default_at c
-    left c lt a b =
-        rw (back.are_taken.each c lt, names_append (own_slots to d d.desc.version now) (came_slots to d now (own_cells to d) d.subs all_came) c, a, b)
+    left c lt a b = grind (arith, names_append)
 
     none_else : (c : ℕ) (came : List (Option ℕ))
         → ((j : ℕ) (s : Sub) (v : ℕ) → slice_get d.subs j ≡ Some s → slice_get came j ≡ Some (Some v) → in_sub s v now j c ≡ false)
@@ -184,7 +182,7 @@ module _ (partners : List (Option ℕ)) (numbers : List ℤ) where
 
   partner_other : (z : ℤ) (o : Option ℕ) (now : List ℤ) (k : ℕ) → (o ≡ Some k → ⊥) → get_or (give_partner z o now) k (pos 0) ≡ get_or now k (pos 0)
   partner_other z None now k ne = refl
-  partner_other z (Some j) now k ne = get_or-set_other now j k z (pos 0) (λ same. ne (rw (sym same)))
+  partner_other z (Some j) now k ne = grind (arith, get_or-set_other)
 
   -- after one more number
   abbrev next : ℕ → List ℤ → List ℤ
@@ -195,8 +193,7 @@ module _ (partners : List (Option ℕ)) (numbers : List ℤ) where
       → get_or (gives slots now) k (pos 0) ≡ get_or now k (pos 0)
   given_none [] now k h = refl
   given_none (Number c kind caps ∷ slots) now k h =
-      given_none slots (next c now) k (λ b e. (or_parts (c == b) (has_cell slots b) (h b e)).1) ∙ partner_other (get_or numbers c (pos 0)) _ now k
-      (λ e. let bad : false ≡ true = sym (or_parts (c == c) (has_cell slots c) (h c e)).0 ∙ eq-eqb c c refl in cc)
+      grind (arith, or_parts, partner_other, eq-eqb, given_none slots (next c now) k (λ b e. (or_parts (c == b) (has_cell slots b) (h b e)).1))
   given_none (_ ∷ slots) now k h = given_none slots now k h
 
   module _ (once : (b c k : ℕ) → get_or partners b None ≡ Some k → get_or partners c None ≡ Some k → b ≡ c) where
@@ -205,13 +202,8 @@ module _ (partners : List (Option ℕ)) (numbers : List ℤ) where
         → get_or (gives slots now) k (pos 0) ≡ (if has_cell slots c then get_or numbers c (pos 0) else get_or now k (pos 0))
     given_at [] c k now lt e = refl
     given_at (Number b kind caps ∷ slots) c k now lt e =
-        let z = get_or numbers c (pos 0) in
-        given_at slots c k (next b now) (omega (arith, partner_long (get_or numbers b (pos 0)) (get_or partners b None) now)) e ∙ elim (cases_eq b c) [
-          | inl same ↦
-              let put : get_or (next b now) k (pos 0) ≡ z = rw (same, e) (get_or-set_same now k z (pos 0) lt) in
-              rw (eq-eqb b c same, put) (elim (has_cell slots c) as (λ h. (if h then z else z) ≡ z) [ true ↦ refl | false ↦ refl ])
-          | inr other ↦ rw (ne_eqb b c other, partner_other (get_or numbers b (pos 0)) _ now k (λ f. other (once b c k f e)))
-        ]
+        let more = given_at slots c k (next b now) (omega (arith, partner_long (get_or numbers b (pos 0)) (get_or partners b None) now)) e in
+        grind (arith, partner_long, get_or-set_same, eq-eqb, ne_eqb, partner_other, more)
     given_at (_ ∷ slots) c k now lt e = given_at slots c k now lt e
 
 -- from defaults on

@@ -1,11 +1,10 @@
 -- The parts of a device, as the code walks over them by number.
+use Rattle.vms_convert.proofs.{Facade.changed_append, Facade.step_of, TakeLaws.first_slots, TakeLaws.first_next, TakeLaws.one_slots}
 use Rattle.vms_convert.proofs.Facade.{add-one, ◌≡◌, ℕ, ◌+◌, ◌<◌, ◌≤◌, Bool, true, false, List, length, Option, Some, None, ℤ, refl, sym, ap, ◌∙◌, arith, get_or}
 use Rattle.vms_convert.proofs.Facade.{append-nil, slice_get-get_or, slice_get, take_all, map-append, Sub, Device, Set, device_cells, own_slots, Image}
 use Rattle.vms_convert.proofs.Facade.{image_slots, needed_at, device_at, is_well_formed, sub_at, few_cells, own_inside_device, sub_inside, Typed, HasSpot}
 use Rattle.vms_convert.proofs.Facade.{spot_slots, steps_of, SettlesBy, SettlesSub, part_of, own_part, part_slots, sub_slots_at, changed, part_place, give_step}
-use Rattle.vms_convert.proofs.Facade.{changed_append, step_of}
 use Rattle.vms_spec.specs.declared.Part.TheVariants as parts
-use Rattle.vms_convert.proofs.TakeLaws.{first_slots, first_next, one_slots}
 
 module _ (set : Set) (i : ℕ) (lt : i < length set.devices) where
   abbrev d : Device
@@ -67,4 +66,4 @@ module _ (set : Set) (i : ℕ) (lt : i < length set.devices) (image : Image) (lo
 
   pub gave_all : (before : List ℤ) (j : ℕ) → length dev.subs ≤ j → j ≤ length dev.subs
       → gives_to j before ≡ changed (give_step partners n) (steps_of (image_slots set dev image)) before
-  gave_all before j end within = rw (take_all j dev.subs (omega arith), take_all j image.came (omega arith), version)
+  gave_all before j end within = grind (arith, take_all)

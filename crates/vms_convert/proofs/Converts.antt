@@ -1,18 +1,13 @@
 -- What is converted loads as the newer set's, and again.
-use Rattle.vms_convert.proofs.Facade.{subst, ◌≡◌, ℕ, ◌≤◌, true, false, ◌&&◌, List, [], ◌∷◌, length, get_or, Option, Some, refl, sym, ap, ◌∙◌, arith, ℤ}
-use Rattle.vms_convert.proofs.Facade.{if◌then◌else◌, ◌<◌, map, slice_get_within, slice_get, get_or-map, length-map, Ok, Device, Set, Image, IsNormal}
-use Rattle.vms_convert.proofs.Facade.{image_slots, AreReady, longest_text, written, WellFormed, device_cells, Cell, no_cell, IsFit, same_lists, well_good}
-use Rattle.vms_convert.proofs.Facade.{Compatible, carried, carried_device, pair, back, all_in, upgrade_stands, recast_cells, recast_twice, AreBack, IsConverted}
-use Rattle.vms_convert.proofs.Facade.{IsPairAt, recast_each, OneBackLaw, BackLaw, AreRecastOf, numbers_in, device_partners, recast, is_port, wants_arrays}
-use Rattle.vms_convert.proofs.Facade.{device_paired, U8, ArePartners, AreOfKinds, carried_stands, device_at, kinds_at, Typed, default_at, state_of, steps_of}
-use Rattle.vms_convert.proofs.Facade.{IsBack, Changes, AreTargets, give_step, AreSources, IsWholeStream, Converts, at_option, IsStreamFor, PutsStream, Judges}
-use Rattle.vms_convert.proofs.Facade.{stream_of, ArePut}
+use Rattle.vms_convert.proofs.{HasBack.one_back, Settling.back_versions, Settling.some_at, BringLaws.there}
 use Rattle.vms_convert.proofs.BackNormal.{back_may, at_get, gives, given_all, steps_long}
-use Rattle.vms_convert.proofs.HasBack.{one_back}
-use Rattle.vms_convert.proofs.Settling.{back_versions, some_at}
-use Rattle.vms_convert.proofs.BringLaws.{there}
-use Rattle.vms_load.specs.declared.fault.LoadFault.TheVariants as loads
-use Rattle.vms_convert.specs.declared.fault.ConvertFault.TheVariants as faults
+use Rattle.vms_convert.proofs.Facade.{subst, ◌≡◌, ℕ, ◌≤◌, List, [], ◌∷◌, length, get_or, Option, Some, refl, sym, ap, ◌∙◌, arith, ℤ, ◌<◌, map, slice_get_within}
+use Rattle.vms_convert.proofs.Facade.{slice_get, get_or-map, length-map, Ok, Device, Set, Image, IsNormal, image_slots, AreReady, longest_text, written}
+use Rattle.vms_convert.proofs.Facade.{WellFormed, device_cells, Cell, no_cell, IsFit, same_lists, well_good, Compatible, carried, carried_device, pair, back}
+use Rattle.vms_convert.proofs.Facade.{all_in, upgrade_stands, recast_twice, AreBack, IsConverted, IsPairAt, recast_each, OneBackLaw, BackLaw, AreRecastOf}
+use Rattle.vms_convert.proofs.Facade.{numbers_in, device_partners, recast, device_paired, U8, ArePartners, AreOfKinds, carried_stands, device_at, kinds_at}
+use Rattle.vms_convert.proofs.Facade.{Typed, default_at, state_of, steps_of, IsBack, Changes, AreTargets, give_step, AreSources, IsWholeStream, Converts}
+use Rattle.vms_convert.proofs.Facade.{at_option, IsStreamFor, PutsStream, Judges, stream_of, ArePut}
 
 pub one_stands : OneBackLaw
 one_stands to fit i d there partners numbers x y p q =
@@ -26,9 +21,7 @@ back_stands to new fit well i d e there numbers kinds image back =
 
 -- recast twice
 twice : (to : Set) (e : Device) (numbers : List ℤ) → recast to e (recast to e numbers) ≡ recast to e numbers
-twice to e numbers = elim (is_port e && wants_arrays to) as
-    (λ b. (if b then recast_cells (if b then recast_cells numbers else numbers) else (if b then recast_cells numbers else numbers))
-    ≡ (if b then recast_cells numbers else numbers)) [ true ↦ recast_twice numbers | false ↦ refl ]
+twice to e numbers = grind (arith, recast_twice)
 
 each_twice : (to : Set) (devices : List Device) (lists : List (List ℤ)) → recast_each to devices (recast_each to devices lists) ≡ recast_each to devices lists
 each_twice to (e ∷ devices) (numbers ∷ lists) = rw (twice to e numbers, each_twice to devices lists)

@@ -140,7 +140,7 @@ at_more : {A : Type 0} (xs : List A) (x : A) (i : ℕ) (y : A) → slice_get (xs
 at_more [] x zero y e = inr (refl, cc)
 at_more [] x (suc i) y e = cc
 at_more (z ∷ xs) x zero y e = inl e
-at_more (z ∷ xs) x (suc i) y e = elim (at_more xs x i y e) [ inl h ↦ inl h | inr h ↦ inr (ap suc h.0, h.1) ]
+at_more (z ∷ xs) x (suc i) y e = grind (arith, at_more xs x i y e)
 
 -- what holds of all items holds with one more
 pub appended : {A : Type 0} (P : ℕ → A → Type 0) (xs : List A) (x : A) (n : ℕ) → length xs ≡ n → ((i : ℕ) (y : A) → slice_get xs i ≡ Some y → P i y) → P n x
@@ -175,7 +175,7 @@ module _ (to : Set) (structs : AreSound to.structs) (d : Device) (own : IsSound 
   takes now c = taken numbers (get_or (device_cells to d) c no_cell) (has_cell (image_slots to d (whole d now)) c) (get_or partners c None)
 
   takes_same : (c : ℕ) (n m : List ℤ) → SameBelow c n m → takes m c ≡ takes n c
-  takes_same c n m s = rw (image_known to structs d own subs d.desc.version (map (λ s. Some s.desc.version) d.subs) c n m s)
+  takes_same c n m s = grind (arith, image_known)
 
   -- one more number changes none before it
   same_front : (now : List ℤ) (z : ℤ) (c : ℕ) → c ≤ length now → SameBelow c now (now ++ z ∷ [])

@@ -1,13 +1,12 @@
 -- What was found of the devices, as the relations say it.
+use Rattle.vms_convert.proofs.{Converts.back_stands, RecastLaws.newest_kinds, RecastLaws.recast_long}
 use Rattle.vms_convert.proofs.Facade.{◌≡◌, ℕ, ◌<◌, List, [], ◌∷◌, length, get_or, map, Option, Some, None, Result, Ok, Err, ℤ, refl, sym, ◌∙◌, arith}
 use Rattle.vms_convert.proofs.Facade.{length-map, slice_get-get_or, slice_get_within, slice_get, IsFit, Device, Set, Image, Cell, device_cells, find_device}
-use Rattle.vms_convert.proofs.Facade.{newest_set, AreReady, IsReady, WellFormed, device_at, IsNameAt, device_is, Typed, state_of, shipped_holds, AreKept, name_of}
-use Rattle.vms_convert.proofs.Facade.{device_below, carried, Compatible, AreOfKinds, back, pair, all_in, AreBack, recast_each, AreWritable, FirstInvalid}
-use Rattle.vms_convert.proofs.Facade.{Judges, KeepsMachine, KeepsName, first_cell_at, first_of, IsValidAt, Loses, OfDevice, OfMachine, first_cell, numbers_in}
-use Rattle.vms_convert.proofs.Facade.{AreReturned, AreReturnedTo, IsFirstLost, Loss, LostCell}
-use Rattle.vms_convert.proofs.Converts.{back_stands}
+use Rattle.vms_convert.proofs.Facade.{newest_set, AreReady, IsReady, WellFormed, device_at, IsNameAt, device_is, Typed, state_of, shipped_holds, AreKept}
+use Rattle.vms_convert.proofs.Facade.{name_of, device_below, carried, Compatible, AreOfKinds, back, pair, all_in, AreBack, recast_each, AreWritable}
+use Rattle.vms_convert.proofs.Facade.{FirstInvalid, Judges, KeepsMachine, KeepsName, first_cell_at, first_of, IsValidAt, Loses, OfDevice, OfMachine, first_cell}
+use Rattle.vms_convert.proofs.Facade.{numbers_in, AreReturned, AreReturnedTo, IsFirstLost, Loss, LostCell}
 use Rattle.vms_convert.proofs.LostLaws.{all_carried, cell_lost, no_device}
-use Rattle.vms_convert.proofs.RecastLaws.{newest_kinds, recast_long}
 
 module _ (to new : Set) (wanted : List (List ℤ)) (images : List Typed) (lost : Option LostCell)
     (returned : AreReturnedTo to new wanted (length to.devices) images lost) where

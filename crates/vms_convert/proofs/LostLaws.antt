@@ -1,4 +1,5 @@
 -- What is lost first, from what is found of each of the older set's devices.
+use Rattle.vms_convert.proofs.{HasBack.extend, HasBack.appended, BringLaws.there}
 use Rattle.vms_convert.proofs.Facade.{◌≡◌, ℕ, ◌+◌, ◌<◌, Bool, true, false, nat_lt, List, [], ◌∷◌, ◌++◌, length, get_or, map, Option, Some, None, ℤ, refl, sym}
 use Rattle.vms_convert.proofs.Facade.{ap, ◌∙◌, arith, if◌then◌else◌, get_or-append_seam, ltb-true, ltb-false, get_or_append_left, get_or_default, length-map}
 use Rattle.vms_convert.proofs.Facade.{get_or_from_slice_get, slice_get-get_or, slice_get_within, slice_get, take_all, length-append, ◌≤◌, slice_set, take}
@@ -6,14 +7,12 @@ use Rattle.vms_convert.proofs.Facade.{map-append, take_more_set, back, Device, S
 use Rattle.vms_convert.proofs.Facade.{device_is, carried, carried_at, carried_device, no_image, Compatible, is_in, passes, found_device, found_some, pair}
 use Rattle.vms_convert.proofs.Facade.{all_in, answers_none, at_map, DifferAt, Loses, OfCell, numbers_in, FirstDifference, ArePaired, IsFirstLost, IsLostCell}
 use Rattle.vms_convert.proofs.Facade.{carried_of, LostCell, IsBack, device_partners, default_image, Typed, state_of, AreImagesOf, default_at, typed, IsReturned}
-use Rattle.vms_convert.proofs.Facade.{AreReturnedTo, AreReturned, IsRecastFor, kinds_at, recast, AreFresh, AreRoutes, IsRoute, Route, first, newest_set, AreKept}
-use Rattle.vms_convert.proofs.Facade.{kinds, recast_each, at_other, IsImageOf}
+use Rattle.vms_convert.proofs.Facade.{AreReturnedTo, AreReturned, IsRecastFor, kinds_at, recast, AreFresh, AreRoutes, IsRoute, Route, first, newest_set}
+use Rattle.vms_convert.proofs.Facade.{AreKept, kinds, recast_each, at_other, IsImageOf}
+use Rattle.vms_convert.proofs.RecastLaws.{newest_kinds, port_cells, port_is, recast_at}
+use Rattle.vms_convert.specs.{Returns.IsEarlier}
 use Rattle.std.proofs.lemmas.List.{same_lists, length-set}
 use Rattle.vms_check_laws.proofs.Streaming.{rules}
-use Rattle.vms_convert.specs.Returns.{IsEarlier}
-use Rattle.vms_convert.proofs.HasBack.{extend, appended}
-use Rattle.vms_convert.proofs.BringLaws.{there}
-use Rattle.vms_convert.proofs.RecastLaws.{newest_kinds, port_cells, port_is, recast_at}
 use Rattle.vms_spec.specs.declared.Part.TheVariants as parts
 
 abbrev pub no_device : Device
@@ -38,7 +37,7 @@ module _ (to new : Set) (wanted : List (List ℤ)) where
     at_front i l lt = rw (get_or_append_left backs (x ∷ []) (no_image to new) i (omega arith))
 
     at_end : (l : ℕ) → carried_of to new more n l ≡ (carried_device to new (device_at to n) (device_at new l) x).numbers
-    at_end l = rw (← long, get_or-append_seam backs x [] (no_image to new))
+    at_end l = grind (arith, get_or-append_seam)
 
     -- what the devices before give, and this one
     upto : (l : ℕ) → ((i : ℕ) → i < n → ArePaired to new i l → get_or wanted l [] ≡ carried_of to new backs i l) → (ArePaired to new n l → Gives n l)
@@ -283,7 +282,7 @@ module _ (to new : Set) (is : new ≡ newest_set) (images : List Image) (kept : 
   wanted = recast_each to new.devices (numbers_in images)
 
   pub wanted_is : get_or (recast_each to new.devices (numbers_in images)) k [] ≡ recast to (device_at new k) image.numbers
-  wanted_is = recast_at to _ _ k (device_at new k) image.numbers (there new k lt) (at_map (λ (x : Image). x.numbers) images k image at)
+  wanted_is = grind (arith, recast_at, at_map)
 
   pub recast_for : IsRecastFor to new k image.numbers
   recast_for = record {

@@ -1,6 +1,6 @@
 -- The partners of the rest of two descriptions, field by field.
 use Rattle.vms_convert.proofs.Facade.{add-one, ◌≡◌, ℕ, zero, suc, ◌+◌, ◌-◌, ◌*◌, ◌<◌, ◌≤◌, List, [], ◌∷◌, ◌++◌, length, length-append, get_or, drop, true}
-use Rattle.vms_convert.proofs.Facade.{false, Option, Some, None, refl, sym, ◌∙◌, arith, ltb-true, drop_more, Item, Struct, Cell, first, no_desc, no_field}
+use Rattle.vms_convert.proofs.Facade.{false, Option, Some, None, refl, arith, ltb-true, drop_more, Item, Struct, Cell, first, no_desc, no_field}
 use Rattle.vms_convert.proofs.Facade.{capacity_of, item_size, field_cells, cells_from, struct_cells, uses_below, Formula, Field, Desc, Set, ItemBelow}
 use Rattle.vms_convert.proofs.Facade.{FieldsBelow, all_below, first_at, is_well_formed, struct_clean, Entry, entry_of, is_absent, is_nothing, present}
 use Rattle.vms_convert.proofs.Facade.{present_from, presence, Pairer, no_pairer, pairer_of, unpaired, item_partners, array_partners, field_partners}
@@ -37,8 +37,7 @@ entries_shifted y all w i p at (g ∷ gs) =
 module _ (structs : List Pairer) (x y : List (List Cell)) where
   field_shifted : (f : Field) (o : Option (Option Formula)) (es : List Entry) (at : ℕ)
       → field_partners structs x y f o es at ≡ field_partners structs x y f o (shifted at es) 0
-  field_shifted f (Some rest) (e ∷ es) at =
-      let z : 0 + (at + e.place) ≡ at + e.place = omega arith in rw z
+  field_shifted f (Some rest) (e ∷ es) at = grind arith
   field_shifted f _ _ at = refl
 
   left_shifted : (o : Option (Option Formula)) (es : List Entry) (at : ℕ)
@@ -55,9 +54,7 @@ module _ (structs : List Pairer) (x y : List (List Cell)) where
   -- a whole description, from its first field on
   pub desc_left : (v w : ℕ) (a b : Desc) (at : ℕ)
       → partners_from structs x y v 0 a.fields (present_from y b.fields w 0 at b.fields) ≡ desc_partners structs x y v w a b at
-  desc_left v w a b at =
-      let z : at + 0 ≡ at = omega arith in
-      rw (fields_shifted v at a.fields (present y b w), entries_shifted y b.fields w 0 0 at b.fields, z)
+  desc_left v w a b at = grind (arith, fields_shifted, entries_shifted)
 
 -- ---- tables of structures
 
@@ -73,7 +70,7 @@ module _ (k : ℕ) (ts us : List Pairer) (same : (i : ℕ) → i < k → get_or 
 
   field_same : (f : Field) (o : Option (Option Formula)) (es : List Entry) (at : ℕ) → ItemBelow k f.item
       → field_partners ts x y f o es at ≡ field_partners us x y f o es at
-  field_same f (Some rest) (e ∷ es) at lt = array_same f.item e.field.item (capacity_of f.count) (capacity_of e.field.count) (at + e.place) lt
+  field_same f (Some rest) (e ∷ es) at lt = grind (arith, array_same)
   field_same f _ _ at lt = refl
 
   left_same : (o : Option (Option Formula)) (es : List Entry) → fields_left ts x y o es ≡ fields_left us x y o es
@@ -165,7 +162,7 @@ module _ (structs : List Pairer) (x y : List (List Cell)) (all : List Field) (v 
 
   pub left_paired : (f : Entry) (es : List Entry) → is_absent v here ≡ false
       → left k (f ∷ es) ≡ array_partners structs x y here.item f.field.item (capacity_of here.count) (capacity_of f.field.count) f.place ++ left (k + 1) es
-  left_paired f es e = let z : 0 + f.place ≡ f.place = omega arith in rw (left_here (f ∷ es), (something _ e).is, z)
+  left_paired f es e = grind (arith, left_here, something)
 
 -- ---- elements
 
@@ -176,15 +173,10 @@ module _ (structs : List Pairer) (x y : List (List Cell)) (a b : Item) where
   -- by the number of the element
   pub element_paired : (n m i at : ℕ) → i < n → i < m
       → arrays (n - i) (m - i) at ≡ item_partners structs x y a b at ++ arrays (n - (i + 1)) (m - (i + 1)) (at + item_size y b)
-  element_paired n m i at ln lm =
-      let s : n - i ≡ suc (n - (i + 1)) = omega arith in let t : m - i ≡ suc (m - (i + 1)) = omega arith in rw (s, t)
+  element_paired n m i at ln lm = grind arith
 
   pub element_alone : (n m i at : ℕ) → i < n → m ≤ i → arrays (n - i) (m - i) at ≡ unpaired (item_size x a) ++ arrays (n - (i + 1)) (m - (i + 1)) at
-  element_alone n m i at ln le =
-      let s : n - i ≡ suc (n - (i + 1)) = omega arith in
-      let t : m - i ≡ 0 = omega arith in
-      let u : m - (i + 1) ≡ 0 = omega arith in
-      rw (s, t, u)
+  element_alone n m i at ln le = grind arith
 
 -- a number of elements of a size, and those from the next one on
 pub all_but_one : (n i size : ℕ) → i < n → (n - i) * size ≡ size + (n - (i + 1)) * size

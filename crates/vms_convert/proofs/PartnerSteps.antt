@@ -1,16 +1,15 @@
 -- Pairing step by step, as the code has it.
-use Rattle.vms_convert.proofs.Facade.{append_assoc, ◌≡◌, ℕ, ◌+◌, ◌-◌, ◌*◌, ◌<◌, ◌≤◌, List, [], ◌∷◌, ◌++◌, length, get_or, replicate, true, false, Option}
-use Rattle.vms_convert.proofs.Facade.{slice_get, Some, None, ap, arith, append-nil, drop_all, Bor, flat_map, slice_get-get_or, Cell, no_desc, no_field}
-use Rattle.vms_convert.proofs.Facade.{capacity_of, item_size, desc_cells, field_cells, struct_cells, find_sub, Field, Sub, Set, DescSet, few_cells}
-use Rattle.vms_convert.proofs.Facade.{own_inside_device, sub_inside, struct_is, MOST_ITEMS, field_size, in_u32, Part, uses_below, described, device_at, well_of}
-use Rattle.vms_convert.proofs.Facade.{is_well_formed, HasPart, desc_at, sub_at, reach, field_clean, reach_whole, uses_more, Entry, is_absent, device_partners}
-use Rattle.vms_convert.proofs.Facade.{named_partners, array_on, item_on, AreArrays, HasRoom, PairsElement, arrays_on, elements_left, HasFew, IsStart}
-use Rattle.vms_convert.proofs.Facade.{IsNextStart, IsBehind, PairsField, entries_at, partners_left, partners_on, sub_on, IsSide, desc_on, own_side, Arrays}
-use Rattle.vms_convert.proofs.Facade.{Start, Side}
-use Rattle.vms_spec.specs.declared.Part.TheVariants as parts
+use Rattle.vms_convert.proofs.Facade.{append_assoc, ◌≡◌, ℕ, ◌+◌, ◌-◌, ◌*◌, ◌<◌, ◌≤◌, List, [], ◌∷◌, ◌++◌, length, get_or, replicate, true, false, Option, Some}
+use Rattle.vms_convert.proofs.Facade.{None, ap, arith, append-nil, drop_all, Bor, flat_map, slice_get-get_or, Cell, no_desc, no_field, capacity_of, item_size}
+use Rattle.vms_convert.proofs.Facade.{desc_cells, field_cells, struct_cells, find_sub, Field, Sub, Set, DescSet, few_cells, own_inside_device, sub_inside}
+use Rattle.vms_convert.proofs.Facade.{struct_is, MOST_ITEMS, field_size, in_u32, Part, uses_below, described, device_at, well_of, is_well_formed, HasPart}
+use Rattle.vms_convert.proofs.Facade.{desc_at, sub_at, reach, field_clean, reach_whole, uses_more, Entry, is_absent, device_partners, named_partners, array_on}
+use Rattle.vms_convert.proofs.Facade.{item_on, AreArrays, HasRoom, PairsElement, arrays_on, elements_left, HasFew, IsStart, IsNextStart, IsBehind, PairsField}
+use Rattle.vms_convert.proofs.Facade.{entries_at, partners_left, partners_on, sub_on, IsSide, desc_on, own_side, Arrays, Start, Side}
+use Rattle.vms_convert.proofs.PartnerLaws.{depth, depth_within, something, entries_found, cells_here, left_absent, left_alone, left_paired, desc_left}
+use Rattle.vms_convert.proofs.PartnerLaws.{element_paired, element_alone, all_but_one, one_of_all}
 use Rattle.vms_desc.specs.Asks.{first_cell}
-use Rattle.vms_convert.proofs.PartnerLaws.{depth, depth_within, something, entries_found, cells_here, left_absent, left_alone}
-use Rattle.vms_convert.proofs.PartnerLaws.{left_paired, desc_left, element_paired, element_alone, all_but_one, one_of_all}
+use Rattle.vms_spec.specs.declared.Part.TheVariants as parts
 
 pub few_are : (n : ℕ) → n ≤ MOST_ITEMS → in_u32 n ≡ n
 few_are n le = omega arith
@@ -59,11 +58,7 @@ module _ (s : Side) where
 
   -- the place after a field is small
   pub sum_small : (start : Start) → start.field < length all → IsStart s start → start.cell + in_u32 (size_at start.field) ≤ MOST_ITEMS
-  sum_small start lt h =
-      let k = start.field in
-      let size = field_size cs all k (field_at k) in
-      let here = cells_here cs all s.version k lt in
-      omega (arith, few_are (size_at k) (omega arith))
+  sum_small start lt h = grind (arith, field_size, cells_here, few_are)
 
 -- which structures a field uses
 pub uses_here : (set : Set) → is_well_formed set ≡ true → (part : Part) → HasPart set part → (k : ℕ) → k < length (desc_at set part).fields
@@ -184,10 +179,7 @@ room_struct set j at room = omega (arith, ap length (struct_is (described set.no
 pub sub_pairs : (s : Side) (new : Bor DescSet) (k found first : ℕ) → s.version ≡ (desc_on s).version → found < length (device_at (described new.now) k).subs
     → find_sub 0 (device_at (described new.now) k).subs (desc_on s).name ≡ Some found → first ≡ first_cell (described new.now) (parts.Sub k found)
     → partners_on s (record { set = new; part = parts.Sub k found; version = s.version }) first ≡ sub_on s (described new.now) (device_at (described new.now) k)
-sub_pairs s new k found first version lt is place =
-    let e = device_at (described new.now) k in
-    let at : slice_get e.subs found ≡ Some (sub_at e found) = slice_get-get_or e.subs found _ lt in
-    rw (place, version, is, at)
+sub_pairs s new k found first version lt is place = grind (arith, slice_get-get_or)
 
 -- the fields of a device, and the rest of its subsections
 pub device_pairs : (old new : Bor DescSet) (i k : ℕ) (s : Side) (now : List (Option ℕ)) → s ≡ own_side old (parts.Device i)
@@ -220,12 +212,9 @@ arrays_room s t k start lt h =
 pub elements_all : (s t : Side) (k l at : ℕ) → elements_left (arrays_on s k t l) 0 at
     ≡ array_on (described s.set.now) (described t.set.now) (get_or (desc_on s).fields k no_field).item (get_or (desc_on t).fields l no_field).item
     (capacity_of (get_or (desc_on s).fields k no_field).count) (capacity_of (get_or (desc_on t).fields l no_field).count) at
-elements_all s t k l at =
-    let p : capacity_of (get_or (desc_on s).fields k no_field).count - 0 ≡ capacity_of (get_or (desc_on s).fields k no_field).count = omega arith in
-    let q : capacity_of (get_or (desc_on t).fields l no_field).count - 0 ≡ capacity_of (get_or (desc_on t).fields l no_field).count = omega arith in
-    rw (p, q)
+elements_all s t k l at = grind arith
 
 -- how far down the structures of a field go
 pub field_depth : (s : Side) (k : ℕ) → IsSide s → k < length (desc_on s).fields
     → depth (get_or (desc_on s).fields k no_field).item ≤ reach (described s.set.now) s.part
-field_depth s k in_s lt = depth_within (reach (described s.set.now) s.part) _ (uses_here _ s.set.now.well_formed s.part in_s k lt).0
+field_depth s k in_s lt = grind (arith, depth_within, uses_here)

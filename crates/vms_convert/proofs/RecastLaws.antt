@@ -1,6 +1,6 @@
 -- Recast numbers of normal images of the newest set are of its devices' kinds.
 use Rattle.vms_convert.proofs.Facade.{◌≡◌, zero, suc, Bool, true, false, List, [], ◌∷◌, get_or, map, Some, ℤ, refl, sym, arith, if◌then◌else◌, ℕ, ◌<◌, length}
-use Rattle.vms_convert.proofs.Facade.{ap, ◌∙◌, Option, None, IfSome, slice_get, Device, Set, Cell, first, device_cells, Image, IsNormal, newest_set, timer}
+use Rattle.vms_convert.proofs.Facade.{ap, Option, None, IfSome, slice_get, Device, Set, Cell, first, device_cells, Image, IsNormal, newest_set, timer}
 use Rattle.vms_convert.proofs.Facade.{i8259_at_4, i8254_at_2, AreOf, kind-of, count-of, kinds, IsPortCells, recast_cells, recast_kinds, AreRecastOf}
 use Rattle.vms_convert.proofs.Facade.{RecastOfLaw, OneLostLaw, AreOfKinds, recast, wants_arrays, is_port, AreKept, serial_at_4, port-of, recast_each, is_one_of}
 use Rattle.vms_convert.proofs.Facade.{one_number, DifferAt, Loses, OfCell, OfDevice, OfMachine, KeepsAll}
@@ -35,7 +35,8 @@ port_of to numbers h = go (wants_arrays to) where
   go false = h
   go true = from_kinds _ _ (rw port_kinds (recast_kinds _ (rw port_kinds at (to_kinds _ _ h))))
 
-device_is : (d e : Device) (numbers : List ℤ) → Some d ≡ Some e → AreOfKinds (device_cells newest_set d) numbers → AreOfKinds (device_cells newest_set e) numbers
+device_is : (d e : Device) (numbers : List ℤ) → Some d ≡ Some e → AreOfKinds (device_cells newest_set d) numbers
+    → AreOfKinds (device_cells newest_set e) numbers
 device_is d e numbers h k = let same : e ≡ d = cc in rw same k
 
 pub recast_of : RecastOfLaw
@@ -53,10 +54,7 @@ recast_of to _ l h = absurd (omega arith)
 
 pub recast_at : (to : Set) (devices : List Device) (lists : List (List ℤ)) (k : ℕ) (e : Device) (numbers : List ℤ) → slice_get devices k ≡ Some e
     → slice_get lists k ≡ Some numbers → get_or (recast_each to devices lists) k [] ≡ recast to e numbers
-recast_at to (d ∷ devices) (n ∷ lists) zero e numbers p q =
-    let same : d ≡ e = cc in
-    let here : n ≡ numbers = cc in
-    rw (same, here)
+recast_at to (d ∷ devices) (n ∷ lists) zero e numbers p q = grind arith
 recast_at to (d ∷ devices) (n ∷ lists) (suc k) e numbers p q = recast_at to devices lists k e numbers p q
 recast_at to _ _ k e numbers p q = absurd (cc)
 
@@ -73,7 +71,8 @@ port_is (suc (suc (suc (suc zero)))) lt e = refl
 port_is (suc (suc (suc (suc (suc k))))) lt e = absurd (omega arith)
 port_is _ lt e = absurd (cc)
 
-pub port_cells : (images : List Image) → AreKept newest_set images → (k : ℕ) (image : Image) → k ≡ 4 → slice_get images k ≡ Some image → IsPortCells image.numbers
+pub port_cells : (images : List Image) → AreKept newest_set images → (k : ℕ) (image : Image) → k ≡ 4
+    → slice_get images k ≡ Some image → IsPortCells image.numbers
 port_cells images kept k image is at = port-of image (kept.each 4 serial_at_4 image refl (rw (sym is) (at))).normal
 
 -- of a set that is the newest
@@ -85,7 +84,7 @@ newest_kinds to new is images = rw is (λ kept. recast_of to images kept.one_eac
 accepted : (to : Set) (machine : Option (List ℕ)) (name : List ℕ) → IfSome machine (λ m. is_one_of to.machines m ≡ true) → machine ≡ Some name
     → is_one_of to.machines name ≡ true
 accepted to None name h e = absurd (cc)
-accepted to (Some m) name h e = let same : m ≡ name = cc in ap (is_one_of to.machines) (sym same) ∙ h
+accepted to (Some m) name h e = grind arith
 
 module _ (to new : Set) (machine : Option (List ℕ)) (wanted there : List (List ℤ)) (backs : List Image) where
   abbrev Lost : Option ℕ → Option ℕ → Type 0
@@ -107,19 +106,14 @@ module _ (to new : Set) (machine : Option (List ℕ)) (wanted there : List (List
 
   first_differ : (k c k' c' : ℕ) → ((i : ℕ) → i < k → get_or wanted i [] ≡ get_or there i []) → Differ k c
       → ((i : ℕ) → i < k' → get_or wanted i [] ≡ get_or there i []) → Differ k' c' → k ≡ k'
-  first_differ k c k' c' before d before' d' = one_number k k' (λ lt. not_same k c d (before' k lt)) (λ lt. not_same k' c' d' (before k' lt))
+  first_differ k c k' c' before d before' d' = grind (arith, one_number, not_same)
 
   one : (section cell section' cell' : Option ℕ) → Lost section cell → Lost section' cell' → (section ≡ section') × (cell ≡ cell')
-  one section cell section' cell' (OfCell k c before d) (OfCell k' c' before' d') =
-      let same : k ≡ k' = first_differ k c k' c' before d before' d' in
-      let here : Differ k c' = rw same d' in
-      (rw same, rw (one_number c c' (λ lt. d.other (here.before c lt)) (λ lt. here.other (d.before c' lt))))
+  one section cell section' cell' (OfCell k c before d) (OfCell k' c' before' d') = grind (arith, first_differ, one_number)
   one section cell section' cell' (OfCell k c before d) (OfDevice k' inside same before' bad) = absurd (not_all k c d same)
   one section cell section' cell' (OfCell k c before d) (OfMachine name same valid is not) = absurd (not_all k c d same)
   one section cell section' cell' (OfDevice k inside same before bad) (OfCell k' c' before' d') = absurd (not_all k' c' d' same)
-  one section cell section' cell' (OfDevice k inside same before bad) (OfDevice k' inside' same' before' bad') =
-      let e : k ≡ k' = one_number k k' (λ lt. bad (before' k lt)) (λ lt. bad' (before k' lt)) in
-      (rw e, rw e)
+  one section cell section' cell' (OfDevice k inside same before bad) (OfDevice k' inside' same' before' bad') = grind (arith, one_number)
   one section cell section' cell' (OfDevice k inside same before bad) (OfMachine name same' valid is not) = absurd (bad (valid k inside))
   one section cell section' cell' (OfMachine name same valid is not) (OfCell k' c' before' d') = absurd (not_all k' c' d' same)
   one section cell section' cell' (OfMachine name same valid is not) (OfDevice k' inside same' before' bad) = absurd (bad (valid k' inside))

@@ -6,8 +6,7 @@ use Rattle.vms_convert.proofs.Facade.{no_cell, device_cells, Image, own_cells, i
 use Rattle.vms_convert.proofs.Facade.{place_below, place_end, sub_size, sub_place_up, places_apart, part_place, SameIn, earlier, sub_clean, bare, needed_from}
 use Rattle.vms_convert.proofs.Facade.{IsCellOf, AreSettled, whole, IsBack, same_lists, IsAtVersions, device_at, needed_at, sub_at, ArePutAt, Typed, SettlesSub}
 use Rattle.vms_convert.proofs.Facade.{SettlesBy}
-use Rattle.vms_spec.specs.Sets.{Cell}
-use Rattle.vms_spec.specs.Layout.{Cell as OneCell}
+use Rattle.vms_spec.specs.{Sets.Cell, Layout.Cell as OneCell}
 
 -- a test that names only fields of these numbers
 module _ (ok okp : ℕ → Bool) (own own' parent parent' : ℕ → ℕ) (h : (i : ℕ) → ok i ≡ true → own' i ≡ own i)
@@ -141,9 +140,8 @@ module _ (set : Set) (d : Device) (image : Image) where
 
   pub comes_at : (subs : List Sub) (i j : ℕ) (s : Sub) → slice_get subs j ≡ Some s → slice_get (needed_from set d image i subs) j ≡ Some (comes (i + j) s)
   comes_at [] i j s e = absurd (cc)
-  comes_at (t ∷ subs) i zero s e =
-      let one : t ≡ s = cc in let z : i + 0 ≡ i = omega arith in rw (one, z)
-  comes_at (t ∷ subs) i (suc j) s e = let z : i + suc j ≡ suc i + j = omega arith in rw z (comes_at subs (suc i) j s e)
+  comes_at (t ∷ subs) i zero s e = grind arith
+  comes_at (t ∷ subs) i (suc j) s e = grind (arith, comes_at subs (suc i) j s e)
 
   pub needed_long : (subs : List Sub) (i : ℕ) → length (needed_from set d image i subs) ≡ length subs
   needed_long [] i = refl

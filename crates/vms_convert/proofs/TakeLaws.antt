@@ -1,16 +1,15 @@
 -- What is taken of the older cells, and the defaults of the others.
-use Rattle.vms_convert.proofs.Facade.{subst, cases_eq, ne_eqb, inl, inr, cases_lt, ◌≡◌, ℕ, zero, suc, ◌<◌, List, [], ◌∷◌, ◌++◌, length, get_or, take, drop}
-use Rattle.vms_convert.proofs.Facade.{slice_set, ℤ, pos, refl, ap, arith, ◌+◌, map, Option, Some, None, sym, ◌∙◌, append_assoc, Bool, true, false, length-set}
-use Rattle.vms_convert.proofs.Facade.{if◌then◌else◌, ◌≤◌, slice_get, get_or-set_other, get_or-set_same, map-append, length-map, eq-eqb, get_or-map}
-use Rattle.vms_convert.proofs.Facade.{slice_get-get_or, append-nil, take_all, add-one, IsSound, AreSound, Sub, Device, Set, Slot, desc_cells, struct_cells}
-use Rattle.vms_convert.proofs.Facade.{Cell, no_cell, Number, device_cells, own_cells, own_slots, sub_slots, sub_place, came_slots, has_cell, image_slots}
-use Rattle.vms_convert.proofs.Facade.{its_same, its_below, part_place, image_are, sub_size, sub_place_up, SameBelow, SameIn, exceeds, AreCells, least_of}
-use Rattle.vms_convert.proofs.Facade.{steps_of, capacities_of, step_of, exceeds_least, taken, AreTaken, whole, changed, changed_append, Changes, put_partner}
-use Rattle.vms_convert.proofs.Facade.{put_step, AreSources, Keeps, WalkStep, has_step_of, put_keeps, takes_keeps, Kind, Typed, InRange, U8, FitsHeads}
-use Rattle.vms_convert.proofs.Facade.{own_cell_count, device_at, is_well_formed, desc_at, kinds_at, good_of, ArePut, ArePutAt, at_map, IsGood, spot_slots}
-use Rattle.vms_convert.proofs.Facade.{part_of, sub_at}
-use Rattle.vms_spec.specs.declared.Part.TheVariants as parts
+use Rattle.vms_convert.proofs.Facade.{subst, ne_eqb, inl, inr, cases_lt, ◌≡◌, ℕ, zero, suc, ◌<◌, List, [], ◌∷◌, ◌++◌, length, get_or, take, drop, slice_set, ℤ}
+use Rattle.vms_convert.proofs.Facade.{pos, refl, ap, arith, ◌+◌, map, Option, Some, None, sym, ◌∙◌, append_assoc, Bool, true, false, length-set, if◌then◌else◌}
+use Rattle.vms_convert.proofs.Facade.{◌≤◌, slice_get, get_or-set_other, get_or-set_same, map-append, length-map, eq-eqb, get_or-map, slice_get-get_or}
+use Rattle.vms_convert.proofs.Facade.{append-nil, take_all, add-one, IsSound, AreSound, Sub, Device, Set, Slot, desc_cells, struct_cells, Cell, no_cell, Number}
+use Rattle.vms_convert.proofs.Facade.{device_cells, own_cells, own_slots, sub_slots, sub_place, came_slots, has_cell, image_slots, its_same, its_below}
+use Rattle.vms_convert.proofs.Facade.{part_place, image_are, sub_size, sub_place_up, SameBelow, SameIn, exceeds, AreCells, least_of, steps_of, step_of}
+use Rattle.vms_convert.proofs.Facade.{exceeds_least, taken, AreTaken, whole, changed, changed_append, Changes, put_partner, put_step, AreSources, Keeps}
+use Rattle.vms_convert.proofs.Facade.{WalkStep, has_step_of, put_keeps, takes_keeps, Kind, Typed, InRange, U8, FitsHeads, own_cell_count, device_at}
+use Rattle.vms_convert.proofs.Facade.{is_well_formed, desc_at, kinds_at, good_of, ArePut, ArePutAt, at_map, IsGood, spot_slots, part_of, sub_at}
 use Rattle.vms_desc.specs.Asks.{first_cell}
+use Rattle.vms_spec.specs.declared.Part.TheVariants as parts
 
 -- ---- The first numbers of one list, before the rest of another.
 
@@ -98,29 +97,21 @@ put_value source caps None old = old
 
 value_twice : (source : List ℤ) (caps : List ℕ) (o : Option ℕ) (old : ℤ) → put_value source caps o (put_value source caps o old) ≡ put_value source caps o old
 value_twice source caps None old = refl
-value_twice source caps (Some k) old = elim (exceeds caps (get_or source k (pos 0))) as
-    (λ b. (if b then (if b then old else get_or source k (pos 0)) else get_or source k (pos 0)) ≡ (if b then old else get_or source k (pos 0)))
-    [ true ↦ refl | false ↦ refl ]
+value_twice source caps (Some k) old = grind arith
 
 put_long : (source : List ℤ) (cell : ℕ) (most o : Option ℕ) (now : List ℤ) → length (put_partner source cell most o now) ≡ length now
 put_long source cell most None now = refl
-put_long source cell most (Some k) now = elim (exceeds (capacities_of most) (get_or source k (pos 0))) as
-    (λ b. length (if b then now else slice_set now cell (get_or source k (pos 0))) ≡ length now) [ true ↦ refl | false ↦ length-set now cell _ ]
+put_long source cell most (Some k) now = grind (arith, length-set)
 
 put_here : (source : List ℤ) (c : ℕ) (caps : List ℕ) (o : Option ℕ) (now : List ℤ) → c < length now
     → get_or (put_partner source c (least_of caps) o now) c (pos 0) ≡ put_value source caps o (get_or now c (pos 0))
 put_here source c caps None now lt = refl
-put_here source c caps (Some k) now lt =
-    rw (exceeds_least caps (get_or source k (pos 0))) (elim (exceeds caps (get_or source k (pos 0))) as
-    (λ b. get_or (if b then now else slice_set now c (get_or source k (pos 0))) c (pos 0) ≡ (if b then get_or now c (pos 0) else get_or source k (pos 0)))
-    [ true ↦ refl | false ↦ get_or-set_same now c (get_or source k (pos 0)) (pos 0) lt ])
+put_here source c caps (Some k) now lt = grind (arith, exceeds_least, get_or-set_same)
 
 put_other : (source : List ℤ) (cell c : ℕ) (most o : Option ℕ) (now : List ℤ) → (c ≡ cell → ⊥)
     → get_or (put_partner source cell most o now) c (pos 0) ≡ get_or now c (pos 0)
 put_other source cell c most None now ne = refl
-put_other source cell c most (Some k) now ne = elim (exceeds (capacities_of most) (get_or source k (pos 0))) as
-    (λ b. get_or (if b then now else slice_set now cell (get_or source k (pos 0))) c (pos 0) ≡ get_or now c (pos 0))
-    [ true ↦ refl | false ↦ get_or-set_other now cell c _ (pos 0) ne ]
+put_other source cell c most (Some k) now ne = grind (arith, get_or-set_other)
 
 module _ (all : List Cell) (partners : List (Option ℕ)) (source : List ℤ) where
   abbrev after : List Slot → List ℤ → List ℤ
@@ -136,26 +127,20 @@ module _ (all : List Cell) (partners : List (Option ℕ)) (source : List ℤ) wh
   put d caps now = put_partner source d (least_of caps) (get_or partners d None) now
 
   again : (c : ℕ) (b : Bool) (old : ℤ) → taken_if c b (value c old) ≡ value c old
-  again c true old = value_twice source (get_or all c no_cell).capacities (get_or partners c None) old
+  again c true old = grind (arith, value_twice)
   again c false old = refl
 
   pub put_at : (slots : List Slot) (now : List ℤ) (c : ℕ) → AreCells all slots → length now ≡ length all → c < length all
       → get_or (after slots now) c (pos 0) ≡ taken_if c (has_cell slots c) (get_or now c (pos 0))
   put_at [] now c are long lt = refl
   put_at (Number d kind caps ∷ slots) now c are long lt =
-      put_at slots (put d caps now) c are.1 (put_long source d (least_of caps) (get_or partners d None) now ∙ long) lt ∙ elim (cases_eq d c) [
-        | inl same ↦
-            let here : get_or (put c caps now) c (pos 0) ≡ value c (get_or now c (pos 0)) =
-            rw (← same, are.0.capacities) (put_here source d caps (get_or partners d None) now (omega arith)) in
-            rw (eq-eqb d c same, same, here) (again c (has_cell slots c) (get_or now c (pos 0)))
-        | inr other ↦ rw (ne_eqb d c other, put_other source d c (least_of caps) (get_or partners d None) now (λ f. other (sym f)))
-      ]
+      let more = put_at slots (put d caps now) c are.1 (put_long source d (least_of caps) (get_or partners d None) now ∙ long) lt in
+      grind (arith, put_long, put_here, eq-eqb, ne_eqb, put_other, more)
   put_at (_ ∷ slots) now c are long lt = put_at slots now c are long lt
 
   -- from defaults on, the cells of the slots have taken theirs
   pub taken_at : (c : ℕ) (has : Bool) → taken_if c has (get_or all c no_cell).default ≡ taken source (get_or all c no_cell) has (get_or partners c None)
-  taken_at c true = elim (get_or partners c None) as (λ o. put_value source (get_or all c no_cell).capacities o (get_or all c no_cell).default
-      ≡ taken source (get_or all c no_cell) true o) [ Some k ↦ refl | None ↦ refl ]
+  taken_at c true = grind arith
   taken_at c false = refl
 
 -- ---- What the cells of a device have taken, part by part.

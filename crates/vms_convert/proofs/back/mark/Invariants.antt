@@ -1,5 +1,4 @@
-use Rattle.vms_convert.proofs.Facade.{◌≡◌, described, device_at, bare}
-use Rattle.vms_convert.proofs.Settling.{MarkedTo}
+use Rattle.vms_convert.proofs.{Facade.◌≡◌, Facade.described, Facade.device_at, Facade.bare, Settling.MarkedTo}
 use Rattle.vms_convert.proofs.back.mark.Given as goal
 
 abbrev pub invariant-loop-sub : goal.invariant-loop-sub

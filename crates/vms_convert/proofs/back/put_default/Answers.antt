@@ -1,5 +1,4 @@
-use Rattle.vms_convert.proofs.Facade.{rules, to_z-of_z, w128, described}
-use Rattle.vms_convert.proofs.TakeLaws.{default_fits}
+use Rattle.vms_convert.proofs.{Facade.rules, Facade.to_z-of_z, Facade.w128, Facade.described, TakeLaws.default_fits}
 use Rattle.vms_convert.proofs.back.put_default.Goals as goal
 
 pub set-requires-clause-range : goal.set-requires-clause-range

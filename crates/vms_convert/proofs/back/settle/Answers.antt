@@ -1,6 +1,5 @@
+use Rattle.vms_convert.proofs.{BringLaws.settle_rest, Settling.settled_next, Settling.all_settled}
 use Rattle.vms_convert.proofs.Facade.{◌<◌, length, arith, WellFormed, first_fault, described, device_at, none_is}
-use Rattle.vms_convert.proofs.BringLaws.{settle_rest}
-use Rattle.vms_convert.proofs.Settling.{settled_next, all_settled}
 use Rattle.vms_convert.proofs.back.settle.Goals as goal
 
 pub loop-sub-preserved : goal.loop-sub-preserved

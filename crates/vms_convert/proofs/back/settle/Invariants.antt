@@ -1,5 +1,4 @@
-use Rattle.vms_convert.proofs.Facade.{◌≡◌, described, device_at}
-use Rattle.vms_convert.proofs.Settling.{SettledTo}
+use Rattle.vms_convert.proofs.{Facade.◌≡◌, Facade.described, Facade.device_at, Settling.SettledTo}
 use Rattle.vms_convert.proofs.back.settle.Given as goal
 
 abbrev pub invariant-loop-sub : goal.invariant-loop-sub

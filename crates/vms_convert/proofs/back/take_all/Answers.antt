@@ -1,7 +1,5 @@
+use Rattle.vms_convert.proofs.{Facade.spot_slots, Facade.steps_of, Facade.takes_keeps, BringLaws.own_spot, BringLaws.sub_spot}
 use Rattle.vms_convert.proofs.Facade.{◌≡◌, ◌<◌, length, refl, ap, ◌∙◌, arith, length-map, IsGood, Cell, device_cells, described, device_at, good_of, Typed}
-use Rattle.vms_convert.proofs.Facade.{spot_slots, steps_of, takes_keeps}
-use Rattle.vms_spec.specs.declared.Part.TheVariants as parts
-use Rattle.vms_convert.proofs.BringLaws.{own_spot, sub_spot}
 use Rattle.vms_convert.proofs.TakeLaws.{put_rest, took_all, took_own, took_sub}
 use Rattle.vms_convert.proofs.back.take_all.Goals as goal
 

@@ -1,5 +1,4 @@
-use Rattle.vms_convert.proofs.Facade.{described, device_at, steps_of, Changes, give_step}
-use Rattle.vms_convert.proofs.TakeLaws.{first_slots}
+use Rattle.vms_convert.proofs.{Facade.described, Facade.device_at, Facade.steps_of, Facade.Changes, Facade.give_step, TakeLaws.first_slots}
 use Rattle.vms_convert.proofs.carrying.give_all.Given as goal
 
 abbrev pub invariant-loop-sub : goal.invariant-loop-sub

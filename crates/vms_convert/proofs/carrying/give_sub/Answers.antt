@@ -1,5 +1,4 @@
-use Rattle.vms_convert.proofs.Facade.{described, sub_part}
-use Rattle.vms_convert.proofs.BringLaws.{sub_spot}
+use Rattle.vms_convert.proofs.{Facade.described, Facade.sub_part, BringLaws.sub_spot}
 use Rattle.vms_convert.proofs.carrying.give_sub.Goals as goal
 
 pub give_part-requires-clause-part : goal.give_part-requires-clause-part

@@ -1,5 +1,4 @@
 use Rattle.vms_convert.proofs.Facade.{◌<◌, length, refl, arith, subst, sym, described, device_at, HasFew}
-use Rattle.vms_spec.specs.declared.Part.TheVariants as parts
 use Rattle.vms_convert.proofs.PartnerSteps.{device_pairs, few_own, few_sub}
 use Rattle.vms_convert.proofs.pairing.partners.Goals as goal
 

@@ -1,6 +1,5 @@
+use Rattle.vms_convert.proofs.{LostLaws.midway_first, LostLaws.midway_last, LostLaws.midway_next, returns.return_all.Goals.After-index-images-device}
 use Rattle.vms_convert.proofs.Facade.{◌<◌, length, arith, slice_get-get_or, described, loads}
-use Rattle.vms_convert.proofs.LostLaws.{midway_first, midway_last, midway_next}
-use Rattle.vms_convert.proofs.returns.return_all.Goals.{After-index-images-device}
 use Rattle.vms_convert.proofs.returns.return_all.Goals as goal
 
 pub loop-device-init : goal.loop-device-init

@@ -1,5 +1,4 @@
-use Rattle.vms_convert.proofs.Facade.{described, has, loads, recast_each, numbers_in}
-use Rattle.vms_convert.proofs.LostLaws.{Midway}
+use Rattle.vms_convert.proofs.{Facade.described, Facade.has, Facade.loads, Facade.recast_each, Facade.numbers_in, LostLaws.Midway}
 use Rattle.vms_convert.proofs.returns.return_all.Given as goal
 
 abbrev pub invariant-loop-device : goal.invariant-loop-device

@@ -1,6 +1,5 @@
+use Rattle.vms_convert.proofs.{LostLaws.always_found, LostLaws.pair_found, room.counterpart.Goals.After-find}
 use Rattle.vms_convert.proofs.Facade.{◌≡◌, sym, ap, ◌∙◌, find_device, Device, first_fault, described, device_at, none_is}
-use Rattle.vms_convert.proofs.LostLaws.{always_found, pair_found}
-use Rattle.vms_convert.proofs.room.counterpart.Goals.{After-find}
 use Rattle.vms_convert.proofs.room.counterpart.Goals as goal
 
 found : (c : After-find)

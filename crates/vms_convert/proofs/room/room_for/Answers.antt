@@ -1,5 +1,4 @@
-use Rattle.vms_convert.proofs.Facade.{described}
-use Rattle.vms_convert.proofs.LostLaws.{fresh_of}
+use Rattle.vms_convert.proofs.{Facade.described, LostLaws.fresh_of}
 use Rattle.vms_convert.proofs.room.room_for.Goals as goal
 
 pub returns : goal.returns
