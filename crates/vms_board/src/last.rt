@@ -26,6 +26,8 @@ pub(crate) struct Kept {
 
 /// The description of the last save of a family's board, so that the next save doesn't make it again
 /// if it is the same.
+///
+/// It also keeps the images of the last two saves, which a later save under the same set fills again.
 #[derive(Drop)]
 pub struct LastDescription {
     pub(crate) alloc: Global,
@@ -46,7 +48,8 @@ impl LastDescription {
     }
 }
 
-/// Takes the spare images out of `last`, if they are of the set with the number `number`.
+/// Takes the spare images out of `last`, if they are of the set with the number `number`. Otherwise it
+/// returns `None`, and `last` stays.
 pub(crate) fn take_spare<M: Machine>(last: &mut LastDescription, number: u8) -> Option<Vec<Image>>
     requires { IsLast M.family last.old }
     ensures of { IfSome result (λ images. AreImagesOf (M.family.set number) images.items) }

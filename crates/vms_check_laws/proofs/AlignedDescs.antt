@@ -106,17 +106,12 @@ module _ (sides : Sides) where
       → (body r r' : List ℕ) → Spells numbers' (if t' then times (elements_of d own') (item_slots ns j caps' numbers') y step' else []) body
       → body ++ r' ≡ zeroed numbers (if t then times (elements_of c own) (item_slots ms i caps numbers) x step else []) ++ r
       → residue (width (kind_of i)) (get_or numbers x (pos 0)) ≡ residue (width (kind_of j)) (get_or numbers' y (pos 0))
-  number_same (Num l) (Num k) One One true true caps caps' x y step step' num one same counts is is' body r r' s h =
-      one_same k l caps caps' x y (kinds_same k l same) body r r' s h
+  number_same (Num l) (Num k) One One true true caps caps' x y step step' num one same counts is is' body r r' s h = grind (arith, one_same, kinds_same)
   number_same _ _ _ _ _ _ caps caps' x y step step' num one same counts is is' body r r' s h = absurd (cc)
 
   pair_same : (e f : Entry) → Met sides e f → is_steady_in b f.index ≡ true
       → (body r r' : List ℕ) → Spells numbers' (NewSlots f) body → body ++ r' ≡ zeroed numbers (OldSlots e) ++ r → own e.index ≡ own' f.index
-  pair_same e f met is body r r' spells h =
-      let q = named_pair sides e f met is in
-      met.known.number ∙ number_same _ _ _ _ _ _ _ _ _ _ _ _
-      q.plain.item q.plain.count q.matched.item q.matched.count q.there_is
-      (known_there ns b.fields w numbers' at' f met.known' q.rest own' _) body r r' spells h ∙ sym met.known'.number
+  pair_same e f met is body r r' spells h = grind (arith, named_pair, number_same, known_there)
 
   -- ---- position by position
 
@@ -143,7 +138,7 @@ module _ (sides : Sides) where
   earlier_same p i e f es fs st k j lt named place = elim (cases_lt j i) [
     | inl less ↦ st.same k j less named place
     | inr le ↦ elim (at_or_later k j p e f es fs (st.later k j le place)) [
-      | inl here ↦ absurd (omega (arith, here.1))
+      | inl here ↦ absurd (omega arith)
       | inr more ↦ let s = same_some _ _ more.1 in absurd (none_before (suc p) j s.0 (suc f.index) fs st.above.1 (omega arith) s.2)
     ]
   ]
@@ -151,7 +146,7 @@ module _ (sides : Sides) where
   same_next : (p i : ℕ) (e f : Entry) (es fs : List Entry) → State p i (e ∷ es) (f ∷ fs) → (is_steady_in b f.index ≡ true → own e.index ≡ own' f.index)
       → Same (suc f.index)
   same_next p i e f es fs st here k j lt named place = let le : j ≤ f.index = omega arith in elim (eq-or-lt_of_le le) [
-    | inl is ↦ elim (at_or_later k j p e f es fs (st.later k j (omega (arith, st.above.0)) place)) [
+    | inl is ↦ elim (at_or_later k j p e f es fs (st.later k j (omega arith) place)) [
       | inl this ↦ rw (← this.0, ← this.1) (here (rw this.1 named))
       | inr more ↦ absurd (cc (eq-eqb f.index j (sym is)))
     ]
@@ -163,12 +158,11 @@ module _ (sides : Sides) where
     here_aligns p i e f es fs st good =
         let k = st.known.0 in
         let met : Met sides e f = record { good = good; known = k; known' = st.known'.0 } in
-        let new_f = named f.index f.field st.known'.0.field in
         pair_aligns (λ j. is_earlier_in b f.index j) e f
         (record {
           met = met;
           old = old e.index e.field k.field;
-          new = new_f;
+          new = named f.index f.field st.known'.0.field;
           fits = k.fits fits;
           agree = λ k j named place.
               let r = and_parts (nat_lt j f.index) (is_steady_in b j) named in earlier_same p i e f es fs st k j (ltb-true j f.index r.0) r.1 place;
@@ -200,8 +194,8 @@ module _ (sides : Sides) where
             known = st.known.1;
             known' = st.known'.1;
             above = st.above.1;
-            later = λ k j le place. elim (at_or_later k j p e f es fs (st.later k j (omega (arith, st.above.0)) place)) [
-              | inl this ↦ absurd (omega (arith, this.1))
+            later = λ k j le place. elim (at_or_later k j p e f es fs (st.later k j (omega arith) place)) [
+              | inl this ↦ absurd (omega arith)
               | inr more ↦ more.1
             ];
             same = same_next p i e f es fs st (λ is. pair_same e f (record { good = good; known = st.known.0; known' = st.known'.0 }) is t.0 _ _ t.3 split);
@@ -251,7 +245,7 @@ module _ (sides : Sides) where
         let there_is' = known_there ns b.fields w numbers' at' f known' clash.rest' own' _ in
         let one : IsSingle (Equal d.kind d.value) e.field.count = rw d.item at (old e.index e.field known.field).single in
         let one' : IsSingle (Equal d.kind d.other) f.field.count = rw d.item' at (named f.index f.field known'.field).single in
-        d.differ (constants_same d.kind d.value d.other _ _ e.field.count f.field.count (counted e.index a.fields) (counted f.index b.fields) _ _ _ _ one one'
+        d.differ (constants_same d.kind d.value d.other _ _ _ _ (counted e.index a.fields) (counted f.index b.fields) _ _ _ _ one one'
         (known_there ms a.fields v numbers at e known clash.rest own _) there_is' body r r' (rw d.item' at spells) (rw d.item at h))
 
     pub entries_clash : (es fs : List Entry) (p i : ℕ) → Clashes two es fs → State p i es fs → (body r r' : List ℕ) → Spells numbers' (all_new fs) body

@@ -1,12 +1,11 @@
 -- A number that fits its cell is at most every capacity that it counts, and one that fits the older capacities fits the newer.
-use Rattle.vms_check_laws.proofs.{Facade.cells_in, Facade.AllZip, Segments.fits_right, Presence.Steady, Presence.covers_unused}
-use Rattle.vms_check_laws.proofs.Facade.{◌≤ℤ◌, ◌≡◌, inl, inr, ℕ, zero, suc, ◌+◌, ◌*◌, ◌^◌, ◌≤◌, true, List, ◌∷◌, ◌++◌, length, get_or, Some, refl, arith, ℤ}
-use Rattle.vms_check_laws.proofs.Facade.{pos, negsuc, if◌then◌else◌, AllByRecursion, slice_get, mod-le, eq-eqb, ints, ◌<◌, [], min, Bool, false, Option, None}
+use Rattle.vms_check_laws.proofs.{Segments.fits_right, Presence.Steady, Presence.covers_unused, Positioned.at_or_later, Positioned.Above}
+use Rattle.vms_check_laws.proofs.Facade.{cells_in, AllZip, ◌≤ℤ◌, ◌≡◌, inl, inr, ℕ, zero, suc, ◌+◌, ◌≤◌, true, List, ◌∷◌, ◌++◌, length, get_or, Some, refl}
+use Rattle.vms_check_laws.proofs.Facade.{arith, ℤ, pos, negsuc, if◌then◌else◌, AllByRecursion, slice_get, eq-eqb, ints, ◌<◌, [], min, Bool, false, Option, None}
 use Rattle.vms_check_laws.proofs.Facade.{sym, nat_le, and_parts, eqb-true, leb-true, Kind, U8, U16, U32, Item, Num, width, residue, Count, One, Counted, Field}
 use Rattle.vms_check_laws.proofs.Facade.{Cell, times, counted, capacity_of, item_cells, field_cells, cells_from, place_of, no_field, kind_of, FitsCell, is_num}
 use Rattle.vms_check_laws.proofs.Facade.{is_one, ItemBelow, FitsAt, all_right, Desc, is_steady_in, no_desc, Struct, highest, Formula, presence, Entry, entry_of}
 use Rattle.vms_check_laws.proofs.Facade.{present_from, position_from, same_place, same_count, holds_as_much, absent_hold, bound, least_of, greatest, has_room}
-use Rattle.vms_check_laws.proofs.Positioned.{at_or_later, Above}
 use Rattle.vms_check_laws.proofs.Premises.{IsSingle, CountFits, OldFields, DefaultsGood, NamesEarlier, NewFields, RulesNamed, Sides, Matched, decoded, Met}
 
 -- the number of field k of these, the first of which has the number i and begins at a place
@@ -53,7 +52,7 @@ IsCounting (Num U32) = Unit {0}
 IsCounting _ = ⊥
 
 below_cap : (w : ℕ) (z : ℤ) (most : ℕ) → pos 0 ≤ℤ z → z ≤ℤ pos most → residue w z ≤ most
-below_cap w (pos m) most low high = let h : m ≤ most = omega (arith, ints) in omega (arith, mod-le m (2 ^ (8 * w)))
+below_cap w (pos m) most low high = grind arith
 below_cap w (negsuc m) most low high = absurd (omega arith)
 
 counting_below : (item : Item) (caps : List ℕ) (d z : ℤ) (most : ℕ) → IsCounting item
@@ -89,8 +88,7 @@ fits_count : (cs : List (List Cell)) (all : List Field) (numbers : List ℤ) (at
 fits_count cs all numbers at i f (Counted by most) is e fits c =
     let s = single_at cs all all 0 by numbers at c.field c.stands c.steady fits in
     let z : 0 + by ≡ by = omega arith in
-    let high = counted_at (λ m. s.number ≤ℤ pos m) by most i all f is e (rw z at s.fits.1) in
-    rw s.is (counting_below c.field.item _ c.field.default s.number most c.kind s.fits high)
+    rw s.is (counting_below _ _ c.field.default s.number most c.kind s.fits (counted_at (λ m. s.number ≤ℤ pos m) by most i all f is e (rw z at s.fits.1)))
 fits_count cs all numbers at i f _ is e fits known = tt
 
 pub old_fields : (cs : List (List Cell)) (below : ℕ) (all : List Field) (numbers : List ℤ) (at : ℕ) → FitsAt (cells_from cs all 0 all) numbers at
@@ -192,8 +190,7 @@ module _ (sides : Sides) where
         | inl c ↦ let one = rw (covers_unused e.field.item e.field.count f.field.item c.covers).1 at single in let bad = rw is at one in absurd (cc)
         | inr m ↦
             let p = paired o n _ _ j most is m.count m.room in
-            let counts : e.field.count ≡ Counted i p.1 = rw (at_i p.0 p.3) at p.2 in
-            at_most_more z p.1 most (counted_at (λ m. z ≤ℤ pos m) i p.1 e.index a.fields e.field met.known.field counts all) p.4
+            at_most_more z p.1 most (counted_at (λ m. z ≤ℤ pos m) i p.1 e.index a.fields e.field met.known.field (rw (at_i p.0 p.3) at p.2) all) p.4
       ]
 
   fits_arrays : (new : NewFields below' (is_steady_in b) b.fields) (z : ℤ) (i j : ℕ) (es fs : List Entry) → ((by : ℕ) → same_place (o by) (n j) ≡ true → by ≡ i)
@@ -224,6 +221,5 @@ module _ (sides : Sides) where
       → z ≤ℤ highest kind → AllByRecursion (λ m. z ≤ℤ pos m) (counted e.index a.fields) → AllZip (Met sides) es (present_from news b.fields w 0 0 b.fields)
       → NewFields below' (is_steady_in b) b.fields → AllByRecursion (λ m. z ≤ℤ pos m) (counted f.index b.fields)
   caps_follow kind es e f z is at_e m high caps met new =
-      let le : z ≤ℤ pos (bound e.field.item (counted e.index a.fields)) = rw is (at_most_bound kind _ z high caps) in
       let arrays = fits_arrays new z _ _ es _ at_e caps met in
-      all_counted (λ m. z ≤ℤ pos m) f.index b.fields (each_array z f.index _ 0 0 b.fields le m.absent arrays)
+      all_counted (λ m. z ≤ℤ pos m) f.index b.fields (each_array z f.index _ 0 0 b.fields (rw is (at_most_bound kind _ z high caps)) m.absent arrays)

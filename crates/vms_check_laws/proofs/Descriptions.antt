@@ -121,10 +121,9 @@ module _ (sides : Sides) where
         let here = good_item news below' g.item _ _ (λ j l. (table.rows j l).good) lt good.0 in
         fit_append _ _ _ _ (fit_defaults _ (good_times _ _ 0 0 here)) (more good.1))
         (λ i p g gs rest e es fs zs lt h more good.
-        let here = good_item news below' g.item _ _ (λ j l. (table.rows j l).good) lt good.0 in
         let q = fit_pair e _ h in
-        fit_append _ _ _ _ (fit_items e.field.item g.item _ _ e.field.default g.default _ _ _ 0 0 0 0 _ (if_least _ _ _ (elements_fit e.field.count own_number))
-        q.low lt q.structs here q.fits q.follow) (more good.1))
+        fit_append _ _ _ _ (fit_items _ g.item _ _ e.field.default g.default _ _ _ 0 0 0 0 _ (if_least _ _ _ (elements_fit e.field.count own_number))
+        q.low lt q.structs (good_item news below' g.item _ _ (λ j l. (table.rows j l).good) lt good.0) q.fits q.follow) (more good.1))
         0 0 _ all (fields_below _ _ (λ j f e. (new j f e).item)) h good
 
 -- ---- validations
@@ -158,8 +157,7 @@ module _ (sides : Sides) (ok : ℕ → Bool) where
   rules_hold [] named agree holds h = refl
   rules_hold (t ∷ ts) named agree holds h =
       let p = and_parts (is_kept ks a b v w part part' o n (reduced w t)) (list_all (λ t. is_kept ks a b v w part part' o n (reduced w t)) ts) h in
-      let here = kept_holds _ (named_left ok w t named.0) agree holds p.0 in
-      and_from _ _ (sym (reduced_holds t w _ _) ∙ here) (rules_hold ts named.1 agree holds p.1)
+      and_from _ _ (sym (reduced_holds t w _ _) ∙ (kept_holds _ (named_left ok w t named.0) agree holds p.0)) (rules_hold ts named.1 agree holds p.1)
 
   pub rule_carries : compare_validations ks a b v w part part' o n ≡ None → RulesNamed ok b.validate → Agree o n ok old_number new_number
       → Carries numbers (Rule (all_hold a.validate v old_number) ∷ []) numbers' (Rule (all_hold b.validate w new_number) ∷ [])
@@ -255,6 +253,6 @@ module _ {ks : List Comparer} {cs : List Carrier} {ms ns : List Meaning} {number
     pub desc_clashes : (at' : ℕ) → Clashes two es fs → (body r r' : List ℕ) → Spells numbers' (desc_slots ns b w numbers' at') body
         → body ++ r' ≡ zeroed numbers (desc_slots ms a v numbers at) ++ r → ⊥
     desc_clashes at' clashes body r r' s h =
-        let t = spells_split numbers' (slots_from ns b.fields w (own' at') numbers' 0 at' b.fields) (Rule (all_hold b.validate w (own' at')) ∷ []) body s in
+        let t = spells_split _ (slots_from ns b.fields w (own' at') numbers' 0 at' b.fields) (Rule (all_hold b.validate w (own' at')) ∷ []) body s in
         let split = behind_first numbers (slots_from ms a.fields v own numbers 0 at a.fields) (Rule _ ∷ []) t.0 t.1 r r' (rw t.2 at h) in
         entries_clash (sides at') good.earlier old fits es fs 0 0 clashes (first_state at') t.0 _ _ (rw (← (new_same at')) t.3) (rw old_same at split)

@@ -1,9 +1,9 @@
 -- The names of other crates, and of this crate's `specs`, that the proofs use.
-pub use Rattle.std.proofs.{Math.Bool.or-false, Math.Nat.eq-or-lt_of_le, Math.Nat.mod-le, Math.Seq.drop-append_seam, Math.Seq.take-append_seam, lemmas.Int.ints}
+pub use Rattle.std.proofs.{Math.Bool.or-false, Math.Nat.eq-or-lt_of_le, Math.Seq.drop-append_seam, Math.Seq.take-append_seam, lemmas.Int.ints}
 pub use Rattle.std.proofs.{lemmas.Slice.Eq.bytes_eq-Decides, lemmas.Slice.Zip.AllZip-long}
 pub use Rattle.std.proofs.Common.{Bool, IfSome, List, None, Option, Some, [], ap, append_assoc, arith, false, get_or, if◌then◌else◌, inl, inr, length, map, min}
 pub use Rattle.std.proofs.Common.{nat_le, nat_lt, negsuc, pos, refl, replicate, slice_set, suc, sym, take, true, zero, ℕ, ℤ, ◌&&◌, ◌*◌, ◌++◌, ◌+◌, ◌-◌, ◌<◌}
-pub use Rattle.std.proofs.Common.{◌==◌, ◌^◌, ◌||◌, ◌∙◌, ◌∷◌, ◌≡◌, ◌≤ℤ◌, ◌≤◌, ◌⊎◌}
+pub use Rattle.std.proofs.Common.{◌==◌, ◌||◌, ◌∙◌, ◌∷◌, ◌≡◌, ◌≤ℤ◌, ◌≤◌, ◌⊎◌}
 pub use Rattle.std.proofs.lemmas.Bool.{and_from, and_parts, cases_eq, cases_lt, eq-eqb, eqb-true, false_from_ne_true, leb-true, ltb-true, or_parts}
 pub use Rattle.std.proofs.lemmas.List.{append-nil, ext_get_or, get_or-append-add, get_or_append_left, get_or_past, length-append, length-map, length-replicate}
 pub use Rattle.std.proofs.lemmas.Option.{get_or_from_slice_get, slice_get-get_or, slice_get-map, slice_get_within}
@@ -25,7 +25,7 @@ pub use Rattle.vms_spec.specs.Images.{AreVersionsOf, FitCells, FitsCell, Image, 
 pub use Rattle.vms_spec.specs.Layout.{Cell, Constant, Filler, Meaning, Number, Rule, Slot, all_hold, capacity_of, cells_from, counted, desc_cells, desc_slots}
 pub use Rattle.vms_spec.specs.Layout.{device_cells, elements_of, field_cells, field_slots, first, item_cells, item_size, item_slots, kind_of, meanings, no_cell}
 pub use Rattle.vms_spec.specs.Layout.{no_desc, no_field, no_meaning, no_parent, numbers_of, place_of, slots_from, struct_cells, times}
-pub use Rattle.vms_spec.specs.Rules.{count_names_well, counts_well, defaults_well, field_rules, has_good_count, has_no_test, is_counting, is_earlier_in, is_num}
+pub use Rattle.vms_spec.specs.Rules.{count_names_well, counts_well, defaults_well, has_good_count, has_no_test, is_counting, is_earlier_in, is_num}
 pub use Rattle.vms_spec.specs.Rules.{is_one, is_steady, is_steady_in, names_well, nobody, test_names_well, validation_rules}
 pub use Rattle.vms_spec.specs.Sets.{And, Desc, Device, Field, Formula, Not, Or, Set, Sub}
 pub use Rattle.vms_spec.specs.Streams.{AllCame, AreAll, AreReady, ComeAsNeeded, ComesOnce, EachOnce, IsConfiguration, IsReady, SubSpells, SubsSpell}
@@ -53,7 +53,7 @@ pub use Rattle.vms_check.specs.Comparing.{holds_as_much, is_covered, is_found, i
 pub use Rattle.vms_check.specs.Comparing.{pair_structs, paired_device, position_from, present, present_from, rel_number, same_constant, same_count, same_item}
 pub use Rattle.vms_check.specs.Comparing.{same_kind, same_place, same_reduced, same_rest, same_test}
 pub use Rattle.vms_check.specs.Partners.{Pairer, array_partners, desc_partners, field_partners, fields_left, item_partners, named_partners, no_pairer}
-pub use Rattle.vms_check.specs.Partners.{pairer_of, pairers, part_partners, partners_from, sub_partners, unpaired}
+pub use Rattle.vms_check.specs.Partners.{pairer_of, pairers, part_partners, partners_from, unpaired}
 pub use Rattle.vms_check.specs.Reducing.{Known, Open, Reduced, left_of, presence, reduced, truth_of}
 unfoldable pub use Rattle.vms_check.specs.{Carrying.carried, Comparing.first_mismatch, Partners.device_partners}
 pub use Rattle.vms_check_laws.specs.{Carried.IsAtVersions, Carried.IsCarried, CellLaws.CarriedLaw, Fronts.FrontAligns, Pairing.ArePartners, Positions.IsPartOf}

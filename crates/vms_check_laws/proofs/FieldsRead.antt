@@ -4,7 +4,7 @@ use Rattle.vms_check_laws.proofs.{Presence.covers_unused, Presence.filler_length
 use Rattle.vms_check_laws.proofs.Facade.{◌≡◌, inl, inr, ℕ, zero, suc, ◌+◌, ◌*◌, ◌≤◌, Bool, true, false, List, ◌∷◌, length, get_or, Option, None, refl, sym}
 use Rattle.vms_check_laws.proofs.Facade.{eq-eqb, ◌∙◌, arith, ℤ, pos, if◌then◌else◌, ◌++◌, Some, eqb-true, leb-true, slice_get, ap, [], length-append, cells_in}
 use Rattle.vms_check_laws.proofs.Facade.{Kind, Item, Num, Equal, Unused, Struct, width, Count, One, Fixed, Counted, Formula, Field, is_there, Slot, Number}
-use Rattle.vms_check_laws.proofs.Facade.{Filler, no_parent, times, counted, capacity_of, item_cells, field_cells, elements_of, item_slots, numbers_of, Entry}
+use Rattle.vms_check_laws.proofs.Facade.{no_parent, times, counted, capacity_of, item_cells, field_cells, elements_of, item_slots, numbers_of, Entry}
 use Rattle.vms_check_laws.proofs.Facade.{same_rest, same_count, same_kind, same_constant, holds_as_much, entry_of, present_from, defaults, carry_item}
 use Rattle.vms_check_laws.proofs.Facade.{carry_items, carry_field, Holds, FitsAt, Carries, size_same, elements_fit, ItemBelow, same_number_is, here, presence}
 use Rattle.vms_check_laws.proofs.Facade.{Cell, cells_from, slots_from, kind_of, is_steady_in, is_num, is_one, same_item, position_from, same_place, carry_next}
@@ -65,20 +65,18 @@ module _ (sides : Sides) where
   -- ---- how long it is
 
   item_sized : (i j : Item) (d : ℤ) (k : ℕ) → ItemBelow below' j → length (one_item i j d k) ≡ new_size j
-  item_sized (Num k) (Num l) d p lt =
-      elim (same_kind k l) as (λ c. length (if c then get_or numbers p (pos 0) ∷ [] else d ∷ []) ≡ 1) [ true ↦ refl | false ↦ refl ]
+  item_sized (Num k) (Num l) d p lt = grind arith
   item_sized (Struct i) (Struct j) d p lt = (table.rows j lt).sized i p
   item_sized _ (Struct j) d p lt = defaults_size _
   item_sized _ _ d p lt = refl
 
   items_sized : (i j : Item) (d : ℤ) (m most k : ℕ) → ItemBelow below' j → length (some_items i j d m most k) ≡ most * new_size j
   items_sized i j d m zero k lt = omega arith
-  items_sized i j d zero (suc most) k lt =
-      rw (length-append, defaults_size (item_cells news j [] d), size_same news j [] d, items_sized i j d zero most k lt) (grind arith)
-  items_sized i j d (suc m) (suc most) k lt = rw (length-append, item_sized i j d k lt, items_sized i j d m most (k + old_size i) lt) (grind arith)
+  items_sized i j d zero (suc most) k lt = grind (arith, length-append, defaults_size, size_same, items_sized i j d zero most k lt)
+  items_sized i j d (suc m) (suc most) k lt = grind (arith, length-append, item_sized, items_sized i j d m most (k + old_size i) lt)
 
   field_sized : (e : Entry) (i : ℕ) (f : Field) → ItemBelow below' f.item → length (one_field e f) ≡ length (cells_at i f)
-  field_sized e i f lt = items_sized e.field.item f.item f.default _ _ _ lt ∙ sym (field_size news b.fields i f)
+  field_sized e i f lt = cc (items_sized e.field.item f.item f.default _ _ _ lt, field_size news b.fields i f)
 
   next_sized : (i : ℕ) (g : Field) (pr : Option (Option Formula)) (es : List Entry) → ItemBelow below' g.item
       → length (next_field i g pr es) ≡ length (cells_at i g)
@@ -154,17 +152,12 @@ module _ (sides : Sides) where
   number_pair : (j i : Item) (d c : Count) (z : ℤ) (t : Bool) (x y : ℕ) → is_num j ≡ true → is_one d ≡ true → same_item i j ≡ true → same_count o n c d ≡ true
       → t ≡ true → Holds numbers' y (some_items i j z (if t then elements_of c own else 0) (capacity_of d) x)
       → residue (width (kind_of i)) (get_or numbers x (pos 0)) ≡ residue (width (kind_of j)) (get_or numbers' y (pos 0))
-  number_pair (Num l) (Num k) One One z true x y num one same counts there_is held =
-      let zero_more : y + 0 ≡ y = omega arith in
-      rw (kinds_same k l same, ← (one_number (same_kind k l) numbers' y (get_or numbers x (pos 0)) z same held), zero_more)
+  number_pair (Num l) (Num k) One One z true x y num one same counts there_is held = grind (arith, kinds_same, one_number)
   number_pair _ _ _ _ z _ x y num one same counts there_is held = absurd (cc)
 
   pair_agrees : (e f : Entry) → Met sides e f → Holds numbers' (at' + f.place) (one_field e f.field) → is_steady_in b f.index ≡ true
       → own e.index ≡ own' f.index
-  pair_agrees e f met held is =
-      let h = named_pair e f met is in
-      met.known.number ∙ number_pair _ _ _ _ _ _ _
-      _ h.plain.item h.plain.count h.matched.item h.matched.count h.there_is held ∙ sym met.known'.number
+  pair_agrees e f met held is = grind (arith, named_pair, number_pair)
 
   pub agree_from : (i j p : ℕ) (es fs : List Entry) → Linked es fs → is_steady_in b j ≡ true
       → same_place (position_from p es i) (position_from p fs j) ≡ true → own i ≡ own' j
@@ -198,7 +191,7 @@ module _ (sides : Sides) where
     settled = settled_empty _ y [] [] refl;
   }
   item_reads (Unused m) (Unused r) caps caps' d d' x y pair constant fits held = record {
-    carries = carries_filler numbers numbers' (Filler m ∷ []) r (filler_length numbers m ∙ eqb-true m r pair.same);
+    carries = carries_filler numbers numbers' _ r (filler_length numbers m ∙ eqb-true m r pair.same);
     settled = settled_empty _ y [] [] refl;
   }
   item_reads (Struct i) (Struct j) caps caps' d d' x y pair constant fits held = ((table.rows j pair.low').meets i pair.low pair.structs x fits).reads y held
@@ -306,7 +299,7 @@ module _ (sides : Sides) where
         let le = if_least t _ _ (elements_fit e.field.count own) in
         let le' = if_least t _ _ (elements_room e.field.count f.field.count m.count m.room) in
         let pair : Pairs two below below' e.field.item f.field.item = record { same = m.item; structs = p.good.structs; low = p.old.item; low' = p.new.item } in
-        rw is (items_read e.field.item f.field.item _ _ e.field.default f.field.default _ _ _ 0 0 0 0 _ _ pair m.constant le le' p.fits (rw is at held))
+        rw is (items_read _ _ _ _ e.field.default f.field.default _ _ _ 0 0 0 0 _ _ pair m.constant le le' p.fits (rw is at held))
 
     pub pair_reads : (e f : Entry) → Opposite e f → Holds numbers' (at' + f.place) (one_field e f.field)
         → ReadsHere e f (slots_at ms a.fields v own numbers at e.index e.place e.field) (slots_at ns b.fields w own' numbers' at' f.index f.place f.field)

@@ -2,7 +2,7 @@
 use Rattle.vms_check_laws.proofs.{GoesFields.part_goes, GoesFields.below_of, PairDevices.device_paired, PairDevices.one_sub}
 use Rattle.vms_check_laws.proofs.Facade.{◌≡◌, ◌⊎◌, inl, inr, ℕ, ◌+◌, ◌-◌, ◌<◌, Bool, true, false, ◌||◌, List, ◌++◌, length, get_or, Option, Some, None, ℤ, pos}
 use Rattle.vms_check_laws.proofs.Facade.{refl, sym, ◌∙◌, arith, flat_map, slice_get, get_or_append_left, get_or-append-add, or_parts, slice_get_within}
-use Rattle.vms_check_laws.proofs.Facade.{length-append, ap, or-false, zero, suc, ◌∷◌, cases_eq, ext_get_or, [], Sub, Device, Set, Cell, no_cell, desc_cells}
+use Rattle.vms_check_laws.proofs.Facade.{length-append, ap, or-false, zero, suc, ◌∷◌, ext_get_or, [], Sub, Device, Set, Cell, no_cell, desc_cells}
 use Rattle.vms_check_laws.proofs.Facade.{device_cells, struct_cells, Image, has_cell, image_slots, own_slots, own_cells, came_slots, sub_slots, sub_place}
 use Rattle.vms_check_laws.proofs.Facade.{find_sub, WellFormed, names_append, none_in_both, its_below, its_in, sub_size, sub_place_up, part_apart, defaults_at}
 use Rattle.vms_check_laws.proofs.Facade.{defaults_long, device_parts, sub_clean, sub_found, defaults, carrying, carried_sub, carried_device, IsCellOf}
@@ -47,7 +47,7 @@ module _ (old new : Set) (good_old : WellFormed old) (good_new : WellFormed new)
   whole = own_segment ++ rest
 
   has_both : (c : ℕ) → has c ≡ (has_own c || has_come c)
-  has_both c = names_append (own_slots old d image.version numbers) (came_slots old d numbers (own_cells old d) d.subs image.came) c
+  has_both c = grind (arith, names_append)
 
   -- ---- the parts
 
@@ -151,9 +151,7 @@ module _ (old new : Set) (good_old : WellFormed old) (good_new : WellFormed new)
 
     taken : (c k : ℕ) → slice_get (ps ++ qs) c ≡ Some (Some k) → has c ≡ true → (c < length ps) ⊎ IsBehind (length ps) c
         → get_or whole k (pos 0) ≡ get_or numbers c (pos 0)
-    taken c k f is_in (inl lt) =
-        let own : has_own c ≡ true = cc (or-false (has_own c), has_both c, came_none c (omega (arith, own_goes.paired.long))) in
-        taken_own c k (sym (at_left ps qs c lt) ∙ f) own
+    taken c k f is_in (inl lt) = grind (arith, taken_own, at_left, or-false, has_both, came_none, own_goes)
     taken c k f is_in (inr b) =
         let c_is : c ≡ own_cells old d + b.more = omega (arith, own_goes.paired.long) in
         rw c_is (taken_sub b.more k (stands_in old _ _ d.subs b.more _ sized (behind_at ps qs c b f)) (rw c_is at is_in))
@@ -224,7 +222,7 @@ module _ (old new : Set) (good_old : WellFormed old) (good_new : WellFormed new)
 -- where a partner is, if there is one
 is_some_of : (o : Option ℕ) (k : ℕ) → (o ≡ Some k) ⊎ (o ≡ Some k → ⊥)
 is_some_of None k = inr (λ e. cc)
-is_some_of (Some j) k = elim (cases_eq j k) [ inl e ↦ inl (rw e) | inr ne ↦ inr (λ f. ne cc) ]
+is_some_of (Some j) k = grind arith
 
 search_in : (ps : List (Option ℕ)) (k : ℕ) → ((c : ℕ) × (slice_get ps c ≡ Some (Some k))) ⊎ ((c : ℕ) → slice_get ps c ≡ Some (Some k) → ⊥)
 search_in [] k = inr (λ c e. cc)
@@ -246,11 +244,11 @@ module _ (old new : Set) (good_old : WellFormed old) (good_new : WellFormed new)
       none_has : (k : ℕ) → k < length (device_cells new e)
           → ((c : ℕ) → slice_get (device_partners old new d e) c ≡ Some (Some k) → has_cell (image_slots old d image) c ≡ false)
           → get_or a k (pos 0) ≡ get_or b k (pos 0)
-      none_has k lt none = p.other k lt none ∙ sym (q.other k lt none)
+      none_has k lt none = cc (p.other k lt none, q.other k lt none)
 
       by_has : (k c : ℕ) → k < length (device_cells new e) → slice_get (device_partners old new d e) c ≡ Some (Some k) → (h : Bool)
           → has_cell (image_slots old d image) c ≡ h → get_or a k (pos 0) ≡ get_or b k (pos 0)
-      by_has k c lt f true h = p.taken c k f h ∙ sym (q.taken c k f h)
+      by_has k c lt f true h = cc (p.taken c k f h, q.taken c k f h)
       by_has k c lt f false h = none_has k lt (λ c' g. rw ((device_paired old new good_old good_new i d e there).once c' c k g f) h)
 
 pub carried_stands : CarriedLaw

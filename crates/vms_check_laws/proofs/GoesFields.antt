@@ -86,7 +86,7 @@ module _ (structs : List Pairer) (cs : List Carrier) (ms : List Meaning) (y : Li
     carry_none : (a b : Item) (caps' : List ℕ) (d' : ℤ) (step m at q t : ℕ)
         → carry_items cs x y numbers a b (defaults (item_cells y b [] d')) step 0 m at ≡ defaults (times m (λ _. item_cells y b caps' d') q t)
     carry_none a b caps' d' step zero at q t = refl
-    carry_none a b caps' d' step (suc m) at q t = rw (same_defaults y b [] caps' d', carry_none a b caps' d' step m at (q + t) t) (sym (defaults_append _ _))
+    carry_none a b caps' d' step (suc m) at q t = grind (arith, same_defaults, defaults_append, carry_none a b caps' d' step m at (q + t) t)
 
     array_goes : (a b : Item) (caps caps' : List ℕ) (d d' : ℤ) (most n m at at' p s q t : ℕ) → n ≤ most → ItemBelow k a → ItemBelow k' b
         → Goes (times most (λ _. item_cells x a caps d) p s) (times m (λ _. item_cells y b caps' d') q t) numbers
@@ -124,7 +124,7 @@ module _ (structs : List Pairer) (cs : List Carrier) (ms : List Meaning) (y : Li
         by_there : (b : Bool) → PairGoes i i' p p' f g
             (if b then times (elements_of f.count own) (item_slots ms f.item (counted i all) numbers) (at + p) (item_size x f.item) else [])
             (if b then elements_of f.count own else 0)
-        by_there true = array_goes f.item g.item _ _ f.default g.default _ _ _ (at + p) _ 0 0 0 0 (elements_fit f.count own) lt lt'
+        by_there true = array_goes f.item g.item _ _ _ _ _ _ _ _ _ 0 0 0 0 (elements_fit f.count own) lt lt'
         by_there false = array_goes f.item g.item _ _ _ _ _ 0 _ _ _ 0 0 0 0 (omega arith) lt lt'
 
       -- ---- all fields from one on, on each side
@@ -261,7 +261,7 @@ module _ (set : Set) (well : WellFormed set) where
             first_at desc_cells ds [] k j lt
             ∙ desc_cells_same j (first desc_cells ds j) (first desc_cells ds k) (λ i l. first_same desc_cells ds [] j k i (omega arith) l) (get_or ds j no_desc)
             (struct_below j lt)
-        | inr le ↦ rw (get_or_past ds j no_desc le) (get_or_past _ j [] (omega (arith, first_long desc_cells ds k)))
+        | inr le ↦ rw (get_or_past ds j _ le) (get_or_past _ j [] (omega (arith, first_long desc_cells ds k)))
       ]
 
 -- a number above those of all structures that fields use
@@ -312,15 +312,13 @@ module _ (old new : Set) (good_old : WellFormed old) (good_new : WellFormed new)
 
   last : (m : ℕ) → m < length ds → ((l : ℕ) → l ≤ length es → Go m l) → (l : ℕ) → l ≤ length es → GoesAt m l
   last m lt h l le j at at' lt' =
-      let d = get_or ds m no_desc in
-      let e = get_or es j no_desc in
       let below = struct_below old good_old m lt in
       rw (carrier_at xs y ds es l j lt', struct_slots ds _ m _ at lt below, struct_cells_at ds _ m lt below, struct_is new good_new j)
-      (desc_goes _ _ ms y _ m j (meanings_above ds _) (meanings_are ds _) (h j (omega arith)) _ _ d e at at' below
+      (desc_goes _ _ ms y _ m j (meanings_above ds _) (meanings_are ds _) (h j (omega arith)) _ _ (get_or ds m no_desc) (get_or es j no_desc) at at' below
       (struct_below new good_new j (omega arith)))
 
   pairer_at : (m i : ℕ) → i < m → get_or (pairers_to m) i no_pairer ≡ pairer_of (pairers_to i) xs y es (get_or ds i no_desc)
-  pairer_at m i lt = first_at (λ earlier d. pairer_of earlier xs y es d) ds _ m i lt
+  pairer_at m i lt = grind (arith, first_at)
 
   go_to : (m : ℕ) → m ≤ length ds → (l : ℕ) → l ≤ length es → Go m l
   go_to m le l le' i j at at' lt lt' =

@@ -31,18 +31,13 @@ module _ (old new : Set) (good_old : WellFormed old) (good_new : WellFormed new)
         let none = at_none (length (old_cells s)) in
         rw h (record { long = length-replicate _ None; pairs = λ c k f. absurd (none c k f); once = λ b c k f g. absurd (none b k f) })
     | inr f ↦
-        let below = below_of _ s.desc _ (sub_clean old good_old i j d s at_i at_j) in
-        let p = (part_goes old new good_old good_new [] s.desc.version s.desc f.sub.desc 0 _ below).paired in
+        let p = (part_goes old new good_old good_new [] _ s.desc f.sub.desc 0 _ (below_of _ s.desc _ (sub_clean old good_old i j d s at_i at_j))).paired in
         rw (f.found, f.there) (record { long = p.long; pairs = λ c k g. record { f = f; pair = p.pairs c k g }; once = p.once })
   ]
 
   -- two newer subsections that have one cell are one
   names_of : (s s' : Sub) (c c' k : ℕ) → IsSubPair s c k → IsSubPair s' c' k → s.desc.name ≡ s'.desc.name
-  names_of s s' c c' k p q =
-      let same : p.f.number ≡ q.f.number =
-      one_part new (own_cells new e) e.subs _ _ k _ _ p.f.there q.f.there (omega arith) (omega arith) (omega arith) (omega arith) in
-      let one : p.f.sub ≡ q.f.sub = cc in
-      cc
+  names_of s s' c c' k p q = grind (arith, one_part)
 
   -- ---- the device
 

@@ -43,7 +43,7 @@ at_left (x ∷ xs) ys (suc c) lt = at_left xs ys c (omega arith)
 
 pub at_right : {A : Type 0} (xs ys : List A) (c : ℕ) → slice_get (xs ++ ys) (length xs + c) ≡ slice_get ys c
 at_right [] ys c = let z : 0 + c ≡ c = omega arith in ap (slice_get ys) z
-at_right (x ∷ xs) ys c = let z : suc (length xs) + c ≡ suc (length xs + c) = omega arith in ap (slice_get (x ∷ xs ++ ys)) z ∙ at_right xs ys c
+at_right (x ∷ xs) ys c = grind (arith, at_right xs ys c)
 
 pub at_none : (n c k : ℕ) → slice_get (replicate n None) c ≡ Some (Some k) → ⊥
 at_none (suc n) (suc c) k e = at_none n c k e
@@ -125,7 +125,7 @@ pub settled_append : {s t : List Slot} {at next : ℕ} {xs ys : List Cell} {zs u
     → Settled t next ys us → Settled (s ++ t) at (xs ++ ys) (zs ++ us)
 settled_append {s} {t} {at} {next} {xs} {ys} {zs} {us} size h e k = record { each = λ c lt. by c lt (before_or_behind _ c) } where
   sizes : length (defaults xs) ≡ length zs
-  sizes = defaults_size xs ∙ sym size
+  sizes = cc (defaults_size xs)
 
   by : (c : ℕ) → c < length (zs ++ us) → (c < length zs) ⊎ IsBehind (length zs) c
       → (has_cell (s ++ t) (at + c) ≡ true) ⊎ (get_or (zs ++ us) c (pos 0) ≡ get_or (defaults (xs ++ ys)) c (pos 0))
@@ -188,10 +188,10 @@ module _ {cells_a cells_b others_a others_b : List Cell} {numbers : List ℤ} {x
     (g : Goes cells_b others_b numbers ys next next' q t) where
   -- before the seam the second slots have none, and after it the first
   has_first : (c : ℕ) → c < next → has_cell (xs ++ ys) c ≡ has_cell xs c
-  has_first c lt = rw (names_append xs ys c, false_from_ne_true (has_cell ys c) (λ e. omega (arith, (g.within.in_range c e).0)), or-false (has_cell xs c))
+  has_first c lt = grind (arith, names_append, false_from_ne_true, or-false)
 
   has_second : (c : ℕ) → next ≤ c → has_cell (xs ++ ys) c ≡ has_cell ys c
-  has_second c le = rw (names_append xs ys c, false_from_ne_true (has_cell xs c) (λ e. omega (arith, (h.within.in_range c e).1)))
+  has_second c le = grind (arith, names_append, false_from_ne_true)
 
   paired : AreFrom (cells_a ++ cells_b) (others_a ++ others_b) at' (p ++ q)
   paired = paired_append h.paired seam' g.paired
@@ -202,7 +202,7 @@ module _ {cells_a cells_b others_a others_b : List Cell} {numbers : List ℤ} {x
   taken_at : (c r : ℕ) → HasIt c r → has_cell (xs ++ ys) (at + c) ≡ true → (c < length p) ⊎ IsBehind (length p) c
       → get_or (s ++ t) r (pos 0) ≡ get_or numbers (at + c) (pos 0)
   taken_at c r e f (inl lt) =
-      let place : slice_get p c ≡ Some (Some (at' + r)) = sym (at_left p q c lt) ∙ e in
+      let place : slice_get p c ≡ Some (Some (at' + r)) = cc (at_left p q c lt) in
       let pair = h.paired.pairs c (at' + r) place in
       get_or_append_left s t (pos 0) r (omega arith) ∙ h.taken c r place (sym (has_first _ (omega arith)) ∙ f)
   taken_at c r e f (inr b) =

@@ -11,7 +11,7 @@ use Rattle.vms_check_laws.proofs.Facade.{carrying, cells_first, Holds, Sub, Devi
 use Rattle.vms_check_laws.proofs.Facade.{came_slots, carried_sub, defaults, rules_append, ◌++◌, Spells, zeroed, own_slots, present, position_from}
 use Rattle.vms_check_laws.proofs.Facade.{is_earlier_in, Field, numbers_of, Entry, IsPartOf, IsRead, FrontAligns}
 use Rattle.vms_check_laws.proofs.Premises.{Table, by_less, Meets, fields_below, Reads, GoodCells, FitCells, fit_append, fit_defaults, fit_length, IsKnown}
-use Rattle.vms_check_laws.proofs.Premises.{AreKnown, all_known, PairGood, Two, Sides, OldFields, Met, Row}
+use Rattle.vms_check_laws.proofs.Premises.{AreKnown, all_known, PairGood, Sides, OldFields, Met, Row}
 use Rattle.vms_spec.specs.declared.Part.TheVariants as parts
 
 abbrev pub meanings_of : List Desc → List Meaning
@@ -31,12 +31,10 @@ carries_to olds news k = carriers (cells_of olds) (cells_of news) olds news k
 module _ (x y : List (List Cell)) (olds news : List Desc) where
   comparer_at : (k j : ℕ) → j < k
       → get_or (comparers x y olds news k) j no_comparer ≡ comparer_of (comparers x y olds news j) x y olds j (get_or news j no_desc)
-  comparer_at k j lt =
-      let row = λ (earlier : List Comparer) (d : Desc). comparer_of earlier x y olds (length earlier) d in
-      first_at row news _ k j lt ∙ rw (first_long row news j)
+  comparer_at k j lt = grind (arith, first_at, first_long)
 
   pub carrier_at : (k j : ℕ) → j < k → get_or (carriers x y olds news k) j no_carrier ≡ carrier_of (carriers x y olds news j) x y olds (get_or news j no_desc)
-  carrier_at k j lt = first_at (λ (earlier : List Carrier) (d : Desc). carrier_of earlier x y olds d) news _ k j lt
+  carrier_at k j lt = grind (arith, first_at)
 
 module _ (olds news : List Desc) (numbers numbers' : List ℤ) (old : StructsGood olds) (new : StructsGood news) where
   abbrev KnownTable : ℕ → Type 0
@@ -53,23 +51,23 @@ module _ (olds news : List Desc) (numbers numbers' : List ℤ) (old : StructsGoo
       let b = get_or news k no_desc in
       let good = new k lt in
       let below = fields_below k b.fields (λ j f e. (good.new j f e).item) in
-      let cells_are = struct_cells_at news (length news) k lt below in
+      let cells_are = struct_cells_at news _ k lt below in
       record {
         sized = λ i p.
             let a = get_or olds i no_desc in
             fields_sized (sides table a b a.version b.version (parts.Struct i) (parts.Struct k) p 0) 0 b.fields _ below ∙ sym (ap length cells_are);
-        good = rw cells_are (good_fields (cells_of news) k b.fields 0 b.fields (λ j l. (table.rows j l).good) below good.defaults);
+        good = rw cells_are (good_fields _ k b.fields 0 b.fields (λ j l. (table.rows j l).good) below good.defaults);
         meets = λ i lt_i none x fits.
             let a = get_or olds i no_desc in
             let below_a = fields_below i a.fields (λ j f e. ((old i lt_i).old j f e).item) in
-            let fits_a : FitsAt (desc_cells (cells_of olds) a) numbers x = rw (struct_cells_at olds (length olds) i lt_i below_a) at fits in
+            let fits_a : FitsAt (desc_cells (cells_of olds) a) numbers x = rw (struct_cells_at olds _ i lt_i below_a) at fits in
             let plain_a = old_fields _ _ a.fields numbers x fits_a (plains_further i _ a.fields (omega arith) (old i lt_i).old) in
             let m = desc_meets table a b a.version b.version (parts.Struct i) (parts.Struct k) x plain_a good fits_a none in
-            let slots_are = struct_slots olds (length olds) i numbers x lt_i below_a in
+            let slots_are = struct_slots olds _ i numbers x lt_i below_a in
             record {
               fits = rw cells_are m.fits;
-              aligned = λ y. rw (slots_are, struct_slots news (length news) k numbers' y lt below) (m.aligned y);
-              reads = λ y held. rw (slots_are, struct_slots news (length news) k numbers' y lt below, cells_are) (m.reads y held);
+              aligned = λ y. rw (slots_are, struct_slots news _ k numbers' y lt below) (m.aligned y);
+              reads = λ y held. rw (slots_are, struct_slots news _ k numbers' y lt below, cells_are) (m.reads y held);
             };
       }
 
@@ -90,8 +88,7 @@ DevicesClash old new d e v part part' x y =
     let es = present x d.desc v in
     let fs = present y e.desc v in
     let ks = comparers x y old.structs new.structs (length new.structs) in
-    let two : Two = record { ks = ks; a = d.desc; b = e.desc; v = v; w = v; part = part; part' = part'; o = position_from 0 es; n = position_from 0 fs } in
-    Clashes two es fs
+    Clashes (record { ks = ks; a = d.desc; b = e.desc; v = v; w = v; part = part; part' = part'; o = position_from 0 es; n = position_from 0 fs }) es fs
 
 -- then the newer set's own fields aren't spelled at a front where the older wrote its own
 abbrev pub ClashRefuses : (old new : Set) → (d e : Device) → (v : ℕ) → Part → Part → (numbers numbers' : List ℤ) → (x y : List (List Cell)) → Type 0
@@ -173,8 +170,8 @@ module _ (old new : Set) (good_old : WellFormed old) (good_new : WellFormed new)
 
     pub position_stands : IsRead old new a b v part part' numbers numbers' at at' (struct_cells old) (struct_cells new)
     position_stands = to_cells (λ x y. IsRead old new a b v part part' numbers numbers' at at' x y) (λ p e f h.
-        let k = known_at ms a.fields v numbers at es p e h.on_old (all_known ms a.fields v numbers at) in
-        let k' = known_at ns b.fields v numbers' at' fs p f h.on_new (all_known ns b.fields v numbers' at') in
+        let k = known_at ms _ v _ at es p e h.on_old (all_known ms a.fields v numbers at) in
+        let k' = known_at ns _ v _ at' fs p f h.on_new (all_known ns b.fields v numbers' at') in
         let met : Met here e f = record { good = record { rules = h.rules; structs = h.structs }; known = k; known' = k' } in
         let old_f = plain h.fits e.index e.field k.field in
         let new_f = good.earlier f.index f.field k'.field in

@@ -1,7 +1,7 @@
 -- What is known of fields and structures on both sides: present fields paired by position, numbers that fit cells, and premises.
 use Rattle.vms_check_laws.proofs.{Facade.AllZip-long, Positioned.if_is, PairLists.Settled}
 use Rattle.vms_check_laws.proofs.Facade.{◌≡◌, ◌⊎◌, inl, inr, ℕ, Bool, true, List, ◌∷◌, Option, None, and_parts, [], ◌&&◌, zero, suc, ◌+◌, ◌<◌, ◌++◌, length}
-use Rattle.vms_check_laws.proofs.Facade.{get_or, refl, arith, ℤ, pos, ◌≤◌, Some, slice_get, eqb-true, if◌then◌else◌, ◌*◌, ◌∙◌, ◌==◌, get_or_from_slice_get}
+use Rattle.vms_check_laws.proofs.Facade.{get_or, refl, arith, ℤ, pos, ◌≤◌, Some, slice_get, eqb-true, if◌then◌else◌, ◌∙◌, ◌==◌, get_or_from_slice_get}
 use Rattle.vms_check_laws.proofs.Facade.{Item, Desc, counted, in_field, Part, Entry, same_rest, same_count, same_item, same_constant, is_covered, holds_as_much}
 use Rattle.vms_check_laws.proofs.Facade.{absent_hold, bound, Comparer, failing_pair, pair_rules, pair_structs, compare_fields, passes, ItemBelow, or_else_none}
 use Rattle.vms_check_laws.proofs.Facade.{names_match, Cell, no_cell, times, defaults, FitsCell, cells_in, Equal, Unused, Count, Counted, Formula, Field}
@@ -215,9 +215,8 @@ module _ (ms ns : List Meaning) (numbers numbers' : List ℤ) (own own' : ℕ �
   covered_slots (Equal k z) One (Unused r) One caps caps' x y step step' covers single single' =
       (r, refl, constant_length numbers k z ∙ eqb-true (width k) r covers)
   covered_slots (Num k) One (Unused r) One caps caps' x y step step' covers single single' =
-      (r, refl, numbers_length numbers k caps 1 x step ∙ omega (arith, eqb-true (width k) r covers))
-  covered_slots (Num k) (Fixed p) (Unused r) One caps caps' x y step step' covers single single' =
-      (r, refl, numbers_length _ k caps p x step ∙ eqb-true (p * width k) r covers)
+      (r, refl, numbers_length _ k caps 1 x step ∙ omega (arith, eqb-true (width k) r covers))
+  covered_slots (Num k) (Fixed p) (Unused r) One caps caps' x y step step' covers single single' = grind (arith, numbers_length, eqb-true)
   covered_slots _ _ _ _ caps caps' x y step step' covers single single' = absurd (cc)
 
 -- ---- the present fields of a description: their slots, and what is known of each
@@ -278,7 +277,7 @@ module _ (structs : List Meaning) (all : List Field) (v : ℕ) (numbers : List �
 
   -- a field of which nothing of the test is left is there
   pub known_there : (e : Entry) → IsKnown e → e.rest ≡ None → (own parent : ℕ → ℕ) → is_there e.field.test e.field.since v own parent ≡ true
-  known_there e known plain own parent = presence_there e.field.test e.field.since v own parent ∙ rw (known.left, plain)
+  known_there e known plain own parent = grind (arith, presence_there)
 
   abbrev pub AreKnown : List Entry → Type 0
   AreKnown es = AllByRecursion IsKnown es

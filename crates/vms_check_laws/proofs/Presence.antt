@@ -1,6 +1,6 @@
 -- A field is there exactly where what its presence at a version leaves of the test holds. The same remaining tests have the same truth
 -- where the numbers that they name are the same. Small facts of two descriptions: what covers, and how long numbers are.
-use Rattle.vms_check_laws.proofs.Facade.{◌≡◌, ℕ, Bool, true, false, Option, Some, None, refl, sym, ◌∙◌, nat_le, if◌then◌else◌, ◌&&◌, ◌==◌, and_parts, eqb-true}
+use Rattle.vms_check_laws.proofs.Facade.{◌≡◌, ℕ, Bool, true, false, Option, Some, None, refl, nat_le, if◌then◌else◌, ◌&&◌, ◌==◌, and_parts, eqb-true}
 use Rattle.vms_check_laws.proofs.Facade.{and_from, zero, suc, ◌+◌, ◌*◌, List, ◌∷◌, ◌++◌, length, get_or, arith, ℤ, pos, length-append, length-replicate, []}
 use Rattle.vms_check_laws.proofs.Facade.{Formula, truth, is_there, Reduced, Known, Open, reduced, left_of, presence, truth_of, reduced_holds, Rel, Eq, Ne, Lt}
 use Rattle.vms_check_laws.proofs.Facade.{Ge, Own, Not, And, Or, names_well, nobody, same_place, same_test, same_rest, same_reduced, rel_number, IfOpen}
@@ -19,8 +19,8 @@ left_there (Known true) v own parent = refl
 left_there _ v own parent = refl
 
 pub presence_there : (test : Option Formula) (since v : ℕ) (own parent : ℕ → ℕ) → is_there test since v own parent ≡ there (presence v test since) v own parent
-presence_there None since v own parent = elim (nat_le since v) as (λ b. b ≡ there (if b then Some None else None) v own parent) [ true ↦ refl | false ↦ refl ]
-presence_there (Some t) since v own parent = sym (left_there (reduced v t) v own parent ∙ reduced_holds t v own parent)
+presence_there None since v own parent = grind arith
+presence_there (Some t) since v own parent = grind (arith, left_there, reduced_holds)
 
 -- a number's relation
 abbrev pub rel_of : ℕ → Rel
@@ -68,12 +68,7 @@ module _ (ok : ℕ → Bool) where
 
 module _ (o n : ℕ → Option ℕ) (ok : ℕ → Bool) (own own' parent parent' : ℕ → ℕ) (v w : ℕ) (agree : Agree o n ok own own') where
   pub same_truth : (s t : Formula) → names_well ok nobody t ≡ true → same_test o n s t ≡ true → truth s v own parent ≡ truth t w own' parent'
-  same_truth (Cell Own i mask rel value) (Cell Own j mask' rel' value') good h =
-      let r = and_parts (same_place (o i) (n j) && mask == mask' && rel_number rel == rel_number rel') (value == value') h in
-      let q = and_parts (same_place (o i) (n j) && mask == mask') (rel_number rel == rel_number rel') r.0 in
-      let p = and_parts (same_place (o i) (n j)) (mask == mask') q.0 in
-      let rels : rel ≡ rel' = cc (rel_back rel, eqb-true (rel_number rel) (rel_number rel') q.1, rel_back rel') in
-      rw (agree i j good p.0, eqb-true mask mask' p.1, rels, eqb-true value value' r.1)
+  same_truth (Cell Own i mask rel value) (Cell Own j mask' rel' value') good h = grind (arith, rel_back, eqb-true)
   same_truth (Not s) (Not t) good h = rw (same_truth s t good h)
   same_truth (And s s') (And t t') good h =
       let p = and_parts (same_test o n s t) (same_test o n s' t') h in
@@ -111,13 +106,13 @@ not_covered i c j covers number = let unused = rw ((covers_unused i c j covers).
 pub numbers_length : (numbers : List ℤ) (kind : Kind) (caps : List ℕ) (n at step : ℕ)
     → length (zeroed numbers (times n (λ c. Number c kind caps ∷ []) at step)) ≡ n * width kind
 numbers_length numbers kind caps zero at step = omega arith
-numbers_length numbers kind caps (suc n) at step = rw (length-append, length-code kind _, numbers_length numbers kind caps n (at + step) step) (grind arith)
+numbers_length numbers kind caps (suc n) at step = grind (arith, length-append, length-code, numbers_length numbers kind caps n (at + step) step)
 
 pub constant_length : (numbers : List ℤ) (kind : Kind) (z : ℤ) → length (zeroed numbers (Constant kind z ∷ [])) ≡ width kind
 constant_length numbers kind z = rw (length-append, length-code kind z) (omega arith)
 
 pub filler_length : (numbers : List ℤ) (n : ℕ) → length (zeroed numbers (Filler n ∷ [])) ≡ n
-filler_length numbers n = rw (length-append, length-replicate {A = ℕ} n 0) (omega arith)
+filler_length numbers n = grind (arith, length-append, length-replicate)
 
 -- a field that tests and counts may name
 pub record Steady (f : Field) : Type 0 where
@@ -136,8 +131,7 @@ steady minimum (Some g) f e h =
 
 pub steady_rest : (w : ℕ) (test : Option Formula) (since : ℕ) (rest : Option Formula) → has_no_test test ≡ true → presence w test since ≡ Some rest
     → rest ≡ None
-steady_rest w None since rest h k =
-    (elim (nat_le since w) as (λ b. (if b then Some None else None) ≡ Some rest → rest ≡ None) [ true ↦ λ e. cc | false ↦ λ e. cc ]) k
+steady_rest w None since rest h k = grind arith
 steady_rest w (Some t) since rest h k = absurd (cc)
 
 pub rest_none : (o n : ℕ → Option ℕ) (r s : Option Formula) → s ≡ None → same_rest o n r s ≡ true → r ≡ None

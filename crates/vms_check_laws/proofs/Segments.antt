@@ -14,7 +14,7 @@ pub at_first : {A : Type 0} (f : ℕ → A) (j : ℕ) {g : ℕ → A} → ((m : 
 at_first f j h = let z : j + 0 ≡ j = omega arith in rw z at (h 0)
 
 pub one_on : {A : Type 0} (f : ℕ → A) (j : ℕ) {g : ℕ → A} → ((m : ℕ) → f (j + m) ≡ g m) → (m : ℕ) → f (suc j + m) ≡ g (suc m)
-one_on f j h m = let z : suc j + m ≡ j + suc m = omega arith in rw z (h (suc m))
+one_on f j h m = grind arith
 
 pub from_zero : {A : Type 0} (f : ℕ → A) (m : ℕ) → f (0 + m) ≡ f m
 from_zero f m = let z : 0 + m ≡ m = omega arith in rw z

@@ -73,7 +73,7 @@ module _ (old new : Set) (good_old : WellFormed old)
       }
 
   pub back : (i : ℕ) (d : Device) → slice_get old.devices i ≡ Some d → (p : Pair i d) → find_device 0 old.devices p.device.desc.name p.device.instance ≡ Some i
-  back i d e p = rw (p.name_is, p.instance_is) (device_found old good_old i d e)
+  back i d e p = grind (arith, device_found)
 
 -- ---- devices by name and instance
 
@@ -189,9 +189,7 @@ module _ (old new : Set) (good_old : WellFormed old) (good_new : WellFormed new)
   configured : (machine : Option (List ℕ)) → IfSome machine (λ m. is_one_of old.machines m ≡ true)
       → IsConfiguration new.machines machine (optional configuration machine)
   configured None h = refl
-  configured (Some name) h =
-      let r = rules old new good_old good_new none in
-      (every_one _ _ name r.machines h, omega (arith, machine_short old good_old name h), refl)
+  configured (Some name) h = (every_one _ _ name (rules old new good_old good_new none).machines h, omega (arith, machine_short old good_old name h), refl)
 
   one_each : (images : List Image) → length (carried old new images) ≡ length new.devices
   unfolding carried

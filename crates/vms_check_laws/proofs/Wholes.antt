@@ -8,7 +8,7 @@ use Rattle.vms_check_laws.proofs.Facade.{zeroed, own_slots, own_cells, sub_slots
 use Rattle.vms_check_laws.proofs.Facade.{written_subs, written_section, find_sub, index, is_version_of, WellFormed, comparing, compare_sub, compare_subs}
 use Rattle.vms_check_laws.proofs.Facade.{carrying, carried_sub, carried_device, defaults, sub_came, sub_found, defaults_at, version_decides, rules_append}
 use Rattle.vms_check_laws.proofs.Facade.{IsSaved, Holds, FitsAt, answers_none, at_set, rules_split, sub_size, ◌≤◌, option_and_then, Cell, FitCells, RulesHold}
-use Rattle.vms_check_laws.proofs.Facade.{IsReady, ComeAsNeeded, here, failing_pair, passes, or_else_none, part_apart, cells_of_sub}
+use Rattle.vms_check_laws.proofs.Facade.{IsReady, ComeAsNeeded, or_else_none, part_apart, cells_of_sub}
 use Rattle.vms_check_laws.proofs.Parts.{Came, Facts, subs_fit, subs_read, sub_held, part_meets, sub_reads, good_cells, Stayed}
 use Rattle.vms_check_laws.proofs.Premises.{fit_append, fit_length, are_fit}
 use Rattle.vms_check_laws.proofs.Segments.{holds_left, holds_right, holds_at, fits_left, RestAt, at_first, one_on, from_zero, fits_right, fits_at}
@@ -142,12 +142,7 @@ module _ (old new : Set) (good_old : WellFormed old) (good_new : WellFormed new)
 
   compared : (j l : ℕ) (s t : Sub) → slice_get d.subs j ≡ Some s → slice_get e.subs l ≡ Some t → s.desc.name ≡ t.desc.name
       → (is_version_of t.desc s.desc.version ≡ true) × (comparing old new s.desc t.desc s.desc.version (parts.Sub i j) (parts.Sub k l) ≡ None)
-  compared j l s t at_j at_l names =
-      let z : 0 + j ≡ j = omega arith in
-      let found : find_sub 0 e.subs s.desc.name ≡ Some l = rw names (sub_found new good_new k l e t at_k at_l) in
-      let at_t : compare_sub old new i k j s (Some l) (Some t) ≡ None = rw (z, found, at_l) at (answers_none _ 0 d.subs none j s at_j) in
-      let p = or_else_none (failing_pair ((14, is_version_of t.desc s.desc.version) ∷ []) (here (parts.Sub i j)) (here (parts.Sub k l))) _ at_t in
-      ((passes 14 (is_version_of t.desc s.desc.version) [] (here (parts.Sub i j)) (here (parts.Sub k l)) p.0).0, p.1)
+  compared j l s t at_j at_l names = grind (arith, sub_found, answers_none, or_else_none)
 
   abbrev came_is : (j l : ℕ) (s t : Sub) (v : ℕ) → slice_get d.subs j ≡ Some s → slice_get e.subs l ≡ Some t → s.desc.name ≡ t.desc.name
       → slice_get image.came j ≡ Some (Some v) → find_sub 0 d.subs t.desc.name ≡ Some j → Came old new good_old good_new d e image numbers' came t
@@ -215,7 +210,7 @@ module _ (old new : Set) (good_old : WellFormed old) (good_new : WellFormed new)
         | inl is ↦ let bad : sub_came old new None (slice_get image.came 0) ≡ Some v = rw is at f.2 in absurd (cc)
         | inr g ↦
             let found : find_sub 0 e.subs g.sub.desc.name ≡ Some l = rw g.name_is (sub_found new good_new k l e f.0 at_k f.1) in
-            order_has d.subs image.came g.number l v g.sub g.there (came_from _ g.number v (rw g.found at f.2)) (ap index found)
+            order_has d.subs _ _ l v g.sub g.there (came_from _ g.number v (rw g.found at f.2)) (ap index found)
       ]
 
   module _ (held : Holds numbers' (own_cells new e) rest) where

@@ -9,7 +9,7 @@ use vms_desc::DescSet;
 use vms_io::NoMemory;
 use vms_rtc::NEWEST_CLOCK;
 
-/// A kind of boards.
+/// A kind of boards, with its own names, numbers and shipped sets.
 #[derive(Clone, Copy, Debug, PartialEq, Eq)]
 pub enum BoardKind {
     /// `isa-1` to `isa-4`, with the sets `@0` to `@4`.
@@ -42,7 +42,7 @@ impl BoardKind {
         }
     }
 
-    /// Returns what the word of a set has in front of its number.
+    /// Returns the text in front of the number in the word of a set: `@` or `@c`.
     pub(crate) fn set_front(self) -> &'static [u8]
         ensures { result.now ≡ set_front self }
     {
@@ -52,7 +52,7 @@ impl BoardKind {
         }
     }
 
-    /// Returns what the name of a board has in front of its number.
+    /// Returns the text in front of the number in the name of a board: `isa-` or `clk-`.
     pub(crate) fn board_front(self) -> &'static [u8]
         ensures { result.now ≡ board_front self }
     {
@@ -70,7 +70,7 @@ impl BoardKind {
     ///
     /// # Requires
     ///
-    /// `number` is at most that of the newest set.
+    /// `number` is at most that of the newest set. For `Clock`, 0 gives the set 1.
     pub(crate) fn make_set(self, alloc: Global, number: u8) -> Result<DescSet, NoMemory>
         requires { number ≤ newest_of self }
         ensures { IfOk result (λ set. described set ≡ set_of self number) }

@@ -22,8 +22,9 @@ pub fn set_word(word: &str) -> Option<SetWord<'_>>
     }
 }
 
-/// Returns the shipped set whose word is `word`: what the sets of its kind have in front, as `@`
-/// or `@c`, and its number.
+/// Returns the shipped set that `word` names: `@` or `@c`, and the set's number in decimal.
+///
+/// Returns `None` if there is no such set.
 pub fn shipped_set(word: &str) -> Option<ShippedSet>
     ensures { option_map shipped_asked result ≡ shipped_word word.now }
 {
@@ -40,8 +41,9 @@ pub fn shipped_set(word: &str) -> Option<ShippedSet>
     None
 }
 
-/// Returns the board whose name is `word`: what the boards of its kind have in front, as `isa-`,
-/// and its number.
+/// Returns the board that `word` names: `isa-` or `clk-`, and the board's number in decimal.
+///
+/// Returns `None` if there is no such board.
 pub fn board_word(word: &str) -> Option<BoardWord>
     ensures { option_map board_asked result ≡ board_word word.now }
 {

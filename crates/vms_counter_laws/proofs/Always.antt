@@ -1,10 +1,10 @@
 -- The defaults show three kinds of mismatch, where they are ready.
 use Rattle.vms_counter_laws.proofs.{Devices.Comes, Devices.comes, Clashing.present_fields, Clashing.clashes}
-use Rattle.vms_counter_laws.proofs.Facade.{◌==◌, if◌then◌else◌, ℕ, subst, ◌≡◌, inl, inr, ◌+◌, ◌^◌, ◌<◌, true, false, List, [], ◌++◌, length, map, Option, Some}
+use Rattle.vms_counter_laws.proofs.Facade.{◌==◌, if◌then◌else◌, ℕ, subst, ◌≡◌, inl, inr, ◌+◌, ◌<◌, true, false, List, [], ◌++◌, length, map, Option, Some}
 use Rattle.vms_counter_laws.proofs.Facade.{None, refl, sym, ap, ◌∙◌, arith, append_assoc, append-nil, ℤ, slice_get, list_all, lacking, IsBytes, Field}
 use Rattle.vms_counter_laws.proofs.Facade.{Device, Set, FitsHeads, struct_cells, desc_cells, Image, Spells, default_image, own_slots, own_cells}
 use Rattle.vms_counter_laws.proofs.Facade.{zeroed, IsVersionOf, be32, magic, stream_head, section_head, configuration, end_mark, foot, written}
-use Rattle.vms_counter_laws.proofs.Facade.{written_sections, written_subs, AreReady, IsReady, Magic, Version, WellFormed, here, find_device, few_devices}
+use Rattle.vms_counter_laws.proofs.Facade.{written_sections, written_subs, AreReady, Magic, Version, WellFormed, here, find_device, few_devices}
 use Rattle.vms_counter_laws.proofs.Facade.{machine_short, reading_on, falses, defaults_of, version_decides, bytes_rest, well_good, device_found, Unknown}
 use Rattle.vms_counter_laws.proofs.Facade.{AtMagic, AtVersion, judge, reading, Headed, at_start, between, by_state, Takes, unit_on, taken_holds, Mismatch}
 use Rattle.vms_counter_laws.proofs.Facade.{presence, reduced, compare_device, compare_fields, comparers, Comparer, Entry, first_mismatch, is_kept, present}
@@ -51,11 +51,8 @@ module _ (old new : Set) (good_old : WellFormed old) (good_new : WellFormed new)
     abbrev image : Image
     image = default_image old d
 
-    image_ready : IsReady old d image
-    image_ready = ready.ready i d image fails.answers.stands (at_map (default_image old) old.devices i d fails.answers.stands)
-
     fails_here : compare_device old new i d (Some p.number) (Some p.device) ≡ Some m
-    fails_here = let z : 0 + i ≡ i = omega arith in rw (z, p.compared_is) at fails.answers.answers
+    fails_here = grind arith
 
     -- an accepted reading has its section
     arrives : IsBytes (written old None images None) → (n : ℕ) (machine : Option (List ℕ)) (states : List Image)
@@ -87,18 +84,15 @@ module _ (old new : Set) (good_old : WellFormed old) (good_new : WellFormed new)
         let e = b.device in
         let s = b.is in
         let own = zeroed image.numbers (own_slots old d d.desc.version image.numbers) in
-        let subs = written_subs old d image (own_cells old d) d.subs image.came in
-        let close = if b.footed then foot b.id else [] in
-        let more = subs ++ (foot i ++ c.rest) in
-        let more' = s.tail ++ (close ++ b.after) in
+        let more = written_subs old d image (own_cells old d) d.subs image.came ++ (foot i ++ c.rest) in
+        let more' = s.tail ++ ((if b.footed then foot b.id else []) ++ b.after) in
         let head_d = section_head i d.desc.name d.instance d.desc.version in
         let head_e = section_head b.id e.desc.name e.instance b.image.version in
         let is : head_d ++ (own ++ more) ≡ head_e ++ (s.body ++ more') =
         simp append_assoc (simp append_assoc at (b.spelled ∙ ap (λ (l : List ℕ). l ++ b.after) s.whole)) in
         let fits = heads_old.instance i d fails.answers.stands in
         let fits' = heads.instance b.number e b.there in
-        let high : b.image.version < 2 ^ 32 = omega (arith, s.normal.version.1, fits'.1) in
-        let head = same_head i b.id d.desc.name e.desc.name d.instance e.instance d.desc.version b.image.version _ _ fits.0 fits'.0 fits.1 high is in
+        let head = same_head i b.id _ _ _ _ _ _ _ _ fits.0 fits'.0 fits.1 (omega (arith, s.normal.version.1, fits'.1)) is in
         let found : find_device 0 new.devices e.desc.name e.instance ≡ Some p.number = rw (← head.names, ← head.instances) p.found in
         let number : b.number ≡ p.number = cc (device_found new good_new b.number e b.there) in
         let same : e ≡ p.device = cc (b.there, p.stands) in
@@ -124,7 +118,7 @@ module _ (old new : Set) (good_old : WellFormed old) (good_new : WellFormed new)
     -- ---- a constant
 
     own_fits : FitsAt (desc_cells (struct_cells old) d.desc) image.numbers 0
-    own_fits = fits_left _ (fits_whole _ _ image_ready.normal.cells)
+    own_fits = fits_left _ (fits_whole _ _ (ready.ready i d image fails.answers.stands (at_map _ old.devices i d fails.answers.stands)).normal.cells)
 
     abbrev v : ℕ
     v = d.desc.version
@@ -141,11 +135,7 @@ module _ (old new : Set) (good_old : WellFormed old) (good_new : WellFormed new)
     plain_is : (i' j' : ℕ) → m.in_old.part ≡ parts.Device i' → m.in_old.field ≡ Some j' → IsPlain old i' j' → m.in_old.part ≡ parts.Device i
         → (j : ℕ) (f : Field) → m.in_old.field ≡ Some j → slice_get d.desc.fields j ≡ Some f → presence v f.test f.since ≡ Some None
     plain_is i' j' part field plain here j f field' is =
-        let numbers : i' ≡ i = cc in
-        let fields : j' ≡ j = cc in
-        let device : plain.device ≡ d = cc (fails.answers.stands) in
-        let same : plain.field ≡ f = cc in
-        rw (device, same) at plain.always
+        cc (plain.always, fails.answers.stands)
 
     constant_fails : Meets → m.rule ≡ 12 → (i' j' : ℕ) → m.in_old.part ≡ parts.Device i' → m.in_old.field ≡ Some j' → IsPlain old i' j' → ⊥
     constant_fails w twelve i' j' part field plain = by (of_device old new i _ d _ m fails_here)
@@ -154,7 +144,7 @@ module _ (old new : Set) (good_old : WellFormed old) (good_new : WellFormed new)
         is_device = rw part tt
 
         here_or : IsWithin (parts.Device i) m → m.in_old.part ≡ parts.Device i
-        here_or x = elim x.place [ inl e ↦ e | inr s ↦ absurd (struct_no_device _ s is_device) ]
+        here_or x = grind (arith, struct_no_device)
 
         fields : m.in_old.part ≡ parts.Device i → compare_fields ks d.desc p.device.desc v v (parts.Device i) (parts.Device p.number) (position_from 0 es)
             (position_from 0 fs) es fs ≡ Some m → ⊥
@@ -187,26 +177,21 @@ module _ (old new : Set) (good_old : WellFormed old) (good_new : WellFormed new)
 
   -- ---- the three kinds
 
-  no_machine : (m : Mismatch) (r : ℕ) → m.rule ≡ r → (r == 1) ≡ false → machine_for old new m ≡ None
-  no_machine m r e other = rw (e, other)
-
   device_untaken : (m : Mismatch) (r : ℕ) → m.rule ≡ r → (r == 1) ≡ false → 3 < r → first_mismatch old new ≡ Some m → IsBytes (stream_of old new m images)
       → ((fails : DeviceFails old new m) → Meets m fails → ⊥) → (n : ℕ) (machine : Option (List ℕ)) (states : List Image)
       → Takes new new.machines (stream_of old new m images) n machine states → ⊥
   device_untaken m r rule other late h ok never n machine states t =
       let fails = device_fails old new m h (omega arith) in
-      let stream = ap (λ (k : Option (List ℕ)). written old k images None) (no_machine m r rule other) in
-      let takes = subst (λ (l : List ℕ). Takes new new.machines l n machine states) stream t in
-      never fails (meets m fails (arrives m fails (subst IsBytes stream ok) n _ states takes))
+      let stream : stream_of old new m images ≡ written old None images None = rw (rule, other) in
+      never fails
+      (meets m fails (arrives m fails (subst IsBytes stream ok) n _ states (subst (λ l. Takes new new.machines l n machine states) stream t)))
 
   machine_shown : (m : Mismatch) → first_mismatch old new ≡ Some m → m.rule ≡ 1 → (n : ℕ) (machine : Option (List ℕ)) (states : List Image)
       → Takes new new.machines (stream_of old new m images) n machine states → ⊥
   machine_shown m h one n machine states t =
       let l = lacks new.machines old.machines (machine_fails old new m h one) in
       let named : machine_for old new m ≡ Some l.name = ap (λ (k : ℕ). if k == 1 then lacking new.machines old.machines else None) one ∙ l.is in
-      let sections = written_sections old 0 old.devices images in
-      let is : written old (Some l.name) images None ≡ stream_head ++ (configuration l.name ++ (sections ++ (end_mark ++ []))) =
-      simp append_assoc in
+      let is : written old (Some l.name) images None ≡ stream_head ++ (configuration l.name ++ behind) = simp append_assoc in
       machine_untaken new _ l.name _ l.unknown (omega (arith, machine_short old good_old l.name l.known)) n _ states
       (subst (λ (x : List ℕ). Takes new new.machines x n machine states) (ap (λ (k : Option (List ℕ)). written old k images None) named ∙ is) t)
 

@@ -21,7 +21,7 @@ entry_field all v i p f (Some rest) es h e more = ((e, h), more)
 pub present_fields : (y : List (List Cell)) (all : List Field) (v i p : ℕ) (fs : List Field) → RestAt all i fs → AreFields all v (present_from y all v i p fs)
 present_fields y all v i p [] h = tt
 present_fields y all v i p (f ∷ fs) h =
-    entry_field all v i p f (presence v f.test f.since) _ refl (at_first (slice_get all) i h)
+    entry_field all v i p f _ _ refl (at_first (slice_get all) i h)
     (present_fields y all v (suc i) (p + length (field_cells y all i f)) fs (one_on (slice_get all) i h))
 
 -- ---- constants
@@ -46,14 +46,12 @@ differ _ _ fits fits' same h = absurd (cc)
 next_rule : (r : ℕ) (b : Bool) (rules : List (ℕ × Bool)) (p q : Place) (m : Mismatch) → failing_pair ((r, b) ∷ rules) p q ≡ Some m
     → ((m.rule ≡ r) × (b ≡ false) × (m.in_old ≡ p)) ⊎ ((b ≡ true) × (failing_pair rules p q ≡ Some m))
 next_rule r true rules p q m h = inr (refl, h)
-next_rule r false rules p q m h =
-    let same : record { rule = r; in_old = p; in_new = q } ≡ m = cc in
-    inl (rw (← same), refl, rw (← same))
+next_rule r false rules p q m h = grind arith
 
 -- a rule of another number doesn't fail
 not_this : (r : ℕ) (b : Bool) (rules : List (ℕ × Bool)) (p q : Place) (m : Mismatch) → (m.rule ≡ r → ⊥) → failing_pair ((r, b) ∷ rules) p q ≡ Some m
     → (b ≡ true) × (failing_pair rules p q ≡ Some m)
-not_this r b rules p q m other h = elim (next_rule r b rules p q m h) [ inl e ↦ absurd (other e.0) | inr e ↦ e ]
+not_this r b rules p q m other h = grind (arith, next_rule)
 
 no_left : (o n : ℕ → Option ℕ) (r s : Option Formula) → r ≡ None → same_rest o n r s ≡ true → s ≡ None
 no_left o n None None e h = refl

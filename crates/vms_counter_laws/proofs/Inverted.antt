@@ -24,10 +24,7 @@ pub record FirstSome {X Y : Type 0} (f : ℕ → X → Option Y) (i : ℕ) (xs :
 first_before : {X Y : Type 0} (f : ℕ → X → Option Y) (i : ℕ) (x : X) (xs : List X) (n : ℕ) → f i x ≡ None
     → ((k : ℕ) (y : X) → suc k < n → slice_get xs k ≡ Some y → f (suc i + k) y ≡ None)
     → (k : ℕ) (y : X) → k < n → slice_get (x ∷ xs) k ≡ Some y → f (i + k) y ≡ None
-first_before f i x xs n none more zero y lt e =
-    let zero_more : i + 0 ≡ i = omega arith in
-    let same : x ≡ y = cc in
-    rw (zero_more, ← same) none
+first_before f i x xs n none more zero y lt e = grind arith
 first_before f i x xs n none more (suc k) y lt e = let one_more : suc i + k ≡ i + suc k = omega arith in rw one_more at (more k y lt e)
 
 pub first_some : {X Y : Type 0} (f : ℕ → X → Option Y) (i : ℕ) (xs : List X) (m : Y) → first_answer f i xs ≡ Some m → FirstSome f i xs m
@@ -39,14 +36,19 @@ first_some f i (x ∷ xs) m h =
       | inr e ↦
           let r = first_some f (suc i) xs m e.1 in
           let one_more : suc i + r.number ≡ i + suc r.number = omega arith in
-          let before = first_before f i x xs (suc r.number) e.0 (λ k y lt same. r.before k y (omega arith) same) in
-          record { number = suc r.number; item = r.item; stands = r.stands; answers = rw one_more at r.answers; before = before }
+          record {
+            number = suc r.number;
+            item = r.item;
+            stands = r.stands;
+            answers = rw one_more at r.answers;
+            before = first_before f i x xs _ e.0 (λ k y lt same. r.before k y (omega arith) same);
+          }
     ]
 
 -- one rule, at one pair of places
 pub one_rule : (r : ℕ) (b : Bool) (p q : Place) (m : Mismatch) → failing_pair ((r, b) ∷ []) p q ≡ Some m → (b ≡ false) × (m.rule ≡ r) × (m.in_old ≡ p)
 one_rule r true p q m h = absurd (cc)
-one_rule r false p q m h = let same : record { rule = r; in_old = p; in_new = q } ≡ m = cc in (refl, rw (← same), rw (← same))
+one_rule r false p q m h = grind arith
 
 -- ---- parts
 
@@ -119,7 +121,7 @@ desc_within structs x y a b v w part part' m within h =
     ]
 
 struct_is : (i : ℕ) (m : Mismatch) → IsWithin (parts.Struct i) m → (4 < m.rule) × IsStruct m.in_old.part
-struct_is i m r = (r.rule, elim r.place [ inl e ↦ rw e tt | inr s ↦ s ])
+struct_is i m r = grind arith
 
 -- the comparers of the structures answer within them
 pub tables_within : (x y : List (List Cell)) (olds news : List Desc) (k : ℕ) → StructsWithin (comparers x y olds news k)
@@ -145,7 +147,7 @@ struct_no_device (parts.Struct i) s d = d
 struct_no_device _ s d = s
 
 sub_part : (i j : ℕ) (m : Mismatch) → IsWithin (parts.Sub i j) m → (4 < m.rule) × (IsDevice m.in_old.part → ⊥)
-sub_part i j m r = (r.rule, λ d. elim r.place [ inl e ↦ rw e at d | inr s ↦ struct_no_device _ s d ])
+sub_part i j m r = grind (arith, struct_no_device)
 
 module _ (old new : Set) where
   set_tables : StructsWithin (comparers (struct_cells old) (struct_cells new) old.structs new.structs (length new.structs))
@@ -156,15 +158,11 @@ module _ (old new : Set) where
 
   no_sub : (i j k : ℕ) (m : Mismatch) → record { rule = 13; in_old = here (parts.Sub i j); in_new = here (parts.Device k) } ≡ m
       → (4 < m.rule) × (IsDevice m.in_old.part → ⊥)
-  no_sub i j k m e = sub_part i j m (within_of _ _ m e (record { rule = omega arith; place = inl refl }))
+  no_sub i j k m e = grind (arith, within_of)
 
   sub_within : (i k j : ℕ) (s : Sub) (l : Option ℕ) (t : Option Sub) (m : Mismatch) → compare_sub old new i k j s l t ≡ Some m
       → (4 < m.rule) × (IsDevice m.in_old.part → ⊥)
-  sub_within i k j s (Some l) (Some t) m h =
-      elim (else_some (failing_pair ((14, is_version_of t.desc s.desc.version) ∷ []) (here (parts.Sub i j)) (here (parts.Sub k l))) _ m h) [
-        | inl e ↦ sub_part i j m (failing_within ((14, is_version_of t.desc s.desc.version) ∷ []) _ _ m (omega arith, tt) e)
-        | inr e ↦ sub_part i j m (part_within s.desc t.desc s.desc.version (parts.Sub i j) (parts.Sub k l) m e.1)
-      ]
+  sub_within i k j s (Some l) (Some t) m h = grind (arith, else_some, failing_within, part_within)
   sub_within i k j s None t m h = no_sub i j k m cc
   sub_within i k j s (Some l) None m h = no_sub i j k m cc
 
@@ -187,13 +185,8 @@ module _ (old new : Set) where
         ]
       ]
 
-  pub not_early : (i k : ℕ) (d e : Device) (m : Mismatch) → OfDevice i k d e m → 3 < m.rule
-  not_early i k d e m (Version r f) = omega arith
-  not_early i k d e m (Own lt c) = omega arith
-  not_early i k d e m (Below lt c) = omega arith
-
   compared_early : (i : ℕ) (d : Device) (o : Option ℕ) (p : Option Device) (m : Mismatch) → compare_device old new i d o p ≡ Some m → 3 < m.rule
-  compared_early i d (Some k) (Some e) m h = not_early i k d e m (of_device i k d e m h)
+  compared_early i d (Some k) (Some e) m h = grind (arith, of_device)
   compared_early i d _ _ m h = absurd (cc)
 
   -- ---- which rule is the first
@@ -205,7 +198,7 @@ module _ (old new : Set) where
 
   -- which rule it is, and where
   which_fails : (m : Mismatch) → first_mismatch old new ≡ Some m
-      → ((list_all (is_one_of new.machines) old.machines ≡ false) × (m.rule ≡ 1)) ⊎ ((m.rule ≡ 2) ⊎ ((m.rule ≡ 3) ⊎ DeviceFails m))
+      → ((list_all (is_one_of new.machines) old.machines ≡ false) × (m.rule ≡ 1)) ⊎ (((1 < m.rule) × (m.rule < 4)) ⊎ DeviceFails m)
   unfolding first_mismatch
   which_fails m h =
       let old_in = λ (i : ℕ) (d : Device). failing_pair ((2, is_in new d) ∷ []) (here (parts.Device i)) (here parts.Set) in
@@ -213,10 +206,10 @@ module _ (old new : Set) where
       elim (else_some _ _ m h) [
         | inl r ↦ let one = one_rule 1 (list_all (is_one_of new.machines) old.machines) (here parts.Set) (here parts.Set) m r in inl (one.0, one.1)
         | inr r ↦ elim (else_some (first_answer old_in 0 old.devices) _ m r.1) [
-          | inl s ↦ let f = first_some old_in 0 old.devices m s in inr (inl (one_rule 2 (is_in new f.item) _ _ m f.answers).1)
+          | inl s ↦ let f = first_some old_in 0 _ m s in let two = (one_rule 2 (is_in new f.item) _ _ m f.answers).1 in inr (inl (omega arith, omega arith))
           | inr s ↦ elim (else_some (first_answer new_in 0 new.devices) _ m s.1) [
-            | inl t ↦ let f = first_some new_in 0 new.devices m t in inr (inr (inl (one_rule 3 (is_in old f.item) _ _ m f.answers).1))
-            | inr t ↦ inr (inr (inr (record { all_in = s.0; answers = first_some (λ i d. compared old new i d) 0 _ m t.1 })))
+            | inl t ↦ let f = first_some new_in 0 _ m t in let three = (one_rule 3 (is_in old f.item) _ _ m f.answers).1 in inr (inl (omega arith, omega arith))
+            | inr t ↦ inr (inr (record { all_in = s.0; answers = first_some (λ i d. compared old new i d) 0 _ m t.1 }))
           ]
         ]
       ]
@@ -224,17 +217,13 @@ module _ (old new : Set) where
   pub machine_fails : (m : Mismatch) → first_mismatch old new ≡ Some m → m.rule ≡ 1 → list_all (is_one_of new.machines) old.machines ≡ false
   machine_fails m h one = elim (which_fails m h) [
     | inl r ↦ r.0
-    | inr (inl two) ↦ absurd (omega arith)
-    | inr (inr (inl three)) ↦ absurd (omega arith)
-    | inr (inr (inr d)) ↦
-        let f = d.answers in
-        absurd (omega (arith, compared_early _ f.item _ _ m f.answers))
+    | inr (inl between) ↦ absurd (omega arith)
+    | inr (inr d) ↦ absurd (omega (arith, compared_early _ d.answers.item _ _ m d.answers.answers))
   ]
 
   pub device_fails : (m : Mismatch) → first_mismatch old new ≡ Some m → 3 < m.rule → DeviceFails m
   device_fails m h late = elim (which_fails m h) [
     | inl r ↦ absurd (omega arith)
-    | inr (inl two) ↦ absurd (omega arith)
-    | inr (inr (inl three)) ↦ absurd (omega arith)
-    | inr (inr (inr d)) ↦ d
+    | inr (inl between) ↦ absurd (omega arith)
+    | inr (inr d) ↦ d
   ]

@@ -24,7 +24,7 @@ same_head id id' name name' instance instance' v v' rest rest' i_fits i_fits' v_
     let a = apart name name' (be32 instance' ++ (be32 v' ++ rest')) (be32 instance ++ (be32 v ++ rest)) long (simp append_assoc at more) in
     let b = apart (be32 instance) (be32 instance') (be32 v' ++ rest') (be32 v ++ rest) refl a.1 in
     let c = apart (be32 v) (be32 v') rest' rest refl b.1 in
-    record { names = a.0; instances = same_be32 instance instance' i_fits i_fits' b.0; versions = same_be32 v v' v_fits v_fits' c.0; rests = c.1 }
+    record { names = a.0; instances = same_be32 _ _ i_fits i_fits' b.0; versions = same_be32 v v' v_fits v_fits' c.0; rests = c.1 }
 
 -- ---- A machine that the newer set doesn't have: no stream that names it is accepted.
 
@@ -81,4 +81,4 @@ machine_untaken set names name more unknown short n machine images t =
     let tail = 0x00 ∷ (s.tail ++ t.rest) in
     let is : stream_head ++ (configuration name ++ more) ≡ stream_head ++ (s.named ++ (s.sections ++ tail)) = t.prefix ∙ rw s.whole (simp append_assoc) in
     by_machine names _ name _ _ more unknown short s.configured (λ none e. first_byte set _ images _ _ _ s.spelled e)
-    (apart stream_head stream_head (s.named ++ (s.sections ++ tail)) (configuration name ++ more) refl (sym (sym is))).1
+    (apart stream_head stream_head _ _ refl is).1

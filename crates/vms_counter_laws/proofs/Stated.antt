@@ -30,8 +30,7 @@ always_holds old new good_old good_new heads_old heads m h kind ready =
         → (refusal : Refusal) × Counters old new (State m (machine_for old new m) (default_images old) refusal)
     by s (Taken n machine states t) = absurd (s.untaken n machine states t)
     by s (Faulty place section reason size fault) =
-        let refusal : Refusal = record { place = place; section = section; reason = reason } in
-        (refusal, Finds m (default_images old) refusal size h (Here _ s) fault)
+        (record { place = place; section = section; reason = reason }, Finds m (default_images old) _ size h (Here _ s) fault)
 
 -- ---- the answer
 
@@ -39,18 +38,16 @@ abbrev EachReady : Set → List Device → List Image → Type 0
 EachReady set ds ims = (k : ℕ) (d : Device) (image : Image) → slice_get ds k ≡ Some d → slice_get ims k ≡ Some image → IsReady set d image
 
 all_ready_decides : (set : Set) (ds : List Device) (ims : List Image) → Decides (all_ready set ds ims) ((length ims ≡ length ds) × EachReady set ds ims)
-all_ready_decides set [] [] = (λ e. (refl, λ k d image e f. cc), λ h. refl)
+all_ready_decides set [] [] = grind arith
 all_ready_decides set (x ∷ ds) (im ∷ ims) =
-    Decides-like _ (λ h. (rw h.1.0, each h.0 h.1.1)) (λ h. (h.1 0 x im refl refl, (omega (arith, h.0), λ k. h.1 (suc k))))
+    Decides-like _ (λ h. (rw h.1.0, each h.0 h.1.1)) (λ h. (h.1 0 x im refl refl, (omega arith, λ k. h.1 (suc k))))
     (Decides-and _ _ (ready_decides set x im) (all_ready_decides set ds ims))
   where
     each : IsReady set x im → EachReady set ds ims → EachReady set (x ∷ ds) (im ∷ ims)
     each here more zero d image e f =
-        let a : x ≡ d = cc in
-        let b : im ≡ image = cc in
-        rw (a, b) at here
+        let a : x ≡ d = cc in let b : im ≡ image = cc in rw (a, b) at here
     each here more (suc k) d image e f = more k d image e f
-all_ready_decides set _ _ = (λ e. cc, λ h. absurd (omega (arith, h.0)))
+all_ready_decides set _ _ = (λ e. cc, λ h. absurd (omega arith))
 
 module _ (old new : Set) (well : WellFormed old) (good : WellFormed new) (heads : FitsHeads new) (m : Mismatch) where
   abbrev stream : List Image → List ℕ

@@ -10,6 +10,7 @@ use Rattle.vms_board.specs.Clock.{clock}
 use Rattle.vms_board.specs.Family.{Family}
 use Rattle.vms_board.specs.Isa.{isa}
 use Rattle.vms_board.specs.Standing.{Standing}
+use Rattle.vms_rtc.specs.declared.limits.TheConstants.{NEWEST_CLOCK}
 use Rattle.vmstate_board_c.specs.declared.kinds.AnyBoard.{AnyBoard}
 use Rattle.vmstate_board_c.specs.declared.kinds.AnyBoard.TheVariants.{Isa, Clock}
 
@@ -17,7 +18,7 @@ use Rattle.vmstate_board_c.specs.declared.kinds.AnyBoard.TheVariants.{Isa, Clock
 abbrev pub is_made : (kind level : ℕ) → Bool
 is_made kind level =
     if kind == 0 then nat_le 1 level && nat_le level NEWEST
-    else (if kind == 1 then nat_le 1 level && nat_le level 2 else false)
+    else (if kind == 1 then nat_le 1 level && nat_le level NEWEST_CLOCK else false)
 
 -- A board at power on, which was never restored.
 abbrev pub on : {S : Type 0} → Family S → ℕ → Standing S

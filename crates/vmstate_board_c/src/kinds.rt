@@ -14,6 +14,7 @@ use dev_base::NEWEST;
 use dev_board::{Answer, Event};
 use std::alloc::Global;
 use vms_board::{Board, ClockBoard, NoMemory};
+use vms_rtc::NEWEST_CLOCK;
 
 /// A board of one of the kinds.
 #[derive(Drop)]
@@ -46,7 +47,7 @@ pub(crate) fn is_kind(kind: u8, level: u8) -> bool
 {
     match kind {
         ISA => 1 <= level && level <= NEWEST,
-        CLOCK => 1 <= level && level <= 2,
+        CLOCK => 1 <= level && level <= NEWEST_CLOCK,
         _ => false,
     }
 }
