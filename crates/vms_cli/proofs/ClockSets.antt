@@ -1,8 +1,8 @@
 -- `check @c1 @c2` accepts.
-use Rattle.vms_cli.proofs.{Facade.Check, Facade.asked_of, Facade.of_both, Facade.pair_of, KindLaws.numbers_of}
-use Rattle.vms_cli.proofs.Facade.{◌≡◌, ℕ, zero, suc, ◌+◌, ◌≤◌, ◌++◌, if◌then◌else◌, List, [], ◌∷◌, Option, Some, None, codes, ap, sym, subst, refl, arith}
-use Rattle.vms_cli.proofs.Facade.{option_map, bytes_eq, decimal_digit, sets_are_compatible, Mismatch, done, BoardKind, Clock, SetOf, Shipped, ◌-◌, first_kind}
-use Rattle.vms_cli.proofs.Facade.{first_set, kinds, newest_of, set_front, named_set, number_after, set_word, HasText, compatible_text, verdict, ClockSetsLaw}
+use Rattle.vms_cli.proofs.{Facade.compatible_text, Facade.verdict, Facade.ClockSetsLaw, KindLaws.numbers_of}
+use Rattle.vms_cli.proofs.Facade.{Check, asked_of, of_both, pair_of, ◌≡◌, ℕ, zero, suc, ◌+◌, ◌≤◌, ◌++◌, if◌then◌else◌, List, [], ◌∷◌, Option, Some, None, codes}
+use Rattle.vms_cli.proofs.Facade.{ap, sym, subst, refl, arith, option_map, bytes_eq, decimal_digit, sets_are_compatible, Mismatch, done, BoardKind, Clock}
+use Rattle.vms_cli.proofs.Facade.{SetOf, Shipped, ◌-◌, first_kind, first_set, kinds, newest_of, set_front, named_set, number_after, set_word, HasText}
 
 -- ---- numbers of one digit, whose words are computed
 
@@ -12,15 +12,14 @@ digit_after front first (suc count) word = if bytes_eq word (front ++ (48 + firs
 
 by_digits : (front : List ℕ) (first count : ℕ) (word : List ℕ) → first + count ≤ 10 → number_after front first count word ≡ digit_after front first count word
 by_digits front first zero word le = refl
-by_digits front first (suc count) word le = cc (decimal_digit first (omega (arith, le)), by_digits front (suc first) count word (omega (arith, le)))
+by_digits front first (suc count) word le = cc (decimal_digit first (omega arith), by_digits front (suc first) count word (omega arith))
 
 -- the same for the sets of each kind
 by_kinds : (word : List ℕ) (of : List BoardKind)
     → first_kind (λ kind. option_map (SetOf kind) (number_after (set_front kind) (first_set kind) (suc (newest_of kind) - first_set kind) word)) of
     ≡ first_kind (λ kind. option_map (SetOf kind) (digit_after (set_front kind) (first_set kind) (suc (newest_of kind) - first_set kind) word)) of
 by_kinds word [] = refl
-by_kinds word (kind ∷ of) =
-    cc (by_digits (set_front kind) (first_set kind) (suc (newest_of kind) - first_set kind) word (numbers_of kind).few, by_kinds word of)
+by_kinds word (kind ∷ of) = cc (by_digits _ _ _ word (numbers_of kind).few, by_kinds word of)
 
 -- ---- the words of both sets
 

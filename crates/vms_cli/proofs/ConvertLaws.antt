@@ -1,12 +1,12 @@
 -- What follows of a stream that `convert` writes.
-use Rattle.vms_cli.proofs.{Entries.ConvertCommand.target_gives, ConvertLemmas.newest_fit, Facade.scripted, Facade.ScriptLine}
-use Rattle.vms_cli.proofs.Facade.{◌≡◌, ℕ, List, Option, Some, None, refl, sym, ap, ◌∙◌, subst, arith, [], append-nil, length, ◌-◌, Bool, true, false, ◌||◌, ◌∷◌}
-use Rattle.vms_cli.proofs.Facade.{IfSome, ℤ, if◌then◌else◌, length-map, bytes_eq-Decides, bytes_eq, Held, IsFit, Image, Set, Takes, one_stream_holds}
-use Rattle.vms_cli.proofs.Facade.{taken_kept, Compatible, first_mismatch, Mismatch, IsStreamFor, word_set, Outcome, done, SetWord, Step, Untold, Gives, Ends}
-use Rattle.vms_cli.proofs.Facade.{next, FitStep, fit_word, ConvertsBy, Rewrites, WouldLose, agreed, agrees, newest, Converts, described_text, AreRecastOf}
-use Rattle.vms_cli.proofs.Facade.{converts_stand, ready, newest_kinds, PrintsAlike, ConvertAgainLaw, ConvertThenAnalyzeLaw, StandsFor, ConvertThenLoadLaw}
-use Rattle.vms_cli.proofs.Facade.{IsLevel, NEWEST, moment_of, numbers_back, State, recast_restores, recast_cells, IsConfiguration, is_one_of, recast_each}
-use Rattle.vms_cli.proofs.Facade.{numbers_in, wants_arrays, lists_in, takes_under, cells_of, isa, isa_stands, Back, Restores, Loads, LoadsBy, Traces, Unfit}
+use Rattle.vms_cli.proofs.{Entries.ConvertCommand.target_gives, ConvertLemmas.newest_fit}
+use Rattle.vms_cli.proofs.Facade.{ScriptLine, ◌≡◌, ℕ, List, Option, Some, None, refl, sym, ap, ◌∙◌, subst, arith, [], append-nil, length, ◌-◌, Bool, true}
+use Rattle.vms_cli.proofs.Facade.{false, ◌||◌, ◌∷◌, IfSome, ℤ, if◌then◌else◌, length-map, bytes_eq-Decides, bytes_eq, Held, IsFit, Image, Set, Takes}
+use Rattle.vms_cli.proofs.Facade.{one_stream_holds, taken_kept, Compatible, first_mismatch, Mismatch, IsStreamFor, word_set, Outcome, done, SetWord, Step}
+use Rattle.vms_cli.proofs.Facade.{Untold, Gives, Ends, next, FitStep, fit_word, ConvertsBy, Rewrites, WouldLose, agreed, agrees, newest, Converts}
+use Rattle.vms_cli.proofs.Facade.{described_text, AreRecastOf, converts_stand, ready, newest_kinds, PrintsAlike, ConvertAgainLaw, ConvertThenAnalyzeLaw}
+use Rattle.vms_cli.proofs.Facade.{StandsFor, ConvertThenLoadLaw, IsLevel, NEWEST, State, recast_restores, recast_cells, IsConfiguration, is_one_of, recast_each}
+use Rattle.vms_cli.proofs.Facade.{numbers_in, wants_arrays, lists_in, takes_under, isa, isa_stands, Back, Restores, Loads, LoadsBy, Traces, Unfit}
 use Rattle.vms_cli.proofs.RoundTrips.{done_apart, fits_text, machine_of_set, same_text, written_prints}
 use Rattle.vms_cli.specs.{Commands.ConvertCommand.Refuses, Commands.ShowCommand.Values as Printed}
 use Rattle.vms_convert.specs.Laws.{Converts as StaysSo}
@@ -40,23 +40,22 @@ module _ (input stream : List ℕ) (held : Option Held) (n : ℕ) where
 
   by_compared : (to : Set) → IsFit to → (m : Option Mismatch) → first_mismatch to newest ≡ m → ConvertsBy (agreed to m) (Some input) held (done stream held n)
       → Written to
-  by_compared to fit None e has = by_outcome to fit e (done stream held n) refl has
+  by_compared to fit None e has = by_outcome to fit e _ refl has
   by_compared to fit (Some m) e has = absurd (done_apart 4 _ stream held 0 n has)
 
   by_step : (s : Step Set) → FitStep s → ConvertsBy (next s agrees) (Some input) held (done stream held n) → (to : Set) × (s ≡ Gives to) × Written to
   by_step Untold fit has = absurd has
-  by_step (Gives to) fit has = (to, refl, by_compared to fit (first_mismatch to newest) refl has)
+  by_step (Gives to) fit has = (to, refl, by_compared to fit _ refl has)
   by_step (Ends status line) fit has = absurd (done_apart status line stream held 0 n has)
 
   -- ---- the laws of what is converted
 
   module _ (to : Set) (w : Written to) where
     kinds : AreRecastOf to newest w.images
-    kinds = newest_kinds to newest refl w.images (taken_kept newest newest.machines input n w.machine w.images w.takes)
+    kinds = newest_kinds to newest refl _ (taken_kept newest newest.machines input n w.machine _ w.takes)
 
     stays : StaysSo to newest (described_text to) w.machine w.images stream
-    stays =
-        converts_stand to newest w.fit newest_fit.well w.compatible (described_text to) (λ backs. fits_text to w.fit backs) w.machine w.images kinds stream w.is
+    stays = converts_stand to newest w.fit newest_fit.well w.compatible _ (λ backs. fits_text to w.fit backs) _ _ kinds stream w.is
 
     prints : (word : SetWord) → word_set held word ≡ Gives to → PrintsAlike word stream held
     prints word there =
@@ -83,12 +82,12 @@ module _ (input stream : List ℕ) (held : Option Held) (n : ℕ) where
 
 pub convert_then_analyze : ConvertThenAnalyzeLaw
 convert_then_analyze word input stream held n has =
-    let w = by_step input stream held n (word_set held word) (fit_word held word) has in
+    let w = by_step input stream held n _ (fit_word held word) has in
     prints input stream held n w.0 w.2 word w.1
 
 pub convert_again : ConvertAgainLaw
 convert_again word input stream held n has =
-    let w = by_step input stream held n (word_set held word) (fit_word held word) has in
+    let w = by_step input stream held n _ (fit_word held word) has in
     stands_for input stream held n w.0 w.2 word w.1
 
 -- ---- Boards go on from what `convert` writes as from its input.
@@ -97,7 +96,7 @@ module _ (to : Set) (level : ℕ) where
   of_five : (a b c d e : List ℤ) → isa.restored level (recast_each to newest.devices (a ∷ b ∷ c ∷ d ∷ e ∷ [])) ≡ isa.restored level (a ∷ b ∷ c ∷ d ∷ e ∷ [])
   of_five a b c d e = go (wants_arrays to) where
     go : (w : Bool) → isa.restored level (a ∷ b ∷ c ∷ d ∷ (if w then recast_cells e else e) ∷ []) ≡ isa.restored level (a ∷ b ∷ c ∷ d ∷ e ∷ [])
-    go true = rw (recast_restores (numbers_back level (moment_of (cells_of (a ∷ b ∷ c ∷ d ∷ e ∷ [])))) e)
+    go true = rw (recast_restores _ e)
     go false = refl
 
   same_board : (lists : List (List ℤ)) → length lists ≡ 5 → isa.restored level (recast_each to newest.devices lists) ≡ isa.restored level lists
@@ -136,18 +135,17 @@ module _ (level : ℕ) (is : IsLevel level) (input stream : List ℕ) (held : Op
       let images = r.0 in
       let machine = r.1.0 in
       let takes = r.1.1 in
-      let named = named_in alone machine takes.stream.named takes.stream.configured in
-      let lifted = takes_under newest alone newest.machines input k machine images (known level is machine named) takes in
+      let named = named_in alone _ _ takes.stream.configured in
+      let lifted = takes_under newest alone _ input k _ images (known level is _ named) takes in
       let one = one_stream_holds newest newest.machines newest_fit.well newest_fit.heads input k _ machine s.machine images s.images lifted s.takes in
-      let loads = takes_under newest newest.machines alone stream (length stream) s.machine s.loaded (rw one.machines at named) s.loads in
+      let loads = takes_under newest _ alone stream _ _ _ (rw one.machines at named) s.loads in
       let five = length-map images (λ (image : Image). image.numbers) ∙ (taken_kept newest newest.machines input k machine images lifted).one_each in
       let lists : lists_in s.loaded ≡ recast_each s.to newest.devices (lists_in images) =
       s.cells ∙ ap (λ l. recast_each s.to newest.devices (numbers_in l)) (sym one.states) in
       (s.loaded, (s.machine, loads), ap (isa.restored level) lists ∙ same_board s.to level (lists_in images) five ∙ r.2)
 
   traced_too : {word : _} {n : ℕ} → StandsFor word input stream held n → (lines : List ScriptLine) (trace : List ℕ) (k : ℕ) (x : Outcome)
-      → x ≡ done trace held k → Loads isa level lines input held x
-      → Loads isa level lines stream held (done trace held (length stream))
+      → x ≡ done trace held k → Loads isa level lines input held x → Loads isa level lines stream held (done trace held (length stream))
   traced_too s lines trace k _ same (Traces board taken r) =
       subst (λ t. Loads isa level lines stream held (done t held (length stream))) (same_text _ _ same)
       (Traces board (length stream) (restored_too s board taken r))
@@ -155,12 +153,11 @@ module _ (level : ℕ) (is : IsLevel level) (input stream : List ℕ) (held : Op
   traced_too s lines trace k _ same (Unfit place section reason misfit) = absurd (done_apart 1 _ trace held _ k (sym same))
 
   by_script : {word : _} {n : ℕ} → StandsFor word input stream held n → (s : Step (List ScriptLine)) (trace : List ℕ) (k : ℕ)
-      → LoadsBy isa level s (Some input) held (done trace held k)
-      → LoadsBy isa level s (Some stream) held (done trace held (length stream))
+      → LoadsBy isa level s (Some input) held (done trace held k) → LoadsBy isa level s (Some stream) held (done trace held (length stream))
   by_script stands Untold trace k has = absurd has
-  by_script stands (Gives lines) trace k has = traced_too stands lines trace k (done trace held k) refl has
+  by_script stands (Gives lines) trace k has = traced_too stands lines trace k _ refl has
   by_script stands (Ends status line) trace k has = absurd (done_apart status line trace held 0 k has)
 
 pub convert_then_load : ConvertThenLoadLaw
 convert_then_load word level input stream script trace held n k is converted loaded =
-    by_script level is input stream held (convert_again word input stream held n converted) (scripted None held script) trace k loaded
+    by_script level is input stream held (convert_again word input stream held n converted) _ trace k loaded

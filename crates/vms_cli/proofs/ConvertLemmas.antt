@@ -1,15 +1,15 @@
 -- What `convert` answers, and how it ends.
-use Rattle.vms_cli.proofs.AnalyzeLemmas.{Stands, stands_same}
-use Rattle.vms_cli.proofs.Facade.{◌≡◌, ◌⊎◌, ℕ, zero, suc, ◌<◌, List, [], ◌∷◌, length, get_or, Option, Some, None, ℤ, inl, inr, refl, sym, ap, ◌∙◌, arith}
-use Rattle.vms_cli.proofs.Facade.{◌+◌, ◌^◌, Bool, false, true, Result, Ok, Err, IfSome, length-map, slice_get-get_or, Keeps, string_bytes, IsFit, Image}
+use Rattle.vms_cli.proofs.AnalyzeLemmas.{kept_so, wrote_so}
+use Rattle.vms_cli.proofs.Facade.{draws_none, draws_took, ◌≡◌, ◌⊎◌, ℕ, zero, suc, ◌<◌, List, [], ◌∷◌, length, get_or, Option, Some, None, ℤ, inl, inr, refl}
+use Rattle.vms_cli.proofs.Facade.{sym, ap, ◌∙◌, arith, ◌+◌, ◌^◌, Bool, false, Result, Ok, Err, IfSome, length-map, slice_get-get_or, string_bytes, IsFit, Image}
 use Rattle.vms_cli.proofs.Facade.{device_cells, Set, written, device_at, AreKept, described_text, carried, Compatible, first_mismatch, IsStreamFor, LosesFirst}
-use Rattle.vms_cli.proofs.Facade.{AreBack, recast_each, KeepsAll, Loses, OfCell, OfDevice, OfMachine, first_cell, numbers_in}
-use Rattle.vms_cli.proofs.Facade.{answered, same_backs, one_lost, newest_kinds, recast_long, fit_word, Isa, SetOf, Shipped, IsInNewest, newest, Converts, ConvertGives}
-use Rattle.vms_cli.proofs.Facade.{ConvertsBy, ConvertsStream, ConvertsWith, IsDone, IsLost, IsMismatch, LacksLine, LacksMemory, NamesCell, Rewrites, WouldLose}
-use Rattle.vms_cli.proofs.Facade.{agreed, agrees, lost_line, ArrayVec, Held, Intake, Outlet, Stock, reads_as, IsBytes, Refusal, LoadReads, name_of}
-use Rattle.vms_cli.proofs.Facade.{loads_kept, Mismatch, ConvertFault, Ending, EndsSo, Risen, is_among, EndsAs, WritesAs, status_of, refused_line, Outcome, done}
-use Rattle.vms_cli.proofs.Facade.{ended, mismatch_line, Step, Gives, Ends, unshelved_so, wrong, comes_to_nothing, ends_with, same_keeps, Seen, SeenAs}
-use Rattle.vms_cli.proofs.Facade.{content_seen, load_seen, other_seen, seen_lost, seen_written, sees_as, convert_course}
+use Rattle.vms_cli.proofs.Facade.{AreBack, recast_each, KeepsAll, Loses, OfCell, OfDevice, OfMachine, first_cell, numbers_in, answered, same_backs, one_lost}
+use Rattle.vms_cli.proofs.Facade.{newest_kinds, recast_long, fit_word, Isa, SetOf, Shipped, IsInNewest, newest, Converts, ConvertGives, ConvertsBy}
+use Rattle.vms_cli.proofs.Facade.{ConvertsStream, ConvertsWith, IsDone, IsLost, IsMismatch, LacksLine, LacksMemory, NamesCell, Rewrites, WouldLose, agreed}
+use Rattle.vms_cli.proofs.Facade.{agrees, lost_line, ArrayVec, Held, Intake, Outlet, Stock, reads_as, IsBytes, Refusal, LoadReads, name_of, loads_kept}
+use Rattle.vms_cli.proofs.Facade.{Mismatch, ConvertFault, Ending, EndsSo, is_among, EndsAs, WritesAs, status_of, refused_line, Outcome, done, ended}
+use Rattle.vms_cli.proofs.Facade.{mismatch_line, Step, Gives, Ends, wrong, comes_to_nothing, ends_with, same_keeps, Seen, SeenAs, content_seen, load_seen}
+use Rattle.vms_cli.proofs.Facade.{other_seen, seen_lost, seen_written, sees_as, convert_course}
 use Rattle.vms_cli.proofs.ShowLemmas.{Front, HasFront, Invalid, Stream, one_front}
 use Rattle.vms_cli.specs.Commands.ConvertCommand.{EndsLike, FailsReading, FailsWriting, IsRefused, Refuses}
 use Rattle.std.specs.{declared.alloc.Global.Global, declared.string.String.String}
@@ -42,18 +42,17 @@ module _ (to : Set) (fit : IsFit to) (compatible : Compatible to newest) (machin
   -- ---- there is one
 
   pub one_stream : (bytes others : List ℕ) → IsStreamFor to newest machine images bytes → IsStreamFor to newest machine images others → others ≡ bytes
-  one_stream bytes others p q = cc (same p.backs q.backs p.back q.back)
+  one_stream bytes others p q = cc (same _ _ p.back q.back)
 
   pub never_both : (bytes : List ℕ) (section cell : Option ℕ) → IsStreamFor to newest machine images bytes → LosesFirst to newest machine images section cell
       → ⊥
   never_both bytes section cell p q =
-      (one_lost to newest machine wanted (there p.backs) p.backs).never_both section cell p.keeps (rw (same p.backs q.backs p.back q.back) at q.loses)
+      (one_lost to newest machine wanted (there p.backs) p.backs).never_both section cell p.keeps (rw (same _ _ p.back q.back) at q.loses)
 
   pub one_loss : (section cell section' cell' : Option ℕ) → LosesFirst to newest machine images section cell
-      → LosesFirst to newest machine images section' cell'
-      → (section ≡ section') × (cell ≡ cell')
+      → LosesFirst to newest machine images section' cell' → (section ≡ section') × (cell ≡ cell')
   one_loss section cell section' cell' p q =
-      (one_lost to newest machine wanted (there p.backs) p.backs).one section cell section' cell' p.loses (rw (same p.backs q.backs p.back q.back) at q.loses)
+      (one_lost to newest machine wanted (there p.backs) p.backs).one section cell section' cell' p.loses (rw (same _ _ p.back q.back) at q.loses)
 
   module _ (kept : AreKept newest images) where
     abbrev IsAnswered : Type 0
@@ -71,7 +70,7 @@ module _ (to : Set) (fit : IsFit to) (compatible : Compatible to newest) (machin
     pub is_answered : IsAnswered
     is_answered =
         let a = answered to newest fit newest_fit.well compatible machine images kept.one_each (newest_kinds to newest refl images kept) in
-        by_backs a.backs a.back a.answer
+        by_backs _ a.back a.answer
 
     -- ---- what would be lost is a cell or a device of the newest set
 
@@ -93,7 +92,7 @@ module _ (to : Set) (fit : IsFit to) (compatible : Compatible to newest) (machin
         by section cell (OfCell k c before differ) =
             let lt : k < length newest.devices = omega (arith, inside wanted k c differ.inside, long) in
             (lt, omega (arith, cells_long k lt))
-        by section cell (OfDevice k lt all before bad) = device_inside k (get_or wanted k []) lt (cells_long k lt)
+        by section cell (OfDevice k lt all before bad) = device_inside k _ lt (cells_long k lt)
         by section cell (OfMachine name all valid is not) = tt
 
 -- ---- From what the call answers to how `convert` ends.
@@ -107,11 +106,11 @@ module _ (to : Set) (fit : IsFit to) (compatible : Compatible to newest) (bytes 
   Becomes (Invalid place section reason size) x = x ≡ ended 1 (refused_line newest place section reason) (place + size)
 
   becomes_one : (front : Front) (x y : Outcome) → Becomes front x → Becomes front y → y ≡ x
-  becomes_one (Stream n machine images) x y (inl p) (inl q) = cc (one_stream to fit compatible machine images p.0 q.0 p.1 q.1)
-  becomes_one (Stream n machine images) x y (inl p) (inr q) = absurd (never_both to fit compatible machine images p.0 q.0 q.1 p.1 q.2)
-  becomes_one (Stream n machine images) x y (inr p) (inl q) = absurd (never_both to fit compatible machine images q.0 p.0 p.1 q.1 p.2)
+  becomes_one (Stream n machine images) x y (inl p) (inl q) = cc (one_stream to fit compatible _ images p.0 q.0 p.1 q.1)
+  becomes_one (Stream n machine images) x y (inl p) (inr q) = absurd (never_both to fit compatible _ images p.0 q.0 q.1 p.1 q.2)
+  becomes_one (Stream n machine images) x y (inr p) (inl q) = absurd (never_both to fit compatible _ images q.0 p.0 p.1 q.1 p.2)
   becomes_one (Stream n machine images) x y (inr p) (inr q) =
-      let same = one_loss to fit compatible machine images q.0 q.1 p.0 p.1 q.2 p.2 in
+      let same = one_loss to fit compatible _ images q.0 q.1 p.0 p.1 q.2 p.2 in
       rw (q.3, p.3, same.0, same.1)
   becomes_one (Invalid place section reason size) x y p q = cc
 
@@ -174,11 +173,11 @@ module _ (to : Set) (fit : IsFit to) (i i' : Intake) (o o' : Outlet) where
       → Left s s' e
   left_by _ _ (IsMismatch m line said) c s s' same = Unlike said c.0 c.1
   left_by _ _ (IsRefused r line said) c s s' same = Saw c.0 (refusal_seen to c.1.images c.1.taken c.1.reads said)
-  left_by _ _ (IsLost section cell line said) c s s' same = Saw c.0 (loss_seen to c.1.machine c.1.reads c.1.converts.0 said)
-  left_by _ _ FailsReading c s s' same = Nothing refl (λ x. comes_to_nothing o o' s s' x.parts (same_keeps o o' c.1.none) same)
-  left_by _ _ LacksMemory c s s' same = Nothing refl (λ x. comes_to_nothing o o' s s' x.parts (same_keeps o o' c.1) same)
-  left_by _ _ (LacksLine m) c s s' same = Nothing refl (λ x. comes_to_nothing o o' s s' x.parts (same_keeps o o' c.2) same)
-  left_by _ _ _ c s s' same = Saw c.0 (stream_seen to c.1.machine same c.1.reads c.1.converts.is c.1.converts.puts)
+  left_by _ _ (IsLost section cell line said) c s s' same = Saw c.0 (loss_seen to _ c.1.reads c.1.converts.0 said)
+  left_by _ _ FailsReading c s s' same = Nothing refl (λ x. comes_to_nothing o o' s s' _ (same_keeps o o' c.1.none) same)
+  left_by _ _ LacksMemory c s s' same = Nothing refl (λ x. comes_to_nothing o o' s s' _ (same_keeps o o' c.1) same)
+  left_by _ _ (LacksLine m) c s s' same = Nothing refl (λ x. comes_to_nothing o o' s s' _ (same_keeps o o' c.2) same)
+  left_by _ _ _ c s s' same = Saw c.0 (stream_seen to _ same c.1.reads c.1.converts.is c.1.converts.puts)
 
   -- the outcome of a known input
   content_by : (s s' : Stock) (e : Option Ending) (x : Outcome) → Left s s' e → IfSome i.left IsBytes → i.given < 2 ^ 64
@@ -201,64 +200,37 @@ module _ (to : Set) (fit : IsFit to) (i i' : Intake) (o o' : Outlet) where
   -- ---- known or unknown
 
   convert_given : (r : Result (Unit {0}) ConvertFault) → Calls to newest i i' o o' r → ConvertGives (agrees to) i i'
-  convert_given (Ok u) c = let t = c.1 in rw (agreed_gives to c.0) (omega arith)
+  convert_given (Ok u) c = rw (agreed_gives to c.0) (omega arith)
   convert_given (Err (faults.NotCompatible m)) c = rw (ap (agreed to) c.0) c.1
-  convert_given (Err (faults.Refused r)) c = let t = c.1 in rw (agreed_gives to c.0) (omega (arith, t.reads.long))
-  convert_given (Err (faults.WouldLose section cell)) c = let t = c.1 in rw (agreed_gives to c.0) (omega arith)
-  convert_given (Err faults.ReadFault) c = let t = c.1 in rw (agreed_gives to c.0) (omega (arith, t.reads.long))
-  convert_given (Err faults.WriteFault) c = let t = c.1 in rw (agreed_gives to c.0) (omega arith)
-  convert_given (Err faults.NoMemory) c = nothing (agrees to) c.0
+  convert_given (Err (faults.Refused r)) c = rw (agreed_gives to c.0) (omega arith)
+  convert_given (Err (faults.WouldLose section cell)) c = rw (agreed_gives to c.0) (omega arith)
+  convert_given (Err faults.ReadFault) c = rw (agreed_gives to c.0) (omega arith)
+  convert_given (Err faults.WriteFault) c = rw (agreed_gives to c.0) (omega arith)
+  convert_given (Err faults.NoMemory) c = nothing _ c.0
     where
       nothing : (step : Step Set) → i' ≡ i → ConvertGives step i i'
       nothing (Ends status line) e = e
       nothing step e = omega (arith, ap (λ x. x.given) e)
 
-  -- counts and promises
-  pub convert_stands : (r : Result (Unit {0}) ConvertFault) → Calls to newest i i' o o' r → Stands i i' o o'
-  convert_stands (Ok u) c =
-      let t = c.1.reads.takes in
-      let p = c.1.converts.puts in
-      record { input_count = t.later; out_count = p.later; input_promise = t.promise; out_promise = p.promise }
-  convert_stands (Err (faults.NotCompatible m)) c = stands_same i i' o o' (omega (arith, ap (λ x. x.faults) c.1)) (rw (c.1)) c.2
-  convert_stands (Err (faults.WouldLose section cell)) c = stands_same i i' o o' c.1.reads.takes.later c.1.reads.takes.promise c.1.converts.1
-  convert_stands (Err faults.WriteFault) c =
-      let t = c.1.reads.takes in
-      let p = c.1.converts.puts.puts in
-      record { input_count = t.later; out_count = p.later; input_promise = t.promise; out_promise = p.promise }
-  convert_stands (Err faults.NoMemory) c = stands_same i i' o o' (omega (arith, ap (λ x. x.faults) c.0)) (rw (c.0)) c.1
-  convert_stands _ c = stands_same i i' o o' c.1.reads.takes.later c.1.reads.takes.promise c.1.none
-
   -- ---- what it touches
-
-  -- nothing of the shelf
-  so_by : (s : Stock) (asks : Bool) (e : Option Ending) → is_among (convert_course asks).statuses (status_of e) ≡ true → Risen i i' o o' s s e
-      → (is_among (convert_course asks).writes (status_of e) ≡ false → Keeps o.written o'.written)
-      → (is_among (convert_course asks).takes (status_of e) ≡ false → i' ≡ i) → Stands i i' o o'
-      → EndsSo i i' o o' s s (convert_course asks) e
-  so_by s asks e can risen out input stands =
-      unshelved_so s (convert_course asks) e can risen out input (record { later = stands.input_count; promise = stands.input_promise })
-      (record { later = stands.out_count; promise = stands.out_promise })
 
   pub convert_so : (r : Result (Unit {0}) ConvertFault) (e : Option Ending) → EndsLike r e → Calls to newest i i' o o' r → (s : Stock) (asks : Bool)
       → EndsSo i i' o o' s s (convert_course asks) e
-  convert_so _ _ (IsDone u) c s asks = so_by s asks None refl tt (λ f. absurd (wrong f)) (λ f. absurd (wrong f)) (convert_stands (Ok u) c)
+  convert_so _ _ (IsDone u) c s asks =
+      wrote_so s (convert_course asks) None refl (draws_took c.1.reads.takes) c.1.converts.bytes c.1.converts.puts tt refl refl
   convert_so _ _ (IsMismatch m line said) c s asks =
-      so_by s asks (Some (endings.NotCompatible line)) refl tt (λ f. same_keeps o o' c.2) (λ f. c.1) (convert_stands (Err (faults.NotCompatible m)) c)
+      kept_so s (convert_course asks) (Some (endings.NotCompatible line)) refl (rw c.1 (draws_none i)) c.2 tt (λ f. c.1)
   convert_so _ _ (IsRefused r line said) c s asks =
-      so_by s asks (Some (endings.Refused line)) refl tt (λ f. same_keeps o o' c.1.none) (λ f. absurd (wrong f)) (convert_stands (Err (faults.Refused r)) c)
+      kept_so s (convert_course asks) (Some (endings.Refused line)) refl (draws_took c.1.reads.takes) c.1.none tt (λ f. absurd (wrong f))
   convert_so _ _ (IsLost section cell line said) c s asks =
-      so_by s asks (Some (endings.WouldLose line)) refl tt (λ f. same_keeps o o' c.1.converts.1) (λ f. absurd (wrong f))
-      (convert_stands (Err (faults.WouldLose section cell)) c)
+      kept_so s (convert_course asks) (Some (endings.WouldLose line)) refl (draws_took c.1.reads.takes) c.1.converts.1 tt (λ f. absurd (wrong f))
   convert_so _ _ FailsReading c s asks =
-      so_by s asks (Some endings.ReadFault) refl c.1.reads.cause (λ f. same_keeps o o' c.1.none) (λ f. absurd (wrong f))
-      (convert_stands (Err faults.ReadFault) c)
+      kept_so s (convert_course asks) (Some endings.ReadFault) refl (draws_took c.1.reads.takes) c.1.none c.1.reads.cause (λ f. absurd (wrong f))
   convert_so _ _ FailsWriting c s asks =
-      so_by s asks (Some endings.WriteFault) refl c.1.converts.puts.rose (λ f. absurd (wrong f)) (λ f. absurd (wrong f))
-      (convert_stands (Err faults.WriteFault) c)
-  convert_so _ _ LacksMemory c s asks =
-      so_by s asks (Some endings.NoMemory) refl tt (λ f. same_keeps o o' c.1) (λ f. c.0) (convert_stands (Err faults.NoMemory) c)
-  convert_so _ _ (LacksLine m) c s asks =
-      so_by s asks (Some endings.NoMemory) refl tt (λ f. same_keeps o o' c.2) (λ f. c.1) (convert_stands (Err (faults.NotCompatible m)) c)
+      let put = c.1.converts in
+      wrote_so s (convert_course asks) (Some endings.WriteFault) refl (draws_took c.1.reads.takes) put.bytes put.puts put.puts.rose refl refl
+  convert_so _ _ LacksMemory c s asks = kept_so s (convert_course asks) (Some endings.NoMemory) refl (rw c.0 (draws_none i)) c.1 tt (λ f. c.0)
+  convert_so _ _ (LacksLine m) c s asks = kept_so s (convert_course asks) (Some endings.NoMemory) refl (rw c.1 (draws_none i)) c.2 tt (λ f. c.1)
 
   pub converts_stream : (r : Result (Unit {0}) ConvertFault) (e : Option Ending) → EndsLike r e → Calls to newest i i' o o' r → IfSome i.left IsBytes
       → i.given < 2 ^ 64 → ConvertsStream to i i' o o' e
@@ -275,5 +247,5 @@ module _ (to : Set) (fit : IsFit to) (i i' : Intake) (o o' : Outlet) where
 pub names_cell : (to : Set) → IsFit to → (i i' : Intake) (o o' : Outlet) (r : Result (Unit {0}) ConvertFault) → Calls to newest i i' o o' r → NamesCell r
 names_cell to fit i i' o o' (Err (faults.WouldLose section cell)) c =
     let t = c.1 in
-    lost_inside to fit c.0 (name_of newest t.machine) t.images (loads_kept newest newest.machines t.images t.taken t.machine t.reads) section cell t.converts.0
+    lost_inside to fit c.0 _ _ (loads_kept newest _ _ _ _ t.reads) _ cell t.converts.0
 names_cell to fit i i' o o' r c = tt

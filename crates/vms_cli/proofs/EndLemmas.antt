@@ -1,11 +1,11 @@
 -- From how a call ends and why to what it answers.
-use Rattle.vms_cli.proofs.{Entries.fits_of, RowLemmas.caused_so, RowLemmas.row_so, CheckLemmas.verdict_so, KindLaws.AlikeOf, KindLaws.goes_on_of}
-use Rattle.vms_cli.proofs.Facade.{ℕ, List, length, Option, None, Some, subst, ◌≡◌, [], append-nil, refl, ap, ◌∙◌, IfSome, Family, LoadsBy, Traces, scripted}
+use Rattle.vms_cli.proofs.{Entries.fits_of, RowLemmas.caused_so, RowLemmas.row_so, CheckLemmas.verdict_so, KindLaws.goes_on_of}
+use Rattle.vms_cli.proofs.Facade.{ℕ, List, length, Option, None, Some, subst, ◌≡◌, [], append-nil, refl, ap, ◌∙◌, IfSome, Family, LoadsBy, Traces}
 use Rattle.vms_cli.proofs.Facade.{stream_with, BoardsGoOn, Outcome, Outside, DoesOrStops, Step, Gives, Both, both, next, ScriptLine, events_of, HasOutcome}
-use Rattle.vms_cli.proofs.Facade.{Asked, BoardOf, IsSoundOf, family_of, Load, Show, asked_of, Continuation, ContinuesBy, goes_on, Held, HoldsAll, Image, Set}
-use Rattle.vms_cli.proofs.Facade.{written, WellFormed, Compatible, carried, Takes, upgrade_stands, SetText, fetched_set, named_sets, set_in, sets_in, word_set}
+use Rattle.vms_cli.proofs.Facade.{Asked, BoardOf, Load, Show, asked_of, Continuation, ContinuesBy, goes_on, Held, HoldsAll, Image, Set}
+use Rattle.vms_cli.proofs.Facade.{written, WellFormed, Compatible, carried, Takes, upgrade_stands, SetText, named_sets, set_in, sets_in, word_set}
 use Rattle.vms_cli.proofs.Facade.{SetWord, FitStep, fit_word, AreCompatible, CheckThenShowLaw, ShowsBy, IsWritten, Upgrade, UpgradesTo, shown_newer, Intake}
-use Rattle.vms_cli.proofs.Facade.{Outlet, Stock, Serves, Ending, Tells, around, outcome_so, Runs, moment, task_of, IsFit}
+use Rattle.vms_cli.proofs.Facade.{Outlet, Stock, Serves, Ending, Tells, around, outcome_so, Runs, moment, task_of}
 use Rattle.vms_cli.specs.{Answers.Answers, Commands.ShowCommand.Values as Printed}
 
 -- ---- A stream that a board wrote is loaded as that board going on.
@@ -15,15 +15,13 @@ module _ {S : Type 0} (f : Family S) (Alike : S → S → Type 0) (IsSound : S �
       → ((o : Outcome) → LoadsBy f number step old.input.left old.shelf.held o → DoesOrStops status old new o)
       → ContinuesBy f IsSound number step status old new
   continues_by number (Gives lines) status old new all = λ set m text sound same may room left.
-      let stream = stream_with f set m text in
       let there = (going.on set m text (events_of lines) sound (rw same may) room).there in
-      all (goes_on f set m text lines old) (rw left (rw there.trace_is (Traces there.board (length stream) (rw same at there.restored))))
+      all (goes_on f set m text lines old) (rw left (rw there.trace_is (Traces there.board (length (stream_with f set m text)) (rw same at there.restored))))
   continues_by number _ status old new all = tt
 
 pub continues_so : (asked : Option Asked) (status : ℕ) (old new : Outside)
     → ((o : Outcome) → HasOutcome asked old.input.left old.shelf.held o → DoesOrStops status old new o) → Continuation asked status old new
-continues_so (Some (Load (BoardOf kind number) script)) status old new all =
-    continues_by (family_of kind) (AlikeOf kind) (IsSoundOf kind) (goes_on_of kind) number (scripted None old.shelf.held script) status old new all
+continues_so (Some (Load (BoardOf kind number) script)) status old new all = continues_by _ _ _ (goes_on_of kind) number _ status old new all
 continues_so asked status old new all = tt
 
 -- ---- What an older set wrote is shown as carried.
@@ -41,7 +39,7 @@ upgrades_by : (s : Step Set) → FitStep s → (status : ℕ) (old new : Outside
 upgrades_by (Gives newer) fit status old new all = λ older machine text images well compatible w left.
     let outcome = shown_newer older newer machine text images old in
     let bytes = written older machine images text in
-    all outcome (rw left (Printed (length bytes) machine (carried older newer images) (takes_all older newer well fit.well compatible machine text images w)))
+    all outcome (rw left (Printed (length bytes) machine (carried older newer images) (takes_all older newer well fit.well compatible _ text images w)))
 upgrades_by _ fit status old new all = tt
 
 pub upgrade_so : (asked : Option Asked) (status : ℕ) (old new : Outside)
@@ -61,12 +59,12 @@ module _ (sets : Both Set) where
 
   fetched_both : (one other : Step SetText) → next (both one other) sets_in ≡ Gives sets
       → (next one set_in ≡ Gives sets.old) × (next other set_in ≡ Gives sets.new)
-  fetched_both (Gives x) (Gives y) e = read_both (set_in x) (set_in y) e
+  fetched_both (Gives x) (Gives y) e = read_both _ _ e
   fetched_both _ _ e = cc
 
 pub named_both : (sets : Both Set) (held : Option Held) (old new : SetWord) → named_sets held old new ≡ Gives sets
     → (word_set held old ≡ Gives sets.old) × (word_set held new ≡ Gives sets.new)
-named_both sets held old new gives = fetched_both sets (fetched_set held old) (fetched_set held new) gives
+named_both sets held old new gives = fetched_both sets _ _ gives
 
 pub check_then_show : CheckThenShowLaw
 check_then_show one other old new sets a b c d status checks shows gives checked held shown machine text images w left =
@@ -74,9 +72,7 @@ check_then_show one other old new sets a b c d status checks shows gives checked
     let compatible : Compatible sets.old sets.new = subst AreCompatible gives ((rw checks at checked.verdict) refl) in
     let upgrade : Upgrade (Some (Show new)) status c d = subst (λ x. Upgrade x status c d) shows shown.upgrade in
     let newer : word_set c.shelf.held new ≡ Gives sets.new = ap (λ h. word_set h new) held ∙ words.1 in
-    let clause : UpgradesTo (Gives sets.new) status c d = subst (λ s. UpgradesTo s status c d) newer upgrade in
-    let fit : IsFit sets.old = subst FitStep words.0 (fit_word a.shelf.held old) in
-    clause sets.old machine text images fit.well compatible w left
+    (subst (λ s. UpgradesTo s status c d) newer upgrade) sets.old machine text images (subst FitStep words.0 (fit_word a.shelf.held old)).well compatible w left
 
 -- ---- From how a call ends and why to what it answers.
 
@@ -94,8 +90,8 @@ module _ (i i' : Intake) (o o' n n' : Outlet) (s s' : Stock) where
         outcome = outcome;
         row = row_so i i' o o' n n' s s' (asked_of words) fits e status run unnamed t;
         verdict = verdict_so (asked_of words) i.left s.held status (around i o n s) (around i' o' n' s') outcome;
-        upgrade = upgrade_so (asked_of words) status (around i o n s) (around i' o' n' s') outcome;
-        continuation = continues_so (asked_of words) status (around i o n s) (around i' o' n' s') outcome;
+        upgrade = upgrade_so _ status _ _ outcome;
+        continuation = continues_so _ status _ _ outcome;
         stands = record { input = so.draws; out = so.serves; notes = serves; shelf = so.reaches };
         octets = octets;
       }

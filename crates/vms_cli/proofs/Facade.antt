@@ -2,8 +2,8 @@
 pub use Rattle.std.proofs.{KnownBytes.Keeps-refl, lemmas.Bool.ltb-true, lemmas.Bool.and_parts, lemmas.Bool.Decides.nat_tests, lemmas.Fmt.decimal_digit}
 pub use Rattle.std.proofs.{lemmas.Result.err_from_is_err_and, lemmas.Slice.Eq.bytes_eq-Decides, Math.Nat.le-max_left, Math.Nat.le-max_right}
 pub use Rattle.std.proofs.Common.{Bool, Err, IfSome, IsErrAnd, IsSomeAnd, List, None, Ok, Option, Result, Some, [], ap, append-nil, arith, codes, false, get_or}
-pub use Rattle.std.proofs.Common.{if◌then◌else◌, inl, inr, le_refl, length, length-append, map, max, nat_le, nat_lt, refl, rules, subst, suc, sym, take}
-pub use Rattle.std.proofs.Common.{take_all, true, zero, ℕ, ℤ, ◌&&◌, ◌++◌, ◌+◌, ◌-◌, ◌<◌, ◌^◌, ◌||◌, ◌∙◌, ◌∷◌, ◌≡◌, ◌≤◌, ◌⊎◌}
+pub use Rattle.std.proofs.Common.{if◌then◌else◌, inl, inr, le_refl, length, length-append, map, max, nat_lt, refl, rules, subst, suc, sym, take, take_all, true}
+pub use Rattle.std.proofs.Common.{zero, ℕ, ℤ, ◌&&◌, ◌++◌, ◌+◌, ◌-◌, ◌<◌, ◌^◌, ◌||◌, ◌∙◌, ◌∷◌, ◌≡◌, ◌≤◌, ◌⊎◌}
 pub use Rattle.std.proofs.lemmas.List.{drop_at, get_or-map, length-map, length-take}
 pub use Rattle.std.proofs.lemmas.Option.{none-some, slice_get-get_or}
 pub use Rattle.std.specs.{Fmt.decimal, Io.KnownBytes.Appends, Io.KnownBytes.Keeps, List.list_all, Option.ForSome, Option.option_map, Prelude.string_bytes}
@@ -11,8 +11,8 @@ pub use Rattle.std.specs.{Result.MatchResult, Str.bytes_eq, declared.alloc.Globa
 unfoldable pub use Rattle.std.specs.Fmt.{digits}
 pub use Rattle.vms_kinds.specs.Bytes.{IsBytes}
 pub use Rattle.vms_spec.specs.{Good.IsFit, Heads.FitsHeads, Sets.Device, Sets.Set, Values.values_text, WellFormed.WellFormed, declared.Reason.Reason}
-pub use Rattle.vms_spec.specs.{declared.TheConstants.LONGEST_TEXT, Images.Image, Images.default_image, Layout.device_cells, Layout.no_desc}
-pub use Rattle.vms_spec.specs.Lists.{at_option, or_else}
+pub use Rattle.vms_spec.specs.{declared.TheConstants.LONGEST_TEXT, Layout.device_cells, Layout.no_desc, Lists.at_option, Lists.or_else}
+pub use Rattle.vms_spec.specs.Images.{Image, default_image}
 pub use Rattle.vms_spec.specs.Streams.{AreReady, IsConfiguration, configuration, end_mark, is_one_of, optional, stream_head, trailer, written, written_sections}
 pub use Rattle.vms_spec.specs.ValuesReading.{Bad, Values, ValuesRead, values_read}
 unfoldable pub use Rattle.vms_spec.specs.Layout.{first}
@@ -23,27 +23,26 @@ pub use Rattle.vms_analyze.proofs.{One.one_holds, Total.total_holds}
 pub use Rattle.vms_analyze.specs.{Laws.HasListing, declared.fault.AnalyzeFault.AnalyzeFault, declared.fault.AnalyzeReason.AnalyzeReason}
 pub use Rattle.vms_analyze.specs.Calls.{Analyzes, IsListed, IsTooMuch, ListsTaken}
 pub use Rattle.vms_analyze.specs.Listing.{HasNoShape, HasNone, IsRead, IsTooLong, Listing, Lists, Text, longest_input}
-pub use Rattle.vms_board.specs.{Isa.cells_of, Isa.isa, IsaStands.isa_stands, Restoring.Back, Restoring.Restores, Saving.stream_with}
+pub use Rattle.vms_board.specs.{Isa.isa, IsaStands.isa_stands, Restoring.Back, Restoring.Restores, Saving.stream_with}
 pub use Rattle.vms_board.specs.Family.{Family, IsNumber, images_saved, lists_in}
 unfoldable pub use Rattle.vms_board.specs.Saving.{saved_stream}
-pub use Rattle.vms_board_commands.proofs.{LoadOutcome.loads_one, PlayOutcome.has_end, PlayOutcome.one_outcome, SeenLemmas.seen_given, SeenLemmas.seen_lost}
+pub use Rattle.vms_board_commands.proofs.{LoadOutcome.loads_one, PlayOutcome.has_end, PlayOutcome.one_outcome, SeenLemmas.other_seen, SeenLemmas.reads_all}
 pub use Rattle.vms_board_commands.proofs.CourseLemmas.{among_left, refused_so, shelf_has, text_asks, traced_so, unread_so, unset_so}
 pub use Rattle.vms_board_commands.proofs.ScriptSteps.{AreStepLines, script_gives, scripted_lines, sound_saved, sound_script}
-pub use Rattle.vms_board_commands.proofs.SeenLemmas.{seen_refused, seen_written, sees_as, set_other, TakesSo, content_seen, load_seen, other_seen, reads_all}
-pub use Rattle.vms_board_commands.specs.{Causes.save_course, Drill.drill_line, Play.PlaysBy, Save.saved_after, Scripts.scripted, Load.Loads, Load.LoadsBy}
-pub use Rattle.vms_board_commands.specs.{Load.Traces, Load.Unfit, Runs.Frame, Runs.Runs, Runs.Task, Runs.moment}
-pub use Rattle.vms_board_commands.specs.Seen.{IsGiven, Seen, SeenAs, Sees, WithGiven}
+pub use Rattle.vms_board_commands.proofs.SeenLemmas.{seen_given, seen_lost, seen_refused, seen_written, sees_as, set_other, TakesSo, content_seen, load_seen}
+pub use Rattle.vms_board_commands.specs.{Causes.save_course, Drill.drill_line, Play.PlaysBy, Save.saved_after, Scripts.scripted, Runs.Frame, Runs.Runs}
+pub use Rattle.vms_board_commands.specs.{Runs.Task, Runs.moment, Seen.IsGiven, Seen.Seen, Seen.SeenAs, Seen.Sees, Seen.WithGiven}
+pub use Rattle.vms_board_commands.specs.Load.{Loads, LoadsBy, Traces, Unfit}
 pub use Rattle.vms_board_streams.proofs.FamilyLaws.{takes_under}
 pub use Rattle.vms_board_streams.specs.Streams.{BoardsGoOn, after_events, answers_to, trace_of}
 pub use Rattle.vms_check.specs.{Carrying.carried, Comparing.Compatible, Comparing.first_mismatch, declared.mismatch.Mismatch.Mismatch}
 pub use Rattle.vms_check_laws.proofs.Streaming.{upgrade_stands}
 pub use Rattle.vms_cli.specs.{Answers.HasOutcome, Answers.Verdict, Causes.WriteCause, Causes.WritesBy, ClockSets.ClockSetsLaw, Entry.Entry, Limits.LimitsLaw}
 pub use Rattle.vms_cli.specs.{TwoSets.sets_of, declared.commands.pack.PackParts.PackParts, declared.two_sets.TwoSets.TwoSets, Boards.CanBeRead, Boards.IsBoard}
-pub use Rattle.vms_cli.specs.{Boards.isa_level, Boards.number_word, Commands.PlayCommand.play_entry, Commands.DrillCommand.drill_entry}
-pub use Rattle.vms_cli.specs.{Commands.DrillCommand.few_events, Kinds.IsSoundOf, Kinds.family_of, Program.OutFlushed, Program.OutLate}
+pub use Rattle.vms_cli.specs.{Boards.isa_level, Boards.number_word, Program.OutFlushed, Program.OutLate, Commands.LoadCommand.load_entry, Statuses.course_of}
 pub use Rattle.vms_cli.specs.AnalyzeLaws.{PackThenAnalyzeLaw, PrintsAlike, SaveThenAnalyzeLaw, ShowThenAnalyzeLaw}
 pub use Rattle.vms_cli.specs.Commands.{Analyze, Asked, Check, Convert, Counter, Drill, Load, Pack, Play, Save, Show, asked_of, drill_of, entry_of, of_both}
-pub use Rattle.vms_cli.specs.Commands.{save_of, save_on, task_of, with_file, LoadCommand.load_entry, PackCommand.packed, PackCommand.packed_by}
+pub use Rattle.vms_cli.specs.Commands.{save_of, save_on, task_of, with_file, PlayCommand.play_entry, DrillCommand.drill_entry, DrillCommand.few_events}
 pub use Rattle.vms_cli.specs.Commands.AnalyzeCommand.{EndsLike, FailsReading, FailsWriting, GivesListed, IsListing, IsRefused, analyze_course, analyze_entry}
 pub use Rattle.vms_cli.specs.Commands.AnalyzeCommand.{bytes_taken, listing_outcome, unlisted_line}
 pub use Rattle.vms_cli.specs.Commands.CheckCommand.{AreCompatible, check_course, check_entry, checked, compared, compatible_text, verdict}
@@ -51,16 +50,16 @@ pub use Rattle.vms_cli.specs.Commands.ConvertCommand.{CanBeConverted, ConvertGiv
 pub use Rattle.vms_cli.specs.Commands.ConvertCommand.{IsInNewest, IsLost, IsMismatch, LacksLine, LacksMemory, NamesCell, Rewrites, WouldLose, agreed, agrees}
 pub use Rattle.vms_cli.specs.Commands.ConvertCommand.{convert_course, convert_entry, convertible, lost_line, newest, target}
 pub use Rattle.vms_cli.specs.Commands.CounterCommand.{Answers, CountersBy, counted, counter_course, counter_entry, counter_text, no_state}
-pub use Rattle.vms_cli.specs.Commands.PackCommand.{packed_parts, packs, parts_of, with_values, CanBePacked, Parts, described_stream, named_parts, pack_entry}
+pub use Rattle.vms_cli.specs.Commands.PackCommand.{packed, packed_by, packed_parts, packs, parts_of, with_values, CanBePacked, Parts, described_stream}
+pub use Rattle.vms_cli.specs.Commands.PackCommand.{named_parts, pack_entry}
 pub use Rattle.vms_cli.specs.Commands.SaveCommand.{MaySaveOn, save_entry, saved_on}
 pub use Rattle.vms_cli.specs.Commands.ShowCommand.{CanBeShown, GivesWithin, Refuses, Shows, ShowsBy, ShowsWell, show_entry}
 pub use Rattle.vms_cli.specs.Continuation.{Continuation, ContinuesBy, goes_on}
 pub use Rattle.vms_cli.specs.ConvertLaws.{ConvertAgainLaw, ConvertThenAnalyzeLaw, ConvertThenLoadLaw, StandsFor}
 pub use Rattle.vms_cli.specs.Laws.{AmpleLaw, AskedLaw, CanBeAsked, CanBeDone, CheckThenShowLaw, CompleteLaw, HasOne, HasOneOutcome, HasRoom, IsAmple, NoneRises}
 pub use Rattle.vms_cli.specs.Laws.{OutcomeLaw, PackThenShowLaw, PromisesKept, ShowThenPackLaw}
-pub use Rattle.vms_cli.specs.Rows.{CanAnswer, ComesSeen, DoesSeen, HasCause, OutcomeWith}
+pub use Rattle.vms_cli.specs.Rows.{CanAnswer, ComesSeen, DoesSeen, HasCause}
 pub use Rattle.vms_cli.specs.States.{AlwaysNamedLaw, Prints, RefusesSo, StateLaw}
-pub use Rattle.vms_cli.specs.Statuses.{course_of, statuses_of, stores_at, takes_at, writes_at}
 pub use Rattle.vms_cli.specs.Upgrade.{IsWritten, Upgrade, UpgradesTo, shown_newer}
 unfoldable pub use Rattle.vms_cli.specs.Commands.{pair_of, single_of, triple_of}
 pub use Rattle.vms_commands.proofs.CourseLemmas.{draws_none, draws_took, so_since, unshelved_so, writes_end, writes_serve, wrong}
@@ -68,24 +67,23 @@ pub use Rattle.vms_commands.proofs.EndLemmas.{around, comes_to_nothing, ends_wit
 pub use Rattle.vms_commands.proofs.FileSets.{FitStep, fit_text, fit_word}
 pub use Rattle.vms_commands.proofs.StepLemmas.{IsSound, ended_by, ending_passed, err_text, fetched_gives, first_err, had_by, one_text, sound_fetch, sound_next}
 pub use Rattle.vms_commands.proofs.StepLemmas.{sound_set, sound_sets, sound_word, sound_word_set, text_ends, then_as, then_text}
-pub use Rattle.vms_commands.specs.{Asks.set_asked, SetLines.mismatch_line, declared.ending.Ending.Ending, declared.ending.Ending.TheVariants.Refused}
-pub use Rattle.vms_commands.specs.{SetWords.shipped_word, declared.kinds.BoardKind.BoardKind}
+pub use Rattle.vms_commands.specs.{Asks.set_asked, SetLines.mismatch_line, declared.ending.Ending.Ending, SetWords.set_word, declared.kinds.BoardKind.BoardKind}
 pub use Rattle.vms_commands.specs.Courses.{EndsSo, Risen, Stands, is_among, of_shelf, text_course}
 pub use Rattle.vms_commands.specs.Endings.{Caused, EndsAs, Quiet, Tells, WritesAs, ending_of, line_of, status_of}
 pub use Rattle.vms_commands.specs.Fetching.{SetText, fetched, fetched_set, is_on_shelf, longest_file, named_sets, set_in, sets_in, word_set}
-pub use Rattle.vms_commands.specs.Kinds.{board_front, first_kind, first_set, kinds, newest_of, same_kind, set_front}
+pub use Rattle.vms_commands.specs.Kinds.{board_front, first_kind, first_set, kinds, newest_of, set_front}
 pub use Rattle.vms_commands.specs.Lines.{bad_words, out_of_memory, read_fault, refused_line, shelf_fault, too_large_line, write_fault}
 pub use Rattle.vms_commands.specs.Outcomes.{ComesTo, Does, DoesOrStops, FailsToStore, HasPart, NotesFault, OutFault, Outcome, Outside, Part, ShelfFault}
 pub use Rattle.vms_commands.specs.Outcomes.{TellsShelfFault, WantsMemory, done, ended, text_begun}
-pub use Rattle.vms_commands.specs.SetWords.{BoardOf, BoardWord, SetOf, SetWord, Shipped, ShippedSet, board_word, named_set, number_after, set_word}
+pub use Rattle.vms_commands.specs.SetWords.{shipped_word, BoardOf, BoardWord, SetOf, SetWord, Shipped, ShippedSet, board_word, named_set, number_after}
 pub use Rattle.vms_commands.specs.StepEndings.{AsksIf, HadCause, StepAs, TextEnds, WrittenAs, text_of}
 pub use Rattle.vms_commands.specs.Steps.{Both, Ends, Gives, HasBy, HasText, Step, Untold, both, next}
-pub use Rattle.vms_commands.specs.declared.ending.Ending.TheVariants.{TooLarge, WriteFault, BadText, BadWords, NoMemory, NotCompatible, NotThere, ReadFault}
+pub use Rattle.vms_commands.specs.declared.ending.Ending.TheVariants.{Refused, WriteFault, BadText, BadWords, NoMemory, NotCompatible, ReadFault}
 pub use Rattle.vms_commands.specs.declared.kinds.BoardKind.TheVariants.{Clock, Isa}
 pub use Rattle.vms_convert.proofs.{Answered.answered, Converts.converts_stand, Converts.ready, Converts.same_backs}
 pub use Rattle.vms_convert.proofs.RecastLaws.{newest_kinds, one_lost, recast_long}
-pub use Rattle.vms_convert.specs.{Laws.AreRecastOf, Recast.wants_arrays, declared.fault.ConvertFault.ConvertFault, Converted.AreBack, Converted.recast_each}
-pub use Rattle.vms_convert.specs.Calls.{IsStreamFor, LosesFirst}
+pub use Rattle.vms_convert.specs.{Laws.AreRecastOf, Recast.wants_arrays, declared.fault.ConvertFault.ConvertFault, Calls.IsStreamFor, Calls.LosesFirst}
+pub use Rattle.vms_convert.specs.Converted.{AreBack, recast_each}
 pub use Rattle.vms_convert.specs.Lost.{KeepsAll, Loses, OfCell, OfDevice, OfMachine, first_cell, numbers_in}
 pub use Rattle.vms_counter.specs.{Found.answer_of, declared.finding.Finding.Finding}
 pub use Rattle.vms_counter_laws.proofs.{OneAnswer.machine_known, OneAnswer.one_answer_holds, Stated.always_holds, Stated.computed_holds, Stated.named_holds}
@@ -94,8 +92,8 @@ pub use Rattle.vms_desc.proofs.{AskLaws.few_cells, Bounds.fit_of}
 pub use Rattle.vms_desc.specs.{Described.described, Described.device_at, Formed.is_well_formed}
 pub use Rattle.vms_frames.specs.declared.fault.Refusal.{Refusal}
 pub use Rattle.vms_image.specs.Typed.{AreImagesOf, Typed, state_of}
-pub use Rattle.vms_io.proofs.{ReadingLemmas.nothing_follows, ReadingLemmas.reads_as, ShelvingLemmas.looks_reaches, ShelvingLemmas.reaches_none}
-pub use Rattle.vms_io.proofs.WritingLemmas.{serves_none, wrote_behind}
+pub use Rattle.vms_io.proofs.{ShelvingLemmas.looks_reaches, WritingLemmas.serves_none, WritingLemmas.wrote_behind}
+pub use Rattle.vms_io.proofs.ReadingLemmas.{nothing_follows, reads_as}
 pub use Rattle.vms_io.specs.{Shelves.Held, Shelves.HoldsAll, Shelving.Looks, Writing.Serves, Causes.AppendsPrefix, Causes.KeepsPromise, Causes.Rose}
 pub use Rattle.vms_io.specs.Reading.{Course, Last, MayFollow, Reads}
 pub use Rattle.vms_io.specs.Told.{Intake, Outlet, Stock, intake, outlet, stock}
@@ -113,7 +111,7 @@ pub use Rattle.vms_values_laws.proofs.Stated.{accepted_holds, packed_holds, prin
 pub use Rattle.vms_values_laws.specs.Rounds.{ShowsAs}
 pub use Rattle.arrayvec.specs.ArrayVec.{ArrayVec}
 pub use Rattle.dev_base.specs.{Levels.IsLevel, Levels.ReachesSet, declared.limits.TheConstants.NEWEST}
-pub use Rattle.dev_board.specs.{Laws.AreEvents, State.State, declared.event.Event.Event, Saved.moment_of, Saved.numbers_back}
+pub use Rattle.dev_board.specs.{Laws.AreEvents, State.State, declared.event.Event.Event}
 pub use Rattle.dev_clock_images.proofs.ClockSets.{sets_are_compatible}
 pub use Rattle.dev_serial.proofs.RecastRestores.{recast_restores}
 pub use Rattle.dev_serial.specs.Recast.{recast_cells}

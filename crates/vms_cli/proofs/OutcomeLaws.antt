@@ -1,10 +1,10 @@
 -- Each call has one outcome, and what can be done is done.
-use Rattle.vms_cli.proofs.{Entries.row_of, Entries.words_ask, RowFacts.IsDone, Facade.CompleteLaw, Facade.AmpleLaw}
-use Rattle.vms_cli.proofs.Facade.{◌≡◌, ℕ, zero, suc, ◌+◌, ◌<◌, ◌≤◌, max, ◌⊎◌, List, ◌∷◌, length, length-append, take, Option, Some, None, IfSome, IsSomeAnd}
-use Rattle.vms_cli.proofs.Facade.{refl, ap, ◌∙◌, arith, inl, inr, [], le-max_left, le-max_right, length-take, Appends, Rose, AppendsPrefix, KeepsPromise, Held}
-use Rattle.vms_cli.proofs.Facade.{HoldsAll, Outlet, IsBytes, bad_words, read_fault, write_fault, shelf_fault, out_of_memory, Stands, Part, Outcome, OutFault}
-use Rattle.vms_cli.proofs.Facade.{NotesFault, ShelfFault, WantsMemory, ComesTo, FailsToStore, TellsShelfFault, DoesOrStops, ended, text_begun, Outside, HasPart}
-use Rattle.vms_cli.proofs.Facade.{Asked, asked_of, task_of, CanBeAsked, CanBeDone, HasOneOutcome, OutcomeLaw, HasRoom, IsAmple, NoneRises, PromisesKept}
+use Rattle.vms_cli.proofs.{Entries.row_of, Entries.words_ask, RowFacts.IsDone, Facade.PromisesKept}
+use Rattle.vms_cli.proofs.Facade.{CompleteLaw, AmpleLaw, ◌≡◌, ℕ, zero, suc, ◌+◌, ◌<◌, ◌≤◌, max, ◌⊎◌, List, ◌∷◌, length, length-append, take, Option, Some, None}
+use Rattle.vms_cli.proofs.Facade.{IfSome, IsSomeAnd, refl, ap, ◌∙◌, arith, inl, inr, [], le-max_left, le-max_right, length-take, Appends, Rose, AppendsPrefix}
+use Rattle.vms_cli.proofs.Facade.{KeepsPromise, Held, HoldsAll, Outlet, IsBytes, bad_words, read_fault, write_fault, shelf_fault, out_of_memory, Stands, Part}
+use Rattle.vms_cli.proofs.Facade.{Outcome, OutFault, NotesFault, ShelfFault, WantsMemory, ComesTo, FailsToStore, TellsShelfFault, DoesOrStops, ended}
+use Rattle.vms_cli.proofs.Facade.{text_begun, Outside, HasPart, Asked, task_of, CanBeAsked, CanBeDone, HasOneOutcome, OutcomeLaw, HasRoom, IsAmple, NoneRises}
 use Rattle.vms_commands.specs.Outcomes.{text_of, ReadFault}
 
 one_of_all : (asked : Option Asked) (input : List ℕ) (held : Held) → IsBytes input → HoldsAll held → CanBeAsked asked → HasOneOutcome asked input held
@@ -12,7 +12,7 @@ one_of_all None input held ok holds can = record { outcome = ended 2 bad_words 0
 one_of_all (Some asked) input held ok holds can = (row_of asked).one input held ok holds can
 
 pub outcome_holds : OutcomeLaw
-outcome_holds words input held ok holds = one_of_all (asked_of words) input held ok holds (words_ask words)
+outcome_holds words input held ok holds = one_of_all _ input held ok holds (words_ask words)
 
 -- why a call stops on its way
 abbrev StopsAt : ℕ → Outside → Outside → Outcome → Type 0
@@ -43,8 +43,7 @@ done_short (part ∷ parts) (suc k) =
 
 -- a sink with room for what was written has no fault
 room_kept : (p p' : Option ℕ) (w w' : Option (List ℕ)) (faults n : ℕ) (text : List ℕ) → IsSomeAnd p (λ room. IsSomeAnd w (λ old. length old + n < room))
-    → length text ≤ n
-    → Appends w w' text → p' ≡ p → KeepsPromise p' w' faults → faults ≡ 0
+    → length text ≤ n → Appends w w' text → p' ≡ p → KeepsPromise p' w' faults → faults ≡ 0
 room_kept (Some most) p' (Some old) None faults n text room short appends same keeps = absurd appends
 room_kept (Some most) p' (Some old) (Some new) faults n text room short appends same keeps =
     rw same at keeps (omega (arith, ap length appends, length-append old text))
@@ -53,46 +52,40 @@ room_kept _ p' _ w' faults n text room short appends same keeps = absurd room
 never_rose : (before now : ℕ) → now ≡ 0 → Rose before now → ⊥
 never_rose before now none rose = omega arith
 
--- a line of at most a number of bytes
-line_short : (line : List ℕ) (k n : ℕ) → length line ≤ n → length (take k line) ≤ n
-line_short line k n short = omega (arith, length-take k line)
+module _ (old new : Outlet) (n : ℕ) (room : HasRoom old n) (same : new.promise ≡ old.promise) (keeps : KeepsPromise new.promise new.written new.faults) where
+  no_fault : (text : List ℕ) → length text ≤ n → Appends old.written new.written text → new.faults ≡ 0
+  no_fault text short appends = room_kept _ _ _ _ _ n text room short appends same keeps
 
-note_room : (line : List ℕ) (old new : Outlet) (n : ℕ) → length line ≤ n → HasRoom old n → AppendsPrefix old.written new.written line
-    → new.promise ≡ old.promise
-    → KeepsPromise new.promise new.written new.faults → new.faults ≡ 0
-note_room line old new n short room part same keeps =
-    room_kept old.promise new.promise old.written new.written new.faults n (take part.0 line) room (line_short line part.0 n short) part.2 same keeps
+  -- a prefix of a line
+  line_short : (line : List ℕ) → length line ≤ n → AppendsPrefix old.written new.written line → new.faults ≡ 0
+  line_short line short part = no_fault (take part.0 line) (omega (arith, length-take part.0 line)) part.2
 
-part_room : (note : List ℕ) (old new : Outlet) (n : ℕ) → 14 ≤ n → length note ≤ n → HasRoom old n → HasPart note old.written new.written
-    → new.promise ≡ old.promise
-    → KeepsPromise new.promise new.written new.faults → new.faults ≡ 0
-part_room note old new n enough short room (inl part) same keeps = note_room note old new n short room part same keeps
-part_room note old new n enough short room (inr (inl part)) same keeps = note_room read_fault old new n (omega arith) room part same keeps
-part_room note old new n enough short room (inr (inr (inl part))) same keeps = note_room write_fault old new n (omega arith) room part same keeps
-part_room note old new n enough short room (inr (inr (inr (inl part)))) same keeps = note_room shelf_fault old new n (omega arith) room part same keeps
-part_room note old new n enough short room (inr (inr (inr (inr part)))) same keeps = note_room out_of_memory old new n (omega arith) room part same keeps
-
--- what is written on notes of a call that stops is short
-notes_short : (status : ℕ) (old new : Outside) (o : Outcome) (n : ℕ) → 14 ≤ n → length o.note ≤ n → HasRoom old.notes n → new.notes.promise ≡ old.notes.promise
-    → KeepsPromise new.notes.promise new.notes.written new.notes.faults → StopsAt status old new o → new.notes.faults ≡ 0
-notes_short status old new o n enough short room same keeps why = by why
-  where
-    line : (text : List ℕ) → length text ≤ 14 → Appends old.notes.written new.notes.written text → new.notes.faults ≡ 0
-    line text few appends =
-        room_kept old.notes.promise new.notes.promise old.notes.written new.notes.written new.notes.faults n text room (omega arith) appends same keeps
-
-    by : StopsAt status old new o → new.notes.faults ≡ 0
-    by (inl read) = line read_fault (omega arith) read.3
-    by (inr (inl write)) = line write_fault (omega arith) write.2
-    by (inr (inr (inl notes))) = part_room o.note old.notes new.notes n enough short room notes.1 same keeps
-    by (inr (inr (inr (inl shelf)))) = line shelf_fault (omega arith) shelf.2
-    by (inr (inr (inr (inr memory)))) = line out_of_memory (omega arith) memory.1
+  part_short : (note : List ℕ) → 14 ≤ n → length note ≤ n → HasPart note old.written new.written → new.faults ≡ 0
+  part_short note enough short (inl part) = line_short note short part
+  part_short note enough short (inr (inl part)) = line_short _ (omega arith) part
+  part_short note enough short (inr (inr (inl part))) = line_short _ (omega arith) part
+  part_short note enough short (inr (inr (inr (inl part)))) = line_short _ (omega arith) part
+  part_short note enough short (inr (inr (inr (inr part)))) = line_short _ (omega arith) part
 
 module _ (status : ℕ) (old new : Outside) (o : Outcome) (ample : IsAmple old o) (kept : PromisesKept new) (stay : Stands old new) where
+  note_short : (text : List ℕ) → length text ≤ max 14 (length o.note) → Appends old.notes.written new.notes.written text → new.notes.faults ≡ 0
+  note_short = no_fault old.notes new.notes (max 14 (length o.note)) ample.notes stay.notes.promise kept.notes
+
+  fault_short : (text : List ℕ) → length text ≤ 14 → Appends old.notes.written new.notes.written text → new.notes.faults ≡ 0
+  fault_short text few = note_short text (omega (arith, le-max_left 14 (length o.note)))
+
+  -- what is written on notes of a call that stops is short
+  stop_short : StopsAt status old new o → new.notes.faults ≡ 0
+  stop_short (inl read) = fault_short read_fault (omega arith) read.3
+  stop_short (inr (inl write)) = fault_short write_fault (omega arith) write.2
+  stop_short (inr (inr (inl notes))) =
+      part_short old.notes new.notes (max 14 (length o.note)) ample.notes stay.notes.promise kept.notes o.note
+      (le-max_left 14 (length o.note)) (le-max_right 14 (length o.note)) notes.1
+  stop_short (inr (inr (inr (inl shelf)))) = fault_short shelf_fault (omega arith) shelf.2
+  stop_short (inr (inr (inr (inr memory)))) = fault_short out_of_memory (omega arith) memory.1
+
   out_short : (text : List ℕ) → length text ≤ length (text_of o.parts) → Appends old.out.written new.out.written text → new.out.faults ≡ 0
-  out_short text short appends =
-      room_kept old.out.promise new.out.promise old.out.written new.out.written new.out.faults
-      (length (text_of o.parts)) text ample.out short appends stay.out.promise kept.out
+  out_short = no_fault old.out new.out (length (text_of o.parts)) ample.out stay.out.promise kept.out
 
   come_short : ComesTo old.out new.out old.shelf new.shelf o.parts ⊎ (TellsShelfFault status old new × FailsToStore old.out new.out old.shelf new.shelf o.parts)
       → new.out.faults ≡ 0
@@ -108,14 +101,8 @@ module _ (status : ℕ) (old new : Outside) (o : Outcome) (ample : IsAmple old o
   }
 
   rises_never : DoesOrStops status old new o → NoneRises old new
-  rises_never (inl does) =
-      none-rises (out_short (text_of o.parts) (omega arith) does.text)
-      (room_kept old.notes.promise new.notes.promise old.notes.written new.notes.written new.notes.faults (max 14 (length o.note)) o.note ample.notes
-      (le-max_right 14 (length o.note)) does.note stay.notes.promise kept.notes)
-  rises_never (inr stops) =
-      none-rises (come_short stops.come)
-      (notes_short status old new o (max 14 (length o.note)) (le-max_left 14 (length o.note))
-      (le-max_right 14 (length o.note)) ample.notes stay.notes.promise kept.notes stops.why)
+  rises_never (inl does) = none-rises (out_short (text_of o.parts) (omega arith) does.text) (note_short o.note (le-max_right 14 (length o.note)) does.note)
+  rises_never (inr stops) = none-rises (come_short stops.come) (stop_short stops.why)
 
 pub ample_holds : AmpleLaw
 ample_holds words status old new o is ample kept a = rises_never status old new o ample kept a.stands (a.outcome o is)
@@ -133,5 +120,5 @@ comes status old new o done_so never (inr stops) = by stops.why
 
 pub complete_holds : CompleteLaw
 complete_holds words status old new can never a =
-    let d = can_be (asked_of words) old.input.left old.shelf.held (words_ask words) a.octets can in
-    comes status old new d.outcome d.status never (a.outcome d.outcome d.is)
+    let d = can_be _ _ _ (words_ask words) a.octets can in
+    comes status old new _ d.status never (a.outcome d.outcome d.is)

@@ -13,7 +13,7 @@ ready_of set fit text (Bad line reason) v e reads = absurd reads
 
 -- the images of a text that was read are ready
 pub read_ready : (set : Set) → IsFit set → (text : List ℕ) (v : Given) → ReadsAs set (values_read set text) (Ok v) → AreReady set (map state_of v.images.items)
-read_ready set fit text v reads = ready_of set fit text (values_read set text) v refl reads
+read_ready set fit text v reads = ready_of set fit text _ v refl reads
 
 -- the machine of a number
 pub named : (set : Set) (machine : Option ℕ) → ForSome machine (λ m. m < length set.machines) → at_option set.machines machine ≡ machine_of set machine
@@ -23,13 +23,13 @@ named set (Some m) h = slice_get-get_or set.machines m [] (h m refl)
 -- a text that was read, and a write of its stream
 read_by : (set : Set) (r : ValuesRead) (v : Given) (o o' : Outlet) (e : Option Ending) → ReadsAs set r (Ok v)
     → WrittenAs (described_stream set (at_option set.machines v.machine) (map state_of v.images.items)) o o' e → TextEnds (packed_by set r) o o' e
-read_by set (Values machine images) v o o' e reads w = subst (λ l. WrittenAs l o o' e) (cc (named set v.machine reads.2)) w
+read_by set (Values machine images) v o o' e reads w = subst (λ l. WrittenAs l o o' e) (cc (named set _ reads.2)) w
 read_by set (Bad line reason) v o o' e reads w = absurd reads
 
 module _ (set : Set) (text : List ℕ) (o o' : Outlet) where
   pub packs_read : (v : Given) (e : Option Ending) → ReadsAs set (values_read set text) (Ok v)
       → WrittenAs (described_stream set (at_option set.machines v.machine) (map state_of v.images.items)) o o' e → TextEnds (packed set text) o o' e
-  packs_read v e reads w = read_by set (values_read set text) v o o' e reads w
+  packs_read v e reads w = read_by set _ v o o' e reads w
 
 -- ---- what the words name
 
@@ -41,7 +41,7 @@ module _ (held : Option Held) (word : SetWord) (name : List ℕ) (set : Set) (te
 
   pub pack_gives : word_set held word ≡ Gives set → fetched longest_file held name ≡ Gives text → packed set text ≡ Gives stream
       → packs held word name ≡ Gives stream
-  pack_gives there values reads = gives_by (fetched_set held word) there values reads
+  pack_gives there values reads = gives_by _ there values reads
 
 sound_read : (held : Option Held) (set : Set) (r : ValuesRead) → IsSound held (packed_by set r)
 sound_read held set (Values machine images) = tt
@@ -49,7 +49,7 @@ sound_read held set (Bad line reason) = omega arith
 
 pub sound_pack : (held : Option Held) (word : SetWord) (name : List ℕ) → IsSound held (packs held word name)
 sound_pack held word name =
-    sound_next held (named_parts held word name) packed_parts
-    (sound_next held (fetched_set held word) (with_values held name) (sound_word held word)
-    (λ t. sound_next held (fetched longest_file held name) _ (sound_fetch held longest_file name)
+    sound_next held (named_parts held word name) _
+    (sound_next held (fetched_set held word) _ (sound_word held word)
+    (λ t. sound_next held (fetched longest_file held name) _ (sound_fetch held _ name)
     (λ values. sound_next held (set_in t) _ (sound_set held t) (λ set. tt)))) (λ parts. sound_read held parts.set (values_read parts.set parts.values))

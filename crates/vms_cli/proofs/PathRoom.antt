@@ -19,4 +19,4 @@ all_short (suc (suc (suc (suc (suc k))))) lt = absurd (omega arith)
 all_short _ lt = refl
 
 pub path_short : (k c : ℕ) → k < length newest.devices → length (cell_name newest (device_at newest k) c) < 64
-path_short k c lt = short_at (names_at k) c (all_short k lt)
+path_short k c lt = short_at _ c (all_short k lt)

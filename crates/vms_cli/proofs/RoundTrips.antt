@@ -1,17 +1,16 @@
 -- One command after the other: what was written is read again.
-use Rattle.vms_cli.proofs.{PackLemmas.pack_gives, Entries.words_ask, EndLemmas.named_both, Facade.Answers, Facade.AlwaysNamedLaw, Facade.Prints}
-use Rattle.vms_cli.proofs.Facade.{RefusesSo, StateLaw, ◌≡◌, ℕ, ◌≤◌, Bool, true, false, nat_le, if◌then◌else◌, List, [], ◌∷◌, length, Option, Some, None, IfSome}
-use Rattle.vms_cli.proofs.Facade.{refl, sym, ap, subst, arith, ◌∙◌, ◌-◌, ℤ, ◌++◌, append-nil, LONGEST_TEXT, Held, Image, Set, AreReady, is_one_of}
-use Rattle.vms_cli.proofs.Facade.{configuration, end_mark, optional, stream_head, trailer, written, written_sections, values_text, ValuesRead, Values, Bad}
-use Rattle.vms_cli.proofs.Facade.{values_read, IsFit, IsMachineOf, ShowsAs, accepted_holds, packed_holds, shown_holds, written_only, printed_holds}
-use Rattle.vms_cli.proofs.Facade.{described_text, short_holds, Listing, Text, Lists, IsTooLong, HasNone, HasNoShape, IsRead, longest_input, SetText}
-use Rattle.vms_cli.proofs.Facade.{fetched_set, longest_file, set_in, word_set, named_sets, too_large_line, Part, Outcome, done, ended, Step, Untold, Gives}
-use Rattle.vms_cli.proofs.Facade.{Ends, HasText, next, Both, FitStep, fit_word, fetched_gives, IsListing, PackThenAnalyzeLaw, ShowThenAnalyzeLaw, PrintsAlike}
-use Rattle.vms_cli.proofs.Facade.{SaveThenAnalyzeLaw, PackThenShowLaw, ShowThenPackLaw, CanBeAsked, described_stream, packed_by, packed_parts, packs}
-use Rattle.vms_cli.proofs.Facade.{with_values, Shows, ShowsBy, Refuses, ReachesSet, AreEvents, Event, Family, family_of, IsNumber, images_saved, saved_stream}
-use Rattle.vms_cli.proofs.Facade.{AreStepLines, scripted_lines, saved_after, scripted, after_events, BoardOf, SetOf, SetWord, Shipped, ScriptLine, after_number}
-use Rattle.vms_cli.proofs.Facade.{lines_are_events, events_of, Fault, further_holds, Mismatch, Counters, Finds, always_holds, named_holds, machine_known}
-use Rattle.vms_cli.proofs.KindLaws.{numbers_of, sound_of, stands_of}
+use Rattle.vms_cli.proofs.{PackLemmas.pack_gives, Entries.words_ask, EndLemmas.named_both, KindLaws.numbers_of, KindLaws.sound_of, KindLaws.stands_of}
+use Rattle.vms_cli.proofs.Facade.{Answers, AlwaysNamedLaw, Prints, RefusesSo, StateLaw, ◌≡◌, ℕ, ◌≤◌, Bool, true, false, if◌then◌else◌, List, [], ◌∷◌, length}
+use Rattle.vms_cli.proofs.Facade.{Option, Some, None, IfSome, refl, sym, ap, subst, arith, ◌∙◌, ◌-◌, ℤ, ◌++◌, append-nil, LONGEST_TEXT, Held, Image, Set}
+use Rattle.vms_cli.proofs.Facade.{AreReady, is_one_of, configuration, end_mark, optional, stream_head, trailer, written, written_sections, values_text}
+use Rattle.vms_cli.proofs.Facade.{ValuesRead, Values, Bad, values_read, IsFit, IsMachineOf, ShowsAs, accepted_holds, packed_holds, shown_holds, written_only}
+use Rattle.vms_cli.proofs.Facade.{printed_holds, described_text, short_holds, Listing, Text, Lists, IsTooLong, HasNone, HasNoShape, IsRead, longest_input}
+use Rattle.vms_cli.proofs.Facade.{SetText, fetched_set, longest_file, set_in, word_set, named_sets, too_large_line, Part, Outcome, done, ended, Step, Untold}
+use Rattle.vms_cli.proofs.Facade.{Gives, Ends, HasText, next, Both, FitStep, fit_word, fetched_gives, IsListing, PackThenAnalyzeLaw, ShowThenAnalyzeLaw}
+use Rattle.vms_cli.proofs.Facade.{PrintsAlike, SaveThenAnalyzeLaw, PackThenShowLaw, ShowThenPackLaw, CanBeAsked, described_stream, packed_by, packed_parts}
+use Rattle.vms_cli.proofs.Facade.{packs, with_values, Shows, ShowsBy, Refuses, ReachesSet, AreEvents, Event, Family, IsNumber, images_saved, saved_stream}
+use Rattle.vms_cli.proofs.Facade.{AreStepLines, scripted_lines, saved_after, after_events, BoardOf, SetWord, ScriptLine, after_number, lines_are_events}
+use Rattle.vms_cli.proofs.Facade.{events_of, Fault, further_holds, Mismatch, Counters, Finds, always_holds, named_holds, machine_known}
 use Rattle.vms_cli.specs.{Commands.ShowCommand.Values as Printed}
 use Rattle.vms_analyze.proofs.Shown.{shown_holds as shown_listing}
 use Rattle.dev_base.specs.Levels.{IsUpTo}
@@ -48,7 +47,7 @@ pub lists_all : (input text : List ℕ) (held : Option Held) → Lists input (Te
 lists_all input text held lists = record {
   listing = Text text;
   lists = lists;
-  is = ap (λ n. done text held n) (omega (arith, lists_few input text (Text text) lists refl));
+  is = ap (λ n. done text held n) (omega (arith, lists_few input text _ lists refl));
 }
 
 module _ (set : Set) (fit : IsFit set) (machine : Option (List ℕ)) (images : List Image) (named : IsMachineOf set machine) (ready : AreReady set images) where
@@ -81,27 +80,27 @@ module _ (map : Held) (text stream : List ℕ) where
       let written_is : bytes ≡ stream = sym (same_text _ _ has) in (
         subst (λ (l : List ℕ). Shows set l (Some map) (done text (Some map) (length l))) written_is
             (subst (λ (t : List ℕ). Shows set bytes (Some map) (done t (Some map) (length bytes))) shown.printed shows),
-        subst (λ l. IsListing (Some map) l (done text (Some map) (length l))) written_is (lists_all bytes text (Some map) lists),
+        subst (λ l. IsListing (Some map) l (done text (Some map) (length l))) written_is (lists_all bytes text _ lists),
       )
-  shown_of set fit (Bad line reason) e has = absurd (done_apart 3 _ stream (Some map) 0 0 has)
+  shown_of set fit (Bad line reason) e has = absurd (done_apart 3 _ stream _ 0 0 has)
 
   set_shown : (s : Step Set) → FitStep s → is_packed (next (next s (λ set. Gives (record { set = set; values = text }))) packed_parts) → is_shown s
   set_shown Untold fit has = absurd has
-  set_shown (Gives set) fit has = shown_of set fit (values_read set text) refl has
-  set_shown (Ends status line) fit has = absurd (done_apart status _ stream (Some map) 0 0 has)
+  set_shown (Gives set) fit has = shown_of set fit _ refl has
+  set_shown (Ends status line) fit has = absurd (done_apart status _ stream _ 0 0 has)
 
   within_shown : (name : List ℕ) (t : SetText) (b : Bool) → FitStep (set_in t)
       → is_packed (next (next (if b then Gives text else Ends 9 (too_large_line name))
       (λ v. next (set_in t) (λ set. Gives (record { set = set; values = v })))) packed_parts)
       → is_shown (set_in t)
-  within_shown name t true fit has = set_shown (set_in t) fit has
-  within_shown name t false fit has = absurd (done_apart 9 _ stream (Some map) 0 0 has)
+  within_shown name t true fit has = set_shown _ fit has
+  within_shown name t false fit has = absurd (done_apart 9 _ stream _ 0 0 has)
 
   text_shown : (name : List ℕ) (t : Step SetText) → map name ≡ Some text → FitStep (next t set_in)
       → is_packed (next (next t (with_values (Some map) name)) packed_parts) → is_shown (next t set_in)
   text_shown name Untold under fit has = absurd has
-  text_shown name (Gives t) under fit has = within_shown name t (nat_le (length text) longest_file) fit (rw under at has)
-  text_shown name (Ends status line) under fit has = absurd (done_apart status _ stream (Some map) 0 0 has)
+  text_shown name (Gives t) under fit has = within_shown name t _ fit (rw under at has)
+  text_shown name (Ends status line) under fit has = absurd (done_apart status _ stream _ 0 0 has)
 
 pub pack_then_show : PackThenShowLaw
 pack_then_show word name text stream input map under has =
@@ -127,7 +126,7 @@ module _ (set : Set) (fit : IsFit set) (machine : Option (List ℕ)) (images : L
       let all = (written_only set machine (Some (described_text set images)) images fit named (fits_text set fit images) ready).only taken other others whole in
       let printed : values_text set machine images ≡ values_text set other others =
       ap (λ o. values_text set o images) (sym all.1) ∙ ap (values_text set other) (sym all.2) in
-      rw all.0 (lists_all bytes (values_text set other others) held
+      rw all.0 (lists_all bytes _ held
       (subst (λ t. Lists bytes (Text t)) printed (shown_listed set fit machine images named ready)))
   listed_too x same (Refuses place section reason size fault) = absurd (done_apart 1 _ text held _ n (sym same))
 
@@ -148,8 +147,7 @@ module _ (set : Set) (fit : IsFit set) (machine : Option (List ℕ)) (images : L
 pub show_then_analyze : ShowThenAnalyzeLaw
 show_then_analyze word set machine images text held there ready named n shows =
     let outcome = done text held n in
-    let shown : Shows set (described_stream set machine images) held outcome = rw there at shows in
-    listed_too set (subst FitStep there (fit_word held word)) machine images (machine_of_set set machine named) ready text held n outcome refl shown
+    listed_too set (subst FitStep there (fit_word held word)) _ images (machine_of_set set machine named) ready text held n _ refl (rw there at shows)
 
 -- showing and then packing
 pub show_then_pack : ShowThenPackLaw
@@ -202,8 +200,7 @@ module _ {S : Type 0} (f : Family S) {IsSound : S → Type 0} {AreTold : List (L
       → PrintsAlike word (saved_stream f set (after_events f (events_of lines) (f.power_on number))) held
   lines_print lines are =
       let events = events_of lines in
-      sound_prints (after_events f events (f.power_on number)) (stays events (f.power_on number) are (begins number is))
-      (after_number f stands.stays events (f.power_on number) ∙ stands.begun number)
+      sound_prints _ (stays events (f.power_on number) are (begins number is)) (after_number f stands.stays events _ ∙ stands.begun number)
 
   by_step : (s : Step (List ScriptLine)) (stream : List ℕ) → AreStepLines None s
       → HasText held (next s (λ lines. Gives (saved_stream f set (after_events f (events_of lines) (f.power_on number))))) (done stream held 0)
@@ -213,13 +210,13 @@ module _ {S : Type 0} (f : Family S) {IsSound : S → Type 0} {AreTold : List (L
   by_step (Ends status line) stream are has = absurd (done_apart status line stream held 0 0 has)
 
   saved_prints : (script stream : List ℕ) → HasText held (saved_after f number set held script) (done stream held 0) → PrintsAlike word stream held
-  saved_prints script stream has = by_step (scripted None held script) stream (scripted_lines None held script) has
+  saved_prints script stream has = by_step _ stream (scripted_lines None held script) has
 
 pub save_then_analyze : SaveThenAnalyzeLaw
 save_then_analyze words (BoardOf kind number) set script stream input held asked has =
     let can = subst CanBeAsked asked (words_ask words) in
     let of = numbers_of kind in
-    saved_prints (family_of kind) (stands_of kind) (sound_of kind).power_on (sound_of kind).events held (Shipped (SetOf kind set)) number set
+    saved_prints _ (stands_of kind) (sound_of kind).power_on (sound_of kind).events held _ number set
     (ap Gives (of.set set)) (subst (λ (n : ℕ). IsUpTo n number) of.newest can.0) (subst (λ (n : ℕ). ReachesSet n number set) of.newest can.1) script stream has
 
 -- ---- What follows where `counter` names a state.
@@ -249,14 +246,13 @@ pub state_stands : StateLaw
 state_stands old new sets held m machine images r gives c =
     let words = named_both sets held old new gives in
     let named = named_holds sets.old sets.new m machine images r c in
-    let fit : IsFit sets.old = subst FitStep words.0 (fit_word held old) in
-    let reads = printed_holds sets.old machine images fit (machine_stands sets.old sets.new m machine images r c) named.ready in
+    let reads = printed_holds sets.old machine images (subst FitStep words.0 (fit_word held old)) (machine_stands _ _ m _ images r c) named.ready in
     let stream = described_stream sets.old machine images in
     record {
-      prints = prints_so old new sets held m machine images r gives c;
+      prints = prints_so old new sets held m _ images r gives c;
       size = named.size;
       ready = named.ready;
-      refused = refused_so new sets.new held r named.size (written sets.old machine images None) words.1 named.fault;
+      refused = refused_so new _ held r _ _ words.1 named.fault;
       packed = λ map name input is under short.
           let text = values_text sets.old machine images in
           let there : word_set (Some map) old ≡ Gives sets.old = rw (sym is) (words.0) in
@@ -264,8 +260,8 @@ state_stands old new sets held m machine images r gives c =
           pack_gives (Some map) old name sets.old text stream there (fetched_gives longest_file map name text under short) (ap (packed_by sets.old) reads) in
           rw is (rw gives refl);
       packed_refused = λ whole.
-          refused_so new sets.new held r named.size stream words.1
-          (rw (described_behind sets.old machine images) at (further_holds sets.new sets.new.machines (written sets.old machine images None)
+          refused_so new _ held r _ stream words.1
+          (rw (described_behind _ _ images) at (further_holds sets.new sets.new.machines (written sets.old machine images None)
           (trailer (described_text sets.old images)) r.place r.section r.reason named.size whole named.fault));
     }
 
@@ -275,4 +271,4 @@ always_named old new sets held m gives first kind ready =
     let fit : IsFit sets.old = subst FitStep words.0 (fit_word held old) in
     let fit' : IsFit sets.new = subst FitStep words.1 (fit_word held new) in
     let found = always_holds sets.old sets.new fit.well fit'.well fit.heads fit'.heads m first kind ready in
-    (found.0, prints_so old new sets held m _ _ found.0 gives found.1)
+    (found.0, prints_so old new sets held m _ _ _ gives found.1)

@@ -1,13 +1,13 @@
 -- From how a command ends, and why, to its row.
 use Rattle.vms_cli.proofs.Facade.{◌≡◌, ◌⊎◌, ℕ, true, false, List, [], ◌∷◌, Option, Some, None, inl, inr, refl, sym, ◌∙◌, subst, Err, Bool, ◌++◌, ap, arith}
-use Rattle.vms_cli.proofs.Facade.{Keeps, Appends, is_among, EndsSo, Risen, of_shelf, text_course, wrong, draws_none, so_since, writes_serve, Asked, statuses_of}
-use Rattle.vms_cli.proofs.Facade.{stores_at, takes_at, writes_at, check_course, counter_course, course_of, Looks, looks_reaches, Intake, Outlet, Stock, Serves}
+use Rattle.vms_cli.proofs.Facade.{Keeps, Appends, is_among, EndsSo, Risen, of_shelf, text_course, wrong, draws_none, so_since, writes_serve, Asked}
+use Rattle.vms_cli.proofs.Facade.{check_course, counter_course, course_of, Looks, looks_reaches, Intake, Outlet, Stock, Serves}
 use Rattle.vms_cli.proofs.Facade.{save_course, Ending, BadText, NotCompatible, ReadFault, WriteFault, NoMemory, BadWords, Caused, Quiet, WritesAs, status_of}
 use Rattle.vms_cli.proofs.Facade.{Tells, line_of, AsksIf, HadCause, among_left, shelf_has, text_asks, unset_so, WriteCause, WritesBy, Rose, SeenAs, Does}
 use Rattle.vms_cli.proofs.Facade.{DoesOrStops, Outcome, Outside, around, kept_none, outcome_so, same_keeps, Runs, moment, task_of, CanAnswer, ComesSeen}
-use Rattle.vms_cli.proofs.Facade.{DoesSeen, HasCause, OutcomeWith, bad_words, out_of_memory, read_fault, shelf_fault, write_fault, NotThere, Refused, TooLarge}
+use Rattle.vms_cli.proofs.Facade.{DoesSeen, HasCause, bad_words, out_of_memory, read_fault, shelf_fault, write_fault}
 use Rattle.vms_cli.proofs.RowFacts.{Fits, HasSix}
-use Rattle.vms_commands.specs.{Courses.Course, declared.ending.Ending.TheVariants.ShelfFault, declared.ending.Ending.TheVariants.WouldLose}
+use Rattle.vms_commands.specs.{Courses.Course, declared.ending.Ending.TheVariants.ShelfFault}
 
 -- what holds but at the statuses of such a list holds too where notes failed
 pub at_six : (l : List ℕ) → HasSix l → (k status : ℕ) → status ≡ 6 → (P : Type 0) → (is_among l k ≡ false → P) → is_among l status ≡ false → P
@@ -33,12 +33,11 @@ written_by asks compares text o o' e w = absurd w
 -- where it isn't had, input and out aren't touched
 pub lacks_so : {T : Type 0} (own takes : List ℕ) → is_among own 10 ≡ true → {b : Bool} (i : Intake) (o : Outlet) {s s' : Stock} {e : Ending}
     → AsksIf (HadCause {T = T}) b s s' (Err e) → EndsSo i i o o s s' (text_course own takes b) (Some e)
-lacks_so own takes ten {b} i o {s} {s'} {e} a = unset_so (text_course own takes b) b (text_asks own takes b ten) i o a.looks a.unasked (Some e) a.cause
+lacks_so own takes ten {b} i o {s} {s'} {e} a = unset_so _ b (text_asks own takes b ten) i o a.looks a.unasked _ a.cause
 
 -- what follows the fetch depends on the shelf as it was before
 pub behind_so : (own takes : List ℕ) (b : Bool) {i i' : Intake} {o o' : Outlet} {s s' : Stock} (e : Option Ending) → (b ≡ false → s' ≡ s) → Looks s s'
-    → EndsSo i i' o o' s' s' (text_course own takes b) e
-    → EndsSo i i' o o' s s' (text_course own takes b) e
+    → EndsSo i i' o o' s' s' (text_course own takes b) e → EndsSo i i' o o' s s' (text_course own takes b) e
 behind_so own takes true e same looks g = so_since e refl looks g
 behind_so own takes false {i} {i'} {o} {o'} {s} {s'} e same looks g = subst (λ x. EndsSo i i' o o' x s' (text_course own takes false) e) (same refl) g
 
@@ -55,28 +54,14 @@ compares_none : (own : List ℕ) → is_among own 0 ≡ true → is_among own 6 
 compares_none own none six ten = record { none = none; six = six; ten = ten; four = λ f. absurd (wrong (sym f)) }
 
 module _ (i i' : Intake) (o o' : Outlet) (s s' : Stock) where
-  -- ---- the cause of an ending, as the outcome wants it
-
-  -- at these statuses nothing is written or stored
-  abbrev Lacks : ℕ → List ℕ → Type 0
-  Lacks k l = is_among l k ≡ false
-
-  own_ends : (course : Course) (e : Option Ending) → EndsSo i i' o o' s s' course e → Lacks (status_of e) course.writes → Lacks (status_of e) course.stores
-      → Keeps o.written o'.written × (s'.held ≡ s.held)
-  own_ends course e h writes stores = (h.out writes, h.held stores)
-
+  -- the cause of an ending, as the outcome wants it
   pub caused_so : (course : Course) → Fits course → (e : Option Ending) → EndsSo i i' o o' s s' course e → Caused i i' o o' s s' e
-  caused_so course fits (Some (Refused line)) h = own_ends course (Some (Refused line)) h fits.unwritten.refused fits.unstored.refused
-  caused_so course fits (Some BadWords) h = own_ends course (Some BadWords) h fits.unwritten.unnamed fits.unstored.unnamed
-  caused_so course fits (Some (BadText line)) h = own_ends course (Some (BadText line)) h fits.unwritten.bad fits.unstored.bad
-  caused_so course fits (Some (NotCompatible line)) h = own_ends course (Some (NotCompatible line)) h fits.unwritten.unlike fits.unstored.unlike
-  caused_so course fits (Some ReadFault) h = (h.risen, h.out fits.unwritten.unread)
+  caused_so course fits None h = tt
+  caused_so course fits (Some NoMemory) h = tt
+  caused_so course fits (Some ReadFault) h = (h.risen, h.out (fits.unwritten 5 refl))
   caused_so course fits (Some WriteFault) h = h.risen
   caused_so course fits (Some ShelfFault) h = h.risen
-  caused_so course fits (Some (NotThere line)) h = own_ends course (Some (NotThere line)) h fits.unwritten.missing fits.unstored.missing
-  caused_so course fits (Some (TooLarge line)) h = own_ends course (Some (TooLarge line)) h fits.unwritten.large fits.unstored.large
-  caused_so course fits (Some (WouldLose line)) h = own_ends course (Some (WouldLose line)) h fits.unwritten.lost fits.unstored.lost
-  caused_so course fits _ h = tt
+  caused_so course fits e h = (h.out (fits.unwritten (status_of e) refl), h.held (fits.unstored (status_of e) refl))
 
 -- of a command that reads nothing of the input
 module _ (i : Intake) (o o' : Outlet) (s s' : Stock) where
@@ -86,7 +71,7 @@ module _ (i : Intake) (o o' : Outlet) (s s' : Stock) where
 
   module _ (own : List ℕ) (asks compares : Bool) (has : HasOwn own compares) where
     own_has : (k : ℕ) → is_among own k ≡ true → is_among (own ++ of_shelf asks) k ≡ true
-    own_has k is = among_left own (of_shelf asks) k is
+    own_has k is = among_left own _ k is
 
     text_so : (e : Option Ending) → WriteCause asks compares o o' e → IsOf (own ++ of_shelf asks) e
     text_so None c = (own_has 0 has.none, tt, λ f. absurd (wrong f))
@@ -216,22 +201,21 @@ module _ (i i' : Intake) (o o' n n' : Outlet) (s s' : Stock) where
     memory = λ e. same_why why Memory (sym is ∙ e) h;
   }
 
-  has_cause : (course : Course) (e : Option Ending) (status : ℕ) → EndsSo i i' o o' s s' course e → Tells n n' e status
-      → HasCause status old new
+  has_cause : (course : Course) (e : Option Ending) (status : ℕ) → EndsSo i i' o o' s s' course e → Tells n n' e status → HasCause status old new
   has_cause course None status h t = why_cause Well status t.0 t.1
   has_cause course (Some BadWords) status h (inl t) = why_cause Words status t.0 t.1
   has_cause course (Some ReadFault) status h (inl t) = why_cause Input status t.0 (h.risen, t.1)
   has_cause course (Some WriteFault) status h (inl t) = why_cause Sink status t.0 (inl (h.risen, t.1))
   has_cause course (Some ShelfFault) status h (inl t) = why_cause Shelf status t.0 (h.risen, t.1)
   has_cause course (Some NoMemory) status h (inl t) = why_cause Memory status t.0 t.1
-  has_cause course e status h (inl t) = own_cause (status_of e) status t.0 refl
+  has_cause course e status h (inl t) = own_cause _ status t.0 refl
   has_cause course e status h (inr t) = why_cause Sink status t.0 (inr t.1)
 
   -- what holds at the status of an ending, but at those of a list, holds at the status that was answered
   but_at : (l : List ℕ) → HasSix l → (e : Option Ending) (status : ℕ) → Told e status → (P : Type 0) → (is_among l (status_of e) ≡ false → P)
       → is_among l status ≡ false → P
   but_at l six e status (inl t) P h none = h (rw t.0 at none)
-  but_at l six e status (inr t) P h none = at_six l six (status_of e) status t.0 P h none
+  but_at l six e status (inr t) P h none = at_six l six _ status t.0 P h none
 
   can_be : (statuses : List ℕ) → is_among statuses 6 ≡ true → (e : Option Ending) (status : ℕ) → Told e status → is_among statuses (status_of e) ≡ true
       → is_among statuses status ≡ true
@@ -255,7 +239,7 @@ module _ (i i' : Intake) (o o' n n' : Outlet) (s s' : Stock) where
 
   does_so : (status : ℕ) (x : Outcome) → DoesOrStops status old new x → IsSeen status → Does status old new x
   does_so status x (inl does) which = does
-  does_so status x (inr stops) which = absurd (omega (arith, stops.why, which))
+  does_so status x (inr stops) which = absurd (omega arith)
 
   seen_so : (P : List ℕ → Outcome → Type 0) (e : Option Ending) (status : ℕ) → SeenAs P i i' o o' s s' e → Caused i i' o o' s s' e → Tells n n' e status
       → IsSeen status → DoesSeen P status old new
@@ -264,12 +248,11 @@ module _ (i i' : Intake) (o o' n n' : Outlet) (s s' : Stock) where
       record {
         outcome = v.outcome;
         sees = v.sees;
-        does = does_so status v.outcome (outcome_so i i' o o' n n' s s' e status v.outcome v.ends cause t) which;
+        does = does_so status _ (outcome_so i i' o o' n n' s s' e status _ v.ends cause t) which;
       }
 
   stopped_so : (P : List ℕ → Outcome → Type 0) (e : Option Ending) (status : ℕ) → SeenAs P i i' o o' s s' e → Caused i i' o o' s s' e → Tells n n' e status
-      → status ≡ 6
-      → ComesSeen P status old new ⊎ Rose old.notes.faults new.notes.faults
+      → status ≡ 6 → ComesSeen P status old new ⊎ Rose old.notes.faults new.notes.faults
   stopped_so P None status seen cause t six = absurd (omega arith)
   stopped_so P e status seen cause (inr t) six = inr t.1
   stopped_so P e status seen cause (inl t) six =
@@ -277,7 +260,7 @@ module _ (i i' : Intake) (o o' n n' : Outlet) (s s' : Stock) where
       inl (record {
         outcome = v.outcome;
         sees = v.sees;
-        comes = outcome_so i i' o o' n n' s s' e status v.outcome v.ends cause (inl t);
+        comes = outcome_so i i' o o' n n' s s' e status _ v.ends cause (inl t);
       })
 
   -- the row
@@ -286,18 +269,16 @@ module _ (i i' : Intake) (o o' n n' : Outlet) (s s' : Stock) where
   row_so asked fits e status c unnamed t =
       let h = c.so in
       let said = told e status t in
-      let caused = caused_so i i' o o' s s' (course_of asked) fits e h in
-      let out : is_among (writes_at asked) status ≡ false → Keeps o.written o'.written =
-      but_at (writes_at asked) fits.writes e status said (Keeps o.written o'.written) h.out in
+      let caused = caused_so i i' o o' s s' _ fits e h in
       record {
-        can = can_be (statuses_of asked) fits.statuses e status said h.can;
-        cause = has_cause (course_of asked) e status h t;
-        out = out;
-        input = but_at (takes_at asked) fits.takes e status said (i' ≡ i) h.input;
-        held = but_at (stores_at asked) fits.stores e status said (s'.held ≡ s.held) h.held;
+        can = can_be _ fits.statuses e status said h.can;
+        cause = has_cause _ e status h t;
+        out = but_at _ fits.writes e status said _ h.out;
+        input = but_at _ fits.takes e status said _ h.input;
+        held = but_at _ fits.stores e status said _ h.held;
         shelf = h.shelf;
         unnamed = unnamed;
         given = c.given;
-        seen = λ is which. seen_so (OutcomeWith asked s.held) e status (c.seen is) caused t which;
-        stopped = λ is six. stopped_so (OutcomeWith asked s.held) e status (c.seen is) caused t six;
+        seen = λ is which. seen_so _ e status (c.seen is) caused t which;
+        stopped = λ is six. stopped_so _ e status (c.seen is) caused t six;
       }

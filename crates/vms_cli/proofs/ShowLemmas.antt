@@ -6,7 +6,7 @@ use Rattle.vms_cli.proofs.Facade.{one_stream_holds, never_both_holds, one_fault_
 use Rattle.vms_cli.proofs.Facade.{most_given, device_at, is_well_formed, few_cells, Typed, state_of, AreImagesOf, AreOf, IsOf, machine_of, Ending, Refused}
 use Rattle.vms_cli.proofs.Facade.{WritesAs, refused_line, Outcome, done, ended, StepAs, Step, Untold, Gives, Ends, Both, HasText, both, next, Seen, load_seen}
 use Rattle.vms_cli.proofs.Facade.{seen_written, sees_as, GivesWithin, Shows, ShowsWell, Refuses, at_option, Mismatch, Counters, computed, one_answer_holds}
-use Rattle.vms_cli.proofs.Facade.{computed_holds, Finding, answer_of, fetched_set, named_sets, SetText, set_in, sets_in, mismatch_line, SetWord, FitStep}
+use Rattle.vms_cli.proofs.Facade.{computed_holds, Finding, answer_of, fetched_set, named_sets, SetText, sets_in, mismatch_line, SetWord, FitStep}
 use Rattle.vms_cli.proofs.Facade.{fit_text, IsSound, sound_next, sound_sets, Answers, CountersBy, counted, counter_text, no_state}
 use Rattle.vms_cli.specs.{Commands.ShowCommand.Values}
 use Rattle.vms_frames.specs.declared.fault.Refusal.{Refusal as RefusedAt}
@@ -81,7 +81,7 @@ module _ (set : Set) where
       let text = values_text set name images in
       seen_written {P = OfSet s.held} text taken e held
       (reads_as {M = λ n. n ≡ taken} {Q = λ input left. OfSet s.held input (done text s.held taken)} (λ n l. l.0)
-      (λ input left l. Values taken name images (rw (same_machine set machine) at l.0))
+      (λ input left l. Values taken name images (rw (same_machine set _) at l.0))
       reads) w
 
   pub refusal_seen : {i i' : Intake} {o o' : Outlet} {s s' : Stock} (images : List Image) (taken : ℕ) (r : Refusal) (line : ArrayVec ℕ)
@@ -113,11 +113,11 @@ module _ (set : Set) where
   are_from (d ∷ devices) (image ∷ images) all each = (each 0 (omega arith), are_from devices images (omega arith) (λ k lt. each (suc k) (omega arith)))
 
   pub are_of : is_well_formed set ≡ true → (images : List Typed) → AreShaped set images → AreOf set set.devices (map state_of images)
-  are_of well images h = are_from set.devices (map state_of images) (length-map images state_of ∙ h.all) (λ k lt.
+  are_of well images h = are_from _ _ (length-map images state_of ∙ h.all) (λ k lt.
       let shape = h.each k lt in
       let is : IsOf set (device_at set k) (state_of (get_or images k no_image)) =
       record { cells = shape.cells; subs = shape.subs; few = omega (arith, few_cells set well k) } in
-      subst (λ (x : Image). IsOf set (device_at set k) x) (sym (get_or-map state_of images k no_image (state_of no_image) (omega arith))) is)
+      subst (λ (x : Image). IsOf set (device_at set k) x) (sym (get_or-map _ images k _ _ (omega arith))) is)
 
 -- how many bytes the input gives
 pub gives_none : (step : Step Set) (i : Intake) → GivesWithin step i i
@@ -147,7 +147,7 @@ fit_both (Gives old) r a b = fit_second old r a b
 fit_both _ r a b = tt
 
 fit_after : (s : Step (Both SetText)) → AreFit (next s sets_in)
-fit_after (Gives texts) = fit_both (set_in texts.old) (set_in texts.new) (fit_text texts.old) (fit_text texts.new)
+fit_after (Gives texts) = fit_both _ _ (fit_text texts.old) (fit_text texts.new)
 fit_after _ = tt
 
 pub fit_sets : (held : Option Held) (old new : SetWord) → AreFit (named_sets held old new)
@@ -160,7 +160,7 @@ pub answered : (old new : Set) → IsFit old → IsFit new → (answer : Answer)
 answered old new fit fit' answer c = one_answer_holds old new fit.well answer (computed old new) c (computed_holds old new fit.well fit'.well fit'.heads)
 
 pub counters_text : (held : Option Held) (s : Step (Both Set)) (o : Outcome) → AreFit s → CountersBy s held o → HasText held (next s counted) o
-counters_text held (Gives sets) _ fit (Answers answer c) = rw (answered sets.old sets.new fit.0 fit.1 answer c)
+counters_text held (Gives sets) _ fit (Answers answer c) = rw (answered _ _ fit.0 fit.1 answer c)
 counters_text held _ o fit has = has
 
 pub text_counters : (held : Option Held) (s : Step (Both Set)) (o : Outcome) → AreFit s → HasText held (next s counted) o → CountersBy s held o
@@ -168,14 +168,14 @@ text_counters held (Gives sets) o fit has = rw has (Answers (computed sets.old s
 text_counters held _ o fit has = has
 
 pub sound_counter : (held : Option Held) (old new : SetWord) → IsSound held (next (named_sets held old new) counted)
-sound_counter held old new = sound_next held (named_sets held old new) counted (sound_sets held old new) (λ sets. tt)
+sound_counter held old new = sound_next held (named_sets held old new) _ (sound_sets held old new) (λ sets. tt)
 
 -- ---- what is written
 
 are_shaped : (set : Set) (images : List Typed) → AreImagesOf set images → AreShaped set images
 are_shaped set images are = record {
   all = are.one_each;
-  each = λ k lt. are.each k (get_or images k no_image) (slice_get-get_or images k no_image (omega arith));
+  each = λ k lt. are.each k (get_or images k no_image) (slice_get-get_or images k _ (omega arith));
 }
 
 -- one image for each device is what is printed

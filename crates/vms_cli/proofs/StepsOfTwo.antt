@@ -7,11 +7,7 @@ use Rattle.vms_cli.proofs.Facade.{quiet_same, err_text, first_err, text_ends, th
 -- ---- Two steps, one after the other: what is said of the first that ends the command, or of what both give.
 
 module _ {A T U : Type 0} (m : T → A) (n : U → Both A) where
-  -- the first ended it
-  pub first_of : (s r : Step A) (e : Ending) → StepAs {A = A} {T = T} m s (Err e) → StepAs {A = Both A} {T = U} n (both s r) (Err e)
-  first_of s r e h = first_err m n (λ a. next r (λ b. Gives (record { old = a; new = b }))) s e h
-
-  -- the second did
+  -- the second ended it
   pub second_of : (s r : Step A) (t : T) (e : Ending) → StepAs m s (Ok t) → StepAs {A = A} {T = T} m r (Err e)
       → StepAs {A = Both A} {T = U} n (both s r) (Err e)
   second_of s r t e h k =
@@ -55,8 +51,7 @@ module _ {A B T : Type 0} (m : T → A) (f : A → Step B) where
   given_next (Ends status line) t b h g = absurd h
 
   pub seen_next : (P : B → List ℕ → Outcome → Type 0) {i i' : Intake} {o o' : Outlet} {shelf shelf' : Stock} (e : Option Ending) (s : Step A) (t : T)
-      → StepAs m s (Ok t)
-      → SeenAs (WithGiven (f (m t)) P) i i' o o' shelf shelf' e → SeenAs (WithGiven (next s f) P) i i' o o' shelf shelf' e
+      → StepAs m s (Ok t) → SeenAs (WithGiven (f (m t)) P) i i' o o' shelf shelf' e → SeenAs (WithGiven (next s f) P) i i' o o' shelf shelf' e
   seen_next P e s t h seen = λ among.
       sees_as {P = WithGiven (f (m t)) P} {Q = WithGiven (next s f) P} (λ bytes x p. (p.0, given_next s t p.0 h p.1, p.2)) (seen among)
 
@@ -73,6 +68,6 @@ gives_few _ i i' h = h
 
 pub gives_next : {A T : Type 0} (m : T → A) (f : A → Step Set) (s : Step A) (t : T) (i i' : Intake) → StepAs m s (Ok t) → ConvertGives (f (m t)) i i'
     → ConvertGives (next s f) i i'
-gives_next m f Untold t i i' h g = gives_few (f (m t)) i i' g
+gives_next m f Untold t i i' h g = gives_few _ i i' g
 gives_next {A} m f (Gives a) t i i' h g = rw h at g
 gives_next m f (Ends status line) t i i' h g = absurd h

@@ -1,9 +1,8 @@
 -- Words name boards that there are.
-use Rattle.vms_cli.proofs.Facade.{◌≡◌, ℕ, zero, suc, ◌+◌, ◌<◌, ◌≤◌, ◌++◌, Bool, true, false, if◌then◌else◌, List, Option, Some, None, IfSome, arith}
-use Rattle.vms_cli.proofs.Facade.{refl, sym, ap, ◌∙◌, decimal, option_map, nat_tests, bytes_eq, IsLevel, ReachesSet, or_else, Isa}
-use Rattle.vms_cli.proofs.Facade.{ShippedSet, SetWord, number_after, is_set_of, is_shelf_name, Asked, BoardWord, BoardOf, SetOf, Save, board_word}
-use Rattle.vms_cli.proofs.Facade.{[], ◌∷◌, ◌&&◌, BoardKind, board_front, first_kind, kinds, newest_of, same_kind}
-use Rattle.vms_cli.proofs.Facade.{drill_of, isa_level, of_both, save_of, save_on, with_file, CanBeAsked, IsBoard, MaySaveOn}
+use Rattle.vms_cli.proofs.Facade.{◌≡◌, ℕ, zero, suc, ◌+◌, ◌<◌, ◌≤◌, ◌++◌, Bool, true, false, if◌then◌else◌, List, Option, Some, None, IfSome, arith, refl, sym}
+use Rattle.vms_cli.proofs.Facade.{ap, ◌∙◌, decimal, option_map, nat_tests, bytes_eq, IsLevel, ReachesSet, or_else, Isa, ShippedSet, SetWord, number_after}
+use Rattle.vms_cli.proofs.Facade.{is_set_of, is_shelf_name, Asked, BoardWord, BoardOf, SetOf, Save, board_word, [], ◌∷◌, ◌&&◌, BoardKind, board_front}
+use Rattle.vms_cli.proofs.Facade.{first_kind, kinds, newest_of, drill_of, isa_level, of_both, save_of, save_on, with_file, CanBeAsked, IsBoard, MaySaveOn}
 
 -- ---- boards
 
@@ -19,8 +18,7 @@ after-range front word first (suc count) n e = by (bytes_eq word (front ++ decim
   found b = if b then Some first else number_after front (suc first) count word
 
   by : (b : Bool) → bytes_eq word (front ++ decimal first) ≡ b
-      → (number_after front (suc first) count word ≡ Some n → (suc first ≤ n) × (n < suc first + count))
-      → (first ≤ n) × (n < first + suc count)
+      → (number_after front (suc first) count word ≡ Some n → (suc first ≤ n) × (n < suc first + count)) → (first ≤ n) × (n < first + suc count)
   by true t next = let same : first ≡ n = cc in (omega arith, omega arith)
   by false t next = let r = next (sym (ap found t) ∙ e) in (omega arith, omega arith)
 
@@ -31,14 +29,12 @@ either-there (Some board) y p q = p
 named : (kind : BoardKind) (word : List ℕ) (o : Option ℕ) → number_after (board_front kind) 1 (newest_of kind) word ≡ o
     → IsThere (option_map (BoardOf kind) o)
 named kind word None e = tt
-named kind word (Some number) e =
-    let r = after-range (board_front kind) word 1 (newest_of kind) number e in record { first = r.0; last = omega (arith, r.1) }
+named kind word (Some number) e = let r = after-range _ word 1 _ number e in record { first = r.0; last = omega arith }
 
 among : (word : List ℕ) (of : List BoardKind)
     → IsThere (first_kind (λ kind. option_map (BoardOf kind) (number_after (board_front kind) 1 (newest_of kind) word)) of)
 among word [] = tt
-among word (kind ∷ of) =
-    either-there (option_map (BoardOf kind) (number_after (board_front kind) 1 (newest_of kind) word)) _ (named kind word _ refl) (among word of)
+among word (kind ∷ of) = either-there _ _ (named kind word _ refl) (among word of)
 
 pub word-board : (word : List ℕ) → IsThere (board_word word)
 word-board word = among word kinds
@@ -52,7 +48,7 @@ level-of (Some (BoardOf Isa level)) is = is
 level-of _ is = tt
 
 pub word-level : (word : List ℕ) → HasLevel (isa_level (board_word word))
-word-level word = level-of (board_word word) (word-board word)
+word-level word = level-of _ (word-board word)
 
 -- ---- commands
 
@@ -80,15 +76,13 @@ all-some None all = tt
 all-some (Some a) all = all a
 
 under-asked : (board : BoardWord) (newest number set : ℕ) (script : List ℕ) (same b : Bool) → (same && is_set_of newest number set) ≡ b → IsBoard board
-    → (ReachesSet newest number set → MaySaveOn board set)
-    → CanBeAsked (option_map (λ (number : ℕ). Save board number script) (if b then Some set else None))
+    → (ReachesSet newest number set → MaySaveOn board set) → CanBeAsked (option_map (λ (number : ℕ). Save board number script) (if b then Some set else None))
 under-asked board newest number set script same true e is may =
     (is, may (record { level_le_set = grind (arith, nat_tests, e); set_le_newest = grind (arith, nat_tests, e) }))
 under-asked board newest number set script same false e is may = tt
 
 on-asked : (script : List ℕ) (board : Option BoardWord) (set : Option ShippedSet) → IsThere board → CanBeAsked (save_on script board set)
-on-asked script (Some (BoardOf kind number)) (Some (SetOf of set)) is =
-    under-asked (BoardOf kind number) (newest_of kind) number set script (same_kind kind of) _ refl is (λ may. may)
+on-asked script (Some (BoardOf kind number)) (Some (SetOf of set)) is = under-asked _ _ number set script _ _ refl is (λ may. may)
 on-asked script _ _ is = tt
 
 pub save-asked : (board : Option BoardWord) (set : Option ShippedSet) (script : List ℕ) → IsThere board → CanBeAsked (save_of board set script)

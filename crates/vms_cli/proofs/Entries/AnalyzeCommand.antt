@@ -11,7 +11,7 @@ pub analyze_row : IsRow analyze_entry
 analyze_row = record {
   fits = record { statuses = refl; writes = inl refl; takes = inl refl; stores = inr refl; unwritten = spares_text; unstored = spares_none };
   one = λ input held ok holds words.
-      let one = has_listing input (Some held) in
-      record { outcome = one.0; is = one.1; only = λ other p. only_listing input (Some held) other one.0 p one.1 };
+      let one = has_listing input _ in
+      record { outcome = one.0; is = one.1; only = λ other p. only_listing input _ other one.0 p one.1 };
   done = λ input held octets words can. listed input held can;
 }

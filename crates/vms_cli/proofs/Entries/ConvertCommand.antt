@@ -20,12 +20,12 @@ module _ (to : Set) (fit : IsFit to) (compatible : Compatible to newest) (input 
   of_taken n machine images takes (inl stream) = record {
     outcome = done stream.0 (Some held) n;
     is = Rewrites n machine images stream.0 takes stream.1;
-    only = λ other p. converts_same to fit compatible input (Some held) ok _ other (Rewrites n machine images stream.0 takes stream.1) p;
+    only = λ other p. converts_same to fit compatible input _ ok _ other (Rewrites n machine images stream.0 takes stream.1) p;
   }
   of_taken n machine images takes (inr lost) = record {
     outcome = ended 11 (lost_line newest lost.0 lost.1) n;
     is = WouldLose n machine images lost.0 lost.1 takes lost.2;
-    only = λ other p. converts_same to fit compatible input (Some held) ok _ other (WouldLose n machine images lost.0 lost.1 takes lost.2) p;
+    only = λ other p. converts_same to fit compatible input _ ok _ other (WouldLose n machine images lost.0 lost.1 takes lost.2) p;
   }
 
   one_answered : Answer newest newest.machines input → OneConverted (Gives to) input held
@@ -34,7 +34,7 @@ module _ (to : Set) (fit : IsFit to) (compatible : Compatible to newest) (input 
   one_answered (Faulty place section reason size fault) = record {
     outcome = ended 1 (refused_line newest place section reason) (place + size);
     is = Refuses place section reason size fault;
-    only = λ other p. converts_same to fit compatible input (Some held) ok _ other (Refuses place section reason size fault) p;
+    only = λ other p. converts_same to fit compatible input _ ok _ other (Refuses place section reason size fault) p;
   }
 
 -- ---- the step that gives the set
@@ -50,7 +50,7 @@ suits_agreed to None e fit = (fit, e)
 suits_agreed to (Some m) e fit = tt
 
 suits_next : (s : Step Set) → FitStep s → Suits (next s agrees)
-suits_next (Gives to) fit = suits_agreed to (first_mismatch to newest) refl fit
+suits_next (Gives to) fit = suits_agreed to _ refl fit
 suits_next _ fit = tt
 
 sound_agreed : (held : Option Held) (to : Set) (m : Option Mismatch) → IsSound held (agreed to m)
@@ -58,7 +58,7 @@ sound_agreed held to None = tt
 sound_agreed held to (Some m) = omega arith
 
 sound_target : (held : Option Held) (word : SetWord) → IsSound held (target held word)
-sound_target held word = sound_next held (word_set held word) agrees (sound_word_set held word) (λ to. sound_agreed held to (first_mismatch to newest))
+sound_target held word = sound_next held (word_set held word) agrees (sound_word_set held word) (λ to. sound_agreed held to _)
 
 one_by : (s : Step Set) (input : List ℕ) (held : Held) → IsBytes input → IsSound (Some held) s → Suits s → OneConverted s input held
 one_by Untold input held ok sound suits = absurd (none-some {A = Held} held (sym sound))
@@ -96,6 +96,6 @@ pub convert_row : (word : SetWord) → IsRow (convert_entry word)
 convert_row word = record {
   fits = record { statuses = refl; writes = inl refl; takes = inl refl; stores = inr refl; unwritten = spares_text; unstored = spares_none };
   one = λ input held ok holds words.
-      one_by (target (Some held) word) input held ok (sound_target (Some held) word) (suits_next (word_set (Some held) word) (fit_word (Some held) word));
+      one_by _ input held ok (sound_target _ word) (suits_next _ (fit_word (Some held) word));
   done = λ input held octets words can. converted word input held can;
 }

@@ -2,7 +2,7 @@
 use Rattle.vms_cli.proofs.{KindLaws.stands_of, RowFacts.IsDone, RowFacts.IsRow, RowFacts.spares_none, RowFacts.spares_text}
 use Rattle.vms_cli.proofs.Facade.{ℕ, List, Option, Some, None, refl, sym, inl, inr, none-some, Held, IsBytes, FitsHeads, WellFormed, done, ended, Step, Untold}
 use Rattle.vms_cli.proofs.Facade.{Gives, Ends, IsSound, Family, Back, Restores, script_gives, sound_script, loads_one, LoadsBy, Traces, scripted, answers_to}
-use Rattle.vms_cli.proofs.Facade.{trace_of, events_of, ScriptLine, BoardOf, BoardWord, HasOne, family_of, CanBeRead, load_entry}
+use Rattle.vms_cli.proofs.Facade.{trace_of, events_of, ScriptLine, BoardOf, BoardWord, HasOne, CanBeRead, load_entry}
 
 abbrev OneLoads : {S : Type 0} → Family S → ℕ → Step (List ScriptLine) → List ℕ → Held → Type 0
 OneLoads f number step input held = HasOne (λ o. LoadsBy f number step (Some input) (Some held) o)
@@ -13,7 +13,7 @@ module _ {S : Type 0} (f : Family S) (well : WellFormed (f.set f.newest)) (heads
   one_loads number Untold input held ok sound = absurd (none-some {A = Held} held (sym sound))
   one_loads number (Ends status line) input held ok sound = record { outcome = ended status line 0; is = refl; only = λ other e. e }
   one_loads number (Gives lines) input held ok sound =
-      let one = loads_one f well heads number lines input (Some held) ok in
+      let one = loads_one f well heads number lines input _ ok in
       record { outcome = one.outcome; is = one.is; only = one.only }
 
   one_scripted : (number : ℕ) (script input : List ℕ) (held : Held) → IsBytes input → OneLoads f number (scripted None (Some held) script) input held
@@ -21,22 +21,21 @@ module _ {S : Type 0} (f : Family S) (well : WellFormed (f.set f.newest)) (heads
 
 one_loaded : (board : BoardWord) (script input : List ℕ) (held : Held) → IsBytes input
     → HasOne (λ o. (load_entry board script).task.has (Some input) (Some held) o)
-one_loaded (BoardOf kind number) script input held ok =
-    one_scripted (family_of kind) (stands_of kind).well (stands_of kind).heads number script input held ok
+one_loaded (BoardOf kind number) script input held ok = one_scripted _ (stands_of kind).well (stands_of kind).heads number script input held ok
 
 module _ {S : Type 0} (f : Family S) (number : ℕ) (script : List ℕ) (map : Held) (can : CanBeRead None script map) where
   loaded_then : (bytes : List ℕ) (board : S) (taken : ℕ) → Restores f number bytes (Back board taken)
       → LoadsBy f number (scripted None (Some map) script) (Some bytes) (Some map) (done (trace_of (answers_to f (events_of can.lines) board)) (Some map) taken)
   loaded_then bytes board taken restores =
       let outcome = done (trace_of (answers_to f (events_of can.lines) board)) (Some map) taken in
-      rw (script_gives None map script can.text can.lines can.held can.short can.reads) (Traces board taken restores)
+      rw (script_gives None map script _ _ can.held can.short can.reads) (Traces board taken restores)
 
 loaded : (board : BoardWord) (script : List ℕ) (input : Option (List ℕ)) (held : Option Held) → (load_entry board script).needs input held
     → IsDone (load_entry board script).task input held
 loaded (BoardOf kind number) script input None can = absurd can.0
 loaded (BoardOf kind number) script None (Some map) can = absurd can.1
 loaded (BoardOf kind number) script (Some bytes) (Some map) can =
-    record { outcome = _; is = loaded_then (family_of kind) number script map can.0 bytes can.1.0 can.1.1 can.1.2; status = refl }
+    record { outcome = _; is = loaded_then _ number script map can.0 bytes _ _ can.1.2; status = refl }
 
 pub load_row : (board : BoardWord) (script : List ℕ) → IsRow (load_entry board script)
 load_row board script = record {

@@ -1,6 +1,6 @@
 -- `show` has one outcome, and what can be shown is.
 use Rattle.vms_cli.proofs.Facade.{ℕ, ◌+◌, List, Option, Some, None, refl, sym, inl, inr, none-some, Held, IsBytes, values_text, Set, IsFit, Answer}
-use Rattle.vms_cli.proofs.Facade.{Taken, Faulty, either_holds, word_set, refused_line, done, ended, SetWord, Step, Untold, Gives, Ends, FitStep, fit_word}
+use Rattle.vms_cli.proofs.Facade.{Taken, Faulty, either_holds, refused_line, done, ended, SetWord, Step, Untold, Gives, Ends, FitStep, fit_word}
 use Rattle.vms_cli.proofs.Facade.{IsSound, sound_word_set, CanBeShown, ShowsBy, Refuses, HasOne, show_entry}
 use Rattle.vms_cli.specs.Commands.ShowCommand.{Values as Printed}
 use Rattle.vms_cli.proofs.RowFacts.{IsDone, IsRow, spares_none, spares_text}
@@ -37,6 +37,6 @@ shown word (Some bytes) held can =
 pub show_row : (word : SetWord) → IsRow (show_entry word)
 show_row word = record {
   fits = record { statuses = refl; writes = inl refl; takes = inl refl; stores = inr refl; unwritten = spares_text; unstored = spares_none };
-  one = λ input held ok holds words. one_by (word_set (Some held) word) input held ok (sound_word_set (Some held) word) (fit_word (Some held) word);
+  one = λ input held ok holds words. one_by _ input held ok (sound_word_set _ word) (fit_word (Some held) word);
   done = λ input held octets words can. shown word input held can;
 }
