@@ -32,7 +32,7 @@ unfoldable pub use Rattle.vms_spec.specs.{Layout.first, WellFormed.first_fault}
 pub use Rattle.vms_desc.specs.{Asks.HasCells, Asks.field_at, Asks.own_numbers, Described.described, Formed.clock_set, Formed.is_well_formed, Formed.newest_set, Formed.shipped_set}
 pub use Rattle.vms_desc.specs.{Heads.FitsHead, Heads.FitsSub, Heads.HeadsFit, Names.first_named, Put.AreForms, Put.Puts, declared.eval.Scope.Scope}
 pub use Rattle.vms_desc.specs.{declared.forms.Forms.Forms, declared.path.Element.Element, declared.path.Placed.Placed, declared.table.Table.Table}
-pub use Rattle.vms_desc.specs.Forms.{device_forms, field_forms, fields_forms, forms_to, item_forms, subs_forms}
+pub use Rattle.vms_desc.specs.Forms.{device_forms, field_forms, fields_forms, forms_to, item_forms, structs_forms, subs_forms}
 pub use Rattle.vms_desc.specs.Numbers.{fields_in, number_in, number_of, number_of_parent, place_in, sizes_of}
 pub use Rattle.vms_desc.specs.Parts.{HasParentCells, HasPart, desc_at, is_number, is_number_in, is_number_of_parent, is_placed, parent_of, sub_at}
 pub use Rattle.vms_desc.specs.Paths.{Begins, Enters, IsPlaced, begin_base, begin_desc, element_in, element_of}
