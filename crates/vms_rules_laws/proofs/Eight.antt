@@ -112,13 +112,12 @@ sub_decides k i d j s =
     let needed = names_decides _ _ _ _ (steady_decides s.desc) (steady_decides d.desc) _ in
     let limits = Decides-and _ _ (few_decides s.desc) (small_decides s.needed) in (
       λ c.
-          let own = c.own in
-          let few = limits.0 own.1.1.1.1.1.1.0 in
+          let few = limits.0 c.own.1.1.1.1.1.1.0 in
           record {
-            named = named.0 own.0;
-            new = new.0 own.1.0;
-            is = desc_on k s.desc _ c own.1.1.0 few.0;
-            needed = needed.0 own.1.1.1.0;
+            named = named.0 c.own.0;
+            new = new.0 c.own.1.0;
+            is = desc_on k s.desc _ c c.own.1.1.0 few.0;
+            needed = needed.0 c.own.1.1.1.0;
             small = few.1;
           },
       λ h.
@@ -138,12 +137,11 @@ device_decides set i d =
     let new = new_device_decides set i d in
     let limits = Decides-and _ _ (few_decides d.desc) (le_decides _ 32) in (
       λ c subs.
-          let own = c.own in
-          let few = limits.0 own.1.1.1.1.1.1.0 in
+          let few = limits.0 c.own.1.1.1.1.1.1.0 in
           record {
-            named = named.0 own.0;
-            new = new.0 own.1.0;
-            is = desc_on k d.desc _ c own.1.1.0 few.0;
+            named = named.0 c.own.0;
+            new = new.0 c.own.1.0;
+            is = desc_on k d.desc _ c c.own.1.1.0 few.0;
             few_subs = few.1;
             subs = subs;
           },
