@@ -17,7 +17,7 @@ width I64 = 8
 width Bool = 1
 width Timer = 8
 
--- The least number of the kind.
+-- The least number of the kind: 0, unless the kind has negative numbers.
 abbrev pub lowest : Kind → ℤ
 lowest I8 = negsuc 0x7f
 lowest I16 = negsuc 0x7fff
