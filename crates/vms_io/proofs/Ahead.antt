@@ -28,13 +28,6 @@ given_on x room copied buf b e n is fits within =
     gives x (between room b e) (take n (copied ++ buf)) (between room (b + n) e)
     (left_split (take e room) (take e room) copied buf b n refl front (omega (arith, length-take-le e room within)))
 
--- first read, then given
-pub kept_gives : (x y z : Option (List ℕ)) (bs : List ℕ) → Keeps x y → Consumes y z bs → Consumes x z bs
-kept_gives None y z bs k h = tt
-kept_gives (Some xs) None z bs k h = absurd k
-kept_gives (Some xs) (Some ys) None bs k h = absurd h
-kept_gives (Some xs) (Some ys) (Some zs) bs k h = sym k ∙ h
-
 -- if nothing waits, neither before nor now, what the reader still gives is ahead
 pub still_ahead : (x y z : Option (List ℕ)) (room new : List ℕ) (b e d f : ℕ) → b ≡ e → d ≡ 0 → f ≡ 0 → x ≡ y
     → Keeps (ahead y (between new d f)) z → Keeps (ahead x (between room b e)) z
