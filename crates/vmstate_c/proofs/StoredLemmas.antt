@@ -158,40 +158,6 @@ pub record Rest (lent : List File) (all : List Entry) (es : List Pair) (files : 
   pub files_are : files ++ places (length bytes) (news lent es) ≡ places 0 all
   pub bytes_are : bytes ++ bytes_of (news lent es) ≡ bytes_of all
 
-abbrev place : ℕ → List ℕ → List ℕ → Stored
-place at name bytes = record { name = at; name_length = length name; bytes = at + length name; length = length bytes }
-
-module _ (lent : List File) (all : List Entry) (e : Pair) (es : List Pair) (files : List Stored) (bytes : List ℕ) where
-  pub skipped : is_lent lent (name_in e) (bytes_in e) ≡ true → Rest lent all (e ∷ es) files bytes → Rest lent all es files bytes
-  skipped q rest =
-      subst (λ (b : Bool). let next = if b then news lent es else entry (name_in e) (bytes_in e) ∷ news lent es in
-      files ++ places (length bytes) next ≡ places 0 all → bytes ++ bytes_of next ≡ bytes_of all → Rest lent all es files bytes)
-      (sym q) (λ f b. record { files_are = f; bytes_are = b }) rest.files_are rest.bytes_are
-
-  pub added : is_lent lent (name_in e) (bytes_in e) ≡ false → Rest lent all (e ∷ es) files bytes
-      → Rest lent all es (files ++ place (length bytes) (name_in e) (bytes_in e) ∷ []) (bytes ++ (name_in e ++ bytes_in e))
-  added q rest =
-      subst (λ (b : Bool). let next = if b then news lent es else entry (name_in e) (bytes_in e) ∷ news lent es in
-      files ++ places (length bytes) next ≡ places 0 all → bytes ++ bytes_of next ≡ bytes_of all
-      → Rest lent all es (files ++ place (length bytes) (name_in e) (bytes_in e) ∷ []) (bytes ++ (name_in e ++ bytes_in e)))
-      (sym q) next rest.files_are rest.bytes_are
-    where
-      long : length (bytes ++ (name_in e ++ bytes_in e)) ≡ length bytes + length (name_in e) + length (bytes_in e)
-      long =
-          let whole = length-append bytes (name_in e ++ bytes_in e) in
-          let both = length-append (name_in e) (bytes_in e) in
-          omega (arith, whole, both)
-
-      next : files ++ places (length bytes) (entry (name_in e) (bytes_in e) ∷ news lent es) ≡ places 0 all
-          → bytes ++ bytes_of (entry (name_in e) (bytes_in e) ∷ news lent es) ≡ bytes_of all
-          → Rest lent all es (files ++ place (length bytes) (name_in e) (bytes_in e) ∷ []) (bytes ++ (name_in e ++ bytes_in e))
-      next f b = record {
-        files_are =
-            ap (λ n. files ++ place (length bytes) (name_in e) (bytes_in e) ∷ [] ++ places n (news lent es)) long
-            ∙ append_assoc files (place (length bytes) (name_in e) (bytes_in e) ∷ []) _ ∙ f;
-        bytes_are = append_assoc bytes (name_in e ++ bytes_in e) (bytes_of (news lent es)) ∙ b;
-      }
-
 pub at_end : (lent : List File) (all : List Entry) (files : List Stored) (bytes : List ℕ) → Rest lent all [] files bytes
     → (files ≡ places 0 all) × (bytes ≡ bytes_of all)
 at_end lent all files bytes rest = (sym (append-nil files) ∙ rest.files_are, sym (append-nil bytes) ∙ rest.bytes_are)
