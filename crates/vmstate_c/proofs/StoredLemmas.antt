@@ -2,13 +2,12 @@
 use Rattle.std.proofs.{lemmas.Bool.Decides.not_from_Decides, lemmas.Str.is_utf8-from_IsUtf8, lemmas.Map.Text.is_eq-slice_cmp, lemmas.Slice.Eq.bytes_eq-Decides}
 use Rattle.std.proofs.Common.{◌≡◌, ◌≢◌, ◌∙◌, refl, sym, ap, subst, ℕ, zero, suc, ◌+◌, ◌<◌, Bool, true, false, ◌&&◌, cond, if◌then◌else◌, List, [], ◌∷◌, ◌++◌}
 use Rattle.std.proofs.Common.{length, map, reverse, take, get_or, Option, Some, None, arith}
-use Rattle.std.proofs.lemmas.List.{append-nil, append_assoc, length-append, reverse-append, Elements.All-cons}
+use Rattle.std.proofs.lemmas.List.{append-nil, reverse-append, take_more, Elements.All-cons, Elements.All-contains}
 use Rattle.std.specs.{List.All, List.AllByRecursion, List.Contains, List.find, List.Sorted.IsStrictlySortedBy, Bool.Decides, Option.option_map, Ordering.is_eq}
 use Rattle.std.specs.{Ordering.nat_cmp, Cmp.Lexicographic.slice_cmp, Str.IsUtf8, Str.is_utf8, Str.bytes_eq, String.string_bytes, String.string_cmp, Map.keys_of}
 use Rattle.std.specs.{Map.lookup, declared.string.String.String, declared.alloc.Global.Global, declared.cmp.Ordering.TheVariants.Less}
 use Rattle.std.specs.BTreeMap.{BTreeMap, IsOrdered, get, is_at}
 use Rattle.vms_io.specs.Shelves.{Held}
-use Rattle.vmstate_c.proofs.{WordLemmas.take-more}
 use Rattle.vmstate_c.specs.{Folders.held_in, declared.folder.Content.Content, declared.request.File.File, declared.request.Stored.Stored}
 use Rattle.vmstate_c.specs.Calls.{file_of, is_named}
 use Rattle.vmstate_c.specs.Storing.{Entry, IsStored, bytes_of, is_just, is_lent, places}
@@ -55,7 +54,7 @@ module _ (files : List File) (i : ℕ) (d : File) (name bytes text : List ℕ) (
   lent-more : (tested : Bool) → text ≡ name → tested ≡ bytes_eq (get_or files i d).name.now text
       → is_lent (take (i + 1) files) name bytes ≡ (if tested then bytes_eq (get_or files i d).bytes.now bytes else is_lent (take i files) name bytes)
   lent-more tested same is =
-      ap (λ (fs : List File). is_lent fs name bytes) (take-more files i d lt) ∙ one-more (take i files) (get_or files i d) name bytes utf8
+      ap (λ (fs : List File). is_lent fs name bytes) (take_more files i d lt) ∙ one-more (take i files) (get_or files i d) name bytes utf8
       ∙ ap (λ (b : Bool). if b then bytes_eq (get_or files i d).bytes.now bytes else is_lent (take i files) name bytes)
       (ap (bytes_eq (get_or files i d).name.now) (sym same) ∙ sym is)
 
@@ -84,9 +83,6 @@ all_new lent held (e ∷ es) there = by (is_lent lent (name_in e) (bytes_in e)) 
     by false q rest =
         let differs = not_from_Decides _ (is_just-Decides (file_of (name_in e) lent) (bytes_in e)) q in
         All-cons (IsNew lent held) _ _ (there zero e (omega arith), differs) rest
-
-from_all : {X : Type 0} (P : X → Type 0) (xs : List X) (x : X) → All P xs → Contains xs x → P x
-from_all P xs x all (k, lt, e) = subst P e (all k x lt)
 
 later : {X : Type 0} (x y : X) (ys : List X) → Contains ys x → Contains (y ∷ ys) x
 later x y ys (k, lt, e) = (suc k, omega (arith, lt), e)
@@ -142,7 +138,7 @@ pub is_stored : (lent : List File) (m : BTreeMap (String Global) Content) → Is
     → IsStored lent (held_in m.entries) (news lent m.entries)
 is_stored lent m ordered found = record {
   exact = λ name bytes. (
-    (λ c. from_all (IsNew lent (held_in m.entries)) _ _ (all_new lent (held_in m.entries) m.entries there) c),
+    (λ c. All-contains (IsNew lent (held_in m.entries)) _ _ (all_new lent (held_in m.entries) m.entries there) c),
     (λ h. has_new lent m.entries name bytes h.0 h.1),
   );
   ordered = sorted_news lent m.entries ordered;
