@@ -4,7 +4,7 @@ pub use Rattle.std.proofs.Common.{Bool, List, None, Option, Some, [], ap, append
 pub use Rattle.std.proofs.Common.{length-append, length-drop, length-take-le, map, min, nat_le, pos, refl, replicate, rules, suc, sym, take, true, zero, ℕ, ℤ}
 pub use Rattle.std.proofs.Common.{◌&&◌, ◌*◌, ◌++◌, ◌+◌, ◌-◌, ◌<◌, ◌∙◌, ◌∷◌, ◌≡◌, ◌≤◌}
 pub use Rattle.std.proofs.lemmas.Bool.{and_parts, cases_lt, eqb-true, leb-true, lt-ltb, ltb-true, cases_Bool}
-pub use Rattle.std.proofs.lemmas.List.{drop_all, drop_at, ext_get_or, get_or-drop, get_or_append_left, get_or_default, get_or_past, length-map, map-append, map_more}
+pub use Rattle.std.proofs.lemmas.List.{drop_all, drop_at, ext_get_or, get_or-drop, get_or_append_left, get_or_default, get_or_past, get_or_push, length-map, map-append, map_more}
 pub use Rattle.std.proofs.lemmas.List.{take-append-le, take-map, take_all, take_at, take_min}
 pub use Rattle.std.proofs.lemmas.Option.{get_or_from_slice_get, slice_get-get_or, slice_get_within}
 pub use Rattle.std.specs.{Option.option_copied, Option.option_map, Prelude.if◌then◌else◌, Prelude.nat_lt, Str.bytes_eq}
@@ -12,7 +12,7 @@ pub use Rattle.std.proofs.lemmas.List.FromFn.{get_or-map-range_with_len}
 pub use Rattle.std.specs.List.{flat_map, list_all, range_with_len, slice_get}
 pub use Rattle.vms_kinds.specs.{Codes.InRange, declared.TheConstants.NEWEST_SET, declared.Item.Item, declared.Kind.Kind, declared.Kind.TheVariants.U8}
 pub use Rattle.vms_kinds.specs.declared.Item.TheVariants.{Equal, Num, Struct, Unused}
-pub use Rattle.vms_spec.proofs.{ListLaws.found_one, Sizes.element_room, Sizes.field_size, Tables.first_at, Tables.first_long, Tables.first_take, Tables.last_is}
+pub use Rattle.vms_spec.proofs.{ListLaws.found_one, Sizes.element_room, Sizes.field_size, Tables.first_at, Tables.first_long, Tables.first_take}
 pub use Rattle.vms_spec.proofs.{Faultless.AllTrue, WellFormedLaws.Clean, WellFormedLaws.device_parts, WellFormedLaws.well_good}
 pub use Rattle.vms_spec.proofs.ShippedSets.{all_fit, device_fits, each, fit, heads_fit, is_fit}
 pub use Rattle.vms_spec.specs.{Good.DefaultsFit, Good.IsFit, Good.IsGood, Heads.FitsHeads, Images.own_cells, Images.sub_place, Lists.position}
