@@ -1,6 +1,6 @@
 -- The bytes that a buffered reader still gives, as they are read and given.
 use Rattle.vms_io.proofs.{Facade.bytes_only, Facade.between, Filling.left_split, Gathering.part_is}
-use Rattle.vms_io.proofs.Facade.{◌≡◌, ℕ, ◌+◌, ◌-◌, ◌≤◌, Bool, true, false, ◌&&◌, List, [], ◌∷◌, ◌++◌, length, take, drop, Option, Some, None, if◌then◌else◌}
+use Rattle.vms_io.proofs.Facade.{◌≡◌, ℕ, ◌+◌, ◌-◌, ◌≤◌, Bool, true, false, ◌&&◌, List, [], ◌++◌, length, take, drop, Option, Some, None, if◌then◌else◌}
 use Rattle.vms_io.proofs.Facade.{refl, sym, ap, subst, ◌∙◌, arith, append_assoc, drop_all, length-take, length-take-le, take-take, list_all-append, Consumes, Keeps, ahead, are_bytes}
 
 -- after the front of a list of bytes there are bytes

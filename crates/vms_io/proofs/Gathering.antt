@@ -1,6 +1,6 @@
 -- Bytes that are buffered for a writer, and flushed.
-use Rattle.vms_io.proofs.Facade.{◌≡◌, refl, append-nil, ℕ, ◌+◌, ◌-◌, ◌≤◌, List, [], ◌++◌, length, take, drop, Option, Some, None, Result, Ok, Err, sym, ap, ◌∙◌}
-use Rattle.vms_io.proofs.Facade.{subst, arith, append_assoc, take-append-drop, drop-drop, length-take, drop-take, drop_all, drop-append-le, Keeps, Appends}
+use Rattle.vms_io.proofs.Facade.{◌≡◌, refl, append-nil, ℕ, ◌+◌, ◌-◌, ◌≤◌, List, ◌++◌, length, take, drop, Option, Some, None, Result, Ok, Err, sym, ap, ◌∙◌}
+use Rattle.vms_io.proofs.Facade.{arith, append_assoc, take-append-drop, drop-drop, length-take, drop-take, drop_all, drop-append-le, Keeps, Appends}
 use Rattle.vms_io.proofs.Facade.{HasCause, told, between, KeepsFront}
 
 -- a part of the buffer, taken from its first byte

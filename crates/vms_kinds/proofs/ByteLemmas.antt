@@ -1,5 +1,5 @@
 -- Bytes that are joined and split.
-use Rattle.std.proofs.Common.{ℕ, zero, suc, ◌<◌, List, ◌∷◌, ◌++◌, take, arith, []}
+use Rattle.std.proofs.Common.{ℕ, zero, suc, List, ◌∷◌, ◌++◌, take, arith, []}
 use Rattle.vms_kinds.specs.Bytes.{IsBytes}
 
 pub bytes_both : (xs ys : List ℕ) → IsBytes xs → IsBytes ys → IsBytes (xs ++ ys)

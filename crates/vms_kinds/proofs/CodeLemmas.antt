@@ -1,15 +1,13 @@
 -- The bytes of a number and back, kind by kind.
-use Rattle.std.proofs.Common.{◌≡◌, ℕ, ◌^◌, ◌<◌, List, [], ◌∷◌, length, ℤ, pos, negsuc, slice_index, arith, refl, ap, ◌∙◌, sym, subst, true, false, ◌++◌, drop, ◌≤◌, slice_set}
+use Rattle.std.proofs.{Common.◌≤◌, Common.slice_set, lemmas.Nat.be_bytes_2, lemmas.Nat.be_bytes_4, lemmas.Nat.be_bytes_8, lemmas.Int.ints, lemmas.Int.to_z-of_z}
+use Rattle.std.proofs.Common.{◌≡◌, ℕ, ◌^◌, ◌<◌, List, [], ◌∷◌, length, ℤ, pos, negsuc, slice_index, arith, refl, ap, ◌∙◌, sym, subst, true, false, ◌++◌, drop}
 use Rattle.std.specs.Int.{Width, w8, w16, w32, w64, w128, cast_unsigned}
-use Rattle.std.proofs.lemmas.Nat.{be_bytes_2, be_bytes_4, be_bytes_8}
-use Rattle.std.proofs.lemmas.Int.{ints, to_z-of_z}
+use Rattle.byteorder.specs.Endian.{big_bytes, big_number, twos_complement}
+use Rattle.vms_kinds.specs.{declared.Kind.Kind, Bytes.IsBytes}
+use Rattle.vms_kinds.specs.Codes.{width, residue, code, InRange, IsBadBool, is_signed, value_of}
+use Rattle.vms_kinds.specs.declared.Kind.TheVariants.{U8, U16, U32, U64, I8, I16, I32, I64, Bool, Timer}
 use mir.Val.{SFits, to_z, of_z}
 use lib.IntN.{nat_abs}
-use Rattle.byteorder.specs.Endian.{big_bytes, big_number, twos_complement}
-use Rattle.vms_kinds.specs.declared.Kind.{Kind}
-use Rattle.vms_kinds.specs.declared.Kind.TheVariants.{U8, U16, U32, U64, I8, I16, I32, I64, Bool, Timer}
-use Rattle.vms_kinds.specs.Bytes.{IsBytes}
-use Rattle.vms_kinds.specs.Codes.{width, residue, code, InRange, IsBadBool, is_signed, value_of}
 
 again_1 : (bs : List ℕ) → length bs ≡ 1 → IsBytes bs → big_bytes 1 (big_number 1 bs) ≡ bs
 again_1 [] len ok = absurd (omega arith)

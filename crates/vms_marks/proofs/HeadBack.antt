@@ -1,6 +1,6 @@
 -- Heads, a configuration and a footer can be read back from their bytes.
 use Rattle.std.proofs.{lemmas.List.drop-drop, Math.Seq.drop-append_seam, Math.Seq.take-append_seam}
-use Rattle.std.proofs.Common.{◌≡◌, ℕ, ◌+◌, ◌<◌, ◌≤◌, ◌^◌, List, ◌∷◌, ◌++◌, length, take, drop, refl, sym, ap, ◌∙◌, arith, append_assoc, []}
+use Rattle.std.proofs.Common.{◌≡◌, ℕ, ◌+◌, ◌<◌, ◌≤◌, ◌^◌, List, ◌∷◌, ◌++◌, length, drop, refl, sym, ap, ◌∙◌, arith, append_assoc}
 use Rattle.byteorder.specs.Endian.{big_number}
 use Rattle.vms_spec.proofs.{KindLaws.be32_read}
 use Rattle.vms_spec.specs.{declared.TheConstants.LONGEST_NAME, Streams.be32, Lookup.number_at, Lookup.bytes_at}

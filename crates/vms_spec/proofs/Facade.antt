@@ -11,7 +11,7 @@ pub use Rattle.std.specs.{List.AllByRecursion, List.flat_map, List.list_all, Lis
 unfoldable pub use Rattle.std.specs.Fmt.{digits}
 pub use Rattle.vms_kinds.specs.{Codes.InRange, Codes.highest, Codes.lowest, Codes.residue, Codes.value_of, Codes.width, declared.Item.Item, declared.Kind.Kind}
 pub use Rattle.vms_kinds.specs.declared.Item.TheVariants.{Equal, Num, Struct, Unused}
-pub use Rattle.vms_kinds.specs.declared.Kind.TheVariants.{I16, I32, I64, I8, Timer, U16, U32, U64, U8}
+pub use Rattle.vms_kinds.specs.declared.Kind.TheVariants.{I16, I32, I64, I8, U16, U32, U8}
 unfoldable pub use Rattle.vms_kinds.specs.Codes.{code}
 pub use Rattle.vms_spec.specs.{Heads.FitsHeads, Layout.struct_cells, Layout.times, Lists.first_answer, Lists.or_else, Lists.position, Lookup.find_device}
 pub use Rattle.vms_spec.specs.{Lookup.find_sub, Lookup.is_bad_bool, Names.is_name, Names.is_name_byte, Numbers.exceeds, Numbers.is_above, Numbers.same_number}

@@ -1,7 +1,7 @@
 -- Numbers can be read back from their bytes.
 use Rattle.vms_spec.proofs.Facade.{◌≡◌, List, ◌++◌, ℕ, ◌%◌, ◌^◌, ◌*◌, ◌<◌, length, ℤ, pos, negsuc, refl, ap, ◌∙◌, arith, append-nil, false, ◌≤◌, []}
-use Rattle.vms_spec.proofs.Facade.{le-ltb, ints, mod_below, pow_pos, big_number, big_bytes, twos_complement, big_number-reads_back, Kind, U8, U16}
-use Rattle.vms_spec.proofs.Facade.{U32, U64, I8, I16, I32, I64, Timer, width, residue, code, InRange, value_of, MOST_UNUSED, be32, is_bad_bool}
+use Rattle.vms_spec.proofs.Facade.{le-ltb, ints, mod_below, pow_pos, big_number, big_bytes, twos_complement, big_number-reads_back, Kind, U8}
+use Rattle.vms_spec.proofs.Facade.{I8, I16, I32, I64, width, residue, code, InRange, value_of, MOST_UNUSED, be32, is_bad_bool}
 use Rattle.vms_kinds.specs.declared.Kind.TheVariants.{Bool}
 
 pub read_back : (w x : ℕ) → x < 256 ^ w → big_number w (big_bytes w x) ≡ x

@@ -1,6 +1,6 @@
 -- The files that a call stored, as they are found entry by entry.
 use Rattle.std.proofs.{lemmas.Bool.Decides.not_from_Decides, lemmas.Str.is_utf8-from_IsUtf8, lemmas.Map.Text.is_eq-slice_cmp, lemmas.Slice.Eq.bytes_eq-Decides}
-use Rattle.std.proofs.Common.{◌≡◌, ◌≢◌, ◌∙◌, refl, sym, ap, subst, ℕ, zero, suc, ◌+◌, ◌<◌, Bool, true, false, ◌&&◌, cond, if◌then◌else◌, List, [], ◌∷◌, ◌++◌}
+use Rattle.std.proofs.Common.{◌≡◌, ◌≢◌, ◌∙◌, refl, sym, ap, ℕ, zero, suc, ◌+◌, ◌<◌, Bool, true, false, ◌&&◌, cond, if◌then◌else◌, List, [], ◌∷◌, ◌++◌}
 use Rattle.std.proofs.Common.{length, map, reverse, take, get_or, Option, Some, None, arith}
 use Rattle.std.proofs.lemmas.List.{append-nil, reverse-append, take_more, Elements.All-cons, Elements.All-contains}
 use Rattle.std.specs.{List.All, List.AllByRecursion, List.Contains, List.find, List.Sorted.IsStrictlySortedBy, Bool.Decides, Option.option_map, Ordering.is_eq}

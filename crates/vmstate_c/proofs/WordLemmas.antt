@@ -1,7 +1,7 @@
 -- Which words are UTF-8.
-use Rattle.std.proofs.{lemmas.Str.IsUtf8-from_is_utf8}
 use Rattle.std.proofs.Common.{◌≡◌, refl, ℕ, Bool, true, false, List}
-use Rattle.std.specs.{Str.IsUtf8, Str.is_utf8}
+use Rattle.std.proofs.lemmas.Str.{IsUtf8-from_is_utf8}
+use Rattle.std.specs.Str.{IsUtf8, is_utf8}
 
 pub not_utf8 : (bytes : List ℕ) → ¬ (IsUtf8 bytes) → is_utf8 bytes ≡ false
 not_utf8 bytes bad = by (is_utf8 bytes) refl

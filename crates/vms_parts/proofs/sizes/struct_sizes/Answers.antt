@@ -1,5 +1,4 @@
-use Rattle.vms_parts.proofs.Facade.{first}
-use Rattle.vms_parts.proofs.SizeLaws.{sizes_more}
+use Rattle.vms_parts.proofs.{Facade.first, SizeLaws.sizes_more}
 use Rattle.vms_parts.proofs.sizes.struct_sizes.Goals as goal
 
 pub loop-desc-init : goal.loop-desc-init

@@ -5,17 +5,20 @@ use Rattle.vms_rules.proofs.devices.check_devices.Goals as goal
 pub returns-in_err-check_device : goal.returns-in_err-check_device
 returns-in_err-check_device c =
     let set = set_of c.args.parts.now in
-    let lt : c.loop-number.number < length set.devices = omega (arith, length-map c.args.parts.now.devices device_of, ap length c.as_slice-number-end.ensures) in
+    let lt : c.loop-number.number < length set.devices =
+    omega (arith, length-map c.args.parts.now.devices device_of, ap length c.as_slice-number-end.ensures) in
     stops_by _ _ _ c.from_residual.ensures.1 (spot_stops (device_fault set) set.devices _ _ _ _ lt c.in_err-check_device.ensures c.loop-number.invariant)
 
 pub loop-number-preserved : goal.loop-number-preserved
 loop-number-preserved c =
     let set = set_of c.args.parts.now in
-    let lt : c.loop-number.number < length set.devices = omega (arith, length-map c.args.parts.now.devices device_of, ap length c.as_slice-number-end.ensures) in
+    let lt : c.loop-number.number < length set.devices =
+    omega (arith, length-map c.args.parts.now.devices device_of, ap length c.as_slice-number-end.ensures) in
     spot_good (device_fault set) set.devices _ _ _ lt c.in_ok-check_device.ensures c.loop-number.invariant
 
 pub returns : goal.returns
 returns c =
     let set = set_of c.args.parts.now in
-    let all : length set.devices ≤ c.loop-number.number = omega (arith, length-map c.args.parts.now.devices device_of, ap length c.as_slice-number-end.ensures) in
+    let all : length set.devices ≤ c.loop-number.number =
+    omega (arith, length-map c.args.parts.now.devices device_of, ap length c.as_slice-number-end.ensures) in
     spots_good (device_fault set) set.devices _ _ all c.loop-number.invariant

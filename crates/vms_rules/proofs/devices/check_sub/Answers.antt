@@ -1,8 +1,7 @@
-use Rattle.vms_rules.proofs.Facade.{◌≡◌, None, get_or, no_desc, failing, here, sub_rules, sub_of}
-use Rattle.vms_rules.proofs.Facade.{device_of, get_map_at, IsFirst, sub_at}
+use Rattle.vms_rules.proofs.Facade.{◌≡◌, None, get_or, no_desc, failing, here, sub_rules, sub_of, device_of, get_map_at, IsFirst, sub_at}
+use Rattle.vms_rules.proofs.WalkLaws.{stops_by, first_stops, judged_after}
 use Rattle.vms_spec.specs.declared.Part.TheVariants as parts
 use Rattle.vms_spec.specs.Sets as sets
-use Rattle.vms_rules.proofs.WalkLaws.{stops_by, first_stops, judged_after}
 use Rattle.vms_rules.proofs.devices.check_sub.Goals as goal
 
 pub sub_rules-requires-clause-new : goal.sub_rules-requires-clause-new
@@ -15,7 +14,8 @@ returns-in_err-lowest c =
     let part = parts.Sub w.number j in
     let device = device_of w.device.now in
     let s = sub_at device j in
-    let first : IsFirst (failing 1 (sub_rules device j s) (here part)) c.in_err-lowest.field-0.0 = rw (c.sub_rules.ensures, c.here.ensures) at c.in_err-lowest.ensures in
+    let first : IsFirst (failing 1 (sub_rules device j s) (here part)) c.in_err-lowest.field-0.0 =
+    rw (c.sub_rules.ensures, c.here.ensures) at c.in_err-lowest.ensures in
     stops_by _ _ _ c.from_residual.ensures.1 (first_stops _ _ _ first)
 
 pub returns : goal.returns

@@ -1,6 +1,6 @@
-use Rattle.vms_rules.proofs.{NameLaws.names_so_far, WalkLaws.stops_by, WalkLaws.place_good, WalkLaws.place_stops, devices.check_subs.Goals.After-sub-item}
-use Rattle.vms_rules.proofs.Facade.{◌≡◌, ◌<◌, ℕ, None, length, get_or, ap, arith, no_desc, AtLeast, sub_fault, Sub, sub_of, device_of, get_map_at}
-use Rattle.vms_rules.proofs.Facade.{has_name, sub_at, Within}
+use Rattle.vms_rules.proofs.{NameLaws.names_so_far, devices.check_subs.Goals.After-sub-item, Facade.sub_at, Facade.Within}
+use Rattle.vms_rules.proofs.Facade.{◌≡◌, ◌<◌, ℕ, None, length, get_or, ap, arith, no_desc, AtLeast, sub_fault, Sub, sub_of, device_of, get_map_at, has_name}
+use Rattle.vms_rules.proofs.WalkLaws.{stops_by, place_good, place_stops}
 use Rattle.vms_rules.proofs.devices.check_subs.Goals as goal
 
 -- the subsection of this number

@@ -1,6 +1,6 @@
-use Rattle.vms_rules.proofs.{FieldLaws.names_more, KeyLaws.names_known, WalkLaws.stops_by, WalkLaws.place_good, WalkLaws.place_stops}
+use Rattle.vms_rules.proofs.{FieldLaws.names_more, KeyLaws.names_known, fields.check_fields.Goals.After-index-fields-number}
 use Rattle.vms_rules.proofs.Facade.{◌≡◌, ◌<◌, None, length, get_or, ap, arith, field_of, desc_of, IsFirst, has_name, at_field}
-use Rattle.vms_rules.proofs.fields.check_fields.Goals.{After-index-fields-number}
+use Rattle.vms_rules.proofs.WalkLaws.{stops_by, place_good, place_stops}
 use Rattle.vms_rules.proofs.fields.check_fields.Goals as goal
 
 pub returns-in_err-capacities : goal.returns-in_err-capacities
@@ -21,8 +21,8 @@ field_is c = (omega (arith, ap length c.as_slice-fields.ensures), cc (c.index-fi
 pub field_rules-rules-requires-clause-names : goal.field_rules-rules-requires-clause-names
 field_rules-rules-requires-clause-names c =
     let of = field_is (goal.at.field_rules-rules-requires-clause-names c).After-index-fields-number in
-    names_known c.args.desc.now.fields c.loop-number.number c.index-fields-number.result (has_name c.loop-number.names) c.in_ok-differ.differ c.in_ok-are_new.are_new
-    of.0 of.1 (rw c.as_slice-fields.ensures at c.in_ok-differ.ensures) c.loop-number.invariant.names c.in_ok-are_new.ensures.new
+    names_known c.args.desc.now.fields c.loop-number.number c.index-fields-number.result (has_name c.loop-number.names) c.in_ok-differ.differ
+    c.in_ok-are_new.are_new of.0 of.1 (rw c.as_slice-fields.ensures at c.in_ok-differ.ensures) c.loop-number.invariant.names c.in_ok-are_new.ensures.new
 
 pub returns-in_err-lowest : goal.returns-in_err-lowest
 returns-in_err-lowest c =
@@ -30,7 +30,8 @@ returns-in_err-lowest c =
     let of = field_is (goal.at.returns-in_err-lowest c).After-index-fields-number in
     let first : IsFirst (at c.loop-number.number (field_of c.index-fields-number.result)) c.in_err-lowest.field-0.0 =
     rw c.field_rules-rules.ensures at c.in_err-lowest.ensures in
-    stops_by _ _ _ c.from_residual-in_err-lowest.ensures.1 (place_stops at field_of c.args.desc.now.fields _ _ _ _ of.0 of.1 first c.loop-number.invariant.good)
+    stops_by _ _ _ c.from_residual-in_err-lowest.ensures.1
+    (place_stops at field_of c.args.desc.now.fields _ _ _ _ of.0 of.1 first c.loop-number.invariant.good)
 
 pub loop-number-preserved : goal.loop-number-preserved
 loop-number-preserved c =

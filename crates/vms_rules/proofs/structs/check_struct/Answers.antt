@@ -1,7 +1,6 @@
-use Rattle.vms_rules.proofs.Facade.{◌≡◌, None, map, no_desc, failing, here, struct_rules, desc_of}
-use Rattle.vms_rules.proofs.Facade.{get_map_at, IsFirst, desc_at}
-use Rattle.vms_spec.specs.declared.Part.TheVariants.{Struct}
+use Rattle.vms_rules.proofs.Facade.{◌≡◌, None, map, no_desc, failing, here, struct_rules, desc_of, get_map_at, IsFirst, desc_at}
 use Rattle.vms_rules.proofs.WalkLaws.{stops_by, first_stops, judged_after}
+use Rattle.vms_spec.specs.declared.Part.TheVariants.{Struct}
 use Rattle.vms_rules.proofs.structs.check_struct.Goals as goal
 
 pub returns-in_err-lowest : goal.returns-in_err-lowest

@@ -1,10 +1,8 @@
+use Rattle.std.proofs.{lemmas.Str.is_utf8-from_IsUtf8, lemmas.List.map_more, lemmas.List.Folds.list_all_at, lemmas.List.Folds.list_all_more}
 use Rattle.std.proofs.Common.{◌∙◌, ap, refl, sym, Bool, List, ℕ, [], ◌∷◌, ◌++◌, map, take}
-use Rattle.std.specs.Str.{is_utf8}
-use Rattle.std.proofs.lemmas.Str.{is_utf8-from_IsUtf8}
-use Rattle.vmstate_c.specs.declared.request.Bytes.{Bytes}
-use Rattle.std.proofs.lemmas.List.{map_more}
-use Rattle.std.proofs.lemmas.List.Folds.{list_all_at, list_all_more}
+use Rattle.std.specs.{Str.is_utf8}
 use Rattle.vmstate_c.proofs.WordLemmas.{not_utf8}
+use Rattle.vmstate_c.specs.declared.request.Bytes.{Bytes}
 use Rattle.vmstate_c.proofs.call.words_of.Goals as goal
 
 abbrev text : Bytes → List ℕ

@@ -1,5 +1,4 @@
-use Rattle.vms_io.proofs.Facade.{rules, ap, ◌≡◌}
-use Rattle.vms_io.proofs.Ahead.{still_ahead}
+use Rattle.vms_io.proofs.{Facade.rules, Facade.ap, Facade.◌≡◌, Ahead.still_ahead}
 use Rattle.vms_io.proofs.standard.StdSource.stage.Goals as goal
 
 pub returns-then-is_empty-clause-left : goal.returns-then-is_empty-clause-left

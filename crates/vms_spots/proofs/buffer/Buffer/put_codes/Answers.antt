@@ -1,5 +1,5 @@
 use Rattle.vms_spots.proofs.{Facade.length, Facade.with_items, Facade.with_items_is, RunLaws.codes_seen, PutLaws.puts_codes}
-use Rattle.vms_spots.proofs.Facade.{held, IsHeld, put_from, values_of, rules, ◌≡◌, ◌∙◌, sym, ap, subst, arith, ℕ, List, take, drop, ◌+◌, ◌-◌, ◌<◌, ◌≤◌, ◌++◌}
+use Rattle.vms_spots.proofs.Facade.{held, IsHeld, put_from, values_of, rules, ◌≡◌, ◌∙◌, ap, arith, ℕ, List, take, drop, ◌+◌, ◌-◌, ◌<◌, ◌≤◌, ◌++◌}
 use Rattle.vms_spots.proofs.buffer.Buffer.put_codes.Goals as goal
 
 pub slice_bounds-copy_from_slice-end : goal.slice_bounds-copy_from_slice-end
