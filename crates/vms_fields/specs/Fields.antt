@@ -1,6 +1,5 @@
 -- The meaning of a list of a device's fields.
-use Rattle.std.specs.Prelude.{ℕ, zero, suc, ℤ, ◌+◌, ◌==◌, ◌&&◌, Bool, true, nat_le, if◌then◌else◌, List, [], ◌∷◌, map, replicate}
-use Rattle.std.specs.Borrow.{Bor}
+use Rattle.std.specs.Prelude.{ℕ, zero, suc, ℤ, ◌+◌, ◌==◌, ◌&&◌, Bool, true, nat_le, if◌then◌else◌, List, [], ◌∷◌, replicate}
 use Rattle.std.specs.List.{flat_map}
 use Rattle.std.specs.Option.{option_map}
 use Rattle.std.specs.Str.{bytes_eq}
@@ -17,10 +16,6 @@ pub record Row : Type 0 where
   pub name : List ℕ
   pub former : List (List ℕ)
   pub shape : Shape
-
--- A row of a device's list.
-abbrev pub row_of : (Bor (List ℕ) × Bor (List (Bor (List ℕ))) × Shape) → Row
-row_of row = record { name = row.0.now; former = map (λ n. n.now) row.1.now; shape = row.2 }
 
 -- The number of cells of a row.
 abbrev pub size_of : Row → ℕ

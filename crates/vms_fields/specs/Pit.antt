@@ -1,15 +1,15 @@
 -- The timer chip's lists.
 use Rattle.std.specs.Prelude.{ℕ, List, ◌++◌, map}
-use Rattle.vms_fields.specs.Fields.{Row, row_of, place_of}
+use Rattle.vms_fields.specs.Fields.{Row, place_of}
 use Rattle.vms_fields.specs.declared.pit.TheConstants.{PIT_CHANNEL, I8254}
 
 -- The rows of one counter.
 abbrev pub channel_rows : List Row
-channel_rows = map row_of PIT_CHANNEL
+channel_rows = map (λ row. record { name = row.0.now; former = map (λ n. n.now) row.1.now; shape = row.2 }) PIT_CHANNEL
 
 -- The rows of the chip itself: the latched statuses.
 abbrev pub status_rows : List Row
-status_rows = map row_of I8254
+status_rows = map (λ row. record { name = row.0.now; former = map (λ n. n.now) row.1.now; shape = row.2 }) I8254
 
 -- The rows of all cells: those of the three counters, and after them the chip's own.
 abbrev pub i8254_rows : List Row

@@ -1,7 +1,8 @@
 -- What the rows of the tables of shipped sets stand for.
 use Rattle.std.specs.Prelude.{ℕ, List, [], ◌∷◌, ◌++◌, map}
 use Rattle.std.specs.Borrow.{Bor}
-use Rattle.vms_fields.specs.Fields.{row_of, fields_at}
+use Rattle.vms_fields.specs.Fields.{Row, fields_at}
+use Rattle.vms_fields.specs.declared.Shape.{Shape}
 use Rattle.vms_spec.specs.Sets as sets
 use Rattle.vms_spec.specs.declared.Rel.{Rel}
 use Rattle.vms_spec.specs.declared.Whose.TheVariants.{Own}
@@ -23,10 +24,14 @@ asked_in a = sets.Cell Own a.0 a.1 a.2 a.3
 abbrev pub field_in : FieldRow → sets.Field
 field_in r = record (field r.name.now r.item) { count = r.count }
 
+-- a row of a device's list
+abbrev pub listed_row : (Bor (List ℕ) × Bor (List (Bor (List ℕ))) × Shape) → Row
+listed_row r = record { name = r.0.now; former = map (λ n. n.now) r.1.now; shape = r.2 }
+
 -- the fields of a row of a description at `version`
 abbrev pub fields_in : ℕ → Rows → List sets.Field
 fields_in version (One row) = field_in row ∷ []
-fields_in version (Of rows part) = fields_at version part (map row_of rows.now)
+fields_in version (Of rows part) = fields_at version part (map listed_row rows.now)
 
 -- the fields of all rows, in order
 abbrev pub all_in : ℕ → List Rows → List sets.Field

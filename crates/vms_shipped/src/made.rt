@@ -1,9 +1,9 @@
 // The parts that the rows of the tables describe.
 ghost use Rattle.std.specs.Prelude.{◌≡◌, ◌++◌, map, option_map, IfOk, OnOk};
-ghost use Rattle.vms_fields.specs.Fields.{row_of, name_at, former_at, is_set, field_of_row, listed_at, fields_at};
+ghost use Rattle.vms_fields.specs.Fields.{name_at, former_at, is_set, field_of_row, listed_at, fields_at};
 ghost use Rattle.vms_parts.specs.Views.{formula, formula_in, field_of, desc_of, device_of, sub_of, set_of};
 ghost use Rattle.vms_spec.specs.Shipped.{desc};
-ghost use Rattle.vms_shipped.specs.Rows.{field_in, fields_in, all_in, desc_in, asked_in, needed_in, sub_in, device_in, set_in};
+ghost use Rattle.vms_shipped.specs.Rows.{listed_row, field_in, fields_in, all_in, desc_in, asked_in, needed_in, sub_in, device_in, set_in};
 
 use crate::rows::{Asked, DescRow, DeviceRow, FieldRow, Needed, Rows, SetRow, SubRow};
 use std::alloc::Global;
@@ -97,7 +97,7 @@ fn held(held_by: Option<u32>) -> Option<Asked>
 
 // Returns the field of a row of a device's list at `version`.
 fn listed(alloc: Global, row: &Row, version: u32) -> Result<Field, NoMemory>
-    ensures { IfOk result (λ f. field_of f ≡ field_of_row version (row_of row.now)) }
+    ensures { IfOk result (λ f. field_of f ≡ field_of_row version (listed_row row.now)) }
 {
     let shape = &row.2;
     let (name, former) = names_at(version, row.0, row.1, shape.named);
@@ -121,7 +121,7 @@ fn put_listed(
     part: u8,
 ) -> Result<(), NoMemory>
     ensures { OnOk result (map field_of fields.new.items
-        ≡ map field_of fields.old.items ++ listed_at version part (row_of row.now)) }
+        ≡ map field_of fields.old.items ++ listed_at version part (listed_row row.now)) }
 {
     if row.2.since <= version && row.2.part == part {
         fields.push(listed(alloc, row, version)?)?;
@@ -138,7 +138,7 @@ fn put_list(
     part: u8,
 ) -> Result<(), NoMemory>
     ensures { OnOk result (map field_of fields.new.items
-        ≡ map field_of fields.old.items ++ fields_at version part (map row_of rows.now)) }
+        ≡ map field_of fields.old.items ++ fields_at version part (map listed_row rows.now)) }
 {
     for row in rows {
         put_listed(alloc, fields, row, version, part)?;
