@@ -1,5 +1,5 @@
 -- The properties of a well-formed set, part by part.
-use Rattle.vms_desc.proofs.Facade.{◌≡◌, ℕ, suc, ◌<◌, ◌≤◌, List, ◌∷◌, length, get_or, Some, refl, arith, Bool, true, ◌&&◌, nat_le, [], list_all, slice_get}
+use Rattle.vms_desc.proofs.Facade.{◌≡◌, ℕ, suc, ◌<◌, ◌≤◌, List, ◌∷◌, length, length-map, map, ap, sym, ◌∙◌, get_or, Some, refl, arith, Bool, true, ◌&&◌, nat_le, [], list_all, slice_get}
 use Rattle.vms_desc.proofs.Facade.{leb-true, and_parts, slice_get-get_or, Item, Equal, Unused, Count, One, Fixed, Counted, Part, Formula, AtLeast, Field, Desc}
 use Rattle.vms_desc.proofs.Facade.{Set, capacity_of, no_desc, no_field, is_name, is_name_byte, is_steady_in, names_well, nobody, test_names_well}
 use Rattle.vms_desc.proofs.Facade.{count_names_well, uses_below, has_good_count, field_rules, validation_rules, has_few, struct_rules, sub_rules, device_rules}
@@ -66,6 +66,10 @@ record IsCleanPart (k : ℕ) (d : Desc) : Type 0 where
 
 few : (d : Desc) (more : Bool) → has_few d && more ≡ true → length d.fields ≤ 256
 few d more e = leb-true (length d.fields) 256 (and_parts (nat_le (length d.fields) 256) (nat_le (length d.validate) 16) (and_parts (has_few d) more e).0).0
+
+-- a list is as long as what it describes
+pub long_seen : {A B : Type 0} (view : A → B) (items : List A) {seen : List B} → map view items ≡ seen → length items ≡ length seen
+long_seen view items same = sym (length-map items view) ∙ ap length same
 
 -- ---- the parts of a set
 

@@ -5,7 +5,7 @@ use Rattle.vms_desc.proofs.Facade.{ℤ, pos, append_assoc, append-nil, length-ap
 use Rattle.vms_desc.proofs.Facade.{take_at, take-append-le, length-drop, get_or_past, mul-le, slice_get-get_or, map-map, Kind, U8, InRange, FitsHeads, no_desc}
 use Rattle.vms_desc.proofs.Facade.{no_cell, times, device_cells, first_fault, DefaultsFit, first_at, first_take, first_long, well_good, device_at, CellForm}
 use Rattle.vms_desc.proofs.Facade.{Parts, field_of, desc_of, sub_of, device_of, set_of, form_of, layout_of, drop_is, get_map_at, Held, Forms, is_well_formed}
-use Rattle.vms_desc.proofs.Facade.{field_forms, fields_forms, subs_forms, device_forms, forms_to, AreForms, Puts, kinds_at, form_numbers, defaults_at}
+use Rattle.vms_desc.proofs.Facade.{field_forms, fields_forms, subs_forms, device_forms, forms_to, structs_forms, AreForms, Puts, kinds_at, form_numbers, defaults_at}
 use Rattle.std.proofs.{Common.drop-drop, Common.take_all, Math.Seq.take-add, lemmas.List.drop-append-le, lemmas.List.get_or-map, lemmas.List.length-take-le}
 use Rattle.vms_parts.specs.{declared.types.Desc.Desc, declared.types.Device.Device, declared.types.Field.Field, declared.types.Sub.Sub}
 use Rattle.vms_spec.specs.Sets as sets
@@ -141,7 +141,7 @@ no_struct_forms structs j le =
 
 -- the forms of a device's cells
 abbrev pub forms_in : Parts → Device → List CellForm
-forms_in parts d = device_forms (forms_to (map desc_of parts.structs) (length parts.structs)) (device_of d)
+forms_in parts d = device_forms (structs_forms parts.structs) (device_of d)
 
 forms_of : (parts : Parts) (d : Device) → forms_in parts d ≡ map form_of (device_cells (set_of parts) (device_of d))
 forms_of parts d = rw (← length-map parts.structs desc_of) (device_forms_are (set_of parts) (device_of d))
@@ -222,7 +222,7 @@ entry_is set defaults k here tabled lt is =
 
 -- the forms that a call made
 pub forms_are : (parts : Parts) (i : ℕ) (d : Device) (forms : List CellForm) → i < length parts.devices → d ≡ get_or parts.devices i d → {structs : List Desc}
-    → structs ≡ parts.structs → forms ≡ device_forms (forms_to (map desc_of structs) (length structs)) (device_of d)
+    → structs ≡ parts.structs → forms ≡ device_forms (structs_forms structs) (device_of d)
     → forms ≡ map form_of (device_cells (set_of parts) (device_at (set_of parts) i))
 forms_are parts i d forms lt is {structs} same e = rw (get_map_at device_of parts.devices i d no_device lt is) (e ∙ rw same (forms_of parts d))
 

@@ -155,10 +155,6 @@ in_struct set below (step ∷ path) j cell d lt there = rw (lt-ltb j below lt, t
 pub at_number : (inside : ℕ → ℕ → Option ℕ) (path : List (ℕ × ℕ)) (kind : Kind) (cell : ℕ) → path ≡ [] → item_at inside path (Num kind) cell ≡ Some cell
 at_number inside path kind cell e = rw e
 
-pub no_items : {X : Type 0} (xs : List X) → length xs ≡ 0 → xs ≡ []
-no_items [] e = refl
-no_items (x ∷ xs) e = absurd (omega arith)
-
 -- ---- the sizes of subsections
 
 subs_cells : (cs : List (List Cell)) (subs : List sets.Sub) → length (flat_map (λ s. desc_cells cs s.desc) subs) ≡ subs_size Cells (map length cs) subs

@@ -1,7 +1,7 @@
 -- Tables and heads, made row by row.
 use Rattle.vms_desc.proofs.Facade.{◌≡◌, ℕ, zero, suc, ◌+◌, ◌*◌, ◌<◌, List, ◌∷◌, ◌++◌, append_assoc, length, length-append, get_or, take, map, ◌∙◌, arith, Some}
 use Rattle.vms_desc.proofs.Facade.{inl, inr, [], slice_get, get_or-map, cases_lt, get_or_append_left, length-map, map-append, map_more, get_or_default}
-use Rattle.vms_desc.proofs.Facade.{FitsHeads, capacity_of, no_field, no_desc, Field, Sub, Device, AtLeast, last_is, Cells, Parts, in_u32, size_of, fields_size}
+use Rattle.vms_desc.proofs.Facade.{FitsHeads, capacity_of, no_field, no_desc, Field, Sub, Device, AtLeast, get_or_push, Cells, Parts, in_u32, size_of, fields_size}
 use Rattle.vms_desc.proofs.Facade.{set_of, field_of, device_of, get_map_at, Table, HeadsFit, sub_at, IsTable, no_table, AreTables, device_fields}
 use Rattle.vms_desc.proofs.Facade.{AreDeviceTables}
 use Rattle.vms_parts.specs.{declared.types.Device.Device as CodeDevice, declared.types.Field.Field as CodeField}
@@ -64,7 +64,7 @@ starts_more sizes fields i sum more starts f lt is e h = record { long = omega (
     start : (k : ℕ) → k < length (starts ++ more ∷ []) → get_or (starts ++ more ∷ []) k 0 ≡ in_u32 (fields_size Cells sizes (take k (map field_of fields)))
     start k l = elim (cases_lt k (length starts)) [
       | inl inside ↦ get_or_append_left starts (more ∷ []) 0 k inside ∙ h.start k inside
-      | inr past ↦ last_is starts more 0 k (omega (arith, long)) ∙ next k (omega (arith, long, h.long))
+      | inr past ↦ get_or_push starts more 0 k (omega (arith, long)) ∙ next k (omega (arith, long, h.long))
     ]
 
 -- ---- lists of tables

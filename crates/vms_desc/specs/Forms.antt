@@ -1,11 +1,13 @@
 -- The forms of the cells of a description: a cell's kind and default, without the capacities that
 -- it counts.
-use Rattle.std.specs.Prelude.{ℕ, List, [], ◌∷◌, ◌++◌, get_or, ℤ}
+use Rattle.std.specs.Prelude.{ℕ, List, [], ◌∷◌, ◌++◌, get_or, length, map, ℤ}
 use Rattle.vms_kinds.specs.declared.Item.{Item}
 use Rattle.vms_kinds.specs.declared.Item.TheVariants.{Num, Equal, Unused, Struct}
 use Rattle.vms_spec.specs.Sets.{Field, Desc, Sub, Device}
 use Rattle.vms_spec.specs.Layout.{first, times, capacity_of}
+use Rattle.vms_parts.specs.Views.{desc_of}
 use Rattle.vms_parts.specs.declared.types.CellForm.{CellForm}
+use Rattle.vms_parts.specs.declared.types.Desc as parts
 
 -- the forms of one element of an item, given those of the structures
 abbrev pub item_forms : List (List CellForm) → Item → ℤ → List CellForm
@@ -26,6 +28,10 @@ fields_forms structs (f ∷ fs) = field_forms structs f ++ fields_forms structs 
 -- the forms of the first k structures
 abbrev pub forms_to : List Desc → ℕ → List (List CellForm)
 forms_to structs k = first (λ forms d. fields_forms forms d.fields) structs k
+
+-- the forms of all structures
+abbrev pub structs_forms : List parts.Desc → List (List CellForm)
+structs_forms structs = forms_to (map desc_of structs) (length structs)
 
 -- the forms of the subsections
 abbrev pub subs_forms : List (List CellForm) → List Sub → List CellForm

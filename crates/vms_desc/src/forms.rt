@@ -3,7 +3,7 @@ ghost use Rattle.std.specs.Prelude.{◌≡◌, ◌≤◌, ◌-◌, ◌++◌, ◌
 ghost use Rattle.vms_parts.specs.declared.types.CellForm.{CellForm};
 ghost use Rattle.vms_spec.specs.Layout.{times};
 ghost use Rattle.vms_desc.specs.Put.{AreForms, CanRepeat, Puts};
-ghost use Rattle.vms_desc.specs.Forms.{item_forms, field_forms, fields_forms, subs_forms, device_forms, forms_to};
+ghost use Rattle.vms_desc.specs.Forms.{item_forms, field_forms, fields_forms, subs_forms, device_forms, structs_forms};
 ghost use Rattle.vms_parts.specs.Views.{desc_of, field_of, sub_of, device_of};
 
 use crate::{Desc, Device, Field, Sub};
@@ -47,8 +47,7 @@ pub(crate) fn put_fields(
     forms: &mut Forms,
 ) -> Result<(), AllocError>
     ensures { OnOk result (Puts forms.old forms.new
-        (fields_forms (forms_to (map desc_of structs.now) (length structs.now))
-        (map field_of fields.now))) }
+        (fields_forms (structs_forms structs.now) (map field_of fields.now))) }
 {
     for field in fields {
         put_field(structs, field, forms)?;
@@ -60,8 +59,7 @@ pub(crate) fn put_fields(
 #[inline(always)]
 fn put_field(structs: &[Desc], field: &Field, forms: &mut Forms) -> Result<(), AllocError>
     ensures { OnOk result (Puts forms.old forms.new
-        (field_forms (forms_to (map desc_of structs.now) (length structs.now))
-        (field_of field.now))) }
+        (field_forms (structs_forms structs.now) (field_of field.now))) }
 {
     let count = capacity(field.count);
     if count == 0 {
@@ -119,8 +117,7 @@ fn append_again<T: Copy>(list: &mut Vec<T>, start: usize, end: usize) -> Result<
 #[inline(always)]
 fn put_element(structs: &[Desc], field: &Field, forms: &mut Forms) -> Result<(), AllocError>
     ensures { OnOk result (Puts forms.old forms.new
-        (item_forms (forms_to (map desc_of structs.now) (length structs.now))
-        field.now.item field.now.default)) }
+        (item_forms (structs_forms structs.now) field.now.item field.now.default)) }
 {
     match field.item {
         Item::Num(kind) => forms.put(kind, field.default)?,
@@ -137,8 +134,7 @@ fn put_element(structs: &[Desc], field: &Field, forms: &mut Forms) -> Result<(),
 
 fn put_subs(structs: &[Desc], subs: &[Sub], forms: &mut Forms) -> Result<(), AllocError>
     ensures { OnOk result (Puts forms.old forms.new
-        (subs_forms (forms_to (map desc_of structs.now) (length structs.now))
-        (map sub_of subs.now))) }
+        (subs_forms (structs_forms structs.now) (map sub_of subs.now))) }
 {
     for sub in subs {
         put_fields(structs, sub.desc.fields.as_slice(), forms)?;
@@ -155,8 +151,7 @@ pub(crate) fn device_cells(
     device: &Device,
 ) -> Result<Forms, AllocError>
     ensures { IfOk result (λ forms. AreForms forms
-        (device_forms (forms_to (map desc_of structs.now) (length structs.now))
-        (device_of device.now))) }
+        (device_forms (structs_forms structs.now) (device_of device.now))) }
 {
     let (fields, subs) = (device.desc.fields.as_slice(), device.subs.as_slice());
     let own = size_of_fields(Measure::Cells, sizes, fields);

@@ -1,7 +1,7 @@
-//! The fields of the devices.
+//! The fields of the devices, in one list for each device.
 //!
-//! Each device has one list. Its cells, the shipped sets and their definitions are all made from
-//! it.
+//! The kinds of a device's cells, the cells that it saves, and its rows in the tables of the shipped
+//! sets are made from its list.
 #![tactic(auto)]
 
 /// The fields of the clock chip, an MC146818.

@@ -44,7 +44,9 @@ pub const I8259: [Row; 17] = [
     ),
 ];
 
-/// The place of each field's cell in the newest set. The contracts of what reads the cells name the fields.
+/// The index of the cell of `irr` in the newest set. Those of the other fields follow.
+///
+/// Contracts of the functions that read cells compare these constants with the places of the names.
 pub const IRR: usize = 0;
 
 pub const ISR: usize = IRR + 1;

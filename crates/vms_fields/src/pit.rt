@@ -79,7 +79,9 @@ pub const I8254: [Row; 2] = [
     ),
 ];
 
-/// The place of each field's cell among those of its counter. The contracts of what reads the cells name the fields.
+/// The index of the cell of `count` among those of its counter. Those of the other fields follow.
+///
+/// Contracts of the functions that read cells compare these constants with the places of the names.
 pub const COUNT: usize = 0;
 
 pub const MODE: usize = COUNT + 1;
@@ -105,7 +107,7 @@ pub const LATCH: usize = LATCHED + 1;
 /// The number of cells of one counter.
 pub const CHANNEL_CELLS: usize = LATCH + 1;
 
-/// Where the cells of each field of the chip itself begin in the newest set.
+/// The index of the first cell of `status_latched` in the newest set. That of `status` follows.
 pub const STATUS_LATCHED: usize = COUNTERS * CHANNEL_CELLS;
 
 pub const STATUS: usize = STATUS_LATCHED + COUNTERS;

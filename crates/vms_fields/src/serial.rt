@@ -139,7 +139,9 @@ pub const SERIAL: [Row; 24] = [
     ("tx_number", &[], RING),
 ];
 
-/// Where the cells of each field begin in the newest set. The contracts of what reads the cells name the fields.
+/// The index of the first cell of `divisor` in the newest set. Those of the other fields follow.
+///
+/// Contracts of the functions that read cells compare these constants with the places of the names.
 pub const DIVISOR: usize = 0;
 
 pub const IER: usize = DIVISOR + 1;

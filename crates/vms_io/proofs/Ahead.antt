@@ -1,6 +1,6 @@
 -- The bytes that a buffered reader still gives, as they are read and given.
-use Rattle.vms_io.proofs.{Facade.bytes_only, Facade.◌<◌, Facade.between, Facade.block, Filling.left_split, Gathering.part_is}
-use Rattle.vms_io.proofs.Facade.{◌≡◌, ℕ, ◌+◌, ◌-◌, ◌≤◌, Bool, true, false, ◌&&◌, List, [], ◌∷◌, ◌++◌, length, take, drop, Option, Some, None, if◌then◌else◌}
+use Rattle.vms_io.proofs.{Facade.bytes_only, Facade.between, Filling.left_split, Gathering.part_is}
+use Rattle.vms_io.proofs.Facade.{◌≡◌, ℕ, ◌+◌, ◌-◌, ◌≤◌, Bool, true, false, ◌&&◌, List, [], ◌++◌, length, take, drop, Option, Some, None, if◌then◌else◌}
 use Rattle.vms_io.proofs.Facade.{refl, sym, ap, subst, ◌∙◌, arith, append_assoc, drop_all, length-take, length-take-le, take-take, list_all-append, Consumes, Keeps, ahead, are_bytes}
 
 -- after the front of a list of bytes there are bytes
@@ -28,29 +28,13 @@ given_on x room copied buf b e n is fits within =
     gives x (between room b e) (take n (copied ++ buf)) (between room (b + n) e)
     (left_split (take e room) (take e room) copied buf b n refl front (omega (arith, length-take-le e room within)))
 
--- first read, then given
-pub kept_gives : (x y z : Option (List ℕ)) (bs : List ℕ) → Keeps x y → Consumes y z bs → Consumes x z bs
-kept_gives None y z bs k h = tt
-kept_gives (Some xs) None z bs k h = absurd k
-kept_gives (Some xs) (Some ys) None bs k h = absurd h
-kept_gives (Some xs) (Some ys) (Some zs) bs k h = sym k ∙ h
-
 -- if nothing waits, neither before nor now, what the reader still gives is ahead
-pub still_ahead : (x y z : Option (List ℕ)) (room new : List ℕ) (b e d f : ℕ) → b ≡ e → d ≡ f → x ≡ y
+pub still_ahead : (x y z : Option (List ℕ)) (room new : List ℕ) (b e d f : ℕ) → b ≡ e → d ≡ 0 → f ≡ 0 → x ≡ y
     → Keeps (ahead y (between new d f)) z → Keeps (ahead x (between room b e)) z
-still_ahead x y z room new b e d f given now same k =
+still_ahead x y z room new b e d f given begun ended same k =
     subst (λ (l : List ℕ). Keeps (ahead x l) z) (sym (none_waits room b e given))
-    (subst (λ (l : List ℕ). Keeps (ahead x l) z) (none_waits new d f now)
+    (subst (λ (l : List ℕ). Keeps (ahead x l) z) (none_waits new d f (begun ∙ sym ended))
     (subst (λ (r : Option (List ℕ)). Keeps (ahead r (between new d f)) z) (sym same) k))
   where
     none_waits : (room : List ℕ) (b e : ℕ) → b ≡ e → between room b e ≡ []
     none_waits room b e same = drop_all b (take e room) (omega (arith, same, length-take e room))
-
--- which block it is
-pub block_first : (first longer : List ℕ) → longer ≡ [] → block first longer ≡ first
-block_first first [] e = refl
-block_first first (x ∷ longer) e = cc
-
-pub block_longer : (first longer : List ℕ) → 0 < length longer → block first longer ≡ longer
-block_longer first [] lt = absurd (omega arith)
-block_longer first (x ∷ longer) lt = refl

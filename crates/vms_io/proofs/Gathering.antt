@@ -1,6 +1,6 @@
 -- Bytes that are buffered for a writer, and flushed.
-use Rattle.vms_io.proofs.Facade.{◌≡◌, refl, append-nil, ℕ, ◌+◌, ◌-◌, ◌≤◌, List, [], ◌++◌, length, take, drop, Option, Some, None, Result, Ok, Err, sym, ap, ◌∙◌}
-use Rattle.vms_io.proofs.Facade.{subst, arith, append_assoc, take-append-drop, drop-drop, length-take, drop-take, drop_all, drop-append-le, Keeps, Appends}
+use Rattle.vms_io.proofs.Facade.{◌≡◌, refl, append-nil, ℕ, ◌+◌, ◌-◌, ◌≤◌, List, ◌++◌, length, take, drop, Option, Some, None, Result, Ok, Err, sym, ap, ◌∙◌}
+use Rattle.vms_io.proofs.Facade.{arith, append_assoc, take-append-drop, drop-drop, length-take, drop-take, drop_all, drop-append-le, Keeps, Appends}
 use Rattle.vms_io.proofs.Facade.{HasCause, told, between, KeepsFront}
 
 -- a part of the buffer, taken from its first byte
@@ -24,12 +24,6 @@ handed (Some zs) (Some xs) (Some ys) room part b e n le is p k =
     ∙ ap (λ (l : List ℕ). xs ++ l) (take-append-drop n part ∙ whole)
     ∙ k
 
--- all are flushed
-pub emptied : (a x : Option (List ℕ)) (room : List ℕ) (b e : ℕ) → b ≡ e → Keeps a (told x (between room b e)) → Keeps a (told x (between room 0 0))
-emptied a x room b e same k =
-    let none : between room b e ≡ [] = drop_all b (take e room) (omega (arith, same, length-take e room)) in
-    subst (λ (l : List ℕ). Keeps a (told x l)) none k
-
 -- if nothing is buffered, the known bytes are the writer's
 pub told_empty : (x : Option (List ℕ)) (room : List ℕ) (b e : ℕ) → e ≡ 0 → told x (between room b e) ≡ x
 told_empty None room b e none = refl
@@ -44,13 +38,6 @@ gathers (Some xs) room new more b e f le fits is =
     ap (λ (l : List ℕ). xs ++ drop b l) is
     ∙ ap (λ (l : List ℕ). xs ++ l) (drop-append-le b (take e room) more (omega (arith, length-take e room)))
     ∙ sym (append_assoc xs (drop b (take e room)) more)
-
--- first flushed, then buffered
-pub kept_then : (a b c : Option (List ℕ)) (more : List ℕ) → Keeps a b → Appends b c more → Appends a c more
-kept_then None b c more p q = tt
-kept_then (Some x) None c more p q = absurd p
-kept_then (Some x) (Some y) None more p q = absurd q
-kept_then (Some x) (Some y) (Some z) more p q = q ∙ ap (λ (l : List ℕ). l ++ more) p
 
 -- the writer took nothing
 pub still_told : (a x y : Option (List ℕ)) (waiting : List ℕ) → Keeps x y → Keeps a (told x waiting) → Keeps a (told y waiting)

@@ -1,13 +1,6 @@
 -- Bytes that are joined and split.
-use Rattle.std.proofs.Common.{ℕ, zero, suc, ◌<◌, List, ◌∷◌, ◌++◌, take, arith, []}
+use Rattle.std.proofs.Common.{ℕ, zero, suc, List, ◌∷◌, ◌++◌, take, arith, []}
 use Rattle.vms_kinds.specs.Bytes.{IsBytes}
-
-pub no_bytes : IsBytes []
-no_bytes i = omega arith
-
-pub bytes_more : (x : ℕ) (xs : List ℕ) → x < 256 → IsBytes xs → IsBytes (x ∷ xs)
-bytes_more x xs lt ok zero = lt
-bytes_more x xs lt ok (suc i) = ok i
 
 pub bytes_both : (xs ys : List ℕ) → IsBytes xs → IsBytes ys → IsBytes (xs ++ ys)
 bytes_both [] ys a b i = b i

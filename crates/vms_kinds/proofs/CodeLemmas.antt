@@ -1,17 +1,13 @@
 -- The bytes of a number and back, kind by kind.
-use Rattle.std.proofs.Common.{◌≡◌, ℕ, ◌^◌, ◌<◌, List, [], ◌∷◌, length, ℤ, pos, negsuc, get_or, slice_index, arith, refl, ap, ◌∙◌, sym, subst, true, false, ◌++◌, drop, ◌≤◌, slice_set}
+use Rattle.std.proofs.{Common.◌≤◌, Common.slice_set, lemmas.Nat.be_bytes_2, lemmas.Nat.be_bytes_4, lemmas.Nat.be_bytes_8, lemmas.Int.ints, lemmas.Int.to_z-of_z}
+use Rattle.std.proofs.Common.{◌≡◌, ℕ, ◌^◌, ◌<◌, List, [], ◌∷◌, length, ℤ, pos, negsuc, slice_index, arith, refl, ap, ◌∙◌, sym, subst, true, false, ◌++◌, drop}
 use Rattle.std.specs.Int.{Width, w8, w16, w32, w64, w128, cast_unsigned}
-use Rattle.std.proofs.lemmas.Nat.{be_bytes_2, be_bytes_4, be_bytes_8}
-use Rattle.std.proofs.lemmas.Int.{ints, to_z-of_z}
+use Rattle.byteorder.specs.Endian.{big_bytes, big_number, twos_complement}
+use Rattle.vms_kinds.specs.{declared.Kind.Kind, Bytes.IsBytes}
+use Rattle.vms_kinds.specs.Codes.{width, residue, code, InRange, IsBadBool, is_signed, value_of}
+use Rattle.vms_kinds.specs.declared.Kind.TheVariants.{U8, U16, U32, U64, I8, I16, I32, I64, Bool, Timer}
 use mir.Val.{SFits, to_z, of_z}
 use lib.IntN.{nat_abs}
-use Rattle.byteorder.specs.Endian.{big_bytes, big_number, twos_complement}
-use Rattle.vms_kinds.specs.declared.Kind.{Kind}
-use Rattle.vms_kinds.specs.declared.Kind.TheVariants.{U8, U16, U32, U64, I8, I16, I32, I64, Bool, Timer}
-use Rattle.vms_kinds.specs.Codes.{width, residue, code, InRange, IsBadBool, is_signed, value_of}
-
-abbrev pub IsBytes : List ℕ → Type 0
-IsBytes bs = (i : ℕ) → get_or bs i 0 < 256
 
 again_1 : (bs : List ℕ) → length bs ≡ 1 → IsBytes bs → big_bytes 1 (big_number 1 bs) ≡ bs
 again_1 [] len ok = absurd (omega arith)
@@ -29,16 +25,14 @@ again_8 bs len ok = be_bytes_8 bs (big_number 8 bs) len ok (omega arith)
 
 -- the bytes of a width are those of the number in them
 pub again : (kind : Kind) (bs : List ℕ) → length bs ≡ width kind → IsBytes bs → big_bytes (width kind) (big_number (width kind) bs) ≡ bs
-again U8 bs len ok = again_1 bs len ok
 again U16 bs len ok = again_2 bs len ok
 again U32 bs len ok = again_4 bs len ok
 again U64 bs len ok = again_8 bs len ok
-again I8 bs len ok = again_1 bs len ok
 again I16 bs len ok = again_2 bs len ok
 again I32 bs len ok = again_4 bs len ok
 again I64 bs len ok = again_8 bs len ok
-again Bool bs len ok = again_1 bs len ok
 again Timer bs len ok = again_8 bs len ok
+again _ bs len ok = again_1 bs len ok
 
 two_8 : (n : ℕ) → n < 2 ^ 8 → residue 1 (twos_complement 1 n) ≡ n
 two_8 n h = grind (arith, ints)
@@ -85,10 +79,7 @@ plain_code U32 n s h = ap (big_bytes 4) (omega (arith, ints))
 plain_code U64 n s h = ap (big_bytes 8) (omega (arith, ints))
 plain_code Bool n s h = ap (big_bytes 1) (omega (arith, ints))
 plain_code Timer n s h = ap (big_bytes 8) (omega (arith, ints))
-plain_code I8 z s h = cc
-plain_code I16 z s h = cc
-plain_code I32 z s h = cc
-plain_code I64 z s h = cc
+plain_code _ n s h = cc
 
 -- the number that the bytes of a signed kind give
 pub signed_take : (kind : Kind) (bs : List ℕ) → is_signed kind ≡ true → length bs ≡ width kind → IsBytes bs
@@ -98,17 +89,12 @@ signed_take I8 bs s len ok = (range_8 _ (below_1 bs ok), sym (ap (big_bytes 1) (
 signed_take I16 bs s len ok = (range_16 _ (below_2 bs ok), sym (ap (big_bytes 2) (two_16 _ (below_2 bs ok)) ∙ again_2 bs len ok))
 signed_take I32 bs s len ok = (range_32 _ (below_4 bs ok), sym (ap (big_bytes 4) (two_32 _ (below_4 bs ok)) ∙ again_4 bs len ok))
 signed_take I64 bs s len ok = (range_64 _ (below_8 bs ok), sym (ap (big_bytes 8) (two_64 _ (below_8 bs ok)) ∙ again_8 bs len ok))
-signed_take U8 z s len ok = cc
-signed_take U16 z s len ok = cc
-signed_take U32 z s len ok = cc
-signed_take U64 z s len ok = cc
-signed_take Bool z s len ok = cc
-signed_take Timer z s len ok = cc
+signed_take _ bs s len ok = cc
 
 -- the number that the bytes of another kind give
 pub plain_take : (kind : Kind) (bs : List ℕ) → is_signed kind ≡ false → length bs ≡ width kind → IsBytes bs → (IsBadBool kind bs → ⊥)
     → InRange kind (pos (big_number (width kind) bs)) × (bs ≡ code kind (pos (big_number (width kind) bs)))
-plain_take kind bs s len ok bad = let r = in_range kind bs s ok bad in (r, sym (sym (plain_code kind _ s r) ∙ again kind bs len ok)) where
+plain_take kind bs s len ok bad = let r = in_range kind bs s ok bad in (r, sym (again kind bs len ok) ∙ plain_code kind _ s r) where
   in_range : (kind : Kind) (bs : List ℕ) → is_signed kind ≡ false → IsBytes bs → (IsBadBool kind bs → ⊥) → InRange kind (pos (big_number (width kind) bs))
   in_range U8 bs s ok bad = let h = below_1 bs ok in omega (arith, ints)
   in_range U16 bs s ok bad = let h = below_2 bs ok in omega (arith, ints)
@@ -116,10 +102,7 @@ plain_take kind bs s len ok bad = let r = in_range kind bs s ok bad in (r, sym (
   in_range U64 bs s ok bad = let h = below_8 bs ok in omega (arith, ints)
   in_range Timer bs s ok bad = let h = below_8 bs ok in omega (arith, ints)
   in_range Bool bs s ok bad = let no : 1 < slice_index bs 0 → ⊥ = λ x. bad (refl, x) in omega (arith, ints)
-  in_range I8 bs s ok bad = cc
-  in_range I16 bs s ok bad = cc
-  in_range I32 bs s ok bad = cc
-  in_range I64 bs s ok bad = cc
+  in_range _ bs s ok bad = cc
 
 -- a signed number fits its own width, and is there the residue
 as_i8 : (z : ℤ) → InRange I8 z → SFits w8 z × (cast_unsigned w8 z ≡ residue 1 z)
@@ -171,10 +154,7 @@ not_negative U32 n s h = omega (arith, ints)
 not_negative U64 n s h = omega (arith, ints)
 not_negative Bool n s h = omega (arith, ints)
 not_negative Timer n s h = omega (arith, ints)
-not_negative I8 n s h = cc
-not_negative I16 n s h = cc
-not_negative I32 n s h = cc
-not_negative I64 n s h = cc
+not_negative _ n s h = cc
 
 -- the bytes after another number was written
 pub written_plain : (kind : Kind) (z : ℤ) (w : ℕ) (old new : List ℕ) → w ≡ width kind → is_signed kind ≡ false → InRange kind z → SFits w128 z
@@ -198,13 +178,8 @@ taken kind bs y z e h = let P : ℤ → Type 0 = λ v. InRange kind v × (bs ≡
 -- a reading of bytes
 pub value_taken : (kind : Kind) (bs : List ℕ) → length bs ≡ width kind → IsBytes bs → (IsBadBool kind bs → ⊥)
     → InRange kind (value_of kind bs) × (bs ≡ code kind (value_of kind bs))
-value_taken U8 bs len ok bad = plain_take U8 bs refl len ok bad
-value_taken U16 bs len ok bad = plain_take U16 bs refl len ok bad
-value_taken U32 bs len ok bad = plain_take U32 bs refl len ok bad
-value_taken U64 bs len ok bad = plain_take U64 bs refl len ok bad
-value_taken Bool bs len ok bad = plain_take Bool bs refl len ok bad
-value_taken Timer bs len ok bad = plain_take Timer bs refl len ok bad
 value_taken I8 bs len ok bad = signed_take I8 bs refl len ok
 value_taken I16 bs len ok bad = signed_take I16 bs refl len ok
 value_taken I32 bs len ok bad = signed_take I32 bs refl len ok
 value_taken I64 bs len ok bad = signed_take I64 bs refl len ok
+value_taken kind bs len ok bad = plain_take kind bs refl len ok bad

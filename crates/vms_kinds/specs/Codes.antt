@@ -17,18 +17,13 @@ width I64 = 8
 width Bool = 1
 width Timer = 8
 
--- The least number of the kind.
+-- The least number of the kind: 0, unless the kind has negative numbers.
 abbrev pub lowest : Kind → ℤ
-lowest U8 = pos 0
-lowest U16 = pos 0
-lowest U32 = pos 0
-lowest U64 = pos 0
 lowest I8 = negsuc 0x7f
 lowest I16 = negsuc 0x7fff
 lowest I32 = negsuc 0x7fff_ffff
 lowest I64 = negsuc 0x7fff_ffff_ffff_ffff
-lowest Bool = pos 0
-lowest Timer = pos 0
+lowest _ = pos 0
 
 -- The greatest number of the kind.
 abbrev pub highest : Kind → ℤ

@@ -74,33 +74,21 @@ impl Kind {
         }
     }
 
-    // Returns the least number of this kind.
-    fn lowest(self) -> i128
-        ensures { result ≡ lowest self }
+    // Returns the least and the greatest number of this kind.
+    fn range(self) -> (i128, i128)
+        ensures first { result.0 ≡ lowest self }
+        ensures last { result.1 ≡ highest self }
     {
         match self {
-            Kind::I8 => i8::MIN as i128,
-            Kind::I16 => i16::MIN as i128,
-            Kind::I32 => i32::MIN as i128,
-            Kind::I64 => i64::MIN as i128,
-            _ => 0,
-        }
-    }
-
-    // Returns the greatest number of this kind.
-    fn highest(self) -> i128
-        ensures { result ≡ highest self }
-    {
-        match self {
-            Kind::U8 => u8::MAX as i128,
-            Kind::U16 => u16::MAX as i128,
-            Kind::U32 => u32::MAX as i128,
-            Kind::U64 | Kind::Timer => u64::MAX as i128,
-            Kind::I8 => i8::MAX as i128,
-            Kind::I16 => i16::MAX as i128,
-            Kind::I32 => i32::MAX as i128,
-            Kind::I64 => i64::MAX as i128,
-            Kind::Bool => 1,
+            Kind::U8 => (0, u8::MAX as i128),
+            Kind::U16 => (0, u16::MAX as i128),
+            Kind::U32 => (0, u32::MAX as i128),
+            Kind::U64 | Kind::Timer => (0, u64::MAX as i128),
+            Kind::I8 => (i8::MIN as i128, i8::MAX as i128),
+            Kind::I16 => (i16::MIN as i128, i16::MAX as i128),
+            Kind::I32 => (i32::MIN as i128, i32::MAX as i128),
+            Kind::I64 => (i64::MIN as i128, i64::MAX as i128),
+            Kind::Bool => (0, 1),
         }
     }
 
@@ -108,7 +96,8 @@ impl Kind {
     pub fn in_range(self, value: i128) -> bool
         ensures { IsTrue result ↔ InRange self value }
     {
-        self.lowest() <= value && value <= self.highest()
+        let (first, last) = self.range();
+        first <= value && value <= last
     }
 
     /// Returns the bytes of `value`, the highest first.
@@ -174,8 +163,8 @@ impl Kind {
         Some(self.read(bytes))
     }
 
-    /// Returns the number with these `bytes`, those of a `Bool` too. [`Kind::take`] refuses what is
-    /// no number of this kind.
+    /// Returns the number with these `bytes`. A byte of a `Bool` isn't checked, as [`Kind::take`]
+    /// checks it: one above 1 is returned as that number.
     ///
     /// # Requires
     ///

@@ -1,16 +1,12 @@
 -- Heads, a configuration and a footer can be read back from their bytes.
-use Rattle.std.proofs.{lemmas.List.drop-drop, Math.Seq.drop-append_seam}
-use Rattle.std.proofs.Common.{◌≡◌, ℕ, ◌+◌, ◌<◌, ◌≤◌, ◌^◌, List, ◌∷◌, ◌++◌, length, take, drop, refl, sym, ap, ◌∙◌, arith, append_assoc, []}
+use Rattle.std.proofs.{lemmas.List.drop-drop, Math.Seq.drop-append_seam, Math.Seq.take-append_seam}
+use Rattle.std.proofs.Common.{◌≡◌, ℕ, ◌+◌, ◌<◌, ◌≤◌, ◌^◌, List, ◌∷◌, ◌++◌, length, drop, refl, sym, ap, ◌∙◌, arith, append_assoc}
 use Rattle.byteorder.specs.Endian.{big_number}
 use Rattle.vms_spec.proofs.{KindLaws.be32_read}
 use Rattle.vms_spec.specs.{declared.TheConstants.LONGEST_NAME, Streams.be32, Lookup.number_at, Lookup.bytes_at}
 use Rattle.vms_marks.specs.{declared.sub_head.SubHead.SubHead, declared.configuration.Configuration.Configuration, declared.foot.Foot.Foot}
 use Rattle.vms_marks.specs.{declared.head.Head.Head, Laws.HeadLaw, Laws.SubHeadLaw, Laws.ConfigurationLaw, Laws.FootLaw}
 use Rattle.vms_marks.specs.Heads.{head_bytes, head_in, sub_head_in, configuration_in}
-
-take_front : (front rest : List ℕ) → take (length front) (front ++ rest) ≡ front
-take_front [] rest = refl
-take_front (x ∷ front) rest = ap (λ (l : List ℕ). x ∷ l) (take_front front rest)
 
 -- what follows the length of the name
 abbrev tail : Head → List ℕ → List ℕ
@@ -36,7 +32,7 @@ said id name more instance version rest i j v is =
     let plus : 10 + n ≡ (6 + n) + 4 = omega arith in
     let ten : drop (10 + n) r ≡ drop 4 more = ap (λ (k : ℕ). drop k r) plus ∙ sym (drop-drop 4 (6 + n) r) ∙ ap (drop 4) six in
     let first : number_at 4 1 r ≡ id = be32_read id (n ∷ (name ++ more)) i in
-    let named : bytes_at n 6 r ≡ name = take_front name more in
+    let named : bytes_at n 6 r ≡ name = take-append_seam name more in
     let second : number_at 4 (6 + n) r ≡ instance = ap (big_number 4) (six ∙ is) ∙ be32_read instance (be32 version ++ rest) j in
     let third : number_at 4 (10 + n) r ≡ version = ap (big_number 4) (ten ∙ ap (drop 4) is) ∙ be32_read version rest v in
     ap (λ (k : ℕ). make k (bytes_at n 6 r) (number_at 4 (6 + n) r) (number_at 4 (10 + n) r)) first
@@ -60,7 +56,7 @@ said_sub name version rest v =
     let more = be32 version ++ rest in
     let r = 0x05 ∷ (n ∷ (name ++ more)) in
     let two : drop (2 + n) r ≡ more = sym (drop-drop n 2 r) ∙ drop-append_seam name more in
-    let named : bytes_at n 2 r ≡ name = take_front name more in
+    let named : bytes_at n 2 r ≡ name = take-append_seam name more in
     let numbered : number_at 4 (2 + n) r ≡ version = ap (big_number 4) two ∙ be32_read version rest v in
     ap (λ (l : List ℕ). sub_of l (number_at 4 (2 + n) r)) named ∙ ap (sub_of name) numbered
 
@@ -80,7 +76,7 @@ said_name name rest few =
     let n = length name in
     let r = 0x07 ∷ (be32 n ++ (name ++ rest)) in
     let long : number_at 4 1 r ≡ n = be32_read n (name ++ rest) (omega arith) in
-    ap (λ (k : ℕ). configured (bytes_at k 5 r)) long ∙ ap configured (take_front name rest)
+    ap (λ (k : ℕ). configured (bytes_at k 5 r)) long ∙ ap configured (take-append_seam name rest)
 
 pub configuration_holds : ConfigurationLaw
 unfolding configured

@@ -3,6 +3,7 @@ use Rattle.vms_parts.proofs.Facade.{◌≡◌, ◌≢◌, ℕ, ◌+◌, ◌<◌,
 use Rattle.vms_parts.proofs.Facade.{false, Option, None, refl, sym, ap, ◌∙◌, arith, ◌==◌, if◌then◌else◌, drop_all, take_all, length-set, eqb-true, eqb-false}
 use Rattle.vms_parts.proofs.Facade.{Count, One, Fixed, Counted, counted, Field, field_of, lesser, least_from, lowered_at, counted_in}
 use Rattle.vms_spec.specs.Sets as sets
+use Rattle.std.proofs.lemmas.List.{append-nil}
 use Rattle.vms_parts.proofs.Items.{drop_is}
 
 of_count : Count → sets.Field → sets.Field
@@ -42,7 +43,4 @@ counted_long (Counted by most) table = length-set table by (lesser (get_or table
 -- a slice as long as the list is the whole list
 pub written_back : {X : Type 0} (items new : List X) (len : ℕ) → length new ≡ length items → len ≡ length items → take len (new ++ drop (length new) items) ≡ new
 written_back items new len long all =
-    ap (λ (xs : List _). take len (new ++ xs)) (drop_all (length new) items (omega (arith, long))) ∙ ap (take len) (append_nil new) ∙ take_all len new (omega (arith, long, all)) where
-      append_nil : {Y : Type 0} (xs : List Y) → xs ++ [] ≡ xs
-      append_nil [] = refl
-      append_nil (x ∷ xs) = ap (λ ys. x ∷ ys) (append_nil xs)
+    ap (λ (xs : List _). take len (new ++ xs)) (drop_all (length new) items (omega (arith, long))) ∙ ap (take len) (append-nil new) ∙ take_all len new (omega (arith, long, all))

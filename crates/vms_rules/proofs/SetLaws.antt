@@ -24,9 +24,11 @@ new_and_distinct : (had : List ℕ → Bool) (names : List (List ℕ)) → are_n
 unfolding none
 new_and_distinct had [] = refl
 new_and_distinct had (n ∷ names) =
-    cc (new_and_distinct (with_name had n) names, none_with had n names, regroup (not (had n)) (not (is_one_of names n)) (none had names) (are_distinct names)) where
-      regroup : (a b c d : Bool) → (a && ((b && c) && d)) ≡ ((a && c) && (b && d))
-      regroup a b c d = cc (and_assoc b c d, and_assoc a b (c && d), and_swap a b c d)
+    let new = not (had n) in
+    let once = not (is_one_of names n) in
+    let news = none had names in
+    let all = are_distinct names in
+    cc (new_and_distinct (with_name had n) names, none_with had n names, and_assoc once news all, and_assoc new once (news && all), and_swap new once news all)
 
 none_of_none : (had : List ℕ → Bool) (names : List (List ℕ)) → ((n : List ℕ) → had n ≡ false) → none had names ≡ true
 unfolding none

@@ -1,13 +1,12 @@
 -- The eight rules hold exactly if the walk finds no fault.
-use Rattle.vms_rules_laws.proofs.{Depths.deep_struct, Depths.shallow_struct, Items.set_counts}
+use Rattle.vms_rules_laws.proofs.{Depths.deep_struct, Depths.shallow_struct, Items.set_counts, Fields.all_eight, Fields.field_decides}
+use Rattle.vms_rules_laws.proofs.{Fields.validation_decides, Names.distinct_decides, Names.name_decides, Names.sub_name_decides}
 use Rattle.vms_rules_laws.proofs.Facade.{◌≡◌, ℕ, zero, suc, ◌+◌, ◌<◌, ◌≤◌, Bool, true, false, not, nat_le, List, [], ◌∷◌, length, get_or, take, Option, None}
 use Rattle.vms_rules_laws.proofs.Facade.{le_decides, set_clean, inl, inr, refl, arith, Decides, list_any, leb-true, le-leb, or_left, or_right, Decides-and}
 use Rattle.vms_rules_laws.proofs.Facade.{Decides-eqb, Decides-like, Decides-not, slice_get_within, bytes_eq-Decides, Part, Place, first_answer, field_rules}
 use Rattle.vms_rules_laws.proofs.Facade.{validation_rules, Desc, Sub, Device, Set, desc_fault, device_fault, device_rules, failing, first_fault, has_few, here}
 use Rattle.vms_rules_laws.proofs.Facade.{in_field, is_same_device, set_rules, size_rules, struct_depths, struct_fault, struct_rules, sub_fault, sub_rules}
 use Rattle.vms_rules_laws.proofs.Facade.{AllTrue, both_none, Clean, device_parts, struct_clean, sub_clean, At, IsDesc, IsDevice, IsStruct, IsSub, EightLaw}
-use Rattle.vms_rules_laws.proofs.Fields.{all_eight, field_decides, validation_decides}
-use Rattle.vms_rules_laws.proofs.Names.{distinct_decides, name_decides, sub_name_decides}
 use Rattle.vms_rules_laws.proofs.Tests.{all_decides, names_decides, never, new_decides, small_decides, split, steady_decides}
 use Rattle.vms_spec.specs.declared.Part.TheVariants as parts
 
@@ -112,13 +111,12 @@ sub_decides k i d j s =
     let needed = names_decides _ _ _ _ (steady_decides s.desc) (steady_decides d.desc) _ in
     let limits = Decides-and _ _ (few_decides s.desc) (small_decides s.needed) in (
       λ c.
-          let own = c.own in
-          let few = limits.0 own.1.1.1.1.1.1.0 in
+          let few = limits.0 c.own.1.1.1.1.1.1.0 in
           record {
-            named = named.0 own.0;
-            new = new.0 own.1.0;
-            is = desc_on k s.desc _ c own.1.1.0 few.0;
-            needed = needed.0 own.1.1.1.0;
+            named = named.0 c.own.0;
+            new = new.0 c.own.1.0;
+            is = desc_on k s.desc _ c c.own.1.1.0 few.0;
+            needed = needed.0 c.own.1.1.1.0;
             small = few.1;
           },
       λ h.
@@ -138,12 +136,11 @@ device_decides set i d =
     let new = new_device_decides set i d in
     let limits = Decides-and _ _ (few_decides d.desc) (le_decides _ 32) in (
       λ c subs.
-          let own = c.own in
-          let few = limits.0 own.1.1.1.1.1.1.0 in
+          let few = limits.0 c.own.1.1.1.1.1.1.0 in
           record {
-            named = named.0 own.0;
-            new = new.0 own.1.0;
-            is = desc_on k d.desc _ c own.1.1.0 few.0;
+            named = named.0 c.own.0;
+            new = new.0 c.own.1.0;
+            is = desc_on k d.desc _ c c.own.1.1.0 few.0;
             few_subs = few.1;
             subs = subs;
           },

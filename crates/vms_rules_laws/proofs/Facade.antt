@@ -15,8 +15,7 @@ pub use Rattle.vms_spec.proofs.{ListLaws.both_none, NumberLaws.same_number_is, F
 pub use Rattle.vms_spec.proofs.Tables.{first_at, first_long, two_more}
 pub use Rattle.vms_spec.proofs.WellFormedLaws.{Clean, device_parts, ranges, struct_clean, sub_clean, untested, within}
 pub use Rattle.vms_spec.specs.{Lists.first_answer, Numbers.same_number, Streams.is_one_of, declared.Count.Count, declared.Part.Part, declared.Place.Place}
-pub use Rattle.vms_spec.specs.{declared.TheConstants.MOST_UNUSED, declared.Whose.TheVariants.Own, declared.Whose.TheVariants.Parent}
-pub use Rattle.vms_spec.specs.Images.{default_image, own_cells}
+pub use Rattle.vms_spec.specs.{declared.TheConstants.MOST_UNUSED, Images.default_image, Images.own_cells}
 pub use Rattle.vms_spec.specs.Layout.{all_hold, capacity_of, counted, desc_cells, no_desc, numbers_of, struct_cells, field_cells}
 pub use Rattle.vms_spec.specs.Names.{all_names, are_new, is_name, is_name_byte, is_sub_name}
 pub use Rattle.vms_spec.specs.Rules.{count_names_well, counts_well, defaults_well, depth, field_rules, has_good_count, has_no_test, in_range, is_counting}
@@ -27,11 +26,12 @@ pub use Rattle.vms_spec.specs.WellFormed.{are_distinct, deepest, desc_fault, dev
 pub use Rattle.vms_spec.specs.WellFormed.{is_same_device, item_count, item_depth, items_in, set_rules, size_rules, struct_depths, struct_fault, struct_items}
 pub use Rattle.vms_spec.specs.WellFormed.{struct_rules, sub_fault, sub_rules, subs_items}
 pub use Rattle.vms_spec.specs.declared.Count.TheVariants.{Counted, Fixed, One}
+pub use Rattle.vms_spec.specs.declared.Whose.TheVariants.{Own, Parent}
 unfoldable pub use Rattle.vms_spec.specs.{Layout.first, WellFormed.first_fault}
 pub use Rattle.vms_bodies.proofs.ReadyLaws.{counted_well, is_same, le_decides, ranged}
 pub use Rattle.vms_elements.specs.Elements.{Element, Rule, Shape, Stand, array_elements, behind, cells_in, desc_elements, dotted, elements_from, field_elements}
 pub use Rattle.vms_elements.specs.Elements.{index_text, item_elements, no_shape, shape, single}
 pub use Rattle.vms_elements.specs.Parts.{absent, elements_in, subs_elements}
-pub use Rattle.vms_rules_laws.specs.{Eight.IsSteady, Eight.IsStruct, Eight.IsSub, Eight.IsSubName, Eight.IsValidation, Laws.EightLaw}
-pub use Rattle.vms_rules_laws.specs.Eight.{IsWithin, IsWithinTest, NamesOnly, Nests, Nobody, UsesOn, items_among, items_of, names_of, parts_of, AreNewNames, At}
-pub use Rattle.vms_rules_laws.specs.Eight.{CountFits, DefaultFits, IsCounting, IsDesc, IsDevice, IsEarlier, IsField, IsName, IsNameByte, IsNew, IsSmall}
+pub use Rattle.vms_rules_laws.specs.{Eight.IsEarlier, Eight.IsField, Eight.IsName, Eight.IsNameByte, Eight.IsNew, Eight.IsSmall, Laws.EightLaw}
+pub use Rattle.vms_rules_laws.specs.Eight.{IsSteady, IsStruct, IsSub, IsSubName, IsValidation, IsWithin, IsWithinTest, NamesOnly, Nests, Nobody, UsesOn}
+pub use Rattle.vms_rules_laws.specs.Eight.{items_among, items_of, names_of, parts_of, AreNewNames, At, CountFits, DefaultFits, IsCounting, IsDesc, IsDevice}

@@ -2,6 +2,7 @@
 ghost use Rattle.std.specs.Prelude.{◌≡◌, ◌++◌, map, option_map, IfOk, OnOk};
 ghost use Rattle.vms_fields.specs.Fields.{name_at, former_at, is_set, field_of_row, listed_at, fields_at};
 ghost use Rattle.vms_parts.specs.Views.{formula, formula_in, field_of, desc_of, device_of, sub_of, set_of};
+ghost use Rattle.vms_spec.specs.Shipped.{desc};
 ghost use Rattle.vms_shipped.specs.Rows.{listed_row, field_in, fields_in, all_in, desc_in, asked_in, needed_in, sub_in, device_in, set_in};
 
 use crate::rows::{Asked, DescRow, DeviceRow, FieldRow, Needed, Rows, SetRow, SubRow};
@@ -32,12 +33,13 @@ fn texts(alloc: Global, names: &[&str]) -> Result<Listed<Text>, NoMemory>
 fn test(asked: Asked) -> Test
     ensures { formula result ≡ asked_in asked }
 {
+    let (field, mask, rel, value) = asked;
     Test::Cell {
         whose: Whose::Own,
-        field: asked.field,
-        mask: asked.mask,
-        rel: asked.rel,
-        value: asked.value,
+        field,
+        mask,
+        rel,
+        value,
     }
 }
 
@@ -88,12 +90,7 @@ fn held(held_by: Option<u32>) -> Option<Asked>
     ensures { option_map asked_in result ≡ option_map is_set held_by }
 {
     match held_by {
-        Some(field) => Some(Asked {
-            field,
-            mask: 1,
-            rel: Rel::Eq,
-            value: 1,
-        }),
+        Some(field) => Some((field, 1, Rel::Eq, 1)),
         None => None,
     }
 }
@@ -149,14 +146,14 @@ fn put_list(
     Ok(())
 }
 
-// Appends the fields of a row.
-fn put(alloc: Global, fields: &mut Vec<Field>, rows: &Rows) -> Result<(), NoMemory>
-    ensures { OnOk result
-        (map field_of fields.new.items ≡ map field_of fields.old.items ++ fields_in rows.now) }
+// Appends the fields of a row of a description at `version`.
+fn put(alloc: Global, fields: &mut Vec<Field>, rows: &Rows, version: u32) -> Result<(), NoMemory>
+    ensures { OnOk result (map field_of fields.new.items
+        ≡ map field_of fields.old.items ++ fields_in version rows.now) }
 {
     match rows {
         Rows::One(row) => Ok(fields.push(field(alloc, row)?)?),
-        Rows::Of(rows, version, part) => put_list(alloc, fields, *rows, *version, *part),
+        Rows::Of(rows, part) => put_list(alloc, fields, *rows, version, *part),
     }
 }
 
@@ -166,30 +163,30 @@ fn most_fields(rows: &[Rows]) -> usize {
     for row in rows {
         most = most.saturating_add(match row {
             Rows::One(_) => 1,
-            Rows::Of(rows, _, _) => rows.len(),
+            Rows::Of(rows, _) => rows.len(),
         });
     }
     most
 }
 
-fn fields(alloc: Global, rows: &[Rows]) -> Result<Listed<Field>, NoMemory>
-    ensures { IfOk result (λ fields. map field_of fields ≡ all_in rows.now) }
+fn fields(alloc: Global, rows: &[Rows], version: u32) -> Result<Listed<Field>, NoMemory>
+    ensures { IfOk result (λ fields. map field_of fields ≡ all_in version rows.now) }
 {
     let mut fields = Vec::with_capacity(alloc, most_fields(rows))?;
     for row in rows {
-        put(alloc, &mut fields, row)?;
+        put(alloc, &mut fields, row, version)?;
     }
     Ok(Listed::new(fields))
 }
 
-fn desc(alloc: Global, row: &DescRow) -> Result<Desc, NoMemory>
-    ensures { IfOk result (λ d. desc_of d ≡ desc_in row.now) }
+fn desc(alloc: Global, name: &str, version: u32, rows: &[Rows]) -> Result<Desc, NoMemory>
+    ensures { IfOk result (λ d. desc_of d ≡ desc name.now version (all_in version rows.now)) }
 {
     Ok(Desc {
-        name: text(alloc, row.name)?,
-        version: row.version,
+        name: text(alloc, name)?,
+        version,
         minimum: 1,
-        fields: fields(alloc, row.rows)?,
+        fields: fields(alloc, rows, version)?,
         validate: Listed::new(Vec::new(alloc)),
     })
 }
@@ -199,7 +196,7 @@ fn descs(alloc: Global, rows: &[DescRow]) -> Result<Listed<Desc>, NoMemory>
 {
     let mut descs = Vec::with_capacity(alloc, rows.len())?;
     for row in rows {
-        descs.push(desc(alloc, row)?)?;
+        descs.push(desc(alloc, row.name, row.version, row.rows)?)?;
     }
     Ok(Listed::new(descs))
 }
@@ -217,33 +214,18 @@ fn needed(alloc: Global, needed: Needed) -> Result<Test, NoMemory>
     }
 }
 
-fn sub(alloc: Global, row: &SubRow) -> Result<Sub, NoMemory>
-    ensures { IfOk result (λ s. sub_of s ≡ sub_in row.now) }
-{
-    Ok(Sub {
-        desc: desc(alloc, &row.desc)?,
-        needed: needed(alloc, row.needed)?,
-    })
-}
-
 fn subs(alloc: Global, rows: &[SubRow]) -> Result<Listed<Sub>, NoMemory>
     ensures { IfOk result (λ subs. map sub_of subs ≡ map sub_in rows.now) }
 {
     let mut subs = Vec::with_capacity(alloc, rows.len())?;
     for row in rows {
-        subs.push(sub(alloc, row)?)?;
+        let (name, fields, sent) = *row;
+        subs.push(Sub {
+            desc: desc(alloc, name, 1, fields)?,
+            needed: needed(alloc, sent)?,
+        })?;
     }
     Ok(Listed::new(subs))
-}
-
-fn device(alloc: Global, row: &DeviceRow) -> Result<Device, NoMemory>
-    ensures { IfOk result (λ d. device_of d ≡ device_in row.now) }
-{
-    Ok(Device {
-        instance: row.instance,
-        desc: desc(alloc, &row.desc)?,
-        subs: subs(alloc, row.subs)?,
-    })
 }
 
 fn devices(alloc: Global, rows: &[DeviceRow]) -> Result<Listed<Device>, NoMemory>
@@ -251,7 +233,11 @@ fn devices(alloc: Global, rows: &[DeviceRow]) -> Result<Listed<Device>, NoMemory
 {
     let mut devices = Vec::with_capacity(alloc, rows.len())?;
     for row in rows {
-        devices.push(device(alloc, row)?)?;
+        devices.push(Device {
+            instance: row.instance,
+            desc: desc(alloc, row.name, row.version, row.rows)?,
+            subs: subs(alloc, row.subs)?,
+        })?;
     }
     Ok(Listed::new(devices))
 }

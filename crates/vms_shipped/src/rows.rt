@@ -8,9 +8,9 @@ use vms_parts::{Count, Rel};
 pub(crate) enum Rows {
     /// One field.
     One(FieldRow),
-    /// The fields of a device's list that are in a part at a version: first the list, then the
-    /// version, then the part. Part 0 is the section; parts from 1 on are subsections.
-    Of(&'static [Row], u32, u8),
+    /// The fields of a device's list that are in a part at the description's version: first the
+    /// list, then the part. Part 0 is the section; parts from 1 on are subsections.
+    Of(&'static [Row], u8),
 }
 
 /// A field of a description that is in no device's list. It has no former names and no test, is in
@@ -30,15 +30,9 @@ pub(crate) struct DescRow {
     pub(crate) rows: &'static [Rows],
 }
 
-/// A test: field `field` of the description itself, masked with `mask`, is in relation `rel` to
-/// `value`.
-#[derive(Clone, Copy)]
-pub(crate) struct Asked {
-    pub(crate) field: u32,
-    pub(crate) mask: u64,
-    pub(crate) rel: Rel,
-    pub(crate) value: u64,
-}
+/// A test: the number of a field of the description itself, a mask, and the relation of the masked
+/// number to a value.
+pub(crate) type Asked = (u32, u64, Rel, u64);
 
 /// When a subsection is sent.
 #[derive(Clone, Copy)]
@@ -49,18 +43,16 @@ pub(crate) enum Needed {
     Either(Asked, Asked),
 }
 
-/// A subsection, with its needed test.
-#[derive(Clone, Copy)]
-pub(crate) struct SubRow {
-    pub(crate) desc: DescRow,
-    pub(crate) needed: Needed,
-}
+/// A subsection, whose version is 1: its name, its fields, and its needed test.
+pub(crate) type SubRow = (&'static str, &'static [Rows], Needed);
 
-/// A device, with its subsections.
+/// A device: its instance id, its description, and its subsections.
 #[derive(Clone, Copy)]
 pub(crate) struct DeviceRow {
     pub(crate) instance: u32,
-    pub(crate) desc: DescRow,
+    pub(crate) name: &'static str,
+    pub(crate) version: u32,
+    pub(crate) rows: &'static [Rows],
     pub(crate) subs: &'static [SubRow],
 }
 

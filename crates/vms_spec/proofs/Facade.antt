@@ -6,12 +6,12 @@ pub use Rattle.std.proofs.Common.{Bool, List, None, Option, Some, [], ap, append
 pub use Rattle.std.proofs.Common.{map, min, nat_le, nat_lt, negsuc, pos, refl, subst, suc, sym, take, true, zero, ℕ, ℤ, ◌%◌, ◌&&◌, ◌*◌, ◌++◌, ◌+◌, ◌-◌, ◌<◌}
 pub use Rattle.std.proofs.Common.{◌==◌, ◌^◌, ◌||◌, ◌∙◌, ◌∷◌, ◌≡◌, ◌≤ℤ◌, ◌≤◌}
 pub use Rattle.std.proofs.lemmas.Bool.{and_from, and_parts, eq-eqb, eqb-true, le-leb, le-ltb, leb-true, ltb-false, ltb-true, not-true, or_parts}
-pub use Rattle.std.proofs.lemmas.List.{drop-drop, drop_more, get_or-take, get_or_append_left, get_or_read, map-append}
+pub use Rattle.std.proofs.lemmas.List.{drop-drop, drop_more, get_or-take, get_or_append_left, get_or_push, get_or_read, map-append}
 pub use Rattle.std.specs.{List.AllByRecursion, List.flat_map, List.list_all, List.list_any, List.slice_get, Prelude.is_none, Str.bytes_eq}
 unfoldable pub use Rattle.std.specs.Fmt.{digits}
 pub use Rattle.vms_kinds.specs.{Codes.InRange, Codes.highest, Codes.lowest, Codes.residue, Codes.value_of, Codes.width, declared.Item.Item, declared.Kind.Kind}
 pub use Rattle.vms_kinds.specs.declared.Item.TheVariants.{Equal, Num, Struct, Unused}
-pub use Rattle.vms_kinds.specs.declared.Kind.TheVariants.{I16, I32, I64, I8, Timer, U16, U32, U64, U8}
+pub use Rattle.vms_kinds.specs.declared.Kind.TheVariants.{I16, I32, I64, I8, U16, U32, U8}
 unfoldable pub use Rattle.vms_kinds.specs.Codes.{code}
 pub use Rattle.vms_spec.specs.{Heads.FitsHeads, Layout.struct_cells, Layout.times, Lists.first_answer, Lists.or_else, Lists.position, Lookup.find_device}
 pub use Rattle.vms_spec.specs.{Lookup.find_sub, Lookup.is_bad_bool, Names.is_name, Names.is_name_byte, Numbers.exceeds, Numbers.is_above, Numbers.same_number}

@@ -1,7 +1,7 @@
 -- Numbers can be read back from their bytes.
 use Rattle.vms_spec.proofs.Facade.{◌≡◌, List, ◌++◌, ℕ, ◌%◌, ◌^◌, ◌*◌, ◌<◌, length, ℤ, pos, negsuc, refl, ap, ◌∙◌, arith, append-nil, false, ◌≤◌, []}
-use Rattle.vms_spec.proofs.Facade.{le-ltb, ints, mod_below, pow_pos, big_number, big_bytes, twos_complement, big_number-reads_back, Kind, U8, U16}
-use Rattle.vms_spec.proofs.Facade.{U32, U64, I8, I16, I32, I64, Timer, width, residue, code, InRange, value_of, MOST_UNUSED, be32, is_bad_bool}
+use Rattle.vms_spec.proofs.Facade.{le-ltb, ints, mod_below, pow_pos, big_number, big_bytes, twos_complement, big_number-reads_back, Kind, U8}
+use Rattle.vms_spec.proofs.Facade.{I8, I16, I32, I64, width, residue, code, InRange, value_of, MOST_UNUSED, be32, is_bad_bool}
 use Rattle.vms_kinds.specs.declared.Kind.TheVariants.{Bool}
 
 pub read_back : (w x : ℕ) → x < 256 ^ w → big_number w (big_bytes w x) ≡ x
@@ -31,12 +31,6 @@ unfolding code
 code_read kind z = read_back (width kind) (residue (width kind) z) (low kind z)
 
 pub value_code : (kind : Kind) (z : ℤ) → InRange kind z → value_of kind (code kind z) ≡ z
-value_code U8 (pos n) h = ap pos (code_read U8 (pos n) ∙ omega (arith, ints))
-value_code U16 (pos n) h = ap pos (code_read U16 (pos n) ∙ omega (arith, ints))
-value_code U32 (pos n) h = ap pos (code_read U32 (pos n) ∙ omega (arith, ints))
-value_code U64 (pos n) h = ap pos (code_read U64 (pos n) ∙ omega (arith, ints))
-value_code Bool (pos n) h = ap pos (code_read Bool (pos n) ∙ omega (arith, ints))
-value_code Timer (pos n) h = ap pos (code_read Timer (pos n) ∙ omega (arith, ints))
 value_code I8 (pos n) h = ap (twos_complement 1) (code_read I8 (pos n)) ∙ grind (arith, ints)
 value_code I8 (negsuc n) h = ap (twos_complement 1) (code_read I8 (negsuc n)) ∙ grind (arith, ints)
 value_code I16 (pos n) h = ap (twos_complement 2) (code_read I16 (pos n)) ∙ grind (arith, ints)
@@ -45,6 +39,7 @@ value_code I32 (pos n) h = ap (twos_complement 4) (code_read I32 (pos n)) ∙ gr
 value_code I32 (negsuc n) h = ap (twos_complement 4) (code_read I32 (negsuc n)) ∙ grind (arith, ints)
 value_code I64 (pos n) h = ap (twos_complement 8) (code_read I64 (pos n)) ∙ grind (arith, ints)
 value_code I64 (negsuc n) h = ap (twos_complement 8) (code_read I64 (negsuc n)) ∙ grind (arith, ints)
+value_code kind (pos n) h = ap pos (code_read kind (pos n) ∙ omega (arith, ints))
 value_code _ (negsuc n) h = absurd (omega (arith, ints))
 
 pub good_code : (kind : Kind) (z : ℤ) → InRange kind z → is_bad_bool kind (code kind z) ≡ false

@@ -1,17 +1,11 @@
 -- Tables by number: each element is made from the earlier ones alone.
 use Rattle.vms_spec.proofs.Facade.{◌≡◌, ℕ, zero, suc, ◌<◌, ◌≤◌, List, [], ◌∷◌, ◌++◌, length, length-append, get_or, take, refl, sym, ap, ◌∙◌, arith, Bool, true}
-use Rattle.vms_spec.proofs.Facade.{false, nat_lt, ltb-true, ltb-false, get_or_append_left, get_or-take, Desc, first, no_desc}
+use Rattle.vms_spec.proofs.Facade.{false, nat_lt, ltb-true, ltb-false, get_or_append_left, get_or_push, get_or-take, Desc, first, no_desc}
 
 pub first_long : {B : Type 0} (f : List B → Desc → B) (ds : List Desc) (k : ℕ) → length (first f ds k) ≡ k
 unfolding first
 first_long f ds zero = refl
 first_long f ds (suc k) = length-append (first f ds k) (f (first f ds k) (get_or ds k no_desc) ∷ []) ∙ omega (arith, first_long f ds k)
-
-pub last_is : {B : Type 0} (xs : List B) (x d : B) (k : ℕ) → length xs ≡ k → get_or (xs ++ x ∷ []) k d ≡ x
-last_is [] x d zero e = refl
-last_is [] x d (suc k) e = absurd (omega arith)
-last_is (y ∷ xs) x d zero e = absurd (omega arith)
-last_is (y ∷ xs) x d (suc k) e = last_is xs x d k (omega arith)
 
 at_step : {B : Type 0} (f : List B → Desc → B) (ds : List Desc) (d : B) (k j : ℕ) → j < suc k → (j < k → get_or (first f ds k) j d ≡ f (first f ds j) (get_or ds j no_desc))
     → (b : Bool) → nat_lt j k ≡ b → get_or (first f ds k ++ f (first f ds k) (get_or ds k no_desc) ∷ []) j d ≡ f (first f ds j) (get_or ds j no_desc)
@@ -22,7 +16,7 @@ at_step f ds d k j lt earlier true e =
 at_step f ds d k j lt earlier false e =
     let same : k ≡ j = omega (arith, ltb-false j k e) in
     ap (λ i. get_or (first f ds k ++ f (first f ds k) (get_or ds k no_desc) ∷ []) i d) (sym same)
-    ∙ last_is (first f ds k) (f (first f ds k) (get_or ds k no_desc)) d k (first_long f ds k) ∙ ap (λ i. f (first f ds i) (get_or ds i no_desc)) same
+    ∙ get_or_push (first f ds k) (f (first f ds k) (get_or ds k no_desc)) d k (first_long f ds k) ∙ ap (λ i. f (first f ds i) (get_or ds i no_desc)) same
 
 -- a property of each element of a list and of one more
 pub one_more : {A : Type 0} (P : A → Type 0) (a0 : A) → P a0 → (xs : List A) → ((j : ℕ) → P (get_or xs j a0)) → (a : A) → P a → (j : ℕ) → P (get_or (xs ++ a ∷ []) j a0)
@@ -36,10 +30,9 @@ pub two_more : {A B : Type 0} (R : A → B → Type 0) (a0 : A) (b0 : B) → R a
     → ((j : ℕ) → R (get_or xs j a0) (get_or ys j b0)) → (a : A) (b : B) → R a b → (j : ℕ) → R (get_or (xs ++ a ∷ []) j a0) (get_or (ys ++ b ∷ []) j b0)
 two_more R a0 b0 r0 [] [] e all a b r zero = r
 two_more R a0 b0 r0 [] [] e all a b r (suc j) = r0
-two_more R a0 b0 r0 [] (y ∷ ys) e all a b r j = absurd (omega arith)
-two_more R a0 b0 r0 (x ∷ xs) [] e all a b r j = absurd (omega arith)
 two_more R a0 b0 r0 (x ∷ xs) (y ∷ ys) e all a b r zero = all zero
 two_more R a0 b0 r0 (x ∷ xs) (y ∷ ys) e all a b r (suc j) = two_more R a0 b0 r0 xs ys (omega arith) (λ k. all (suc k)) a b r j
+two_more R a0 b0 r0 _ _ e all a b r j = absurd (omega arith)
 
 pub first_at : {B : Type 0} (f : List B → Desc → B) (ds : List Desc) (d : B) (k j : ℕ) → j < k → get_or (first f ds k) j d ≡ f (first f ds j) (get_or ds j no_desc)
 unfolding first

@@ -58,9 +58,7 @@ image_slots set d image = own_slots set d image.version image.numbers ++ came_sl
 abbrev pub has_cell : List Slot → ℕ → Bool
 has_cell [] k = false
 has_cell (Number c kind capacities ∷ slots) k = c == k || has_cell slots k
-has_cell (Constant kind z ∷ slots) k = has_cell slots k
-has_cell (Filler n ∷ slots) k = has_cell slots k
-has_cell (Rule b ∷ slots) k = has_cell slots k
+has_cell (slot ∷ slots) k = has_cell slots k
 
 -- ---- normal and valid
 

@@ -32,7 +32,7 @@ reason_word reasons.LinesDisagree = codes "LinesDisagree"
 reason_word reasons.Trailing = codes "Trailing"
 reason_word reasons.DescriptionTooLong = codes "DescriptionTooLong"
 
--- the number of a reason: its place among all, from 1 on
+-- the number of a reason, from 1 on, by which C learns it
 abbrev pub reason_number : Reason → ℕ
 reason_number reasons.Truncated = 1
 reason_number reasons.BadMagic = 2

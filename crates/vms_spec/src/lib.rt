@@ -172,7 +172,8 @@ impl Reason {
         }
     }
 
-    /// Returns the number of this reason, its place among all from 1 on, by which C learns it.
+    /// Returns the number of this reason, from 1 on, by which C learns it. A reason keeps its number
+    /// in later versions.
     pub fn number(self) -> u8
         ensures { result ≡ reason_number self }
     {

@@ -1,14 +1,13 @@
 -- The files that a call stored, as they are found entry by entry.
 use Rattle.std.proofs.{lemmas.Bool.Decides.not_from_Decides, lemmas.Str.is_utf8-from_IsUtf8, lemmas.Map.Text.is_eq-slice_cmp, lemmas.Slice.Eq.bytes_eq-Decides}
-use Rattle.std.proofs.Common.{◌≡◌, ◌≢◌, ◌∙◌, refl, sym, ap, subst, ℕ, zero, suc, ◌+◌, ◌<◌, Bool, true, false, ◌&&◌, cond, if◌then◌else◌, List, [], ◌∷◌, ◌++◌}
+use Rattle.std.proofs.Common.{◌≡◌, ◌≢◌, ◌∙◌, refl, sym, ap, ℕ, zero, suc, ◌+◌, ◌<◌, Bool, true, false, ◌&&◌, cond, if◌then◌else◌, List, [], ◌∷◌, ◌++◌}
 use Rattle.std.proofs.Common.{length, map, reverse, take, get_or, Option, Some, None, arith}
-use Rattle.std.proofs.lemmas.List.{append-nil, append_assoc, length-append, reverse-append, Elements.All-cons}
+use Rattle.std.proofs.lemmas.List.{append-nil, reverse-append, take_more, Elements.All-cons, Elements.All-contains}
 use Rattle.std.specs.{List.All, List.AllByRecursion, List.Contains, List.find, List.Sorted.IsStrictlySortedBy, Bool.Decides, Option.option_map, Ordering.is_eq}
 use Rattle.std.specs.{Ordering.nat_cmp, Cmp.Lexicographic.slice_cmp, Str.IsUtf8, Str.is_utf8, Str.bytes_eq, String.string_bytes, String.string_cmp, Map.keys_of}
 use Rattle.std.specs.{Map.lookup, declared.string.String.String, declared.alloc.Global.Global, declared.cmp.Ordering.TheVariants.Less}
 use Rattle.std.specs.BTreeMap.{BTreeMap, IsOrdered, get, is_at}
 use Rattle.vms_io.specs.Shelves.{Held}
-use Rattle.vmstate_c.proofs.{WordLemmas.take-more}
 use Rattle.vmstate_c.specs.{Folders.held_in, declared.folder.Content.Content, declared.request.File.File, declared.request.Stored.Stored}
 use Rattle.vmstate_c.specs.Calls.{file_of, is_named}
 use Rattle.vmstate_c.specs.Storing.{Entry, IsStored, bytes_of, is_just, is_lent, places}
@@ -55,7 +54,7 @@ module _ (files : List File) (i : ℕ) (d : File) (name bytes text : List ℕ) (
   lent-more : (tested : Bool) → text ≡ name → tested ≡ bytes_eq (get_or files i d).name.now text
       → is_lent (take (i + 1) files) name bytes ≡ (if tested then bytes_eq (get_or files i d).bytes.now bytes else is_lent (take i files) name bytes)
   lent-more tested same is =
-      ap (λ (fs : List File). is_lent fs name bytes) (take-more files i d lt) ∙ one-more (take i files) (get_or files i d) name bytes utf8
+      ap (λ (fs : List File). is_lent fs name bytes) (take_more files i d lt) ∙ one-more (take i files) (get_or files i d) name bytes utf8
       ∙ ap (λ (b : Bool). if b then bytes_eq (get_or files i d).bytes.now bytes else is_lent (take i files) name bytes)
       (ap (bytes_eq (get_or files i d).name.now) (sym same) ∙ sym is)
 
@@ -84,9 +83,6 @@ all_new lent held (e ∷ es) there = by (is_lent lent (name_in e) (bytes_in e)) 
     by false q rest =
         let differs = not_from_Decides _ (is_just-Decides (file_of (name_in e) lent) (bytes_in e)) q in
         All-cons (IsNew lent held) _ _ (there zero e (omega arith), differs) rest
-
-from_all : {X : Type 0} (P : X → Type 0) (xs : List X) (x : X) → All P xs → Contains xs x → P x
-from_all P xs x all (k, lt, e) = subst P e (all k x lt)
 
 later : {X : Type 0} (x y : X) (ys : List X) → Contains ys x → Contains (y ∷ ys) x
 later x y ys (k, lt, e) = (suc k, omega (arith, lt), e)
@@ -142,7 +138,7 @@ pub is_stored : (lent : List File) (m : BTreeMap (String Global) Content) → Is
     → IsStored lent (held_in m.entries) (news lent m.entries)
 is_stored lent m ordered found = record {
   exact = λ name bytes. (
-    (λ c. from_all (IsNew lent (held_in m.entries)) _ _ (all_new lent (held_in m.entries) m.entries there) c),
+    (λ c. All-contains (IsNew lent (held_in m.entries)) _ _ (all_new lent (held_in m.entries) m.entries there) c),
     (λ h. has_new lent m.entries name bytes h.0 h.1),
   );
   ordered = sorted_news lent m.entries ordered;
@@ -157,40 +153,6 @@ is_stored lent m ordered found = record {
 pub record Rest (lent : List File) (all : List Entry) (es : List Pair) (files : List Stored) (bytes : List ℕ) : Type 0 where
   pub files_are : files ++ places (length bytes) (news lent es) ≡ places 0 all
   pub bytes_are : bytes ++ bytes_of (news lent es) ≡ bytes_of all
-
-abbrev place : ℕ → List ℕ → List ℕ → Stored
-place at name bytes = record { name = at; name_length = length name; bytes = at + length name; length = length bytes }
-
-module _ (lent : List File) (all : List Entry) (e : Pair) (es : List Pair) (files : List Stored) (bytes : List ℕ) where
-  pub skipped : is_lent lent (name_in e) (bytes_in e) ≡ true → Rest lent all (e ∷ es) files bytes → Rest lent all es files bytes
-  skipped q rest =
-      subst (λ (b : Bool). let next = if b then news lent es else entry (name_in e) (bytes_in e) ∷ news lent es in
-      files ++ places (length bytes) next ≡ places 0 all → bytes ++ bytes_of next ≡ bytes_of all → Rest lent all es files bytes)
-      (sym q) (λ f b. record { files_are = f; bytes_are = b }) rest.files_are rest.bytes_are
-
-  pub added : is_lent lent (name_in e) (bytes_in e) ≡ false → Rest lent all (e ∷ es) files bytes
-      → Rest lent all es (files ++ place (length bytes) (name_in e) (bytes_in e) ∷ []) (bytes ++ (name_in e ++ bytes_in e))
-  added q rest =
-      subst (λ (b : Bool). let next = if b then news lent es else entry (name_in e) (bytes_in e) ∷ news lent es in
-      files ++ places (length bytes) next ≡ places 0 all → bytes ++ bytes_of next ≡ bytes_of all
-      → Rest lent all es (files ++ place (length bytes) (name_in e) (bytes_in e) ∷ []) (bytes ++ (name_in e ++ bytes_in e)))
-      (sym q) next rest.files_are rest.bytes_are
-    where
-      long : length (bytes ++ (name_in e ++ bytes_in e)) ≡ length bytes + length (name_in e) + length (bytes_in e)
-      long =
-          let whole = length-append bytes (name_in e ++ bytes_in e) in
-          let both = length-append (name_in e) (bytes_in e) in
-          omega (arith, whole, both)
-
-      next : files ++ places (length bytes) (entry (name_in e) (bytes_in e) ∷ news lent es) ≡ places 0 all
-          → bytes ++ bytes_of (entry (name_in e) (bytes_in e) ∷ news lent es) ≡ bytes_of all
-          → Rest lent all es (files ++ place (length bytes) (name_in e) (bytes_in e) ∷ []) (bytes ++ (name_in e ++ bytes_in e))
-      next f b = record {
-        files_are =
-            ap (λ n. files ++ place (length bytes) (name_in e) (bytes_in e) ∷ [] ++ places n (news lent es)) long
-            ∙ append_assoc files (place (length bytes) (name_in e) (bytes_in e) ∷ []) _ ∙ f;
-        bytes_are = append_assoc bytes (name_in e ++ bytes_in e) (bytes_of (news lent es)) ∙ b;
-      }
 
 pub at_end : (lent : List File) (all : List Entry) (files : List Stored) (bytes : List ℕ) → Rest lent all [] files bytes
     → (files ≡ places 0 all) × (bytes ≡ bytes_of all)

@@ -1,4 +1,4 @@
-use Rattle.vms_desc.proofs.Facade.{rules, ◌≡◌, ap, ◌∙◌, length, map, take, Item, item_forms, fields_forms, forms_to, desc_of, field_of}
+use Rattle.vms_desc.proofs.Facade.{rules, ◌≡◌, ap, ◌∙◌, map, take, Item, item_forms, fields_forms, structs_forms, field_of}
 use Rattle.vms_desc.proofs.FormLaws.{puts_none, left_all, left_goes, left_none, fields_next, fields_over, repeated_put, struct_forms, no_struct_forms}
 use Rattle.vms_desc.proofs.forms.+forms.Goals as goal
 
@@ -7,18 +7,18 @@ put_fields-loop-field-init t c = left_all c.args.forms.now _
 
 pub put_fields-loop-field-preserved : goal.put_fields-loop-field-preserved
 put_fields-loop-field-preserved t c =
-    let ts = forms_to (map desc_of c.args.structs.now) (length c.args.structs.now) in
+    let ts = structs_forms c.args.structs.now in
     left_goes _ _ _ _ (fields_next ts c.args.fields.now c.loop-field.field-index c.field-item.result c.loop-field-test.true c.field-item.is)
     c.in_ok-put_field.ensures c.loop-field.invariant
 
 pub put_fields-returns : goal.put_fields-returns
 put_fields-returns t c =
-    let ts = forms_to (map desc_of c.args.structs.now) (length c.args.structs.now) in
+    let ts = structs_forms c.args.structs.now in
     left_none (fields_over ts c.args.fields.now c.loop-field.field-index c.loop-field-test.false) c.loop-field.invariant
 
 pub put_field-returns : goal.put_field-returns
 put_field-returns t c =
-    let ts = forms_to (map desc_of c.args.structs.now) (length c.args.structs.now) in
+    let ts = structs_forms c.args.structs.now in
     let part = item_forms ts c.args.field.now.item c.args.field.now.default in
     let put = c.in_ok-put_element.ensures in
     rw (← c.capacity-count.ensures) (record {
@@ -29,10 +29,10 @@ put_field-returns t c =
 
 pub put_element-returns-in_ok-put_fields-in-Struct : goal.put_element-returns-in_ok-put_fields-in-Struct
 put_element-returns-in_ok-put_fields-in-Struct t c =
-    let ts = forms_to (map desc_of c.args.structs.now) (length c.args.structs.now) in
+    let ts = structs_forms c.args.structs.now in
     let j = c.in-Struct.number in
     let d = c.index-structs-number.result in
-    let earlier = forms_to (map desc_of (take j c.args.structs.now)) (length (take j c.args.structs.now)) in
+    let earlier = structs_forms (take j c.args.structs.now) in
     let made = struct_forms c.args.structs.now j d c.if-number-structs.true c.index-structs-number.is in
     let part : fields_forms earlier (map field_of c.as_slice.result.now) ≡ item_forms ts c.args.field.now.item c.args.field.now.default =
     cc (c.as_slice.ensures, c.index-structs-number.is, made, c.in-Struct.is) in
@@ -40,6 +40,6 @@ put_element-returns-in_ok-put_fields-in-Struct t c =
 
 pub put_element-returns-else-number-structs : goal.put_element-returns-else-number-structs
 put_element-returns-else-number-structs t c =
-    let ts = forms_to (map desc_of c.args.structs.now) (length c.args.structs.now) in
+    let ts = structs_forms c.args.structs.now in
     puts_none c.args.forms.now _ (ap (λ (i : Item). item_forms ts i c.args.field.now.default) c.in-Struct.is
     ∙ no_struct_forms c.args.structs.now c.in-Struct.number c.if-number-structs.false)

@@ -1,4 +1,4 @@
-use Rattle.vms_desc.proofs.Facade.{◌+◌, ◌*◌, length, map, drop, fields_forms, forms_to, desc_of, field_of}
+use Rattle.vms_desc.proofs.Facade.{◌+◌, ◌*◌, length, map, drop, fields_forms, structs_forms, field_of}
 use Rattle.vms_desc.proofs.FormLaws.{Left}
 use Rattle.vms_desc.proofs.forms.+forms.Given as goal
 
@@ -13,5 +13,5 @@ decreases-put_fields l = 3 * length l.structs.now + 2
 
 abbrev pub invariant-put_fields-loop-field : goal.invariant-put_fields-loop-field
 invariant-put_fields-loop-field l =
-    let ts = forms_to (map desc_of l.structs) (length l.structs) in
+    let ts = structs_forms l.structs in
     Left l.initial.forms l.forms (fields_forms ts (map field_of (drop l.field-index l.fields))) (fields_forms ts (map field_of l.fields))

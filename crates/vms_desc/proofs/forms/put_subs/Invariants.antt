@@ -1,8 +1,8 @@
-use Rattle.vms_desc.proofs.Facade.{length, map, drop, subs_forms, forms_to, desc_of, sub_of}
+use Rattle.vms_desc.proofs.Facade.{map, drop, subs_forms, structs_forms, sub_of}
 use Rattle.vms_desc.proofs.FormLaws.{Left}
 use Rattle.vms_desc.proofs.forms.put_subs.Given as goal
 
 abbrev pub invariant-loop-sub : goal.invariant-loop-sub
 invariant-loop-sub l =
-    let ts = forms_to (map desc_of l.structs) (length l.structs) in
+    let ts = structs_forms l.structs in
     Left l.initial.forms l.forms (subs_forms ts (map sub_of (drop l.sub-index l.subs))) (subs_forms ts (map sub_of l.subs))

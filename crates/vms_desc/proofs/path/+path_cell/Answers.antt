@@ -1,6 +1,7 @@
 use Rattle.vms_desc.proofs.Facade.{◌≡◌, Some, None, length, length-take-le, sym, ap, ◌∙◌, arith, nat_lt, if◌then◌else◌, slice_get, eqb-true, slice_get-get_or}
 use Rattle.vms_desc.proofs.Facade.{no_desc, path_at, desc_of, set_of}
-use Rattle.vms_desc.proofs.PathLaws.{few_by_sizes, inner_placed, element_within, path_is, in_struct, at_number, no_items}
+use Rattle.vms_desc.proofs.PathLaws.{few_by_sizes, inner_placed, element_within, path_is, in_struct, at_number}
+use Rattle.std.proofs.lemmas.List.{nil_from_length}
 use Rattle.vms_desc.proofs.path.+path_cell.Goals as goal
 
 pub element_at-requires : goal.element_at-requires
@@ -21,7 +22,7 @@ returns-in-Num t c =
     let set = set_of c.args.parts.now in
     let p = c.args.placed in
     let rest = c.in_ok-first.rest.now in
-    let none = no_items rest (eqb-true (length rest) 0 (sym c.if-is_empty.ensures)) in
+    let none = nil_from_length rest (eqb-true (length rest) 0 (sym c.if-is_empty.ensures)) in
     let last =
     at_number (λ j cell. if nat_lt j (length p.sizes.now) then path_at set rest j
     (slice_get set.structs j) cell else None) rest c.in-Num.field-0 c.in_ok-element.element.cell none in

@@ -30,24 +30,21 @@ returns-in_err-lowest c =
     let set = set_of c.args.parts.now in
     let i = c.args.number in
     let d = device_at set i in
-    let k = length set.structs in
     let e = c.in_err-lowest.field-0.0 in
     let rules = failing 1 (device_rules set i d) (here (parts.Device i)) in
     let first : IsFirst rules e = rw (c.device_rules.ensures, c.here.ensures) at c.in_err-lowest.ensures in
-    stops_by (device_fault set i d) c.from_residual.result e c.from_residual.ensures.1
-    (first_stops (or_else rules (inside k d i)) (subs_from k i d 0 d.subs) e (first_stops rules (inside k d i) e first))
+    stops_by _ _ _ c.from_residual.ensures.1 (first_stops (or_else rules (inside (length set.structs) d i)) _ e (first_stops rules _ e first))
 
 pub returns-in_err-check_inside : goal.returns-in_err-check_inside
 unfolding inside
 returns-in_err-check_inside c =
     let set = set_of c.args.parts.now in
     let i = c.args.number in
-    let e = c.in_err-check_inside.field-0.0 in
     let same = device_is (goal.at.returns-in_err-check_inside c).After-index-as_slice-number in
     let structs = structs_are (goal.at.returns-in_err-check_inside c).After-as_slice in
-    let first : IsFirst (inside (length set.structs) (device_at set i) i) e = rw same (rw structs at c.in_err-check_inside.ensures) in
-    stops_by (device_fault set i (device_at set i)) c.from_residual-in_err-check_inside.result e c.from_residual-in_err-check_inside.ensures.1
-    (inside_stops set i (device_at set i) (own_good (goal.at.returns-in_err-check_inside c).In_ok-lowest) e first)
+    let first : IsFirst (inside (length set.structs) (device_at set i) i) c.in_err-check_inside.field-0.0 = rw same (rw structs at c.in_err-check_inside.ensures) in
+    stops_by _ _ _ c.from_residual-in_err-check_inside.ensures.1
+    (inside_stops set i (device_at set i) (own_good (goal.at.returns-in_err-check_inside c).In_ok-lowest) _ first)
 
 pub returns : goal.returns
 unfolding inside

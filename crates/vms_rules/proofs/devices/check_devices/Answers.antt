@@ -1,29 +1,24 @@
-use Rattle.vms_rules.proofs.Facade.{◌<◌, ◌≤◌, [], length, ap, arith, length-map, no_desc, device_fault, device_of, set_of, devices_from}
-use Rattle.vms_spec.specs.Sets as sets
+use Rattle.vms_rules.proofs.Facade.{◌<◌, ◌≤◌, length, ap, arith, length-map, device_fault, device_of, set_of}
 use Rattle.vms_rules.proofs.WalkLaws.{stops_by, spot_good, spot_stops, spots_good}
 use Rattle.vms_rules.proofs.devices.check_devices.Goals as goal
 
 pub returns-in_err-check_device : goal.returns-in_err-check_device
 returns-in_err-check_device c =
     let set = set_of c.args.parts.now in
-    let i = c.loop-number.number in
-    let e = c.in_err-check_device.field-0.0 in
-    let lt : i < length set.devices = omega (arith, length-map c.args.parts.now.devices device_of, ap length c.as_slice-number-end.ensures) in
-    let nobody : sets.Device = record { instance = 0; desc = no_desc; subs = [] } in
-    stops_by (devices_from set 0 set.devices) c.from_residual.result e c.from_residual.ensures.1
-    (spot_stops (device_fault set) set.devices i nobody (devices_from set 0 set.devices) e lt c.in_err-check_device.ensures c.loop-number.invariant)
+    let lt : c.loop-number.number < length set.devices =
+    omega (arith, length-map c.args.parts.now.devices device_of, ap length c.as_slice-number-end.ensures) in
+    stops_by _ _ _ c.from_residual.ensures.1 (spot_stops (device_fault set) set.devices _ _ _ _ lt c.in_err-check_device.ensures c.loop-number.invariant)
 
 pub loop-number-preserved : goal.loop-number-preserved
 loop-number-preserved c =
     let set = set_of c.args.parts.now in
-    let i = c.loop-number.number in
-    let lt : i < length set.devices = omega (arith, length-map c.args.parts.now.devices device_of, ap length c.as_slice-number-end.ensures) in
-    let nobody : sets.Device = record { instance = 0; desc = no_desc; subs = [] } in
-    spot_good (device_fault set) set.devices i nobody (devices_from set 0 set.devices) lt c.in_ok-check_device.ensures c.loop-number.invariant
+    let lt : c.loop-number.number < length set.devices =
+    omega (arith, length-map c.args.parts.now.devices device_of, ap length c.as_slice-number-end.ensures) in
+    spot_good (device_fault set) set.devices _ _ _ lt c.in_ok-check_device.ensures c.loop-number.invariant
 
 pub returns : goal.returns
 returns c =
     let set = set_of c.args.parts.now in
-    let i = c.loop-number.number in
-    let all : length set.devices ≤ i = omega (arith, length-map c.args.parts.now.devices device_of, ap length c.as_slice-number-end.ensures) in
-    spots_good (device_fault set) set.devices i (devices_from set 0 set.devices) all c.loop-number.invariant
+    let all : length set.devices ≤ c.loop-number.number =
+    omega (arith, length-map c.args.parts.now.devices device_of, ap length c.as_slice-number-end.ensures) in
+    spots_good (device_fault set) set.devices _ _ all c.loop-number.invariant

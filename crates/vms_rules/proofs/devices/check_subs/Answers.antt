@@ -1,6 +1,6 @@
-use Rattle.vms_rules.proofs.{NameLaws.names_so_far, WalkLaws.stops_by, WalkLaws.place_good, WalkLaws.place_stops, devices.check_subs.Goals.After-sub-item}
-use Rattle.vms_rules.proofs.Facade.{◌≡◌, ◌<◌, ℕ, None, length, get_or, ap, arith, no_desc, AtLeast, sub_fault, Sub, sub_of, device_of, get_map_at, IsFirst}
-use Rattle.vms_rules.proofs.Facade.{has_name, subs_from, sub_at, Within}
+use Rattle.vms_rules.proofs.{NameLaws.names_so_far, devices.check_subs.Goals.After-sub-item, Facade.sub_at, Facade.Within}
+use Rattle.vms_rules.proofs.Facade.{◌≡◌, ◌<◌, ℕ, None, length, get_or, ap, arith, no_desc, AtLeast, sub_fault, Sub, sub_of, device_of, get_map_at, has_name}
+use Rattle.vms_rules.proofs.WalkLaws.{stops_by, place_good, place_stops}
 use Rattle.vms_rules.proofs.devices.check_subs.Goals as goal
 
 -- the subsection of this number
@@ -21,28 +21,20 @@ sub_is c =
 pub returns-in_err-check_sub : goal.returns-in_err-check_sub
 returns-in_err-check_sub c =
     let w = c.args.within in
-    let d = device_of w.device.now in
-    let s = c.sub-item.result in
-    let i = c.loop-number.number in
-    let e = c.in_err-check_sub.field-0.0 in
     let of = sub_is (goal.at.returns-in_err-check_sub c).After-sub-item in
-    let first : IsFirst (sub_fault w.structs w.number d i (sub_of s)) e = rw of.at at c.in_err-check_sub.ensures in
-    let whole = subs_from w.structs w.number d 0 d.subs in
-    stops_by whole c.from_residual-in_err-check_sub.result e c.from_residual-in_err-check_sub.ensures.1
-    (place_stops (sub_fault w.structs w.number d) sub_of w.device.now.subs i s whole e of.lt of.is first c.loop-number.invariant.good)
+    stops_by _ _ _ c.from_residual-in_err-check_sub.ensures.1
+    (place_stops (sub_fault w.structs w.number (device_of w.device.now)) sub_of w.device.now.subs _ _ _ _ of.lt of.is
+    (rw of.at at c.in_err-check_sub.ensures) c.loop-number.invariant.good)
 
 pub loop-number-preserved : goal.loop-number-preserved
 loop-number-preserved c =
     let w = c.args.within in
-    let subs = w.device.now.subs in
-    let d = device_of w.device.now in
+    let fault = sub_fault w.structs w.number (device_of w.device.now) in
     let s = c.sub-item.result in
-    let i = c.loop-number.number in
     let of = sub_is (goal.at.loop-number-preserved c).After-sub-item in
-    let good : sub_fault w.structs w.number d i (sub_of s) ≡ None = cc (of.at, c.in_ok-check_sub.ensures) in
+    let good : fault c.loop-number.number (sub_of s) ≡ None = cc (of.at, c.in_ok-check_sub.ensures) in
     record {
-      names = names_so_far sub_of (λ e. e.desc.name) subs i s (has_name c.loop-number.names)
+      names = names_so_far sub_of (λ e. e.desc.name) w.device.now.subs c.loop-number.number s (has_name c.loop-number.names)
           (has_name c.add_name.new.names) of.lt of.is c.loop-number.invariant.names (rw c.as_str.ensures at c.in_ok-is_new.ensures.added);
-      good = place_good (sub_fault w.structs w.number d) sub_of subs i s
-          (subs_from w.structs w.number d 0 d.subs) of.lt of.is good c.loop-number.invariant.good;
+      good = place_good fault sub_of w.device.now.subs _ _ _ of.lt of.is good c.loop-number.invariant.good;
     }

@@ -15,25 +15,22 @@ structs_good c = cc (c.as_slice.ensures, c.in_ok-check_structs.ensures)
 pub returns-in_err-lowest : goal.returns-in_err-lowest
 returns-in_err-lowest c =
     let set = set_of c.args.parts.now in
-    let e = c.in_err-lowest.field-0.0 in
-    let first : IsFirst (failing 1 (set_rules set) (here parts.Set)) e = rw (c.in_ok-set_rules.ensures, c.here-place.ensures) at c.in_err-lowest.ensures in
-    stops_by (first_fault set) c.from_residual-in_err-lowest.result e c.from_residual-in_err-lowest.ensures.1 (set_stops set e first)
+    let first : IsFirst (failing 1 (set_rules set) (here parts.Set)) c.in_err-lowest.field-0.0 =
+    rw (c.in_ok-set_rules.ensures, c.here-place.ensures) at c.in_err-lowest.ensures in
+    stops_by _ _ _ c.from_residual-in_err-lowest.ensures.1 (set_stops set _ first)
 
 pub returns-in_err-check_structs : goal.returns-in_err-check_structs
 returns-in_err-check_structs c =
     let set = set_of c.args.parts.now in
-    let e = c.in_err-check_structs.field-0.0 in
     let good = own_good (goal.at.returns-in_err-check_structs c).In_ok-lowest in
-    let first : IsFirst (structs_from set.structs 0 set.structs) e = rw c.as_slice.ensures at c.in_err-check_structs.ensures in
-    stops_by (first_fault set) c.from_residual-in_err-check_structs.result e c.from_residual-in_err-check_structs.ensures.1 (structs_stop set e good first)
+    let first : IsFirst (structs_from set.structs 0 set.structs) c.in_err-check_structs.field-0.0 = rw c.as_slice.ensures at c.in_err-check_structs.ensures in
+    stops_by _ _ _ c.from_residual-in_err-check_structs.ensures.1 (structs_stop set _ good first)
 
 pub returns-in_err-check_devices : goal.returns-in_err-check_devices
 returns-in_err-check_devices c =
-    let set = set_of c.args.parts.now in
-    let e = c.in_err-check_devices.field-0.0 in
     let structs = structs_good (goal.at.returns-in_err-check_devices c).In_ok-check_structs in
-    stops_by (first_fault set) c.from_residual-in_err-check_devices.result e c.from_residual-in_err-check_devices.ensures.1
-    (devices_stop set e (own_good (goal.at.returns-in_err-check_devices c).In_ok-lowest) structs c.in_err-check_devices.ensures)
+    stops_by _ _ _ c.from_residual-in_err-check_devices.ensures.1
+    (devices_stop (set_of c.args.parts.now) _ (own_good (goal.at.returns-in_err-check_devices c).In_ok-lowest) structs c.in_err-check_devices.ensures)
 
 pub returns : goal.returns
 returns c =

@@ -1,5 +1,5 @@
 use Rattle.vms_spots.proofs.{Facade.length, Facade.with_items, Facade.with_items_is, RunLaws.codes_seen, PutLaws.puts_codes}
-use Rattle.vms_spots.proofs.Facade.{held, IsHeld, put_from, values_of, rules, ◌≡◌, ◌∙◌, sym, ap, subst, arith, ℕ, List, take, drop, ◌+◌, ◌-◌, ◌<◌, ◌≤◌, ◌++◌}
+use Rattle.vms_spots.proofs.Facade.{held, IsHeld, put_from, values_of, rules, ◌≡◌, ◌∙◌, ap, arith, ℕ, List, take, drop, ◌+◌, ◌-◌, ◌<◌, ◌≤◌, ◌++◌}
 use Rattle.vms_spots.proofs.buffer.Buffer.put_codes.Goals as goal
 
 pub slice_bounds-copy_from_slice-end : goal.slice_bounds-copy_from_slice-end
@@ -16,12 +16,10 @@ after c =
     let n = (c.index.result.now.offset + length c.args.codes.now) - c.index.result.now.offset in
     take c.index.result.now.offset c.deref_mut.result.now ++ (c.copy_from_slice.new.self ++ drop n (drop c.index.result.now.offset c.deref_mut.result.now))
 
-record Stored (c : goal.After-self-1) : Type 0 where
-  held_is : IsHeld c.self.inside.spots.items (after c)
-  seen : held c.self.inside.spots.items (after c) ≡ record c.args.self.now { numbers = put_from c.args.self.now.numbers c.args.first (values_of c.args.kind c.args.count c.args.codes.now) }
-  items : (with_items c.self.inside.bytes (after c)).items ≡ after c
-
-stored : (c : goal.After-self-1) → Stored c
+stored : (c : goal.After-self-1)
+    → let bytes = (with_items c.self.inside.bytes (after c)).items in
+    IsHeld c.self.inside.spots.items bytes
+    × (held c.self.inside.spots.items bytes ≡ record c.args.self.now { numbers = put_from c.args.self.now.numbers c.args.first (values_of c.args.kind c.args.count c.args.codes.now) })
 stored c =
     let s = c.index.result.now in
     let codes = c.args.codes.now in
@@ -32,14 +30,10 @@ stored c =
     ∙ ap (λ (l : List ℕ). take s.offset c.self.inside.bytes.items ++ (l ++ drop n (drop s.offset c.self.inside.bytes.items))) c.copy_from_slice.ensures.after in
     let r = puts_codes c.self.inside.spots.items c.self.inside.bytes.items (after c) codes c.args.first c.args.count n c.args.kind s c.args.self.now c.self.view_is c.self.invariant some
     c.requires.room c.requires.one c.requires.number c.requires.long (λ i. omega (arith, c.type_inv.codes i)) c.index.ensures (omega arith) new in
-    record {
-      held_is = r.0;
-      seen = r.1;
-      items = with_items_is c.self.inside.bytes (after c) (omega (arith, ap length c.deref_mut.ensures.value));
-    }
+    rw (with_items_is c.self.inside.bytes (after c) (omega (arith, ap length c.deref_mut.ensures.value))) (r.0, r.1)
 
 pub invariant_of-self : goal.invariant_of-self
-invariant_of-self c = subst (IsHeld c.self.inside.spots.items) (sym (stored c).items) (stored c).held_is
+invariant_of-self c = (stored c).0
 
 pub returns : goal.returns
-returns c = ap (held c.self.inside.spots.items) (stored c).items ∙ (stored c).seen
+returns c = (stored c).1

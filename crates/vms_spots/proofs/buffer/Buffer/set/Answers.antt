@@ -28,12 +28,9 @@ after c =
     take c.index-spot.result.now.offset c.deref_mut.result.now
     ++ (c.write.new.bytes ++ drop (c.end-end.result - c.index-spot.result.now.offset) (drop c.index-spot.result.now.offset c.deref_mut.result.now))
 
-record Stored (c : goal.After-self-1) : Type 0 where
-  held_is : IsHeld c.self.inside.spots.items (after c)
-  seen : held c.self.inside.spots.items (after c) ≡ record c.args.self.now { numbers = set c.args.self.now.numbers c.args.cell c.args.value }
-  items : (with_items c.self.inside.bytes (after c)).items ≡ after c
-
-stored : (c : goal.After-self-1) → Stored c
+stored : (c : goal.After-self-1)
+    → let bytes = (with_items c.self.inside.bytes (after c)).items in
+    IsHeld c.self.inside.spots.items bytes × (held c.self.inside.spots.items bytes ≡ record c.args.self.now { numbers = set c.args.self.now.numbers c.args.cell c.args.value })
 stored c =
     let s = c.index-spot.result.now in
     let old : List ℕ = take (c.end-end.result - s.offset) (drop s.offset c.deref_mut.result.now) in
@@ -42,19 +39,12 @@ stored c =
     cc (c.write.ensures, append-nil (code s.kind (to_z w128 (of_z w128 c.args.value))), to_z-of_z w128 c.args.value c.ranges.value) in
     let new : after c ≡ take s.offset c.self.inside.bytes.items ++ (c.write.new.bytes ++ drop (c.end-end.result - s.offset) (drop s.offset c.self.inside.bytes.items)) =
     ap (λ (l : List ℕ). take s.offset l ++ (c.write.new.bytes ++ drop (c.end-end.result - s.offset) (drop s.offset l))) c.deref_mut.ensures.value in
-    let r : IsHeld c.self.inside.spots.items (after c)
-    × (held c.self.inside.spots.items (after c) ≡ record c.args.self.now { numbers = set c.args.self.now.numbers c.args.cell c.args.value })
-    × (length (after c) ≡ length c.self.inside.bytes.items) =
-    puts_seen c.self.inside.spots.items c.self.inside.bytes.items (after c) c.write.new.bytes c.args.cell (c.end-end.result - s.offset) c.args.value s
+    let r = puts_seen c.self.inside.spots.items c.self.inside.bytes.items (after c) c.write.new.bytes c.args.cell (c.end-end.result - s.offset) c.args.value s
     c.args.self.now c.self.view_is c.self.invariant c.requires.cell c.index-spot.ensures c.requires.range part (omega arith) new in
-    record {
-      held_is = r.0;
-      seen = r.1;
-      items = with_items_is c.self.inside.bytes (after c) (omega (arith, ap length c.deref_mut.ensures.value));
-    }
+    rw (with_items_is c.self.inside.bytes (after c) (omega (arith, ap length c.deref_mut.ensures.value))) (r.0, r.1)
 
 pub invariant_of-self : goal.invariant_of-self
-invariant_of-self c = subst (IsHeld c.self.inside.spots.items) (sym (stored c).items) (stored c).held_is
+invariant_of-self c = (stored c).0
 
 pub returns : goal.returns
-returns c = cc ((stored c).items, (stored c).seen)
+returns c = (stored c).1
