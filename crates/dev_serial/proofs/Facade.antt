@@ -7,7 +7,7 @@ pub use Rattle.std.proofs.Math.Nat.{le-max_right, min-eq_left, min-le_right, mul
 pub use Rattle.std.proofs.lemmas.Bool.{and_from, and_parts, cases_lt, cond_both, eq-eqb, eqb-false, eqb-true, false≢true, le-leb, leb-false, leb-true, lt-leb}
 pub use Rattle.std.proofs.lemmas.Bool.{lt-ltb, ltb-false, ltb-true, ne_eqb, not-false, not-true, or_right, Decides.nat_tests}
 pub use Rattle.std.proofs.lemmas.List.{get_or-append-add, get_or-map, get_or_append_left, get_or_past, length-map, length-set, map-append, nil_from_length}
-pub use Rattle.std.proofs.lemmas.List.Folds.{list_all_at, list_all_more}
+pub use Rattle.std.proofs.lemmas.List.{Elements.All-cons, Elements.All-nil, Folds.list_all_at, Folds.list_all_more}
 pub use Rattle.std.proofs.lemmas.List.FromFn.{get_or-map-range_with_len, get_or-range_with_len, length-map-range_with_len}
 pub use Rattle.std.specs.{List.list_all, List.range_with_len, Ordering.int_eq}
 pub use Rattle.std.specs.Prelude.{bit_and, bit_or, is_some, max, nat_le, nat_lt, remove}
@@ -36,12 +36,12 @@ pub use Rattle.dev_serial.specs.Laws.{AlikeItself, AlikeOn, AnswersAlike, AreSav
 pub use Rattle.dev_serial.specs.Laws.{IsSoundAt, LinesAlike, ListsComeBack, PowerOnIsSound, ReadsAlike, ReadsKeepLevel, ReadsKeepSound, RestoredIsSound}
 pub use Rattle.dev_serial.specs.Laws.{SavedAreCells, SavedComesBack, SavesAlike, SoundMeetsRules}
 pub use Rattle.dev_serial.specs.Parts.{IsShort, ReceiverState, TransmitterState}
-pub use Rattle.dev_serial.specs.Port.{Port, asks, has_come, id_number, is_data_ready, is_pending, is_thr_empty, mode_of}
+pub use Rattle.dev_serial.specs.Port.{Port, asks, first_asking, has_come, id_number, is_data_ready, is_pending, is_thr_empty, mode_of, priorities}
 pub use Rattle.dev_serial.specs.PortNumbers.{bytes_held, due_number, fcr_number, fifo_bytes, fifos_of, in_array, in_ring, ipending_of, latch_of, moment_number}
 pub use Rattle.dev_serial.specs.PortNumbers.{moment_of, shift_number, shift_of, single_byte, stored_bytes}
 pub use Rattle.dev_serial.specs.Recast.{RecastOnce, array_for, is_in_ring, recast_port, ring_left}
 pub use Rattle.dev_serial.specs.RegisterLaws.{HasNoBytes, IdentifiesFirst, IsFirstAsking, IsLooped, IsResetBy, IsSwitched, LineTellsAsking, LoopsModem}
-pub use Rattle.dev_serial.specs.RegisterLaws.{ReachesDivisor, ResetsByBits, SomeAsks, StaysOff, SwitchClearsBoth, WritesSwitch, rank}
+pub use Rattle.dev_serial.specs.RegisterLaws.{ReachesDivisor, ResetsByBits, SomeAsks, StaysOff, SwitchClearsBoth, WritesSwitch}
 pub use Rattle.dev_serial.specs.Rules.{is_stored_once, is_unused, longest_timeout, rules}
 pub use Rattle.dev_serial.specs.Saved.{CanRestore, CanSave, cells_at, hook_restored, restored_cells}
 pub use Rattle.dev_serial.specs.Sending.{Advances, AdvancesInParts, Event, LeavesForLine, LongestCharacter, LoopsAtMoment, ReplacesOne, SendsInOrder}
