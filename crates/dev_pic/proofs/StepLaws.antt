@@ -153,18 +153,10 @@ module _ (level : ℕ) (role : Role) (chip : Chip) (h : HasRegisters level role 
   started-registers value =
       let levels = level_inputs (ltim_after level value chip) chip.elcr in
       let irr : bit_and chip.irr levels < 256 = omega (arith, and_le_l chip.irr levels) in
-      record {
-        mode = mode-after value;
-        irr = irr;
-        isr = omega arith;
-        imr = omega arith;
-        lines = h.lines;
-        lowest = omega arith;
-        base = h.base;
-        vectors = h.vectors;
-        elcr = h.elcr;
-        levels = h.levels;
-      }
+      let mode = mode-after value in
+      let clear : 0 < 256 = omega arith in
+      let lowest : 7 ≤ 7 = omega arith in
+      search
 
   selected-registers : (value : ℕ) → HasRegisters level role (selected value chip)
   unfolding selected
