@@ -4,7 +4,8 @@ use Rattle.dev_serial.proofs.Facade.{is_some, nat_le, is_empty, switch_of, fcr_c
 use Rattle.dev_serial.proofs.Facade.{thr_written, ier_written, written, came_in, advanced, has, trigger_of, Port, asks, interrupt, is_pending, line_of}
 use Rattle.dev_serial.proofs.Facade.{IsFirstAsking, IdentifiesFirst, SomeAsks, LineTellsAsking, HasNoBytes, SwitchClearsBoth, IsResetBy, ResetsByBits, StaysOff}
 use Rattle.dev_serial.proofs.Facade.{IsSwitched, WritesSwitch, Interrupt, LineStatus, ReceivedData, CharacterTimeout, ThrEmpty, NonePending, Trigger, either}
-use Rattle.dev_serial.proofs.Facade.{ReadsKeepLevel, WritesKeepLevel, BytesInKeepLevel, AdvancesKeepLevel, cond_both, first_asking, priorities, All-cons, All-nil}
+use Rattle.dev_serial.proofs.Facade.{ReadsKeepLevel, WritesKeepLevel, BytesInKeepLevel, AdvancesKeepLevel, cond_both, first_asking, priorities, All-cons}
+use Rattle.dev_serial.proofs.Facade.{All-nil}
 
 module _ (now : ℕ) (port : Port) where
   abbrev Silent : Interrupt → Type 0
