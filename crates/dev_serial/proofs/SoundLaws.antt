@@ -153,13 +153,9 @@ thr-sound now character byte on latch transmitter p q b s =
 
 -- another latch
 pub latched-sound : (now : ℕ) (on first second : Bool) (transmitter : TransmitterState) → (second ≡ true → (first ≡ true) ⊎ (is_empty transmitter.waiting ≡ true)) → IsTransmitter now on transmitter first → IsTransmitter now on transmitter second
-latched-sound now on first second transmitter h s = record {
-  short = s.short;
-  bytes = s.bytes;
-  shift = s.shift;
-  idle = s.idle;
-  latched = λ e. ⊎_elim (λ f. s.latched f) (λ f. f) (h e);
-}
+latched-sound now on first second transmitter h s =
+    let latched : second ≡ true → is_empty transmitter.waiting ≡ true = λ e. ⊎_elim s.latched (λ f. f) (h e) in
+    search
 
 -- no byte waits any more, with FIFOs or not
 pub cleared-sound : (now : ℕ) (on other latch new_latch : Bool) (transmitter : TransmitterState) → IsTransmitter now on transmitter latch

@@ -16,19 +16,13 @@ is-byte now None s = tt
 is-byte now (Some shift) s = s.byte
 
 held : (now : ℕ) (port : Port) → now ≤ LAST_MOMENT → IsSound now port → IsHeld port
-held now port h s = let r = s.registers in record {
-  is_level = r.is_level;
-  divisor_range = r.divisor_range;
-  lcr_range = r.lcr_range;
-  scr_range = r.scr_range;
-  held_short = s.receiver.short;
-  held_bytes = s.receiver.bytes;
-  waiting_short = s.transmitter.short;
-  waiting_bytes = s.transmitter.bytes;
-  timeout = told now _ port.receiver.timeout h s.receiver.timeout;
-  shift = is-byte now port.transmitter.shift s.transmitter.shift;
-  latched = s.transmitter.latched;
-}
+held now port h s =
+    let r = s.registers in
+    let receiver = s.receiver in
+    let transmitter = s.transmitter in
+    let timeout = told now _ port.receiver.timeout h s.receiver.timeout in
+    let shift = is-byte now port.transmitter.shift s.transmitter.shift in
+    search
 
 -- and back, by the rules
 level-on : (level : ℕ) (fifos : Option Trigger) (rest : Bool) → ((fcr_number fifos == 0) || (nat_le 2 level && rest)) ≡ true → is_some fifos ≡ true → 2 ≤ level
@@ -65,15 +59,10 @@ module _ (now : ℕ) (port : Port) (is : IsHeld port) (rules : Hold port.level n
   unfolding registers_hold fcr_holds saved
   registers =
       let low = and_parts _ _ rules.registers in
-      record {
-        is_level = is.is_level;
-        divisor_range = is.divisor_range;
-        ier_range = leb-true _ _ low.0;
-        lcr_range = is.lcr_range;
-        mcr_range = leb-true _ _ (and_parts _ _ low.1).0;
-        scr_range = is.scr_range;
-        fifos = level-on port.level port.fifos _ rules.fcr;
-      }
+      let ier = leb-true _ _ low.0 in
+      let mcr = leb-true _ _ (and_parts _ _ low.1).0 in
+      let fifos = level-on port.level port.fifos _ rules.fcr in
+      search
 
   timeout : IsTimeout now (nat_le 3 port.level && (is_some port.fifos && not (is_empty port.receiver.held))) port.receiver.timeout
   unfolding timeout_holds saved
