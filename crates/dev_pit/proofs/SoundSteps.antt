@@ -136,12 +136,7 @@ status-byte counter now = omega (arith, (access-small counter.access).1, mode-sm
 changed : {level now : ℕ} {counter : Counter} {held_low latch status : Option ℕ} {read_high : Bool} → PlainSound level now counter
     → HeldBelow (2 ^ 8) held_low → HeldBelow (2 ^ 16) latch → HeldBelow (2 ^ 8) status → StatusFits level status → TogglesFit counter.access read_high held_low
     → PlainSound level now (record counter { held_low = held_low; latch = latch; status = status; read_high = read_high })
-changed s low latch byte fits toggles = record {
-  widths = record { count = s.widths.count; loaded_at = s.widths.loaded_at; held_low = low; latch = latch; status = byte };
-  loaded = s.loaded;
-  status = fits;
-  toggles = toggles;
-}
+changed s low latch byte fits toggles = let w = s.widths in search
 
 -- Latching.
 pub latched-sound : (level now : ℕ) (counter : Counter) → PlainSound level now counter → PlainSound level now (latched now counter)
@@ -193,18 +188,11 @@ programmed-sound access mode bcd level now counter s = record {
 loaded-sound : (count level now : ℕ) (counter : Counter) → now ≤ LAST_MOMENT → count < 2 ^ 16 → PlainSound level now counter
     → PlainSound level now (loading count now counter)
 unfolding loading
-loaded-sound count level now counter m c s = record {
-  widths = record {
-    count = c;
-    loaded_at = omega arith;
-    held_low = s.widths.held_low;
-    latch = s.widths.latch;
-    status = s.widths.status;
-  };
-  loaded = omega arith;
-  status = s.status;
-  toggles = s.toggles;
-}
+loaded-sound count level now counter m c s =
+    let w = s.widths in
+    let small : now < 2 ^ 64 = omega arith in
+    let here : now ≤ now = omega arith in
+    search
 
 -- A counter of two bytes may hold one or not.
 holding : (level now : ℕ) (low : Option ℕ) (counter : Counter) → counter.access ≡ LowThenHigh → HeldBelow (2 ^ 8) low → PlainSound level now counter
@@ -237,21 +225,21 @@ turned level now read_high latch counter e h s =
     changed s s.widths.held_low h s.widths.status s.status (subst (λ a. TogglesFit a read_high counter.held_low) (sym e) tt)
 
 -- A sound counter, as the second part of an answer.
-record Sounds (level now : ℕ) (answer : ℕ × Counter) : Type 0 where
-  after : PlainSound level now answer.1
+abbrev Sounds : (level now : ℕ) → ℕ × Counter → Type 0
+Sounds level now answer = PlainSound level now answer.1
 
 counted_by-sound : (access : Access) (count level now : ℕ) (counter : Counter) → counter.access ≡ access → PlainSound level now counter
     → Sounds level now (counted_by access count counter)
 counted_by-sound LowThenHigh count level now counter e s =
-    either (Sounds level now) counter.read_high _ _ (record { after = turned level now false None counter e tt s })
-    (record { after = turned level now true counter.latch counter e s.widths.latch s })
-counted_by-sound _ count level now counter e s = record { after = no_latch level now counter s }
+    either (Sounds level now) counter.read_high _ _ (turned level now false None counter e tt s)
+    (turned level now true counter.latch counter e s.widths.latch s)
+counted_by-sound _ count level now counter e s = no_latch level now counter s
 
 read_by-sound : (status : Option ℕ) (level now : ℕ) (counter : Counter) → PlainSound level now counter → Sounds level now (read_by status now counter)
 unfolding counted_of
 read_by-sound None level now counter s = counted_by-sound counter.access _ level now counter refl s
-read_by-sound (Some status) level now counter s = record { after = changed s s.widths.held_low s.widths.latch tt tt s.toggles }
+read_by-sound (Some status) level now counter s = changed s s.widths.held_low s.widths.latch tt tt s.toggles
 
 pub read-sound : (level now : ℕ) (counter : Counter) → PlainSound level now counter → PlainSound level now (read_of now counter).1
 unfolding read_of
-read-sound level now counter s = (read_by-sound counter.status level now counter s).after
+read-sound level now counter s = read_by-sound counter.status level now counter s
