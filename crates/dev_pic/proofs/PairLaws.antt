@@ -8,8 +8,8 @@ use Rattle.dev_pic.proofs.BitLaws.{without_input-lt, and-twice}
 use Rattle.dev_pic.proofs.StepLaws.{winner-lt, settled-sound, written_even-registers, written_odd-registers, read-registers, answered-registers, cascaded-registers}
 
 -- An answer after which the pair has its registers.
-record Kept (answer : ℕ × PicPair) : Type 0 where
-  kept : PairHasRegisters answer.1
+abbrev Kept : ℕ × PicPair → Type 0
+Kept answer = PairHasRegisters answer.1
 
 -- There is no level input at power on.
 levels_off : (level : ℕ) (role : Role) → levels_hold level role 0 ≡ true
@@ -84,28 +84,26 @@ module _ (pair : PicPair) (h : PairHasRegisters pair) where
 
   acked_for-kept : (o : Option ℕ) → IfSome o (λ w. w < 8) → Kept (acked_for o pair)
   unfolding acked_for
-  acked_for-kept None l = record { kept = with-master _ (answered-registers pair.level Master pair.master h.master None tt) }
+  acked_for-kept None l = with-master _ (answered-registers pair.level Master pair.master h.master None tt)
   acked_for-kept (Some w) l =
       either Kept (w == cascade_input) _ _
       (record {
-        kept = record {
-          level = h.level;
-          master = cascaded-registers pair.level Master pair.master h.master;
-          slave = answered-registers pair.level Slave pair.slave h.slave (winner_at Slave pair.slave) (winner-lt Slave pair.slave);
-        };
-      }) (record { kept = with-master _ (answered-registers pair.level Master pair.master h.master (Some w) l) })
+        level = h.level;
+        master = cascaded-registers pair.level Master pair.master h.master;
+        slave = answered-registers pair.level Slave pair.slave h.slave (winner_at Slave pair.slave) (winner-lt Slave pair.slave);
+      }) (with-master _ (answered-registers pair.level Master pair.master h.master (Some w) l))
 
   acked-kept : PairHasRegisters (acked pair).1
-  acked-kept = (acked_for-kept (winner_at Master pair.master) (winner-lt Master pair.master)).kept
+  acked-kept = acked_for-kept (winner_at Master pair.master) (winner-lt Master pair.master)
 
   read-kept : (port : ℕ) → Kept (read_pair port pair)
   unfolding read_pair
   read-kept port =
-      either Kept (port == 0x20) _ _ (record { kept = with-master _ (read-registers pair.level Master pair.master h.master false) })
-      (either Kept (port == 0x21) _ _ (record { kept = with-master _ (read-registers pair.level Master pair.master h.master true) })
-      (either Kept (port == 0xa0) _ _ (record { kept = with-slave _ (read-registers pair.level Slave pair.slave h.slave false) })
-      (either Kept (port == 0xa1) _ _ (record { kept = with-slave _ (read-registers pair.level Slave pair.slave h.slave true) })
-      (either Kept (port == 0x4d0) _ _ (record { kept = h }) (record { kept = h })))))
+      either Kept (port == 0x20) _ _ (with-master _ (read-registers pair.level Master pair.master h.master false))
+      (either Kept (port == 0x21) _ _ (with-master _ (read-registers pair.level Master pair.master h.master true))
+      (either Kept (port == 0xa0) _ _ (with-slave _ (read-registers pair.level Slave pair.slave h.slave false))
+      (either Kept (port == 0xa1) _ _ (with-slave _ (read-registers pair.level Slave pair.slave h.slave true))
+      (either Kept (port == 0x4d0) _ _ h h))))
 
   written-kept : (port value : ℕ) → value < 256 → is_port pair.level port ≡ true → PairHasRegisters (written_pair port value pair)
   unfolding written_pair
@@ -123,7 +121,7 @@ module _ (pair : PicPair) (h : PairHasRegisters pair) where
 pub steps_keep_registers : StepsKeepRegisters
 steps_keep_registers = record {
   power = power-sound;
-  read = λ port pair h. (read-kept pair h port).kept;
+  read = λ port pair h. read-kept pair h port;
   write = λ port value pair v is h. written-kept pair h port value v is;
   ack = λ pair h. acked-kept pair h;
   settle = λ inputs edges pair i e h. settle-sound pair h inputs edges i e;
@@ -131,17 +129,17 @@ steps_keep_registers = record {
 }
 
 -- An answer after which the pair has its level.
-record SameLevel (level : ℕ) (answer : ℕ × PicPair) : Type 0 where
-  same : answer.1.level ≡ level
+abbrev SameLevel : ℕ → ℕ × PicPair → Type 0
+SameLevel level answer = answer.1.level ≡ level
 
 read-level : (port : ℕ) (pair : PicPair) → SameLevel pair.level (read_pair port pair)
 unfolding read_pair
 read-level port pair =
-    either (SameLevel pair.level) (port == 0x20) _ _ (record { same = refl })
-    (either (SameLevel pair.level) (port == 0x21) _ _ (record { same = refl })
-    (either (SameLevel pair.level) (port == 0xa0) _ _ (record { same = refl })
-    (either (SameLevel pair.level) (port == 0xa1) _ _ (record { same = refl })
-    (either (SameLevel pair.level) (port == 0x4d0) _ _ (record { same = refl }) (record { same = refl })))))
+    either (SameLevel pair.level) (port == 0x20) _ _ refl
+    (either (SameLevel pair.level) (port == 0x21) _ _ refl
+    (either (SameLevel pair.level) (port == 0xa0) _ _ refl
+    (either (SameLevel pair.level) (port == 0xa1) _ _ refl
+    (either (SameLevel pair.level) (port == 0x4d0) _ _ refl refl))))
 
 HasLevel : ℕ → PicPair → Type 0
 HasLevel level pair = pair.level ≡ level
@@ -158,15 +156,15 @@ written-level port value pair =
 
 acked_for-level : (o : Option ℕ) (pair : PicPair) → SameLevel pair.level (acked_for o pair)
 unfolding acked_for
-acked_for-level None pair = record { same = refl }
-acked_for-level (Some w) pair = either (SameLevel pair.level) (w == cascade_input) _ _ (record { same = refl }) (record { same = refl })
+acked_for-level None pair = refl
+acked_for-level (Some w) pair = either (SameLevel pair.level) (w == cascade_input) _ _ refl refl
 
 pub steps_keep_level : StepsKeepLevel
 unfolding HasLevel power_on settled_pair
 steps_keep_level = record {
   power = λ level. refl;
-  read = λ port pair. (read-level port pair).same;
+  read = λ port pair. read-level port pair;
   write = written-level;
-  ack = λ pair. (acked_for-level (winner_at Master pair.master) pair).same;
+  ack = λ pair. acked_for-level (winner_at Master pair.master) pair;
   settle = λ inputs edges pair. refl;
 }
