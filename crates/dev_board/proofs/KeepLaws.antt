@@ -9,10 +9,6 @@ use Rattle.dev_pic.proofs.PairLaws.{steps_keep_level as pair_keeps_level}
 use Rattle.dev_pit.proofs.SoundLaws.{steps_keep_level as pit_keeps_level}
 use Rattle.dev_serial.specs.Sound.{IsSound as IsSoundPort}
 
--- An answer after which the devices have what they always keep.
-pub record Kept {A : Type 0} (answer : A × State) : Type 0 where
-  pub kept : HasDevices answer.1
-
 module _ (m : State) (h : HasDevices m) where
   with-devices : (pair : PicPair) (pit : Pit) (port : Port) → PairHasRegisters pair → IsSoundPit m.moment pit → IsSoundPort m.moment port
       → pair.level ≡ m.level → pit.level ≡ m.level → port.level ≡ m.level → HasDevices (record m { pair = pair; pit = pit; serial = port })
@@ -45,12 +41,12 @@ module _ (m : State) (h : HasDevices m) where
   pub serial-read : (offset : ℕ) → HasDevices (record m { serial = (read_of offset m.moment m.serial).1 })
   serial-read offset = with-serial _ (reads_keep_sound offset m.moment m.serial h.serial) (reads_keep_level offset m.moment m.serial)
 
-  pub read_at-kept : (target : Target) (port : ℕ) → Kept (read_at target port m)
+  pub read_at-kept : (target : Target) (port : ℕ) → HasDevices (read_at target port m).1
   unfolding read_at
-  read_at-kept Pair port = record { kept = pair-read port }
-  read_at-kept (Counter counter) port = record { kept = pit-read counter }
-  read_at-kept (Register offset) port = record { kept = serial-read offset }
-  read_at-kept _ port = record { kept = h }
+  read_at-kept Pair port = pair-read port
+  read_at-kept (Counter counter) port = pit-read counter
+  read_at-kept (Register offset) port = serial-read offset
+  read_at-kept _ port = h
 
   pub pit-written : (port value : ℕ) → value < 256 → HasDevices (record m { pit = pit_written port value m.moment m.pit })
   pit-written port value v = with-pit _ (sound_stays.in_writes port value m.moment m.pit v h.pit) (pit_keeps_level.write port value m.moment m.pit)

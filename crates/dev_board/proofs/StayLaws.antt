@@ -1,7 +1,7 @@
 -- What an event leaves of the lines.
 use Rattle.dev_board.proofs.{KeptLaws.read-out, QuietLaws.command-taken, QuietLaws.ack-taken}
 use Rattle.dev_board.proofs.Facade.{◌≡◌, ℕ, Bool, true, false, ◌==◌, bit_or, arith, refl, ap, ◌∙◌, sym, not, ◌&&◌, ◌||◌, subst, if◌then◌else◌, cond_both}
-use Rattle.dev_board.proofs.Facade.{false≢true, nat_tests, and-false, and-true, or-false, has, bits_where, lines_of, written_pair, acked, int_of, PicPair}
+use Rattle.dev_board.proofs.Facade.{false≢true, nat_tests, and-false, and-true, or-false, has, bits_where, lines_of, written_pair, acked, PicPair}
 use Rattle.dev_board.proofs.Facade.{HasTaken, IsBefore, is_command, Stays, ack_touches, leaves_port, read_touches, time_touches, write_touches, has-or, either, State}
 use Rattle.dev_board.proofs.Facade.{Act, waited, Before, Touch, Untouched, Command, Access, pit_out, lsr_of, lsr_read, Port, line_of, target_of, read_at}
 use Rattle.dev_board.proofs.Facade.{written_at, read, write, IsSound, Target, Pair, Counter, Register, Nothing}
