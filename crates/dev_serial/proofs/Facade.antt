@@ -52,7 +52,7 @@ pub use Rattle.dev_serial.specs.Transmit.{IsSentAfter, bytes_of, gone_by, looped
 pub use Rattle.dev_serial.specs.declared.interrupt.Interrupt.TheVariants.{CharacterTimeout, LineStatus, NonePending, ReceivedData, ThrEmpty}
 pub use Rattle.dev_serial.specs.declared.levels.TheConstants.{FIFOS_SINCE, RINGS_SINCE, TIMEOUT_SINCE}
 pub use Rattle.dev_serial.specs.declared.stored.TheConstants.{ARRAY_CELLS, PORT_CELLS, RING_CELLS}
-pub use Rattle.dev_serial.specs.declared.trigger.Trigger.TheVariants.{Eight, Four, Fourteen, One}
+pub use Rattle.dev_serial.specs.declared.trigger.Trigger.TheVariants.{One}
 unfoldable pub use Rattle.dev_serial.specs.{Access.thr_written, Line.character_time, Recast.recast_cells, Receive.received, Receive.taken_at, Rules.rings_hold}
 unfoldable pub use Rattle.dev_serial.specs.{Rules.shift_holds, Rules.status_holds, Stored.ring_holds, Port.interrupt, Port.line_of, Port.power_on}
 unfoldable pub use Rattle.dev_serial.specs.Access.{queues, written, advanced, came_in, fcr_cleared, fcr_written, ier_written, iir_of, lsr_of, msr_of, read_of}

@@ -65,9 +65,8 @@ module _ (value : ℕ) (port : Port) where
   flags : (second first : Bool) (fifos : Option Trigger) → (second ≡ has value 2) → (first ≡ has value 1)
       → IsResetBy value port (record (transmitter_cleared second (receiver_cleared first port)) { fifos = fifos })
   flags true true fifos s f = record { held = rw (← f) refl; timeout = rw (← f) refl; waiting = rw (← s) refl }
-  flags true false fifos s f = record { held = rw (← f) refl; timeout = rw (← f) refl; waiting = rw (← s) refl }
-  flags false true fifos s f = record { held = rw (← f) refl; timeout = rw (← f) refl; waiting = rw (← s) refl }
   flags false false fifos s f = record { held = rw (← f) refl; timeout = rw (← f) refl; waiting = rw (← s) refl }
+  flags _ _ fifos s f = record { held = rw (← f) refl; timeout = rw (← f) refl; waiting = rw (← s) refl }
 
   reset : (before after : Option Trigger) → is_some before ≡ true → is_some after ≡ true
       → IsResetBy value port (record (fcr_cleared before after value port) { fifos = after })
@@ -141,9 +140,8 @@ module _ (port : Port) where
 
   cleared : (second first : Bool) → Stays (transmitter_cleared second (receiver_cleared first port))
   cleared true true = (refl, refl)
-  cleared true false = (refl, refl)
-  cleared false true = (refl, refl)
   cleared false false = (refl, refl)
+  cleared _ _ = (refl, refl)
 
   pub switch_stays : (value : ℕ) (before after : Option Trigger) → Stays (fcr_cleared before after value port)
   unfolding fcr_cleared

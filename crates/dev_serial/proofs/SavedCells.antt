@@ -7,8 +7,8 @@ use Rattle.dev_serial.proofs.Facade.{of_none, of_more, byte, word, timer, AllHol
 use Rattle.dev_serial.proofs.Facade.{array_cells, ring_cells, cells_of, kinds, IsPortCells, FIFOS_SINCE, TIMEOUT_SINCE, RINGS_SINCE, PortNumbers, Counted, Ring}
 use Rattle.dev_serial.proofs.Facade.{NEWEST, LAST_MOMENT, lsr_of, has, AreSaved, SavedAreCells, IsShort, Port, interrupt, id_number, is_thr_empty, saved}
 use Rattle.dev_serial.proofs.Facade.{ipending_of, single_byte, fifo_bytes, in_array, in_ring, fcr_number, shift_number, due_number, moment_number, IsSound}
-use Rattle.dev_serial.proofs.Facade.{AreBytes, IsShift, IsTimeout, byte_of, padded, counted_of, ring_of, Interrupt, LineStatus, Shift, Trigger, One, Four}
-use Rattle.dev_serial.proofs.Facade.{Eight, Fourteen, RX, TX_COUNT, TX, TIMEOUT_AT, number_at, RX_COUNT}
+use Rattle.dev_serial.proofs.Facade.{AreBytes, IsShift, IsTimeout, byte_of, padded, counted_of, ring_of, Interrupt, LineStatus, Shift, Trigger, One}
+use Rattle.dev_serial.proofs.Facade.{RX, TX_COUNT, TX, TIMEOUT_AT, number_at, RX_COUNT}
 
 -- ---- the numbers in each row of the list of fields
 
@@ -149,11 +149,8 @@ moment-range now runs None h t = omega arith
 moment-range now runs (Some timeout) h t = omega arith
 
 fcr-range : (fifos : Option Trigger) → fcr_number fifos < 256
-fcr-range None = omega arith
 fcr-range (Some One) = omega arith
-fcr-range (Some Four) = omega arith
-fcr-range (Some Eight) = omega arith
-fcr-range (Some Fourteen) = omega arith
+fcr-range _ = omega arith
 
 ipending-range : (enabled latch identified : Bool) → InRange I8 (ipending_of enabled latch identified)
 ipending-range true true true = (omega arith, omega arith)

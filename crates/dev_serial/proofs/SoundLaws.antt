@@ -87,9 +87,8 @@ module _ (now at character : ℕ) (looped : Bool) (early : at ≤ now) (quick : 
   taken-timeout true true byte rest timeout s =
       cond_both (is_empty rest) None (Some (at + 4 * character)) (λ (t : Option ℕ). IsTimeout now (not (is_empty rest)) t)
       (λ e. rw e) (λ e. record { runs_now = rw e; in_time = omega arith })
-  taken-timeout true false byte rest timeout s = s
-  taken-timeout false true byte rest timeout s = s
   taken-timeout false false byte rest timeout s = s
+  taken-timeout _ _ byte rest timeout s = s
 
   pub taken-held : (level : ℕ) (on : Bool) (held : List ℕ) (receiver : ReceiverState) → receiver.held ≡ held → IsReceiver now level on receiver
       → IsReceiver now level on (taken_at (mode_at character on (nat_le 3 level) looped) at held receiver).1
