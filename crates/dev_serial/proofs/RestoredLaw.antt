@@ -119,15 +119,10 @@ module _ (level now : ℕ) (n : PortNumbers) (is_level : IsLevel level) (ranges 
   unfolding registers_hold fcr_holds
   registers =
       let low = and_parts _ _ rules.registers in
-      record {
-        is_level = is_level;
-        divisor_range = ranges.divisor;
-        ier_range = leb-true _ _ low.0;
-        lcr_range = ranges.lcr;
-        mcr_range = leb-true _ _ (and_parts _ _ low.1).0;
-        scr_range = ranges.scr;
-        fifos = level-on level n.fcr rules.fcr;
-      }
+      let ier = leb-true _ _ low.0 in
+      let mcr = leb-true _ _ (and_parts _ _ low.1).0 in
+      let fifos = level-on level n.fcr rules.fcr in
+      search
 
   receiver : IsReceiver now level (is_some (fifos_of n.fcr)) (port_of level n).receiver
   unfolding port_of timeout_holds
