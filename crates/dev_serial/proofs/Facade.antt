@@ -14,8 +14,8 @@ pub use Rattle.std.specs.Prelude.{bit_and, bit_or, is_some, max, nat_le, nat_lt,
 pub use Rattle.vms_kinds.specs.{Codes.InRange, Codes.is_signed, declared.Kind.Kind}
 pub use Rattle.vms_kinds.specs.declared.Kind.TheVariants.{I16, I32, I64, I8, Timer, U16, U8}
 pub use Rattle.vms_fields.specs.Serial.{serial_rows}
-pub use Rattle.vms_fields.specs.declared.serial.TheConstants.{DIVISOR, FCR, IER, IIR, LCR, LSR, MCR, RBR, RX, RX_COUNT, RX_DATA, RX_HEAD, RX_NUMBER, SCR, THR}
-pub use Rattle.vms_fields.specs.declared.serial.TheConstants.{THR_IPENDING, TIMEOUT_AT, TSR, TX, TX_COUNT, TX_DATA, TX_DUE, TX_HEAD, TX_NUMBER}
+pub use Rattle.vms_fields.specs.declared.serial.TheConstants.{DIVISOR, RX, RX_COUNT, RX_DATA, RX_HEAD, RX_NUMBER}
+pub use Rattle.vms_fields.specs.declared.serial.TheConstants.{THR_IPENDING, TIMEOUT_AT, TX, TX_COUNT, TX_DATA, TX_DUE, TX_HEAD, TX_NUMBER}
 pub use Rattle.vms_hooks.specs.Numbers.{Numbers}
 pub use Rattle.dev_base.proofs.{Choices.either, RuleLaws.AllTrue, RuleLaws.first_failing_is_first, RuleLaws.hook-ok, RuleLaws.judged-all, RuleLaws.judged-ok}
 pub use Rattle.dev_base.proofs.CellLaws.{byte, number-lt, of_more, of_none, timer, word}
