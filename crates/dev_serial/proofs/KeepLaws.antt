@@ -57,7 +57,7 @@ module _ (now : ℕ) (port : Port) (sound : IsSound now port) where
   }
 
   status-kept : Kept (lsr_read port)
-  status-kept = let r = sound.receiver in search
+  status-kept = search
 
   read-kept : (offset : ℕ) → Kept (read_of offset now port)
   unfolding read_of
@@ -101,21 +101,21 @@ module _ (now : ℕ) (port : Port) (sound : IsSound now port) where
   }
 
   divisor-kept : (divisor : ℕ) → divisor < 65536 → IsSound now (record port { divisor = divisor })
-  divisor-kept divisor h = let r = sound.registers in search
+  divisor-kept divisor h = search
 
   lcr-kept : (value : ℕ) → value < 256 → IsSound now (record port { lcr = value })
-  lcr-kept value h = let r = sound.registers in search
+  lcr-kept value h = search
 
   mcr-kept : (value : ℕ) → IsSound now (record port { mcr = bit_and value 0x1f })
-  mcr-kept value = let r = sound.registers in let range = and_le_r value 0x1f in search
+  mcr-kept value = let range = and_le_r value 0x1f in search
 
   scr-kept : (value : ℕ) → value < 256 → IsSound now (record port { scr = value })
-  scr-kept value h = let r = sound.registers in search
+  scr-kept value h = search
 
   ier-kept : (value : ℕ) → IsSound now (ier_written value port)
   unfolding ier_written
   ier-kept value = record {
-    registers = let r = sound.registers in let range = and_le_r value 0x0f in search;
+    registers = let range = and_le_r value 0x0f in search;
     receiver = sound.receiver;
     transmitter = latched-sound now (is_some port.fifos) port.thr_empty _ port.transmitter
         (sampled (not (has port.ier 1) && has (bit_and value 0x0f) 1) (is_empty port.transmitter.waiting) port.thr_empty) sound.transmitter;
@@ -126,7 +126,7 @@ module _ (now : ℕ) (port : Port) (sound : IsSound now port) where
 
   switched-registers : (fifos : Option Trigger) → (is_some fifos ≡ true → 2 ≤ port.level)
       → HasRegisters port.level port.divisor port.ier port.lcr port.mcr port.scr (is_some fifos)
-  switched-registers fifos h = let r = sound.registers in search
+  switched-registers fifos h = search
 
   -- lists are cleared, and the switch is set
   switched : (clears_sent clears_held : Bool) (fifos : Option Trigger) → (is_some fifos ≡ true → 2 ≤ port.level) → (clears_sent ≡ false → is_some fifos ≡ is_some port.fifos) → (clears_held ≡ false → is_some fifos ≡ is_some port.fifos) → IsSound now (record (transmitter_cleared clears_sent (receiver_cleared clears_held port)) { fifos = fifos })

@@ -17,9 +17,6 @@ is-byte now (Some shift) s = s.byte
 
 held : (now : ℕ) (port : Port) → now ≤ LAST_MOMENT → IsSound now port → IsHeld port
 held now port h s =
-    let r = s.registers in
-    let receiver = s.receiver in
-    let transmitter = s.transmitter in
     let timeout = told now _ port.receiver.timeout h s.receiver.timeout in
     let shift = is-byte now port.transmitter.shift s.transmitter.shift in
     search
