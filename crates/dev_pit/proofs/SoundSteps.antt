@@ -136,7 +136,7 @@ status-byte counter now = omega (arith, (access-small counter.access).1, mode-sm
 changed : {level now : ℕ} {counter : Counter} {held_low latch status : Option ℕ} {read_high : Bool} → PlainSound level now counter
     → HeldBelow (2 ^ 8) held_low → HeldBelow (2 ^ 16) latch → HeldBelow (2 ^ 8) status → StatusFits level status → TogglesFit counter.access read_high held_low
     → PlainSound level now (record counter { held_low = held_low; latch = latch; status = status; read_high = read_high })
-changed s low latch byte fits toggles = let w = s.widths in search
+changed s low latch byte fits toggles = search
 
 -- Latching.
 pub latched-sound : (level now : ℕ) (counter : Counter) → PlainSound level now counter → PlainSound level now (latched now counter)
@@ -188,11 +188,7 @@ programmed-sound access mode bcd level now counter s = record {
 loaded-sound : (count level now : ℕ) (counter : Counter) → now ≤ LAST_MOMENT → count < 2 ^ 16 → PlainSound level now counter
     → PlainSound level now (loading count now counter)
 unfolding loading
-loaded-sound count level now counter m c s =
-    let w = s.widths in
-    let small : now < 2 ^ 64 = omega arith in
-    let here : now ≤ now = omega arith in
-    search
+loaded-sound count level now counter m c s = search arith
 
 -- A counter of two bytes may hold one or not.
 holding : (level now : ℕ) (low : Option ℕ) (counter : Counter) → counter.access ≡ LowThenHigh → HeldBelow (2 ^ 8) low → PlainSound level now counter
