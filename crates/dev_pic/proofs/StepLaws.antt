@@ -154,9 +154,7 @@ module _ (level : ℕ) (role : Role) (chip : Chip) (h : HasRegisters level role 
       let levels = level_inputs (ltim_after level value chip) chip.elcr in
       let irr : bit_and chip.irr levels < 256 = omega (arith, and_le_l chip.irr levels) in
       let mode = mode-after value in
-      let clear : 0 < 256 = omega arith in
-      let lowest : 7 ≤ 7 = omega arith in
-      search
+      search arith
 
   selected-registers : (value : ℕ) → HasRegisters level role (selected value chip)
   unfolding selected
