@@ -53,9 +53,7 @@ module _ (m : State) (s : IsSound m) where
 
   told : IsTold m
   told =
-      let devices = s.devices in
-      let counters = devices.pit.count in
-      let serial = ((port-meets m.moment m.serial devices.moment).0 devices.serial).0 in
+      let serial = ((port-meets m.moment m.serial s.devices.moment).0 s.devices.serial).0 in
       let cells = subst AreBoardCells carried-newest (comes-back NEWEST m s may).may in
       search
 
