@@ -12,10 +12,6 @@ pub latched-goes_on : (now : ℕ) (counter : Counter) → GoesOn counter (latche
 unfolding latched
 latched-goes_on now counter = record { count = refl; mode = refl; loaded_at = refl }
 
-pub status_latched-goes_on : (now : ℕ) (counter : Counter) → GoesOn counter (status_latched now counter)
-unfolding status_latched
-status_latched-goes_on now counter = record { count = refl; mode = refl; loaded_at = refl }
-
 pub read_back-goes_on : (count status : Bool) (now : ℕ) (counter : Counter) → GoesOn counter (read_back count status now counter)
 unfolding read_back latched status_latched
 read_back-goes_on count status now counter = record { count = grind arith; mode = grind arith; loaded_at = grind arith }
