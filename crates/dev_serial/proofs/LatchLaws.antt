@@ -26,13 +26,7 @@ low_stays high low value byte = omega arith
 
 both_written : (low high now later : ℕ) (port : Port) → low < 256 → has port.lcr 7 ≡ true
     → written 1 high later (written 0 low now port) ≡ record port { divisor = 256 * high + low }
-both_written low high now later port byte set =
-    rw (
-      low_written low now port set,
-      high_written high later (record port { divisor = port.divisor / 256 * 256 + low }) set,
-      low_stays high
-          (port.divisor / 256) low byte,
-    ) refl
+both_written low high now later port byte set = rw (low_written low now port set, high_written high later _ set, low_stays high _ low byte) refl
 
 module _ (port : Port) where
   abbrev Keeps : Port → Type 0
