@@ -9,25 +9,7 @@ use Rattle.dev_serial.proofs.SoundLaws.{advance-transmitter, advance-receiver, c
 
 pub power_on_is_sound : PowerOnIsSound
 unfolding power_on
-power_on_is_sound level now is_level = record {
-  registers = record {
-    is_level = is_level;
-    divisor_range = omega arith;
-    ier_range = omega arith;
-    lcr_range = omega arith;
-    mcr_range = omega arith;
-    scr_range = omega arith;
-    fifos = λ e. cc;
-  };
-  receiver = record { short = record { short = omega arith; one = λ _. omega arith }; bytes = tt; timeout = and-false (nat_le 3 level) };
-  transmitter = record {
-    short = record { short = omega arith; one = λ _. omega arith };
-    bytes = tt;
-    shift = tt;
-    idle = λ _. refl;
-    latched = λ e. cc;
-  };
-}
+power_on_is_sound level now is_level = search (arith, and-false)
 
 module _ (now : ℕ) (port : Port) (sound : IsSound now port) where
   -- an answer whose port is sound

@@ -49,12 +49,7 @@ module _ (port : Port) where
       (either Keeps (offset == 6) _ _ refl refl))))))
 
 pub reaches_divisor : ReachesDivisor
-reaches_divisor = record {
-  low = low_read;
-  high = high_read;
-  both = both_written;
-  hidden = λ offset value now port. hidden port offset value now;
-}
+reaches_divisor = search (low_read, high_read, both_written, hidden)
 
 -- ---- the modem status in loop mode
 

@@ -75,11 +75,7 @@ module _ (now at character byte : ℕ) (looped : Bool) (receiver : ReceiverState
 
   pub received-sound : (level : ℕ) (on : Bool) → byte < 256 → IsReceiver now level on receiver
       → IsReceiver now level on (received (mode_at character on (nat_le 3 level) looped) byte at receiver)
-  received-sound level on b s = record {
-    short = received-short on (nat_le 3 level) s.short;
-    bytes = received-bytes on (nat_le 3 level) b s.bytes;
-    timeout = received-timeout on (nat_le 3 level) s.timeout;
-  }
+  received-sound level on b s = search (received-short, received-bytes, received-timeout)
 
 -- the first byte leaves
 module _ (now at character : ℕ) (looped : Bool) (early : at ≤ now) (quick : character ≤ LONGEST_CHARACTER) where

@@ -76,11 +76,7 @@ module _ (now : ℕ) (port : Port) (is : IsHeld port) (rules : Hold port.level n
   idle = idle-from port.transmitter.shift (has (lsr_of port) 6) (is_empty port.transmitter.waiting) _ lsr.idle_bit rules.shifts
 
   sound : IsSound now port
-  sound = record {
-    registers = registers;
-    receiver = record { short = is.held_short; bytes = is.held_bytes; timeout = timeout };
-    transmitter = record { short = is.waiting_short; bytes = is.waiting_bytes; shift = shift; idle = idle; latched = is.latched };
-  }
+  sound = search (registers, timeout, shift, idle)
 
 pub sound_meets_rules : SoundMeetsRules
 sound_meets_rules now port early = (
