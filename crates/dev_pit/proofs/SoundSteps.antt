@@ -74,22 +74,11 @@ toggles-back _ read_high held e = halves-back read_high held e
 
 pub sound-from_plain : (level now : ℕ) (counter : Counter) → PlainSound level now counter → IsSoundCounter level now counter
 unfolding channel_of moment_holds status_holds toggles_hold
-sound-from_plain level now counter s = record {
-  widths = s.widths;
-  registers = registers-hold counter;
-  moment = moment-from now counter.loaded_at s.loaded;
-  status = status-from level counter.status s.status;
-  toggles = toggles-from counter.access counter.read_high counter.held_low s.toggles;
-}
+sound-from_plain level now counter s = search (registers-hold, moment-from, status-from, toggles-from)
 
 pub plain-from_sound : (level now : ℕ) (counter : Counter) → IsSoundCounter level now counter → PlainSound level now counter
 unfolding channel_of moment_holds status_holds toggles_hold
-plain-from_sound level now counter s = record {
-  widths = s.widths;
-  loaded = moment-back now counter.loaded_at s.moment;
-  status = status-back level counter.status s.status;
-  toggles = toggles-back counter.access counter.read_high counter.held_low s.toggles;
-}
+plain-from_sound level now counter s = search (moment-back, status-back, toggles-back)
 
 -- ---- steps
 
@@ -163,12 +152,7 @@ read_back-sound false false level now counter h s = s
 -- Programming.
 pub powered_on-sound : (level now : ℕ) → PlainSound level now powered_on
 unfolding powered_on
-powered_on-sound level now = record {
-  widths = record { count = omega arith; loaded_at = tt; held_low = tt; latch = tt; status = tt };
-  loaded = tt;
-  status = tt;
-  toggles = tt;
-}
+powered_on-sound level now = search arith
 
 fresh-toggles : (access : Access) → TogglesFit access false None
 fresh-toggles LowThenHigh = tt
@@ -177,12 +161,7 @@ fresh-toggles _ = (refl, refl)
 pub programmed-sound : (access : Access) (mode : Mode) (bcd : Bool) (level now : ℕ) (counter : Counter) → PlainSound level now counter
     → PlainSound level now (programmed access mode bcd counter)
 unfolding programmed powered_on
-programmed-sound access mode bcd level now counter s = record {
-  widths = record { count = s.widths.count; loaded_at = tt; held_low = tt; latch = tt; status = tt };
-  loaded = tt;
-  status = tt;
-  toggles = fresh-toggles access;
-}
+programmed-sound access mode bcd level now counter s = search (arith, fresh-toggles)
 
 -- Loading.
 loaded-sound : (count level now : ℕ) (counter : Counter) → now ≤ LAST_MOMENT → count < 2 ^ 16 → PlainSound level now counter
