@@ -68,11 +68,7 @@ module _ (inputs edges : ℕ) (pair : PicPair) (bound : inputs < 2 ^ 16) where
   taken-slave i h = high-bit (inputs / 256) (with_cascade output (inputs % 256)) i low-lt h ∙ high-input inputs i h
 
 pub lines_are_taken : LinesAreTaken
-lines_are_taken = record {
-  master = λ inputs edges input pair bound within other. taken-master inputs edges pair bound input within other;
-  cascade = λ inputs edges pair bound. taken-cascade inputs edges pair bound;
-  slave = λ inputs edges input pair bound within. taken-slave inputs edges pair bound input within;
-}
+lines_are_taken = search (taken-master, taken-cascade, taken-slave)
 
 -- A chip has the same lines after a step as before it.
 abbrev Same : Chip → Chip → Type 0

@@ -35,22 +35,7 @@ has_elcr level port h a b c d = grind (arith, nat_tests)
 
 on-sound : (level : ℕ) (role : Role) → IsSoundChip level role chip_on
 unfolding chip_on requests_hold level_inputs
-on-sound level role =
-    record {
-      registers = record {
-        irr = omega arith;
-        isr = omega arith;
-        imr = omega arith;
-        lines = omega arith;
-        lowest = omega arith;
-        base = omega arith;
-        vectors = refl;
-        elcr = omega arith;
-        levels = levels_off level role;
-        mode = mode_off level;
-      };
-      requests = refl;
-    }
+on-sound level role = search (arith, levels_off, mode_off)
 
 power-sound : (level : ℕ) → IsLevel level → IsSoundPair (power_on level)
 unfolding power_on
@@ -119,14 +104,7 @@ module _ (pair : PicPair) (h : PairHasRegisters pair) where
       (with-slave _ (elcr-written pair.level Slave pair.slave value since v h.slave))))))
 
 pub steps_keep_registers : StepsKeepRegisters
-steps_keep_registers = record {
-  power = power-sound;
-  read = λ port pair h. read-kept pair h port;
-  write = λ port value pair v is h. written-kept pair h port value v is;
-  ack = λ pair h. acked-kept pair h;
-  settle = λ inputs edges pair i e h. settle-sound pair h inputs edges i e;
-  sound = λ pair h. record { level = h.level; master = h.master.registers; slave = h.slave.registers };
-}
+steps_keep_registers = search (power-sound, read-kept, written-kept, acked-kept, settle-sound)
 
 -- An answer after which the pair has its level.
 abbrev SameLevel : ℕ → ℕ × PicPair → Type 0
@@ -161,10 +139,4 @@ acked_for-level (Some w) pair = either (SameLevel pair.level) (w == cascade_inpu
 
 pub steps_keep_level : StepsKeepLevel
 unfolding HasLevel power_on settled_pair
-steps_keep_level = record {
-  power = λ level. refl;
-  read = λ port pair. read-level port pair;
-  write = written-level;
-  ack = λ pair. acked_for-level (winner_at Master pair.master) pair;
-  settle = λ inputs edges pair. refl;
-}
+steps_keep_level = search (read-level, written-level, acked_for-level)

@@ -213,7 +213,4 @@ module _ (level : ℕ) (role : Role) (chip : Chip) (h : HasRegisters level role 
       agreed _ inputs levels (level-lines _ inputs levels (or_of_8 chip.irr _ h.irr (or_of_8 _ edges (but_not-lt inputs chip.lines i) e)) i (level_inputs-lt chip.ltim chip.elcr h.elcr))
 
   pub settled-sound : (inputs edges : ℕ) → inputs < 256 → edges < 256 → IsSoundChip level role (settled inputs edges chip)
-  settled-sound inputs edges i e = record {
-    registers = settled-registers level role chip h inputs edges i e;
-    requests = settled-requests inputs edges i e;
-  }
+  settled-sound inputs edges i e = search (settled-registers, settled-requests)
