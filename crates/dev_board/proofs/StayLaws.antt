@@ -57,12 +57,7 @@ touched : {A : Type 0} → true ≡ false → A
 touched e = absurd (false≢true (sym e))
 
 pub pair-taken : (m : State) → IsSound m → HasTaken (lines_of m.pair) m.pair
-pair-taken m s = let master = s.pair.master in let slave = s.pair.slave in record {
-  master = record { irr = master.registers.irr; lines = master.registers.lines; elcr = master.registers.elcr; requests = master.requests };
-  slave = record { irr = slave.registers.irr; lines = slave.registers.lines; elcr = slave.registers.elcr; requests = slave.requests };
-  cascade = s.lines.slave;
-  same = refl;
-}
+pair-taken m s = search
 
 module _ (m : State) (s : IsSound m) (before : Before) (b : IsBefore before m) where
   out : has before.lines 0 ≡ pit_out 0 m.moment m.pit
