@@ -157,8 +157,4 @@ module _ (image : Image) (n : IsNormal (shipped_set NEWEST) serial_at_4 image) w
 
   pub port-of : IsPortCells numbers
   unfolding first
-  port-of = record {
-    of_kinds = are;
-    rx = record { fits = rx-fits; zeros = rx-zeros };
-    tx = record { fits = tx-fits; zeros = tx-zeros };
-  }
+  port-of = search (are, rx-fits, rx-zeros, tx-fits, tx-zeros)
