@@ -1,7 +1,7 @@
 -- Each call keeps the chip sound.
 use Rattle.vms_rtc.proofs.Facade.{◌≡◌, ℕ, ◌<◌, ◌≤◌, ◌==◌, ◌||◌, ◌%◌, Bool, true, false, if◌then◌else◌, List, length, ◌⊎◌, inl, inr, replicate, set, get_or}
 use Rattle.vms_rtc.proofs.Facade.{eqb-true, sym, subst, ◌∙◌, arith, eq-eqb, false≢true, cases_Bool, cond_both, nat_tests, get_or-replicate, get_or-set_other}
-use Rattle.vms_rtc.proofs.Facade.{get_or-set_same, length-set, ⊎_elim, cases_eq, either, power_on, IsUpTo, NEWEST_CLOCK, data_read, read_of, has_mask, has}
+use Rattle.vms_rtc.proofs.Facade.{get_or-set_same, length-set, ⊎_elim, cases_eq, either, power_on, data_read, read_of, has_mask, has}
 use Rattle.vms_rtc.proofs.Facade.{index_written, data_written, written, passed, CallsKeepSound, IsSound, INDEX_PORT, REGISTER_A, REGISTER_C, REGISTER_D, Rtc}
 
 -- the flag of the periodic interrupt isn't part of soundness
@@ -69,11 +69,13 @@ passed-sound : (from to : ℕ) (chip : Rtc) → IsSound chip → IsSound (passed
 unfolding passed
 passed-sound from to chip s = flagged _ chip s
 
-on-sound : (version : ℕ) → IsUpTo NEWEST_CLOCK version → IsSound (power_on version)
-unfolding power_on
-on-sound version v =
-    let bytes : (k : ℕ) → k < 64 → get_or (replicate 64 0) k 0 < 256 = λ k lt. let e = get_or-replicate {A = ℕ} 64 k 0 0 lt in omega arith in
-    search arith
-
 pub calls_keep_sound : CallsKeepSound
-calls_keep_sound = record { power_on = on-sound; read = read-sound; write = write-sound; passed = passed-sound }
+unfolding power_on
+calls_keep_sound = record {
+  power_on = λ version v.
+      let bytes : (k : ℕ) → k < 64 → get_or (replicate 64 0) k 0 < 256 = λ k lt. let e = get_or-replicate {A = ℕ} 64 k 0 0 lt in omega arith in
+      search arith;
+  read = read-sound;
+  write = write-sound;
+  passed = passed-sound;
+}
