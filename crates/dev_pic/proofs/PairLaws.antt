@@ -104,7 +104,10 @@ module _ (pair : PicPair) (h : PairHasRegisters pair) where
       (with-slave _ (elcr-written pair.level Slave pair.slave value since v h.slave))))))
 
 pub steps_keep_registers : StepsKeepRegisters
-steps_keep_registers = search (power-sound, read-kept, written-kept, acked-kept, settle-sound)
+steps_keep_registers =
+    let sound : (pair : PicPair) → IsSoundPair pair → PairHasRegisters pair = λ pair h.
+        record { level = h.level; master = h.master.registers; slave = h.slave.registers } in
+    search (power-sound, read-kept, written-kept, acked-kept, settle-sound)
 
 -- An answer after which the pair has its level.
 abbrev SameLevel : ℕ → ℕ × PicPair → Type 0

@@ -119,8 +119,8 @@ module _ (level now : ℕ) (n : PortNumbers) (is_level : IsLevel level) (ranges 
   unfolding registers_hold fcr_holds
   registers =
       let low = and_parts _ _ rules.registers in
-      let ier = leb-true _ _ low.0 in
-      let mcr = leb-true _ _ (and_parts _ _ low.1).0 in
+      let ier : n.ier ≤ 15 = leb-true _ _ low.0 in
+      let mcr : n.mcr ≤ 31 = leb-true _ _ (and_parts _ _ low.1).0 in
       let fifos = level-on level n.fcr rules.fcr in
       search
 

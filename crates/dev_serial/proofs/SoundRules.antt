@@ -56,8 +56,8 @@ module _ (now : ℕ) (port : Port) (is : IsHeld port) (rules : Hold port.level n
   unfolding registers_hold fcr_holds saved
   registers =
       let low = and_parts _ _ rules.registers in
-      let ier = leb-true _ _ low.0 in
-      let mcr = leb-true _ _ (and_parts _ _ low.1).0 in
+      let ier : port.ier ≤ 15 = leb-true _ _ low.0 in
+      let mcr : port.mcr ≤ 31 = leb-true _ _ (and_parts _ _ low.1).0 in
       let fifos = level-on port.level port.fifos _ rules.fcr in
       search
 
