@@ -1,6 +1,6 @@
 -- What tables make of cells.
 use Rattle.std.proofs.Common.{◌≡◌, ℕ, zero, suc, ◌+◌, ◌<◌, ◌≤◌, List, ◌∷◌, ◌++◌, length, take, drop, ℤ, pos, refl, arith, ap, ◌∙◌, drop-cons}
-use Rattle.std.proofs.lemmas.List.{map-append, take_all}
+use Rattle.std.proofs.lemmas.List.{map-append}
 use Rattle.dev_base.specs.{Cells.cell_at, Tables.Origin, Tables.number_of, Tables.carried_by, Tables.places}
 
 -- Tables that follow each other.
@@ -16,8 +16,3 @@ carried-places cells first (suc count) h =
     let next : suc first ≡ first + 1 = omega arith in
     let e : drop first cells ≡ cell_at cells first ∷ drop (first + 1) cells = drop-cons cells first (pos 0) here ∙ ap (λ n. cell_at cells first ∷ drop n cells) next in
     rw e (ap (λ more. cell_at cells first ∷ more) (carried-places cells (first + 1) count bound))
-
--- All cells of the older set.
-pub carried-all : (cells : List ℤ) (count : ℕ) → length cells ≡ count → carried_by (places 0 count) cells ≡ cells
-carried-all cells count e =
-    carried-places cells 0 count (omega (arith, e)) ∙ take_all count cells (omega (arith, e))

@@ -9,32 +9,15 @@ use Rattle.dev_pic.proofs.PairLaws.{steps_keep_level as pair_keeps_level}
 use Rattle.dev_pit.proofs.SoundLaws.{steps_keep_level as pit_keeps_level}
 use Rattle.dev_serial.specs.Sound.{IsSound as IsSoundPort}
 
--- An answer after which the devices have what they always keep.
-pub record Kept {A : Type 0} (answer : A × State) : Type 0 where
-  pub kept : HasDevices answer.1
-
 module _ (m : State) (h : HasDevices m) where
-  with-devices : (pair : PicPair) (pit : Pit) (port : Port) → PairHasRegisters pair → IsSoundPit m.moment pit → IsSoundPort m.moment port
-      → pair.level ≡ m.level → pit.level ≡ m.level → port.level ≡ m.level → HasDevices (record m { pair = pair; pit = pit; serial = port })
-  with-devices pair pit port a b c d e f = record {
-    level = h.level;
-    moment = h.moment;
-    pair_level = d;
-    pit_level = e;
-    serial_level = f;
-    pair = a;
-    pit = b;
-    serial = c;
-  }
-
   pub with-pair : (pair : PicPair) → PairHasRegisters pair → pair.level ≡ m.pair.level → HasDevices (record m { pair = pair })
-  with-pair pair k e = with-devices pair m.pit m.serial k h.pit h.serial (e ∙ h.pair_level) h.pit_level h.serial_level
+  with-pair pair k e = let level = e ∙ h.pair_level in search
 
   pub with-pit : (pit : Pit) → IsSoundPit m.moment pit → pit.level ≡ m.pit.level → HasDevices (record m { pit = pit })
-  with-pit pit k e = with-devices m.pair pit m.serial h.pair k h.serial h.pair_level (e ∙ h.pit_level) h.serial_level
+  with-pit pit k e = let level = e ∙ h.pit_level in search
 
   pub with-serial : (port : Port) → IsSoundPort m.moment port → port.level ≡ m.serial.level → HasDevices (record m { serial = port })
-  with-serial port k e = with-devices m.pair m.pit port h.pair h.pit k h.pair_level h.pit_level (e ∙ h.serial_level)
+  with-serial port k e = let level = e ∙ h.serial_level in search
 
   pub pair-read : (port : ℕ) → HasDevices (record m { pair = (read_pair port m.pair).1 })
   pair-read port = with-pair _ (steps_keep_registers.read port m.pair h.pair) (pair_keeps_level.read port m.pair)
@@ -45,12 +28,12 @@ module _ (m : State) (h : HasDevices m) where
   pub serial-read : (offset : ℕ) → HasDevices (record m { serial = (read_of offset m.moment m.serial).1 })
   serial-read offset = with-serial _ (reads_keep_sound offset m.moment m.serial h.serial) (reads_keep_level offset m.moment m.serial)
 
-  pub read_at-kept : (target : Target) (port : ℕ) → Kept (read_at target port m)
+  pub read_at-kept : (target : Target) (port : ℕ) → HasDevices (read_at target port m).1
   unfolding read_at
-  read_at-kept Pair port = record { kept = pair-read port }
-  read_at-kept (Counter counter) port = record { kept = pit-read counter }
-  read_at-kept (Register offset) port = record { kept = serial-read offset }
-  read_at-kept _ port = record { kept = h }
+  read_at-kept Pair port = pair-read port
+  read_at-kept (Counter counter) port = pit-read counter
+  read_at-kept (Register offset) port = serial-read offset
+  read_at-kept _ port = h
 
   pub pit-written : (port value : ℕ) → value < 256 → HasDevices (record m { pit = pit_written port value m.moment m.pit })
   pit-written port value v = with-pit _ (sound_stays.in_writes port value m.moment m.pit v h.pit) (pit_keeps_level.write port value m.moment m.pit)
@@ -70,20 +53,13 @@ module _ (m : State) (h : HasDevices m) where
       (either keeps (port == 0x43) _ _ (pit-written port value v)
       (either keeps (nat_le 0x3f8 port && nat_le port 0x3ff) _ _ (serial-written (port - 0x3f8) value v) h)))
 
-  pub waited-kept : (to : ℕ) → m.moment ≤ to → to ≤ LAST_MOMENT → Kept (waited to m)
+  pub waited-kept : (to : ℕ) → m.moment ≤ to → to ≤ LAST_MOMENT → HasDevices (waited to m).1
   unfolding waited
-  waited-kept to l b = record {
-    kept = record {
-      level = h.level;
-      moment = b;
-      pair_level = h.pair_level;
-      pit_level = h.pit_level;
-      serial_level = cc (advances_keep_level to m.serial);
-      pair = h.pair;
-      pit = sound_stays.in_time m.moment to m.pit l b h.pit;
-      serial = advances_keep_sound m.moment to m.serial l h.serial;
-    };
-  }
+  waited-kept to l b =
+      let level = advances_keep_level to m.serial ∙ h.serial_level in
+      let pit = sound_stays.in_time m.moment to m.pit l b h.pit in
+      let serial = advances_keep_sound m.moment to m.serial l h.serial in
+      search
 
   pub byte-kept : (value : ℕ) → value < 256 → HasDevices (record m { serial = came_in value m.moment m.serial })
   byte-kept value v = with-serial _ (bytes_in_keep_sound value m.moment m.serial v h.serial) (bytes_in_keep_level value m.moment m.serial)
@@ -91,14 +67,14 @@ module _ (m : State) (h : HasDevices m) where
   pub ack-kept : HasDevices (record m { pair = (acked m.pair).1 })
   ack-kept = with-pair _ (steps_keep_registers.ack m.pair h.pair) (pair_keeps_level.ack m.pair)
 
-  pub acted-kept : (event : Event) → IsEvent event → Kept (acted event m)
+  pub acted-kept : (event : Event) → IsEvent event → HasDevices (acted event m).1
   unfolding acted
-  acted-kept (Read port) e = record { kept = (read_at-kept (target_of m.level port) port).kept }
-  acted-kept (Write port value) e = record { kept = write-kept port value e }
-  acted-kept (Byte value) e = record { kept = byte-kept value e }
+  acted-kept (Read port) e = read_at-kept (target_of m.level port) port
+  acted-kept (Write port value) e = write-kept port value e
+  acted-kept (Byte value) e = byte-kept value e
   acted-kept (Wait ns) e = waited-kept (later_by ns m.moment) (omega arith) (omega arith)
-  acted-kept (Wire input up) e = record { kept = h }
-  acted-kept Ack e = record { kept = ack-kept }
+  acted-kept (Wire input up) e = h
+  acted-kept Ack e = ack-kept
 
 -- The answers of devices, as their calls return them.
 module _ (m : State) (h : HasDevices m) where
@@ -117,7 +93,7 @@ module _ (m : State) (h : HasDevices m) where
   pub after-wait : (to : ℕ) (sent : List ℕ) (port : Port) → m.moment ≤ to → to ≤ LAST_MOMENT → (sent, port) ≡ advanced to m.serial
       → HasDevices (record m { moment = to; serial = port })
   unfolding waited
-  after-wait to sent port l b e = subst (λ answer. HasDevices (record m { moment = to; serial = answer.1 })) (sym e) (waited-kept m h to l b).kept
+  after-wait to sent port l b e = subst (λ answer. HasDevices (record m { moment = to; serial = answer.1 })) (sym e) (waited-kept m h to l b)
 
   -- No counter was loaded after the moment.
   pub loaded : IsLoadedBy m.moment m.pit

@@ -40,7 +40,7 @@ module _ (m : State) (s : IsSound m) where
   -- A read.
   module _ (port value : ℕ) (after : State) (touched : read_touches (target_of m.level port) value ≡ Untouched) (e : (value, after) ≡ read port m) where
     read-devices : HasDevices after
-    read-devices = subst (λ (done : ℕ × State). HasDevices done.1) (sym e) (read_at-kept m s.devices (target_of m.level port) port).kept
+    read-devices = subst (λ (done : ℕ × State). HasDevices done.1) (sym e) (read_at-kept m s.devices (target_of m.level port) port)
 
     read-stays : Stays Untouched before after
     read-stays =

@@ -85,16 +85,12 @@ module _ (level : ℕ) (cells : BoardCells) (l : IsLevel level) (are : AreBoardC
 
   -- The restored devices, together.
   pub devices-back : (pair : PicPair) (pit : Pit) (port : Port) → pair_back level cells.master.items cells.slave.items ≡ Ok pair → pit_back level moment cells.pit.items ≡ Ok pit → serial_back level moment cells.serial.items ≡ Ok port → HasDevices (record { level = level; moment = moment; pair = pair; pit = pit; serial = port })
-  devices-back pair pit port a b c = record {
-    level = l;
-    moment = last;
-    pair_level = (pair-back pair a).1;
-    pit_level = (pit-back pit b).1;
-    serial_level = (port-back port c).own_level;
-    pair = steps_keep_registers.sound pair (pair-back pair a).0;
-    pit = (pit-back pit b).0;
-    serial = (port-back port c).sound;
-  }
+  devices-back pair pit port a b c =
+      let of_pair = pair-back pair a in
+      let of_pit = pit-back pit b in
+      let of_port = port-back port c in
+      let registers = steps_keep_registers.sound pair of_pair.0 in
+      search
 
   pub sound-back : (pair : PicPair) (pit : Pit) (port : Port) → pair_back level cells.master.items cells.slave.items ≡ Ok pair → pit_back level moment cells.pit.items ≡ Ok pit → serial_back level moment cells.serial.items ≡ Ok port → lines_agree (record { level = level; moment = moment; pair = pair; pit = pit; serial = port }) ≡ true → IsSound (record { level = level; moment = moment; pair = pair; pit = pit; serial = port })
   sound-back pair pit port a b c d = record {

@@ -52,15 +52,10 @@ module _ (m : State) (s : IsSound m) where
       (pit-carried NEWEST m.moment m.pit (omega arith) s.devices.pit) (serial-carried NEWEST m.moment m.serial s.devices.moment s.devices.serial (omega arith))
 
   told : IsTold m
-  told = record {
-    level = s.devices.level;
-    pair_level = s.devices.pair_level;
-    pit_level = s.devices.pit_level;
-    serial_level = s.devices.serial_level;
-    counters = s.devices.pit.count;
-    serial = ((port-meets m.moment m.serial s.devices.moment).0 s.devices.serial).0;
-    cells = subst AreBoardCells carried-newest (comes-back NEWEST m s may).may;
-  }
+  told =
+      let serial = ((port-meets m.moment m.serial s.devices.moment).0 s.devices.serial).0 in
+      let cells = subst AreBoardCells carried-newest (comes-back NEWEST m s may).may in
+      search
 
   back : (n : State) × (restored m.level (saved NEWEST m) ≡ Ok n)
   back =
@@ -125,20 +120,14 @@ module _ (m : State) (t : IsTold m) (n : State) (e : restored m.level (saved NEW
       }
 
   sound : IsSound m
-  sound = record {
-    devices = record {
-      level = t.level;
-      moment = last;
-      pair_level = t.pair_level;
-      pit_level = t.pit_level;
-      serial_level = t.serial_level;
-      pair = steps_keep_registers.sound m.pair sound_pair;
-      pit = sound_pit;
-      serial = sound_port;
-    };
-    pair = sound_pair;
-    lines = lines;
-  }
+  sound =
+      let moment = last in
+      let registers = steps_keep_registers.sound m.pair sound_pair in
+      let pair = sound_pair in
+      let pit = sound_pit in
+      let port = sound_port in
+      let agreed = lines in
+      search
 
 pub sound_meets_rules : SoundMeetsRules
 sound_meets_rules = record { board = λ m. ((λ s. (told m s, back m s)), (λ h. sound m h.0 h.1.0 h.1.1)) }

@@ -54,13 +54,11 @@ moment-of moment l = of_more _ _ _ _ (long moment (omega arith)) of_none
 
 module _ (set : ℕ) (m : State) (s : IsSound m) (may : MaySaveUnder m.level set) where
   can : (level : ℕ) → level ≡ m.level → MaySave (numbers_at set m) level
-  can level e = record {
-    is_level = subst IsLevel (sym e) s.devices.level;
-    own_level = sym e;
-    level_le_set = may.level_le_set;
-    set_le_newest = may.set_le_newest;
-    moment = s.devices.moment;
-  }
+  can level e =
+      let is_level = subst IsLevel (sym e) s.devices.level in
+      let own_level = sym e in
+      let moment = s.devices.moment in
+      search
 
   newest : MayRestore (numbers_at NEWEST m)
   newest = record { is_level = s.devices.level; newest_set = refl; moment = s.devices.moment }

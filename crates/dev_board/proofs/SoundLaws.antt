@@ -53,27 +53,19 @@ module _ (wires : ℕ) (edge : Bool) (m : State) (w : AreWires wires) (h : HasDe
 
   pub settled-sound : IsSound (settled wires edge m)
   unfolding settled
-  settled-sound = record {
-    devices = record {
-      level = h.level;
-      moment = h.moment;
-      pair_level = cc (pair_keeps_level.settle (inputs_of wires m) (bits_where edge 0x01) m.pair);
-      pit_level = h.pit_level;
-      serial_level = h.serial_level;
-      pair = steps_keep_registers.sound _ settled-pair;
-      pit = h.pit;
-      serial = h.serial;
-    };
-    pair = settled-pair;
-    lines = settled-lines;
-  }
+  settled-sound =
+      let level = pair_keeps_level.settle (inputs_of wires m) (bits_where edge 0x01) m.pair ∙ h.pair_level in
+      let registers = steps_keep_registers.sound _ settled-pair in
+      let pair = settled-pair in
+      let lines = settled-lines in
+      search
 
 -- After each event.
 pub step-sound : (event : Event) (m : State) → IsEvent event → HasDevices m → IsSound (step event m).1
 unfolding step after_act
 step-sound event m e h =
     settled-sound (wires_after event (wires_of m)) (acted event m).0.edge (acted event m).1
-    (wires_after-are event (wires_of m) (names event e) (wires_of-are m)) (acted-kept m h event e).kept
+    (wires_after-are event (wires_of m) (names event e) (wires_of-are m)) (acted-kept m h event e)
 
 all-sound : (events : List Event) (m : State) → AreEvents events → IsSound m → IsSound (after_all events m)
 unfolding after_by

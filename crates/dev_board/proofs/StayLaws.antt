@@ -1,7 +1,7 @@
 -- What an event leaves of the lines.
 use Rattle.dev_board.proofs.{KeptLaws.read-out, QuietLaws.command-taken, QuietLaws.ack-taken}
 use Rattle.dev_board.proofs.Facade.{◌≡◌, ℕ, Bool, true, false, ◌==◌, bit_or, arith, refl, ap, ◌∙◌, sym, not, ◌&&◌, ◌||◌, subst, if◌then◌else◌, cond_both}
-use Rattle.dev_board.proofs.Facade.{false≢true, nat_tests, and-false, and-true, or-false, has, bits_where, lines_of, written_pair, acked, int_of, PicPair}
+use Rattle.dev_board.proofs.Facade.{false≢true, nat_tests, and-false, and-true, or-false, has, bits_where, lines_of, written_pair, acked, PicPair}
 use Rattle.dev_board.proofs.Facade.{HasTaken, IsBefore, is_command, Stays, ack_touches, leaves_port, read_touches, time_touches, write_touches, has-or, either, State}
 use Rattle.dev_board.proofs.Facade.{Act, waited, Before, Touch, Untouched, Command, Access, pit_out, lsr_of, lsr_read, Port, line_of, target_of, read_at}
 use Rattle.dev_board.proofs.Facade.{written_at, read, write, IsSound, Target, Pair, Counter, Register, Nothing}
@@ -57,12 +57,7 @@ touched : {A : Type 0} → true ≡ false → A
 touched e = absurd (false≢true (sym e))
 
 pub pair-taken : (m : State) → IsSound m → HasTaken (lines_of m.pair) m.pair
-pair-taken m s = let master = s.pair.master in let slave = s.pair.slave in record {
-  master = record { irr = master.registers.irr; lines = master.registers.lines; elcr = master.registers.elcr; requests = master.requests };
-  slave = record { irr = slave.registers.irr; lines = slave.registers.lines; elcr = slave.registers.elcr; requests = slave.requests };
-  cascade = s.lines.slave;
-  same = refl;
-}
+pair-taken m s = search
 
 module _ (m : State) (s : IsSound m) (before : Before) (b : IsBefore before m) where
   out : has before.lines 0 ≡ pit_out 0 m.moment m.pit

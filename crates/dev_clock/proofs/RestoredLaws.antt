@@ -2,9 +2,9 @@
 use Rattle.dev_clock.proofs.Facade.{◌≡◌, ℕ, ◌≤◌, nat_le, Result, Ok, Err, subst, arith, ℤ, Bool, true, false, cond, List, refl, sym, ap, ◌∙◌, either}
 use Rattle.dev_clock.proofs.Facade.{LAST_MOMENT, NEWEST, timed, by_chip, by_device, lines_agree, agreed, moment_of, State, BoardCells, Misfit, pair_of, Chip}
 use Rattle.dev_clock.proofs.Facade.{PicPair, Pit, Port, IsPlaced, AreClockCells, numbers_back, slave_line, with_line, clock_back, joined, judged-ok, ok-hook}
-use Rattle.dev_clock.proofs.Facade.{has, same, AreOf, number_at, IsLevel, IsUpTo, chip-ok, device-ok, same-is, chip_of, rules, kinds, line_of, NEWEST_CLOCK}
+use Rattle.dev_clock.proofs.Facade.{has, same, AreOf, number_at, IsUpTo, chip-ok, device-ok, same-is, chip_of, rules, kinds, line_of, NEWEST_CLOCK}
 use Rattle.dev_clock.proofs.Facade.{Rtc, RestoredIsSound, IsSound, ClockState, ClockCells, CLOCK_DEVICE, LINE_RULE, LINES_CELL}
-use Rattle.dev_clock.proofs.SavedLaws.{slave-bit}
+use Rattle.dev_clock.proofs.{SavedLaws.slave-bit, SoundLaws.newest-is}
 use Rattle.dev_board.proofs.RestoredLaws.{restored_is_sound as board-is-sound, made_of as board_made_of}
 use Rattle.dev_board.specs.Saved.{joined as board_joined, restored as board_restored}
 use Rattle.dev_pic.proofs.RestoredLaws.{made_of as pair_made_of}
@@ -107,9 +107,6 @@ slave-lines level cells board e =
     let pair = chip-ok _ board.pair (board_made_of level (timed (moment_of cells)) _ _ _ board e).pair in
     let slave = (pair_made_of level _ _ board.pair pair).of_slave in
     lines-of cells.slave.items board.pair.slave (judged-ok (rules level _ cells.slave.items) (chip_of cells.slave.items) board.pair.slave slave).1
-
-newest-is : IsLevel NEWEST
-newest-is = record { first = omega arith; last = omega arith }
 
 pub both-sound : (version : ℕ) (cells : ClockCells) (clock : Rtc) (board : State) → IsUpTo NEWEST_CLOCK version → AreClockCells cells → clock_back version (slave_line cells.board.slave.items) cells.clock.items ≡ Ok clock → board_restored NEWEST cells.board ≡ Ok board → IsSound (record { clock = clock; board = board })
 both-sound version cells clock board v are a b =

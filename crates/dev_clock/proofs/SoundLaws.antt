@@ -10,7 +10,7 @@ use Rattle.vms_rtc.specs.{Chip.power_on as clock_on, Sound.IsSound as IsSoundClo
 
 -- ---- at power on
 
-newest-is : IsLevel NEWEST
+pub newest-is : IsLevel NEWEST
 newest-is = record { first = omega arith; last = omega arith }
 
 pub on-devices : (version : ℕ) → IsUpTo NEWEST_CLOCK version → HasDevices (power_on version)

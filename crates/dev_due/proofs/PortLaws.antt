@@ -3,7 +3,7 @@ use Rattle.dev_due.proofs.Facade.{◌≡◌, ℕ, suc, ◌+◌, ◌*◌, ◌<◌
 use Rattle.dev_due.proofs.Facade.{Option, Some, None, refl, sym, ap, ◌∙◌, subst, arith, ⊎_elim, cases_lt, le-leb, lt-leb, nat_tests, same_Some, is_some, nat_le}
 use Rattle.dev_due.proofs.Facade.{nat_lt, either, has, advanced, character_time, ReceiverState, TransmitterState, Port, interrupt, line_of, mode_of, received}
 use Rattle.dev_due.proofs.Facade.{IsSentAfter, departures, gone, holding, run_until, staying, timetable, bytes_of, Shift, SameLine, bytes_of-timetable}
-use Rattle.dev_due.proofs.Facade.{advances_in_parts, character-positive, loops_at_moment, still, waits_until_due}
+use Rattle.dev_due.proofs.Facade.{advances_in_parts, character-positive, loops_at_moment, still, waits_until_due, append-nil}
 use Rattle.dev_serial.specs.Port.{has_come}
 
 -- ---- nothing leaves
@@ -28,15 +28,11 @@ pub record IsSpan (port : Port) (base to : ℕ) : Type 0 where
 abbrev after : ℕ → Port → Port
 after to port = (advanced to port).1
 
-more-none : (xs : List ℕ) → xs ++ [] ≡ xs
-more-none [] = refl
-more-none (x ∷ xs) = ap (λ (l : List ℕ). x ∷ l) (more-none xs)
-
 -- nothing leaves after `base` up to `c`
 stays : (base c : ℕ) (port : Port) → base ≤ c → IsSentAfter c (after base port).transmitter.shift → advanced c port ≡ advanced base port
 stays base c port l h =
     advances_in_parts base c port l ∙ ap (λ (x : List ℕ × Port). ((advanced base port).0 ++ x.0, x.1)) (still c (after base port) h)
-    ∙ ap (λ (xs : List ℕ). (xs, after base port)) (more-none (advanced base port).0)
+    ∙ ap (λ (xs : List ℕ). (xs, after base port)) (append-nil (advanced base port).0)
 
 module _ (base to : ℕ) (port : Port) (l : base ≤ to) (h : IsSentAfter to (after base port).transmitter.shift) where
   abbrev p : Port

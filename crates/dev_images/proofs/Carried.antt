@@ -1,9 +1,9 @@
 -- The cells of the moment and of the chips are carried as their own tables say.
 use Rattle.dev_images.proofs.ChipReady.{mode_place, mode_in, needs, unneeded}
 use Rattle.dev_images.proofs.Facade.{◌≡◌, ℕ, Bool, true, false, List, [], ◌∷◌, length, get_or, ℤ, pos, refl, arith, AreOf, timer_kinds, carried_by, places}
-use Rattle.dev_images.proofs.Facade.{cell_count, first, Set, timer, i8259_at_4, carried_numbers, TimerIsCarried, ChipIsCarried, Device, Kind, zero, suc, sym, subst, ap, ◌∙◌}
+use Rattle.dev_images.proofs.Facade.{cell_count, first, Set, timer, i8259_at_4, carried_numbers, TimerIsCarried, ChipIsCarried, Device, Kind, sym, subst, ap, ◌∙◌}
 use Rattle.dev_images.proofs.Facade.{shipped_set, newest_set, AreTimerCells, AreChipCells, CarriedWhere, NEWEST, ◌≤◌, timer_in, chip_in}
-use Rattle.dev_images.proofs.ShippedDevices.{is_timer, is_chip, chip_kinds, chip_origins}
+use Rattle.dev_images.proofs.ShippedDevices.{is_timer, is_chip, chip_kinds, chip_origins, from_four}
 use Rattle.dev_pic.specs.Cells.{carried as pic_carried}
 use Rattle.dev_base.specs.Tables.{Origin}
 
@@ -33,14 +33,14 @@ chip-4 set instance numbers are =
 
 each : (instance s : ℕ) → 1 ≤ s → s ≤ NEWEST → CarriedWhere AreChipCells pic_carried (chip_in instance newest_set) s (shipped_set s) (chip_in instance (shipped_set s))
 unfolding first
-each instance zero l h = absurd (omega (arith, l))
-each instance (suc zero) l h = λ numbers are. refl
-each instance (suc (suc zero)) l h = λ numbers are. refl
-each instance (suc (suc (suc zero))) l h = λ numbers are. refl
-each instance (suc (suc (suc (suc s)))) l h =
-    let n = suc (suc (suc (suc s))) in
-    subst (λ (d : Device). CarriedWhere AreChipCells pic_carried (chip_in instance newest_set) n (shipped_set n) d) (sym (is_chip instance n (omega arith) h))
-    (λ numbers are. chip-4 (shipped_set n) instance numbers (subst (λ (kinds : List Kind). AreOf kinds numbers) (chip_kinds n (omega arith) h) are) ∙ ap (λ (origins : List Origin). carried_by origins numbers) (sym (chip_origins n (omega arith) h)))
+each instance =
+    from_four (λ s. CarriedWhere AreChipCells pic_carried (chip_in instance newest_set) s (shipped_set s) (chip_in instance (shipped_set s)))
+    (λ numbers are. refl) (λ numbers are. refl) (λ numbers are. refl)
+    (λ s four h.
+    subst (λ (d : Device). CarriedWhere AreChipCells pic_carried (chip_in instance newest_set) s (shipped_set s) d) (sym (is_chip instance s four h))
+    (λ numbers are.
+    chip-4 (shipped_set s) instance numbers (subst (λ (kinds : List Kind). AreOf kinds numbers) (chip_kinds s four h) are)
+    ∙ ap (λ (origins : List Origin). carried_by origins numbers) (sym (chip_origins s four h))))
 
 pub chip_is_carried : ChipIsCarried
 chip_is_carried = record { chip = λ instance. record { each = each instance } }

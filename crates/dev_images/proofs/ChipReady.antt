@@ -1,5 +1,5 @@
 -- The image of a chip of the pair is ready.
-use Rattle.dev_images.proofs.{Facade.i8259_at_1, Facade.i8259_at_2, ReadyOf.are_kept, ReadyOf.ready-plain, ShippedDevices.chip_kinds, ShippedDevices.is_chip}
+use Rattle.dev_images.proofs.{Facade.i8259_at_1, Facade.i8259_at_2, ReadyOf.are_kept, ReadyOf.ready-plain, ShippedDevices.chip_kinds, ShippedDevices.is_chip, ShippedDevices.from_four}
 use Rattle.dev_images.proofs.Facade.{i8259_at_4, ChipIsReady, image_of, ◌≡◌, ℕ, zero, suc, ◌==◌, Bool, true, false, List, get_or, ℤ, pos, negsuc, refl, arith}
 use Rattle.dev_images.proofs.Facade.{ints, bit_and, place_of_pic, residue, InRange, image_slots, IsValid, first, device_cells, set_1, set_2, set_3, Set, Device, sym, subst, shipped_set, AreChipCells, NEWEST, ◌≤◌, ReadyWhere, ReadyOf, chip_in, AreOf, Kind}
 use Rattle.std.proofs.Common.{codes}
@@ -44,14 +44,11 @@ module _ (set : Set) (instance : ℕ) (numbers : List ℤ) where
       ready-plain set (i8259_at_4 instance) numbers (omega arith) (omega arith, tt) are refl both.0 both.1
 
 each : (instance s : ℕ) → 1 ≤ s → s ≤ NEWEST → ReadyWhere AreChipCells s (shipped_set s) (chip_in instance (shipped_set s))
-each instance zero l h = absurd (omega (arith, l))
-each instance (suc zero) l h = ready-1 set_1 instance
-each instance (suc (suc zero)) l h = ready-2 set_2 instance
-each instance (suc (suc (suc zero))) l h = ready-2 set_3 instance
-each instance (suc (suc (suc (suc s)))) l h =
-    let n = suc (suc (suc (suc s))) in
-    subst (λ (d : Device). ReadyWhere AreChipCells n (shipped_set n) d) (sym (is_chip instance n (omega arith) h))
-    (λ numbers are. ready-4 (shipped_set n) instance numbers (subst (λ (kinds : List Kind). AreOf kinds numbers) (chip_kinds n (omega arith) h) are))
+each instance =
+    from_four (λ s. ReadyWhere AreChipCells s (shipped_set s) (chip_in instance (shipped_set s)))
+    (ready-1 set_1 instance) (ready-2 set_2 instance) (ready-2 set_3 instance)
+    (λ s four h. subst (λ (d : Device). ReadyWhere AreChipCells s (shipped_set s) d) (sym (is_chip instance s four h))
+    (λ numbers are. ready-4 (shipped_set s) instance numbers (subst (λ (kinds : List Kind). AreOf kinds numbers) (chip_kinds s four h) are)))
 
 pub chip_is_ready : ChipIsReady
 chip_is_ready = record { chip = λ instance. record { each = each instance } }

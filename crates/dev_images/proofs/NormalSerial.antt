@@ -135,24 +135,26 @@ module _ (image : Image) (n : IsNormal (shipped_set NEWEST) serial_at_4 image) w
         ),
       ))
 
+  -- An element that no slot has is at its default.
+  element-zero : (at i : ℕ) → RX ≤ at → at + 16 ≤ TIMEOUT_AT → i < 16 → zero_defaults (take 16 (drop at (device_cells (shipped_set NEWEST) serial_at_4))) ≡ true
+      → has_cell (fifo_slots rx_elements tx_elements) (at + i) ≡ false → get_or numbers (at + i) (pos 0) ≡ pos 0
+  unfolding first
+  element-zero at i low high b zeros e =
+      n.absent (at + i) (omega arith) (lack (at + i) (omega arith) (omega arith) e)
+      ∙ default-in (device_cells (shipped_set NEWEST) serial_at_4) at i 16 (at + i) refl b zeros
+
   rx-zeros : (i : ℕ) → nat_of (get_or numbers RX_COUNT (pos 0)) ≤ i → i < 16 → get_or numbers (RX + i) (pos 0) ≡ pos 0
   unfolding first
   rx-zeros i l b =
       let is = elements (get_or numbers RX_COUNT (pos 0)) rx-range rx-fits in
-      n.absent (RX + i) (omega arith) (lack (RX + i) (omega arith) (omega arith) (fifo-lack rx_elements tx_elements (RX + i) (omega arith) (λ l. omega arith)))
-      ∙ default-in (device_cells (shipped_set NEWEST) serial_at_4) RX i 16 (RX + i) refl b refl
+      element-zero RX i (omega arith) (omega arith) b refl (fifo-lack rx_elements tx_elements (RX + i) (omega arith) (λ l. omega arith))
 
   tx-zeros : (i : ℕ) → nat_of (get_or numbers TX_COUNT (pos 0)) ≤ i → i < 16 → get_or numbers (TX + i) (pos 0) ≡ pos 0
   unfolding first
   tx-zeros i l b =
       let is = elements (get_or numbers TX_COUNT (pos 0)) tx-range tx-fits in
-      n.absent (TX + i) (omega arith) (lack (TX + i) (omega arith) (omega arith) (fifo-lack rx_elements tx_elements (TX + i) (omega arith) (λ m. omega arith)))
-      ∙ default-in (device_cells (shipped_set NEWEST) serial_at_4) TX i 16 (TX + i) refl b refl
+      element-zero TX i (omega arith) (omega arith) b refl (fifo-lack rx_elements tx_elements (TX + i) (omega arith) (λ m. omega arith))
 
   pub port-of : IsPortCells numbers
   unfolding first
-  port-of = record {
-    of_kinds = are;
-    rx = record { fits = rx-fits; zeros = rx-zeros };
-    tx = record { fits = tx-fits; zeros = tx-zeros };
-  }
+  port-of = search (are, rx-fits, rx-zeros, tx-fits, tx-zeros)

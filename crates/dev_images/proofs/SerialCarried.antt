@@ -2,7 +2,7 @@
 use Rattle.dev_images.proofs.Facade.{◌≡◌, ℕ, zero, suc, ◌+◌, ◌<◌, ◌≤◌, Bool, true, false, List, [], ◌∷◌, ◌++◌, get_or, take, drop, replicate, ℤ, pos, refl, sym}
 use Rattle.dev_images.proofs.Facade.{ap, ◌∙◌, arith, codes, Carrier, carriers, carry_items, Num, U8, first, struct_cells, Cell, Set, Sub, NEWEST, shipped_set}
 use Rattle.dev_images.proofs.Facade.{set_1, set_2, set_3, never, Device, subst, carried_by, thr_ipending, fifo, timeout, ring, AreSaved, carried_numbers, SerialIsCarried}
-use Rattle.dev_images.proofs.ShippedDevices.{serial_at_1, serial_at_2, serial_at_3, serial_at_4, is_serial, port_origins}
+use Rattle.dev_images.proofs.ShippedDevices.{serial_at_1, serial_at_2, serial_at_3, serial_at_4, is_serial, port_origins, from_four}
 use Rattle.dev_base.specs.Tables.{Origin}
 use Rattle.dev_images.proofs.Facade.{THR_IPENDING, RX_COUNT, RX, TX_COUNT, TX, TIMEOUT_AT}
 use Rattle.dev_serial.specs.Cells.{carried as serial_carried}
@@ -92,15 +92,12 @@ serial-4 set numbers are =
 
 each : (s : ℕ) → 1 ≤ s → s ≤ NEWEST → CarriedWhere AreSaved serial_carried (serial_in newest_set) s (shipped_set s) (serial_in (shipped_set s))
 unfolding serial_carried
-each zero l h = absurd (omega (arith, l))
-each (suc zero) l h = serial-1 set_1
-each (suc (suc zero)) l h = serial-2 set_2
-each (suc (suc (suc zero))) l h = serial-3 set_3
-each (suc (suc (suc (suc s)))) l h = λ numbers are.
-    let n = suc (suc (suc (suc s))) in
-    subst (λ (d : Device). carried_numbers (shipped_set n) d serial_at_4 numbers ≡ serial_carried n numbers) (sym (is_serial n (omega arith) h))
-    (serial-4 (shipped_set n) numbers (as-4 n (omega arith) h numbers are)
-    ∙ ap (λ (origins : List Origin). carried_by origins numbers) (sym (port_origins n (omega arith) h)))
+each =
+    from_four (λ s. CarriedWhere AreSaved serial_carried (serial_in newest_set) s (shipped_set s) (serial_in (shipped_set s)))
+    (serial-1 set_1) (serial-2 set_2) (serial-3 set_3)
+    (λ s four h numbers are.
+    subst (λ (d : Device). carried_numbers (shipped_set s) d serial_at_4 numbers ≡ serial_carried s numbers) (sym (is_serial s four h))
+    (serial-4 (shipped_set s) numbers (as-4 s four h numbers are) ∙ ap (λ (origins : List Origin). carried_by origins numbers) (sym (port_origins s four h))))
 
 pub serial_is_carried : SerialIsCarried
 serial_is_carried = record { each = each }

@@ -8,7 +8,7 @@ use Rattle.dev_images.proofs.Facade.{SerialIsReady, place_under, serial_rows, TH
 use Rattle.dev_images.proofs.Facade.{TX_NUMBER, carried_sub, image_of, NEWEST, shipped_set, ReadyWhere, serial_in}
 use Rattle.dev_images.proofs.ReadyOf.{front, shape, IsFineSub, ready-parts, zeros-kept, element, array-kept, rules-times, are_kept, counts-none, counts-by}
 use Rattle.dev_images.proofs.ReadyOf.{kept-left, kept-right, kept-both}
-use Rattle.dev_images.proofs.ShippedDevices.{serial_at_1, serial_at_2, serial_at_3, serial_at_4, is_serial, port_kinds}
+use Rattle.dev_images.proofs.ShippedDevices.{serial_at_1, serial_at_2, serial_at_3, serial_at_4, is_serial, port_kinds, from_four}
 
 -- Whether a signed byte isn't -1, and whether a timer isn't "never".
 abbrev pub needs_sign : ℤ → Bool
@@ -279,14 +279,9 @@ as-4 s l h numbers are = record {
   no_ring = λ since. are.no_ring (omega (arith, l));
 }
 
-each : (s : ℕ) → 1 ≤ s → s ≤ NEWEST → ReadyWhere AreSaved s (shipped_set s) (serial_in (shipped_set s))
-each zero l h = absurd (omega (arith, l))
-each (suc zero) l h = serial-1 set_1
-each (suc (suc zero)) l h = serial-2 set_2
-each (suc (suc (suc zero))) l h = serial-3 set_3
-each (suc (suc (suc (suc s)))) l h = λ numbers are.
-    let n = suc (suc (suc (suc s))) in
-    subst (λ (d : Device). ReadyOf (shipped_set n) d numbers) (sym (is_serial n (omega arith) h)) (serial-4 (shipped_set n) numbers (as-4 n (omega arith) h numbers are))
-
 pub serial_is_ready : SerialIsReady
-serial_is_ready = record { each = each }
+serial_is_ready = record {
+  each = from_four (λ s. ReadyWhere AreSaved s (shipped_set s) (serial_in (shipped_set s))) (serial-1 set_1) (serial-2 set_2) (serial-3 set_3)
+      (λ s four h numbers are.
+      subst (λ (d : Device). ReadyOf (shipped_set s) d numbers) (sym (is_serial s four h)) (serial-4 (shipped_set s) numbers (as-4 s four h numbers are)));
+}

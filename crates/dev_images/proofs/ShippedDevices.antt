@@ -1,5 +1,5 @@
 -- The devices and the structures that the shipped sets have.
-use Rattle.dev_images.proofs.Facade.{◌≡◌, ℕ, ◌≤◌, List, [], ◌∷◌, ◌++◌, refl, sym, Device, Set, by_list, NEWEST, shipped_set, set_2, timer, i8259_at_4, i8254_at_2}
+use Rattle.dev_images.proofs.Facade.{◌≡◌, ℕ, zero, suc, arith, ◌≤◌, List, [], ◌∷◌, ◌++◌, refl, sym, Device, Set, by_list, NEWEST, shipped_set, set_2, timer, i8259_at_4, i8254_at_2}
 use Rattle.dev_images.proofs.Facade.{serial, serial_fields, divider, divisor, fcr, thr_ipending, fifo, timeout, ring, timer_in, chip_in, pit_in, serial_in}
 use Rattle.dev_pic.specs.Cells.{kinds as pic_kinds, origins as pic_origins}
 use Rattle.dev_pit.specs.Cells.{kinds_of, origins as origins_of_pit}
@@ -43,6 +43,14 @@ later_structs = by_list (λ set. set.structs) (λ s. set_2.structs) 2 refl
 
 pub is_serial : (s : ℕ) → 4 ≤ s → s ≤ NEWEST → serial_in (shipped_set s) ≡ serial_at_4
 is_serial = by_list serial_in (λ s. serial_at_4) 4 refl
+
+-- What holds for each of the sets 1 to 3, and for all from 4 on.
+pub from_four : (P : ℕ → Type 0) → P 1 → P 2 → P 3 → ((s : ℕ) → 4 ≤ s → s ≤ NEWEST → P s) → (s : ℕ) → 1 ≤ s → s ≤ NEWEST → P s
+from_four P one two three more zero l h = absurd (omega arith)
+from_four P one two three more (suc zero) l h = one
+from_four P one two three more (suc (suc zero)) l h = two
+from_four P one two three more (suc (suc (suc zero))) l h = three
+from_four P one two three more (suc (suc (suc (suc s)))) l h = more (suc (suc (suc (suc s)))) (omega arith) h
 
 -- ---- the kinds of the devices' cells, and where those of the newest set are, from a number on
 

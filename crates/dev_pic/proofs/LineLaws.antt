@@ -68,11 +68,7 @@ module _ (inputs edges : ℕ) (pair : PicPair) (bound : inputs < 2 ^ 16) where
   taken-slave i h = high-bit (inputs / 256) (with_cascade output (inputs % 256)) i low-lt h ∙ high-input inputs i h
 
 pub lines_are_taken : LinesAreTaken
-lines_are_taken = record {
-  master = λ inputs edges input pair bound within other. taken-master inputs edges pair bound input within other;
-  cascade = λ inputs edges pair bound. taken-cascade inputs edges pair bound;
-  slave = λ inputs edges input pair bound within. taken-slave inputs edges pair bound input within;
-}
+lines_are_taken = search (taken-master, taken-cascade, taken-slave)
 
 -- A chip has the same lines after a step as before it.
 abbrev Same : Chip → Chip → Type 0
@@ -125,8 +121,8 @@ module _ (pair : PicPair) where
   with-slave chip e = rw e
 
 -- An answer after which a pair has these lines.
-record Kept (lines : ℕ) (answer : ℕ × PicPair) : Type 0 where
-  kept : lines_of answer.1 ≡ lines
+abbrev Kept : (lines : ℕ) → ℕ × PicPair → Type 0
+Kept lines answer = lines_of answer.1 ≡ lines
 
 read-kept : (port : ℕ) (pair : PicPair) → Kept (lines_of pair) (read_pair port pair)
 unfolding read_pair
@@ -135,11 +131,11 @@ read-kept port pair =
     λ is_odd. with-master pair (read_of Master is_odd pair.master).1 (read-lines Master is_odd pair.master) in
     let slave : (is_odd : Bool) → lines_of (record pair { slave = (read_of Slave is_odd pair.slave).1 }) ≡ lines_of pair =
     λ is_odd. with-slave pair (read_of Slave is_odd pair.slave).1 (read-lines Slave is_odd pair.slave) in
-    either (Kept (lines_of pair)) (port == 0x20) _ _ (record { kept = master false })
-    (either (Kept (lines_of pair)) (port == 0x21) _ _ (record { kept = master true })
-    (either (Kept (lines_of pair)) (port == 0xa0) _ _ (record { kept = slave false })
-    (either (Kept (lines_of pair)) (port == 0xa1) _ _ (record { kept = slave true })
-    (either (Kept (lines_of pair)) (port == 0x4d0) _ _ (record { kept = refl }) (record { kept = refl })))))
+    either (Kept (lines_of pair)) (port == 0x20) _ _ (master false)
+    (either (Kept (lines_of pair)) (port == 0x21) _ _ (master true)
+    (either (Kept (lines_of pair)) (port == 0xa0) _ _ (slave false)
+    (either (Kept (lines_of pair)) (port == 0xa1) _ _ (slave true)
+    (either (Kept (lines_of pair)) (port == 0x4d0) _ _ refl refl))))
 
 written-kept : (port value : ℕ) (pair : PicPair) → lines_of (written_pair port value pair) ≡ lines_of pair
 unfolding written_pair
@@ -153,10 +149,10 @@ written-kept port value pair =
 
 acked_for-kept : (o : Option ℕ) (pair : PicPair) → o ≢ Some 2 → Kept (lines_of pair) (acked_for o pair)
 unfolding acked_for
-acked_for-kept None pair n = record { kept = with-master pair _ (answered-lines None pair.master) }
+acked_for-kept None pair n = with-master pair _ (answered-lines None pair.master)
 acked_for-kept (Some w) pair n =
     cond_both (w == 2) _ _ (Kept (lines_of pair)) (λ e. absurd (n (let same : w ≡ 2 = grind (arith, nat_tests) in ap Some same)))
-    (λ e. record { kept = with-master pair _ (answered-lines (Some w) pair.master) })
+    (λ e. with-master pair _ (answered-lines (Some w) pair.master))
 
 -- The lines after the slave's output is acknowledged.
 acked-slave : (pair : PicPair) → winner_at Master pair.master ≡ Some 2 → lines_of (acked pair).1 ≡ pair.slave.lines * 256 + without_input pair.master.lines 2
@@ -194,8 +190,8 @@ acked-bit pair h i l =
 
 pub lines_are_kept : LinesAreKept
 lines_are_kept = record {
-  read = λ port pair. (read-kept port pair).kept;
+  read = λ port pair. read-kept port pair;
   write = written-kept;
-  ack = λ pair n. (acked_for-kept (winner_at Master pair.master) pair n).kept;
+  ack = λ pair n. acked_for-kept (winner_at Master pair.master) pair n;
   of_slave = λ input pair h e l. rw (acked-slave pair e) (acked-bit pair h input l);
 }

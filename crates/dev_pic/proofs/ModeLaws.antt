@@ -35,11 +35,7 @@ served_blocks_lower role chip place lower mask nested le within served e =
 
 -- What the end of an input's service means, whichever input then has the lowest priority.
 ends_with : (chip : Chip) (input lowest : ℕ) → input < 8 → EndsService input chip (record chip { isr = without_input chip.isr input; lowest = lowest })
-ends_with chip input lowest within = record {
-  ended = has-without_same chip.isr input within;
-  others = λ other h n. has-without_other chip.isr input other within h n;
-  rest = refl;
-}
+ends_with chip input lowest within = search (has-without_same, has-without_other)
 
 found : (chip : Chip) (input : ℕ) → IsHighestServed chip input → highest_served chip ≡ Some input
 found chip input h =

@@ -8,8 +8,8 @@ use Rattle.dev_pic.proofs.BitLaws.{without_input-lt, and-twice}
 use Rattle.dev_pic.proofs.StepLaws.{winner-lt, settled-sound, written_even-registers, written_odd-registers, read-registers, answered-registers, cascaded-registers}
 
 -- An answer after which the pair has its registers.
-record Kept (answer : ℕ × PicPair) : Type 0 where
-  kept : PairHasRegisters answer.1
+abbrev Kept : ℕ × PicPair → Type 0
+Kept answer = PairHasRegisters answer.1
 
 -- There is no level input at power on.
 levels_off : (level : ℕ) (role : Role) → levels_hold level role 0 ≡ true
@@ -35,22 +35,7 @@ has_elcr level port h a b c d = grind (arith, nat_tests)
 
 on-sound : (level : ℕ) (role : Role) → IsSoundChip level role chip_on
 unfolding chip_on requests_hold level_inputs
-on-sound level role =
-    record {
-      registers = record {
-        irr = omega arith;
-        isr = omega arith;
-        imr = omega arith;
-        lines = omega arith;
-        lowest = omega arith;
-        base = omega arith;
-        vectors = refl;
-        elcr = omega arith;
-        levels = levels_off level role;
-        mode = mode_off level;
-      };
-      requests = refl;
-    }
+on-sound level role = search (arith, levels_off, mode_off)
 
 power-sound : (level : ℕ) → IsLevel level → IsSoundPair (power_on level)
 unfolding power_on
@@ -84,28 +69,26 @@ module _ (pair : PicPair) (h : PairHasRegisters pair) where
 
   acked_for-kept : (o : Option ℕ) → IfSome o (λ w. w < 8) → Kept (acked_for o pair)
   unfolding acked_for
-  acked_for-kept None l = record { kept = with-master _ (answered-registers pair.level Master pair.master h.master None tt) }
+  acked_for-kept None l = with-master _ (answered-registers pair.level Master pair.master h.master None tt)
   acked_for-kept (Some w) l =
       either Kept (w == cascade_input) _ _
       (record {
-        kept = record {
-          level = h.level;
-          master = cascaded-registers pair.level Master pair.master h.master;
-          slave = answered-registers pair.level Slave pair.slave h.slave (winner_at Slave pair.slave) (winner-lt Slave pair.slave);
-        };
-      }) (record { kept = with-master _ (answered-registers pair.level Master pair.master h.master (Some w) l) })
+        level = h.level;
+        master = cascaded-registers pair.level Master pair.master h.master;
+        slave = answered-registers pair.level Slave pair.slave h.slave (winner_at Slave pair.slave) (winner-lt Slave pair.slave);
+      }) (with-master _ (answered-registers pair.level Master pair.master h.master (Some w) l))
 
   acked-kept : PairHasRegisters (acked pair).1
-  acked-kept = (acked_for-kept (winner_at Master pair.master) (winner-lt Master pair.master)).kept
+  acked-kept = acked_for-kept (winner_at Master pair.master) (winner-lt Master pair.master)
 
   read-kept : (port : ℕ) → Kept (read_pair port pair)
   unfolding read_pair
   read-kept port =
-      either Kept (port == 0x20) _ _ (record { kept = with-master _ (read-registers pair.level Master pair.master h.master false) })
-      (either Kept (port == 0x21) _ _ (record { kept = with-master _ (read-registers pair.level Master pair.master h.master true) })
-      (either Kept (port == 0xa0) _ _ (record { kept = with-slave _ (read-registers pair.level Slave pair.slave h.slave false) })
-      (either Kept (port == 0xa1) _ _ (record { kept = with-slave _ (read-registers pair.level Slave pair.slave h.slave true) })
-      (either Kept (port == 0x4d0) _ _ (record { kept = h }) (record { kept = h })))))
+      either Kept (port == 0x20) _ _ (with-master _ (read-registers pair.level Master pair.master h.master false))
+      (either Kept (port == 0x21) _ _ (with-master _ (read-registers pair.level Master pair.master h.master true))
+      (either Kept (port == 0xa0) _ _ (with-slave _ (read-registers pair.level Slave pair.slave h.slave false))
+      (either Kept (port == 0xa1) _ _ (with-slave _ (read-registers pair.level Slave pair.slave h.slave true))
+      (either Kept (port == 0x4d0) _ _ h h))))
 
   written-kept : (port value : ℕ) → value < 256 → is_port pair.level port ≡ true → PairHasRegisters (written_pair port value pair)
   unfolding written_pair
@@ -121,27 +104,23 @@ module _ (pair : PicPair) (h : PairHasRegisters pair) where
       (with-slave _ (elcr-written pair.level Slave pair.slave value since v h.slave))))))
 
 pub steps_keep_registers : StepsKeepRegisters
-steps_keep_registers = record {
-  power = power-sound;
-  read = λ port pair h. (read-kept pair h port).kept;
-  write = λ port value pair v is h. written-kept pair h port value v is;
-  ack = λ pair h. acked-kept pair h;
-  settle = λ inputs edges pair i e h. settle-sound pair h inputs edges i e;
-  sound = λ pair h. record { level = h.level; master = h.master.registers; slave = h.slave.registers };
-}
+steps_keep_registers =
+    let sound : (pair : PicPair) → IsSoundPair pair → PairHasRegisters pair = λ pair h.
+        record { level = h.level; master = h.master.registers; slave = h.slave.registers } in
+    search (power-sound, read-kept, written-kept, acked-kept, settle-sound)
 
 -- An answer after which the pair has its level.
-record SameLevel (level : ℕ) (answer : ℕ × PicPair) : Type 0 where
-  same : answer.1.level ≡ level
+abbrev SameLevel : ℕ → ℕ × PicPair → Type 0
+SameLevel level answer = answer.1.level ≡ level
 
 read-level : (port : ℕ) (pair : PicPair) → SameLevel pair.level (read_pair port pair)
 unfolding read_pair
 read-level port pair =
-    either (SameLevel pair.level) (port == 0x20) _ _ (record { same = refl })
-    (either (SameLevel pair.level) (port == 0x21) _ _ (record { same = refl })
-    (either (SameLevel pair.level) (port == 0xa0) _ _ (record { same = refl })
-    (either (SameLevel pair.level) (port == 0xa1) _ _ (record { same = refl })
-    (either (SameLevel pair.level) (port == 0x4d0) _ _ (record { same = refl }) (record { same = refl })))))
+    either (SameLevel pair.level) (port == 0x20) _ _ refl
+    (either (SameLevel pair.level) (port == 0x21) _ _ refl
+    (either (SameLevel pair.level) (port == 0xa0) _ _ refl
+    (either (SameLevel pair.level) (port == 0xa1) _ _ refl
+    (either (SameLevel pair.level) (port == 0x4d0) _ _ refl refl))))
 
 HasLevel : ℕ → PicPair → Type 0
 HasLevel level pair = pair.level ≡ level
@@ -158,15 +137,9 @@ written-level port value pair =
 
 acked_for-level : (o : Option ℕ) (pair : PicPair) → SameLevel pair.level (acked_for o pair)
 unfolding acked_for
-acked_for-level None pair = record { same = refl }
-acked_for-level (Some w) pair = either (SameLevel pair.level) (w == cascade_input) _ _ (record { same = refl }) (record { same = refl })
+acked_for-level None pair = refl
+acked_for-level (Some w) pair = either (SameLevel pair.level) (w == cascade_input) _ _ refl refl
 
 pub steps_keep_level : StepsKeepLevel
 unfolding HasLevel power_on settled_pair
-steps_keep_level = record {
-  power = λ level. refl;
-  read = λ port pair. (read-level port pair).same;
-  write = written-level;
-  ack = λ pair. (acked_for-level (winner_at Master pair.master) pair).same;
-  settle = λ inputs edges pair. refl;
-}
+steps_keep_level = search (read-level, written-level, acked_for-level)

@@ -261,5 +261,4 @@ pub pair-same : (level : ℕ) (pair back : PicPair) → pair.level ≡ level
     → restored_pair level (saved_cells NEWEST pair.master) (saved_cells NEWEST pair.slave) ≡ Ok back → back ≡ pair
 pair-same level pair back same e =
     let made = made_of level (restored level Master (saved_cells NEWEST pair.master)) (restored level Slave (saved_cells NEWEST pair.slave)) back e in
-    let make : ℕ → Chip → Chip → PicPair = (λ n master slave. record { level = n; master = master; slave = slave }) in
     rw (made.same_level ∙ sym same, chip-same level Master pair.master back.master made.of_master, chip-same level Slave pair.slave back.slave made.of_slave)

@@ -153,18 +153,8 @@ module _ (level : ℕ) (role : Role) (chip : Chip) (h : HasRegisters level role 
   started-registers value =
       let levels = level_inputs (ltim_after level value chip) chip.elcr in
       let irr : bit_and chip.irr levels < 256 = omega (arith, and_le_l chip.irr levels) in
-      record {
-        mode = mode-after value;
-        irr = irr;
-        isr = omega arith;
-        imr = omega arith;
-        lines = h.lines;
-        lowest = omega arith;
-        base = h.base;
-        vectors = h.vectors;
-        elcr = h.elcr;
-        levels = h.levels;
-      }
+      let mode = mode-after value in
+      search arith
 
   selected-registers : (value : ℕ) → HasRegisters level role (selected value chip)
   unfolding selected
@@ -223,7 +213,4 @@ module _ (level : ℕ) (role : Role) (chip : Chip) (h : HasRegisters level role 
       agreed _ inputs levels (level-lines _ inputs levels (or_of_8 chip.irr _ h.irr (or_of_8 _ edges (but_not-lt inputs chip.lines i) e)) i (level_inputs-lt chip.ltim chip.elcr h.elcr))
 
   pub settled-sound : (inputs edges : ℕ) → inputs < 256 → edges < 256 → IsSoundChip level role (settled inputs edges chip)
-  settled-sound inputs edges i e = record {
-    registers = settled-registers level role chip h inputs edges i e;
-    requests = settled-requests inputs edges i e;
-  }
+  settled-sound inputs edges i e = search (settled-registers, settled-requests)

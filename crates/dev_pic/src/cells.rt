@@ -1,39 +1,16 @@
 // The cells that a chip is saved in.
-ghost use Rattle.std.specs.Prelude.{◌≡◌, ◌<◌, ◌≤◌, length, IfErr};
-ghost use Rattle.vms_kinds.specs.declared.Kind.{Kind};
-ghost use Rattle.dev_base.specs.Cells.{kind_at, number_at, flag_at as flag_at_of};
-ghost use Rattle.dev_base.specs.declared.limits.TheConstants.{NEWEST};
-ghost use Rattle.dev_pic.specs.Cells.{kinds, cell_count, IsChipCells, state_number as state_number_of, state_of as state_of_number, saved_cells, chip_of as chip_of_cells, registers_hold as registers_hold_of, levels_hold as levels_hold_of, requests_hold as requests_hold_of, mode_holds as mode_holds_of, restored};
+ghost use Rattle.std.specs.Prelude.{◌≡◌, ◌≤◌, length, IfErr};
+ghost use Rattle.dev_pic.specs.Cells.{cell_count, IsChipCells, state_number as state_number_of, state_of as state_of_number, saved_cells, chip_of as chip_of_cells, registers_hold as registers_hold_of, levels_hold as levels_hold_of, requests_hold as requests_hold_of, mode_holds as mode_holds_of, restored};
 
 use crate::chip::{Chip, InitState, Role, level_inputs_by};
 use crate::levels::{ELCR_SINCE, LTIM_SINCE};
 use arrayvec::ArrayVec;
-use dev_base::first_failing;
+use dev_base::{byte_at, first_failing, flag_at};
 use vms_fields::pic::{
     AUTO_EOI, BASE, ELCR, ICW4, IMR, INIT_STATE, IRR, ISR, LINES, LOWEST, LTIM, NESTED, POLL,
     READ_ISR, ROTATE, SINGLE, SPECIAL_MASK,
 };
 use vms_kinds::DevCells;
-
-// Returns the number of the cell at `place`, which holds a byte in the newest set.
-fn byte_at(cells: &DevCells, place: usize) -> u8
-    requires cells { IsChipCells cells.now.items }
-    requires within { place < cell_count }
-    requires kind { kind_at (kinds NEWEST) place ≡ Kind.U8 }
-    ensures { result ≡ number_at cells.now.items place }
-{
-    dev_base::byte_at(cells, place)
-}
-
-// Returns the truth value of the cell at `place`, which holds one in the newest set.
-fn flag_at(cells: &DevCells, place: usize) -> bool
-    requires cells { IsChipCells cells.now.items }
-    requires within { place < cell_count }
-    requires kind { kind_at (kinds NEWEST) place ≡ Kind.Bool }
-    ensures { result ≡ flag_at_of cells.now.items place }
-{
-    dev_base::flag_at(cells, place)
-}
 
 /// Returns the cells of `chip` in set `set`.
 #[tactic(auto, unfolding(crate::specs::Cells::saved_cells))]

@@ -7,17 +7,17 @@ use Rattle.dev_pit.proofs.Facade.{READ_BACK_LEVEL, Access, LowThenHigh, Pit, eit
 use Rattle.dev_pit.proofs.Chips.{at_counter, at_step}
 
 -- A counter with this latched count.
-record Holds (held : ℕ) (counter : Counter) : Type 0 where
-  latch : counter.latch ≡ Some held
+abbrev Holds : (held : ℕ) → Counter → Type 0
+Holds held counter = counter.latch ≡ Some held
 
 -- Latching again keeps what is latched.
 latched-holds : (held now : ℕ) (counter : Counter) → Holds held counter → Holds held (latched now counter)
 unfolding latched
-latched-holds held now counter h = record { latch = rw h.latch refl }
+latched-holds held now counter h = rw h refl
 
 status_latched-holds : (held now : ℕ) (counter : Counter) → Holds held counter → Holds held (status_latched now counter)
 unfolding status_latched
-status_latched-holds held now counter h = record { latch = h.latch }
+status_latched-holds held now counter h = h
 
 read_back-holds : (count status : Bool) (held now : ℕ) (counter : Counter) → Holds held counter → Holds held (read_back count status now counter)
 unfolding read_back
@@ -29,11 +29,11 @@ read_back-holds false false held now counter h = h
 -- So does loading.
 loaded-holds : (count held now : ℕ) (counter : Counter) → Holds held counter → Holds held (loaded count now counter)
 unfolding loaded
-loaded-holds count held now counter h = record { latch = h.latch }
+loaded-holds count held now counter h = h
 
 first-holds : (low : Option ℕ) (value held now : ℕ) (counter : Counter) → Holds held counter → Holds held (written_low_first low value now counter)
-first-holds None value held now counter h = record { latch = h.latch }
-first-holds (Some low) value held now counter h = loaded-holds _ held now _ (record { latch = h.latch })
+first-holds None value held now counter h = h
+first-holds (Some low) value held now counter h = loaded-holds _ held now _ h
 
 by-holds : (access : Access) (value held now : ℕ) (counter : Counter) → Holds held counter → Holds held (written_by access value now counter)
 by-holds LowThenHigh value held now counter h = first-holds counter.held_low value held now counter h
@@ -46,14 +46,14 @@ written-holds value held now counter h = by-holds counter.access value held now 
 -- A read that returns a status or a first byte keeps it.
 counted_by-holds : (access : Access) (count held : ℕ) (counter : Counter) → is_last access counter ≡ false → Holds held counter
     → Holds held (counted_by access count counter).1
-counted_by-holds LowThenHigh count held counter e h = rw e (record { latch = h.latch })
+counted_by-holds LowThenHigh count held counter e h = rw e h
 counted_by-holds _ count held counter e h = cc
 
 read_by-holds : (status : Option ℕ) (held now : ℕ) (counter : Counter) → (not (is_some status) && is_last counter.access counter) ≡ false → Holds held counter
     → Holds held (read_by status now counter).1
 unfolding counted_of
 read_by-holds None held now counter e h = counted_by-holds counter.access _ held counter e h
-read_by-holds (Some status) held now counter e h = record { latch = h.latch }
+read_by-holds (Some status) held now counter e h = h
 
 read-holds : (held now : ℕ) (counter : Counter) → (not (is_some counter.status) && is_last counter.access counter) ≡ false → Holds held counter
     → Holds held (read_of now counter).1
@@ -107,6 +107,6 @@ pit_read-held k now later held pit e = rw (read-held now later held (counter_of 
 
 pub latch_stays : LatchStays
 latch_stays = record {
-  in_calls = λ k now held call pit l c p r e. (call-holds k held now call pit l c p r (record { latch = e })).latch;
+  in_calls = λ k now held call pit l c p r e. call-holds k held now call pit l c p r e;
   in_time = λ k now later held pit e. pit_read-held k now later held pit e;
 }

@@ -11,21 +11,21 @@ loaded_by-later None now later h l = tt
 loaded_by-later (Some load) now later h l = omega arith
 
 -- A counter that wasn't loaded after a moment.
-pub record Loaded (now : ℕ) (counter : Counter) : Type 0 where
-  pub by : LoadedBy now counter.loaded_at
+abbrev Loaded : (now : ℕ) → Counter → Type 0
+Loaded now counter = LoadedBy now counter.loaded_at
 
 pub goes_on-loaded : (now : ℕ) (before after : Counter) → GoesOn before after → Loaded now before → Loaded now after
-goes_on-loaded now before after g h = record { by = subst (LoadedBy now) (sym g.loaded_at) h.by }
+goes_on-loaded now before after g h = subst (LoadedBy now) (sym g.loaded_at) h
 
 with-loaded : (now j : ℕ) (counter : Counter) (pit : Pit) → IsLoadedBy now pit → Loaded now counter → IsLoadedBy now (with_counter j counter pit)
-with-loaded now j counter pit h l k within = (at_counter (Loaded now) k j counter pit (λ here. l) (record { by = h k within })).by
+with-loaded now j counter pit h l k within = at_counter (Loaded now) k j counter pit (λ here. l) (h k within)
 
 loaded-now : (count now : ℕ) (counter : Counter) → Loaded now (loaded count now counter)
 unfolding loaded
-loaded-now count now counter = record { by = omega arith }
+loaded-now count now counter = omega arith
 
 first-loaded : (held : Option ℕ) (value now : ℕ) (counter : Counter) → Loaded now counter → Loaded now (written_low_first held value now counter)
-first-loaded None value now counter h = record { by = h.by }
+first-loaded None value now counter h = h
 first-loaded (Some low) value now counter h = loaded-now _ now _
 
 by-loaded : (access : Access) (value now : ℕ) (counter : Counter) → Loaded now counter → Loaded now (written_by access value now counter)
@@ -38,14 +38,13 @@ written-loaded value now counter h = by-loaded counter.access value now counter 
 
 programmed-loaded : (access : Access) (mode : Mode) (bcd : Bool) (now : ℕ) (counter : Counter) → Loaded now (programmed access mode bcd counter)
 unfolding programmed powered_on
-programmed-loaded access mode bcd now counter = record { by = tt }
+programmed-loaded access mode bcd now counter = tt
 
 -- A step of counter j that doesn't load it, or loads it now.
 step-loaded : (now j : ℕ) (step : Counter → Counter) (pit : Pit) → ((counter : Counter) → Loaded now counter → Loaded now (step counter)) → IsLoadedBy now pit
     → IsLoadedBy now (with_counter j (step (counter_of j pit)) pit)
 step-loaded now j step pit keeps h k within =
-    let loaded : Loaded now (counter_of k pit) = record { by = h k within } in
-    (at_step (Loaded now) k j step pit (λ here. keeps (counter_of k pit) loaded) loaded).by
+    at_step (Loaded now) k j step pit (λ here. keeps (counter_of k pit) (h k within)) (h k within)
 
 -- The whole chip.
 asked_loaded : (count status : Bool) (k now : ℕ) (pit : Pit) → IsLoadedBy now pit → IsLoadedBy now (asked_back count status k now pit)

@@ -49,14 +49,7 @@ rule-saved rule first second third a b c = rw (first-back first second third, se
 pub pit_of-saved : (pit : Pit) → length pit.counters ≡ 3 → pit_of pit.level (pit_cells NEWEST pit) ≡ pit
 unfolding pit_of pit_cells
 pit_of-saved pit three =
-    rw (
-      first-back (channel_in 0 pit) (channel_in 1 pit) (channel_in 2 pit),
-      second-back (channel_in 0 pit) (channel_in 1 pit) (channel_in 2 pit),
-      third-back (channel_in 0 pit) (channel_in 1 pit) (channel_in 2 pit),
-      counter-back (counter_of 0 pit),
-      counter-back (counter_of 1 pit),
-      counter-back (counter_of 2 pit),
-    ) (ap (λ counters. record pit { counters = counters }) (three_counters pit.counters powered_on three))
+    simp (first-back, second-back, third-back, counter-back) (ap (λ counters. record pit { counters = counters }) (three_counters pit.counters powered_on three))
 
 -- The cells of a chip fit their kinds: each field has as many numbers of its kind as it counts.
 channel-holds : (counter : Counter) → HasWidths counter → AllHold (named (channel_of counter)) channel_rows

@@ -24,12 +24,9 @@ later level now after counter h s =
     (record { widths = p.widths; loaded = loaded_by-later counter.loaded_at now after p.loaded h; status = p.status; toggles = p.toggles })
 
 pit-later : (now after : ℕ) (pit : Pit) → now ≤ after → after ≤ LAST_MOMENT → IsSoundPit now pit → IsSoundPit after pit
-pit-later now after pit h m s = record {
-  level = s.level;
-  moment = m;
-  count = s.count;
-  counters = λ k l. later pit.level now after (counter_of k pit) h (s.counters k l);
-}
+pit-later now after pit h m s =
+    let counters : (k : ℕ) → k < 3 → IsSoundCounter pit.level after (counter_of k pit) = λ k l. later pit.level now after (counter_of k pit) h (s.counters k l) in
+    search
 
 -- A step of counter j that keeps it sound.
 step-sound : (j now : ℕ) (step : Counter → Counter) (pit : Pit) → ((counter : Counter) → PlainSound pit.level now counter → PlainSound pit.level now (step counter)) → IsSoundPit now pit → IsSoundPit now (with_counter j (step (counter_of j pit)) pit)

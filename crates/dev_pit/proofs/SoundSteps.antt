@@ -74,22 +74,11 @@ toggles-back _ read_high held e = halves-back read_high held e
 
 pub sound-from_plain : (level now : ℕ) (counter : Counter) → PlainSound level now counter → IsSoundCounter level now counter
 unfolding channel_of moment_holds status_holds toggles_hold
-sound-from_plain level now counter s = record {
-  widths = s.widths;
-  registers = registers-hold counter;
-  moment = moment-from now counter.loaded_at s.loaded;
-  status = status-from level counter.status s.status;
-  toggles = toggles-from counter.access counter.read_high counter.held_low s.toggles;
-}
+sound-from_plain level now counter s = search (registers-hold, moment-from, status-from, toggles-from)
 
 pub plain-from_sound : (level now : ℕ) (counter : Counter) → IsSoundCounter level now counter → PlainSound level now counter
 unfolding channel_of moment_holds status_holds toggles_hold
-plain-from_sound level now counter s = record {
-  widths = s.widths;
-  loaded = moment-back now counter.loaded_at s.moment;
-  status = status-back level counter.status s.status;
-  toggles = toggles-back counter.access counter.read_high counter.held_low s.toggles;
-}
+plain-from_sound level now counter s = search (moment-back, status-back, toggles-back)
 
 -- ---- steps
 
@@ -136,12 +125,7 @@ status-byte counter now = omega (arith, (access-small counter.access).1, mode-sm
 changed : {level now : ℕ} {counter : Counter} {held_low latch status : Option ℕ} {read_high : Bool} → PlainSound level now counter
     → HeldBelow (2 ^ 8) held_low → HeldBelow (2 ^ 16) latch → HeldBelow (2 ^ 8) status → StatusFits level status → TogglesFit counter.access read_high held_low
     → PlainSound level now (record counter { held_low = held_low; latch = latch; status = status; read_high = read_high })
-changed s low latch byte fits toggles = record {
-  widths = record { count = s.widths.count; loaded_at = s.widths.loaded_at; held_low = low; latch = latch; status = byte };
-  loaded = s.loaded;
-  status = fits;
-  toggles = toggles;
-}
+changed s low latch byte fits toggles = search
 
 -- Latching.
 pub latched-sound : (level now : ℕ) (counter : Counter) → PlainSound level now counter → PlainSound level now (latched now counter)
@@ -168,12 +152,7 @@ read_back-sound false false level now counter h s = s
 -- Programming.
 pub powered_on-sound : (level now : ℕ) → PlainSound level now powered_on
 unfolding powered_on
-powered_on-sound level now = record {
-  widths = record { count = omega arith; loaded_at = tt; held_low = tt; latch = tt; status = tt };
-  loaded = tt;
-  status = tt;
-  toggles = tt;
-}
+powered_on-sound level now = search arith
 
 fresh-toggles : (access : Access) → TogglesFit access false None
 fresh-toggles LowThenHigh = tt
@@ -182,29 +161,13 @@ fresh-toggles _ = (refl, refl)
 pub programmed-sound : (access : Access) (mode : Mode) (bcd : Bool) (level now : ℕ) (counter : Counter) → PlainSound level now counter
     → PlainSound level now (programmed access mode bcd counter)
 unfolding programmed powered_on
-programmed-sound access mode bcd level now counter s = record {
-  widths = record { count = s.widths.count; loaded_at = tt; held_low = tt; latch = tt; status = tt };
-  loaded = tt;
-  status = tt;
-  toggles = fresh-toggles access;
-}
+programmed-sound access mode bcd level now counter s = search (arith, fresh-toggles)
 
 -- Loading.
 loaded-sound : (count level now : ℕ) (counter : Counter) → now ≤ LAST_MOMENT → count < 2 ^ 16 → PlainSound level now counter
     → PlainSound level now (loading count now counter)
 unfolding loading
-loaded-sound count level now counter m c s = record {
-  widths = record {
-    count = c;
-    loaded_at = omega arith;
-    held_low = s.widths.held_low;
-    latch = s.widths.latch;
-    status = s.widths.status;
-  };
-  loaded = omega arith;
-  status = s.status;
-  toggles = s.toggles;
-}
+loaded-sound count level now counter m c s = search arith
 
 -- A counter of two bytes may hold one or not.
 holding : (level now : ℕ) (low : Option ℕ) (counter : Counter) → counter.access ≡ LowThenHigh → HeldBelow (2 ^ 8) low → PlainSound level now counter
@@ -237,21 +200,21 @@ turned level now read_high latch counter e h s =
     changed s s.widths.held_low h s.widths.status s.status (subst (λ a. TogglesFit a read_high counter.held_low) (sym e) tt)
 
 -- A sound counter, as the second part of an answer.
-record Sounds (level now : ℕ) (answer : ℕ × Counter) : Type 0 where
-  after : PlainSound level now answer.1
+abbrev Sounds : (level now : ℕ) → ℕ × Counter → Type 0
+Sounds level now answer = PlainSound level now answer.1
 
 counted_by-sound : (access : Access) (count level now : ℕ) (counter : Counter) → counter.access ≡ access → PlainSound level now counter
     → Sounds level now (counted_by access count counter)
 counted_by-sound LowThenHigh count level now counter e s =
-    either (Sounds level now) counter.read_high _ _ (record { after = turned level now false None counter e tt s })
-    (record { after = turned level now true counter.latch counter e s.widths.latch s })
-counted_by-sound _ count level now counter e s = record { after = no_latch level now counter s }
+    either (Sounds level now) counter.read_high _ _ (turned level now false None counter e tt s)
+    (turned level now true counter.latch counter e s.widths.latch s)
+counted_by-sound _ count level now counter e s = no_latch level now counter s
 
 read_by-sound : (status : Option ℕ) (level now : ℕ) (counter : Counter) → PlainSound level now counter → Sounds level now (read_by status now counter)
 unfolding counted_of
 read_by-sound None level now counter s = counted_by-sound counter.access _ level now counter refl s
-read_by-sound (Some status) level now counter s = record { after = changed s s.widths.held_low s.widths.latch tt tt s.toggles }
+read_by-sound (Some status) level now counter s = changed s s.widths.held_low s.widths.latch tt tt s.toggles
 
 pub read-sound : (level now : ℕ) (counter : Counter) → PlainSound level now counter → PlainSound level now (read_of now counter).1
 unfolding read_of
-read-sound level now counter s = (read_by-sound counter.status level now counter s).after
+read-sound level now counter s = read_by-sound counter.status level now counter s

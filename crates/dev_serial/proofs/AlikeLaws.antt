@@ -4,7 +4,7 @@ use Rattle.dev_serial.proofs.Facade.{bit_and, bit_or, is_some, nat_le, is_empty,
 use Rattle.dev_serial.proofs.Facade.{fcr_cleared, fcr_written, receiver_cleared, transmitter_cleared, written, came_in, advanced, has, bits_where, ipending_of}
 use Rattle.dev_serial.proofs.Facade.{latch_of, saved, Port, id_number, is_thr_empty, interrupt, line_of, Interrupt, LineStatus, ReceivedData, CharacterTimeout}
 use Rattle.dev_serial.proofs.Facade.{ThrEmpty, NonePending, AlikeItself, AlikeBack, AlikeOn, AnswersAlike, ReadsAlike, WritesAlike, BytesInAlike, AdvancesAlike}
-use Rattle.dev_serial.proofs.Facade.{SavesAlike, LinesAlike, Alike, Trigger, run_until, character_time}
+use Rattle.dev_serial.proofs.Facade.{SavesAlike, LinesAlike, Alike, Trigger}
 
 -- ---- the line status and the saved latch, as tables of truth
 
@@ -158,10 +158,7 @@ module _ (port : Port) (latch : Bool) (h : has port.ier 1 ≡ true → latch ≡
 
   advance-alike : (to : ℕ) → AnswersAlike (advanced to port) (advanced to other)
   unfolding advanced
-  advance-alike to =
-      let left = run_until (character_time port.divisor port.lcr) to port.transmitter.shift port.transmitter.waiting in
-      let emptied = is_empty left.waiting && not (is_empty port.transmitter.waiting) in
-      record { value = refl; alike = record { same = refl; enabled = λ e. rw (h e) } }
+  advance-alike to = record { value = refl; alike = record { same = refl; enabled = λ e. rw (h e) } }
 
 pub reads_alike : ReadsAlike
 reads_alike offset now port other a = rw a.same (read-alike port other.thr_empty a.enabled offset now)

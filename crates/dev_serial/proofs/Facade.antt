@@ -7,15 +7,15 @@ pub use Rattle.std.proofs.Math.Nat.{le-max_right, min-eq_left, min-le_right, mul
 pub use Rattle.std.proofs.lemmas.Bool.{and_from, and_parts, cases_lt, cond_both, eq-eqb, eqb-false, eqb-true, false≢true, le-leb, leb-false, leb-true, lt-leb}
 pub use Rattle.std.proofs.lemmas.Bool.{lt-ltb, ltb-false, ltb-true, ne_eqb, not-false, not-true, or_right, Decides.nat_tests}
 pub use Rattle.std.proofs.lemmas.List.{get_or-append-add, get_or-map, get_or_append_left, get_or_past, length-map, length-set, map-append, nil_from_length}
-pub use Rattle.std.proofs.lemmas.List.Folds.{list_all_at, list_all_more}
+pub use Rattle.std.proofs.lemmas.List.{Elements.All-cons, Elements.All-nil, Folds.list_all_at, Folds.list_all_more}
 pub use Rattle.std.proofs.lemmas.List.FromFn.{get_or-map-range_with_len, get_or-range_with_len, length-map-range_with_len}
 pub use Rattle.std.specs.{List.list_all, List.range_with_len, Ordering.int_eq}
 pub use Rattle.std.specs.Prelude.{bit_and, bit_or, is_some, max, nat_le, nat_lt, remove}
 pub use Rattle.vms_kinds.specs.{Codes.InRange, Codes.is_signed, declared.Kind.Kind}
 pub use Rattle.vms_kinds.specs.declared.Kind.TheVariants.{I16, I32, I64, I8, Timer, U16, U8}
 pub use Rattle.vms_fields.specs.Serial.{serial_rows}
-pub use Rattle.vms_fields.specs.declared.serial.TheConstants.{DIVISOR, FCR, IER, IIR, LCR, LSR, MCR, RBR, RX, RX_COUNT, RX_DATA, RX_HEAD, RX_NUMBER, SCR, THR}
-pub use Rattle.vms_fields.specs.declared.serial.TheConstants.{THR_IPENDING, TIMEOUT_AT, TSR, TX, TX_COUNT, TX_DATA, TX_DUE, TX_HEAD, TX_NUMBER}
+pub use Rattle.vms_fields.specs.declared.serial.TheConstants.{DIVISOR, RX, RX_COUNT, RX_DATA, RX_HEAD, RX_NUMBER}
+pub use Rattle.vms_fields.specs.declared.serial.TheConstants.{THR_IPENDING, TIMEOUT_AT, TX, TX_COUNT, TX_DATA, TX_DUE, TX_HEAD, TX_NUMBER}
 pub use Rattle.vms_hooks.specs.Numbers.{Numbers}
 pub use Rattle.dev_base.proofs.{Choices.either, RuleLaws.AllTrue, RuleLaws.first_failing_is_first, RuleLaws.hook-ok, RuleLaws.judged-all, RuleLaws.judged-ok}
 pub use Rattle.dev_base.proofs.CellLaws.{byte, number-lt, of_more, of_none, timer, word}
@@ -36,12 +36,12 @@ pub use Rattle.dev_serial.specs.Laws.{AlikeItself, AlikeOn, AnswersAlike, AreSav
 pub use Rattle.dev_serial.specs.Laws.{IsSoundAt, LinesAlike, ListsComeBack, PowerOnIsSound, ReadsAlike, ReadsKeepLevel, ReadsKeepSound, RestoredIsSound}
 pub use Rattle.dev_serial.specs.Laws.{SavedAreCells, SavedComesBack, SavesAlike, SoundMeetsRules}
 pub use Rattle.dev_serial.specs.Parts.{IsShort, ReceiverState, TransmitterState}
-pub use Rattle.dev_serial.specs.Port.{Port, asks, has_come, id_number, is_data_ready, is_pending, is_thr_empty, mode_of}
+pub use Rattle.dev_serial.specs.Port.{Port, asks, first_asking, has_come, id_number, is_data_ready, is_pending, is_thr_empty, mode_of, priorities}
 pub use Rattle.dev_serial.specs.PortNumbers.{bytes_held, due_number, fcr_number, fifo_bytes, fifos_of, in_array, in_ring, ipending_of, latch_of, moment_number}
 pub use Rattle.dev_serial.specs.PortNumbers.{moment_of, shift_number, shift_of, single_byte, stored_bytes}
 pub use Rattle.dev_serial.specs.Recast.{RecastOnce, array_for, is_in_ring, recast_port, ring_left}
 pub use Rattle.dev_serial.specs.RegisterLaws.{HasNoBytes, IdentifiesFirst, IsFirstAsking, IsLooped, IsResetBy, IsSwitched, LineTellsAsking, LoopsModem}
-pub use Rattle.dev_serial.specs.RegisterLaws.{ReachesDivisor, ResetsByBits, SomeAsks, StaysOff, SwitchClearsBoth, WritesSwitch, rank}
+pub use Rattle.dev_serial.specs.RegisterLaws.{ReachesDivisor, ResetsByBits, SomeAsks, StaysOff, SwitchClearsBoth, WritesSwitch}
 pub use Rattle.dev_serial.specs.Rules.{is_stored_once, is_unused, longest_timeout, rules}
 pub use Rattle.dev_serial.specs.Saved.{CanRestore, CanSave, cells_at, hook_restored, restored_cells}
 pub use Rattle.dev_serial.specs.Sending.{Advances, AdvancesInParts, Event, LeavesForLine, LongestCharacter, LoopsAtMoment, ReplacesOne, SendsInOrder}
@@ -52,7 +52,7 @@ pub use Rattle.dev_serial.specs.Transmit.{IsSentAfter, bytes_of, gone_by, looped
 pub use Rattle.dev_serial.specs.declared.interrupt.Interrupt.TheVariants.{CharacterTimeout, LineStatus, NonePending, ReceivedData, ThrEmpty}
 pub use Rattle.dev_serial.specs.declared.levels.TheConstants.{FIFOS_SINCE, RINGS_SINCE, TIMEOUT_SINCE}
 pub use Rattle.dev_serial.specs.declared.stored.TheConstants.{ARRAY_CELLS, PORT_CELLS, RING_CELLS}
-pub use Rattle.dev_serial.specs.declared.trigger.Trigger.TheVariants.{Eight, Four, Fourteen, One}
+pub use Rattle.dev_serial.specs.declared.trigger.Trigger.TheVariants.{One}
 unfoldable pub use Rattle.dev_serial.specs.{Access.thr_written, Line.character_time, Recast.recast_cells, Receive.received, Receive.taken_at, Rules.rings_hold}
 unfoldable pub use Rattle.dev_serial.specs.{Rules.shift_holds, Rules.status_holds, Stored.ring_holds, Port.interrupt, Port.line_of, Port.power_on}
 unfoldable pub use Rattle.dev_serial.specs.Access.{queues, written, advanced, came_in, fcr_cleared, fcr_written, ier_written, iir_of, lsr_of, msr_of, read_of}

@@ -9,79 +9,48 @@ use Rattle.dev_serial.proofs.SoundLaws.{advance-transmitter, advance-receiver, c
 
 pub power_on_is_sound : PowerOnIsSound
 unfolding power_on
-power_on_is_sound level now is_level = record {
-  registers = record {
-    is_level = is_level;
-    divisor_range = omega arith;
-    ier_range = omega arith;
-    lcr_range = omega arith;
-    mcr_range = omega arith;
-    scr_range = omega arith;
-    fifos = λ e. cc;
-  };
-  receiver = record { short = record { short = omega arith; one = λ _. omega arith }; bytes = tt; timeout = and-false (nat_le 3 level) };
-  transmitter = record {
-    short = record { short = omega arith; one = λ _. omega arith };
-    bytes = tt;
-    shift = tt;
-    idle = λ _. refl;
-    latched = λ e. cc;
-  };
-}
-
--- an answer whose port is sound
-record Kept (now : ℕ) (answer : ℕ × Port) : Type 0 where
-  kept : IsSound now answer.1
+power_on_is_sound level now is_level = search (arith, and-false)
 
 module _ (now : ℕ) (port : Port) (sound : IsSound now port) where
+  -- an answer whose port is sound
+  abbrev Kept : ℕ × Port → Type 0
+  Kept answer = IsSound now answer.1
+
   longest : character_time port.divisor port.lcr ≤ LONGEST_CHARACTER
   longest = character-longest port.divisor port.lcr sound.registers.divisor_range
 
-  id-kept : Kept now (id_read now port)
+  id-kept : Kept (id_read now port)
   id-kept = record {
-    kept = record {
-      registers = sound.registers;
-      receiver = sound.receiver;
-      transmitter = latched-sound now (is_some port.fifos) port.thr_empty _ port.transmitter
-          (λ e. inl (was (is_thr_empty (interrupt now port)) port.thr_empty e)) sound.transmitter;
-    };
+    registers = sound.registers;
+    receiver = sound.receiver;
+    transmitter = latched-sound now (is_some port.fifos) port.thr_empty _ port.transmitter
+        (λ e. inl (was (is_thr_empty (interrupt now port)) port.thr_empty e)) sound.transmitter;
   } where
     was : (identified latch : Bool) → cond identified false latch ≡ true → latch ≡ true
     was true latch e = cc
     was false latch e = e
 
-  here : (answer : ℕ) → Kept now (answer, port)
-  here answer = record { kept = sound }
-
-  byte-kept : Kept now (with_taken port (taken (mode_of port) now port.receiver))
+  byte-kept : Kept (with_taken port (taken (mode_of port) now port.receiver))
   byte-kept = record {
-    kept = record {
-      registers = sound.registers;
-      receiver = taken-held now now (character_time port.divisor port.lcr) (has port.mcr 4) (omega arith) longest port.level
-          (is_some port.fifos) port.receiver.held port.receiver refl sound.receiver;
-      transmitter = sound.transmitter;
-    };
+    registers = sound.registers;
+    receiver = taken-held now now (character_time port.divisor port.lcr) (has port.mcr 4) (omega arith) longest port.level
+        (is_some port.fifos) port.receiver.held port.receiver refl sound.receiver;
+    transmitter = sound.transmitter;
   }
 
-  status-kept : Kept now (lsr_read port)
-  status-kept = record {
-    kept = record {
-      registers = sound.registers;
-      receiver = record { short = sound.receiver.short; bytes = sound.receiver.bytes; timeout = sound.receiver.timeout };
-      transmitter = sound.transmitter;
-    };
-  }
+  status-kept : Kept (lsr_read port)
+  status-kept = search
 
-  read-kept : (offset : ℕ) → Kept now (read_of offset now port)
+  read-kept : (offset : ℕ) → Kept (read_of offset now port)
   unfolding read_of
   read-kept offset =
-      either (Kept now) (offset == 0) _ _ (either (Kept now) (has port.lcr 7) _ _ (here _) byte-kept)
-      (either (Kept now) (offset == 1) _ _ (either (Kept now) (has port.lcr 7) _ _ (here _) (here _))
-      (either (Kept now) (offset == 2) _ _ id-kept
-      (either (Kept now) (offset == 3) _ _ (here _)
-      (either (Kept now) (offset == 4) _ _ (here _)
-      (either (Kept now) (offset == 5) _ _ status-kept
-      (either (Kept now) (offset == 6) _ _ (here _) (here _)))))))
+      either Kept (offset == 0) _ _ (either Kept (has port.lcr 7) _ _ sound byte-kept)
+      (either Kept (offset == 1) _ _ (either Kept (has port.lcr 7) _ _ sound sound)
+      (either Kept (offset == 2) _ _ id-kept
+      (either Kept (offset == 3) _ _ sound
+      (either Kept (offset == 4) _ _ sound
+      (either Kept (offset == 5) _ _ status-kept
+      (either Kept (offset == 6) _ _ sound sound))))))
 
   came-kept : (byte : ℕ) → byte < 256 → IsSound now (record port { receiver = received (mode_of port) byte now port.receiver })
   came-kept byte b = record {
@@ -113,30 +82,22 @@ module _ (now : ℕ) (port : Port) (sound : IsSound now port) where
         (character-positive port.divisor port.lcr) longest b sound.transmitter;
   }
 
-  registers-kept : (divisor ier lcr mcr scr : ℕ) → divisor < 65536 → ier ≤ 15 → lcr < 256 → mcr ≤ 31 → scr < 256
-      → IsSound now (record port { divisor = divisor; ier = ier; lcr = lcr; mcr = mcr; scr = scr })
-  registers-kept divisor ier lcr mcr scr a b c d e = let r = sound.registers in record {
-    registers = record { is_level = r.is_level; divisor_range = a; ier_range = b; lcr_range = c; mcr_range = d; scr_range = e; fifos = r.fifos };
-    receiver = sound.receiver;
-    transmitter = sound.transmitter;
-  }
-
   divisor-kept : (divisor : ℕ) → divisor < 65536 → IsSound now (record port { divisor = divisor })
-  divisor-kept divisor h = let r = sound.registers in registers-kept _ _ _ _ _ h r.ier_range r.lcr_range r.mcr_range r.scr_range
+  divisor-kept divisor h = search
 
   lcr-kept : (value : ℕ) → value < 256 → IsSound now (record port { lcr = value })
-  lcr-kept value h = let r = sound.registers in registers-kept _ _ _ _ _ r.divisor_range r.ier_range h r.mcr_range r.scr_range
+  lcr-kept value h = search
 
   mcr-kept : (value : ℕ) → IsSound now (record port { mcr = bit_and value 0x1f })
-  mcr-kept value = let r = sound.registers in registers-kept _ _ _ _ _ r.divisor_range r.ier_range r.lcr_range (and_le_r value 0x1f) r.scr_range
+  mcr-kept value = let range = and_le_r value 0x1f in search
 
   scr-kept : (value : ℕ) → value < 256 → IsSound now (record port { scr = value })
-  scr-kept value h = let r = sound.registers in registers-kept _ _ _ _ _ r.divisor_range r.ier_range r.lcr_range r.mcr_range h
+  scr-kept value h = search
 
   ier-kept : (value : ℕ) → IsSound now (ier_written value port)
   unfolding ier_written
   ier-kept value = record {
-    registers = let r = sound.registers in (registers-kept _ _ _ _ _ r.divisor_range (and_le_r value 0x0f) r.lcr_range r.mcr_range r.scr_range).registers;
+    registers = let range = and_le_r value 0x0f in search;
     receiver = sound.receiver;
     transmitter = latched-sound now (is_some port.fifos) port.thr_empty _ port.transmitter
         (sampled (not (has port.ier 1) && has (bit_and value 0x0f) 1) (is_empty port.transmitter.waiting) port.thr_empty) sound.transmitter;
@@ -147,15 +108,7 @@ module _ (now : ℕ) (port : Port) (sound : IsSound now port) where
 
   switched-registers : (fifos : Option Trigger) → (is_some fifos ≡ true → 2 ≤ port.level)
       → HasRegisters port.level port.divisor port.ier port.lcr port.mcr port.scr (is_some fifos)
-  switched-registers fifos h = let r = sound.registers in record {
-    is_level = r.is_level;
-    divisor_range = r.divisor_range;
-    ier_range = r.ier_range;
-    lcr_range = r.lcr_range;
-    mcr_range = r.mcr_range;
-    scr_range = r.scr_range;
-    fifos = h;
-  }
+  switched-registers fifos h = search
 
   -- lists are cleared, and the switch is set
   switched : (clears_sent clears_held : Bool) (fifos : Option Trigger) → (is_some fifos ≡ true → 2 ≤ port.level) → (clears_sent ≡ false → is_some fifos ≡ is_some port.fifos) → (clears_held ≡ false → is_some fifos ≡ is_some port.fifos) → IsSound now (record (transmitter_cleared clears_sent (receiver_cleared clears_held port)) { fifos = fifos })
@@ -207,7 +160,7 @@ module _ (now : ℕ) (port : Port) (sound : IsSound now port) where
       (either (IsSound now) (offset == 6) _ _ sound (scr-kept value v)))))))
 
 pub reads_keep_sound : ReadsKeepSound
-reads_keep_sound offset now port s = (read-kept now port s offset).kept
+reads_keep_sound offset now port s = read-kept now port s offset
 
 pub writes_keep_sound : WritesKeepSound
 writes_keep_sound offset value now port v s = write-kept now port s offset value v

@@ -26,13 +26,7 @@ low_stays high low value byte = omega arith
 
 both_written : (low high now later : ℕ) (port : Port) → low < 256 → has port.lcr 7 ≡ true
     → written 1 high later (written 0 low now port) ≡ record port { divisor = 256 * high + low }
-both_written low high now later port byte set =
-    rw (
-      low_written low now port set,
-      high_written high later (record port { divisor = port.divisor / 256 * 256 + low }) set,
-      low_stays high
-          (port.divisor / 256) low byte,
-    ) refl
+both_written low high now later port byte set = rw (low_written low now port set, high_written high later _ set, low_stays high _ low byte) refl
 
 module _ (port : Port) where
   abbrev Keeps : Port → Type 0
@@ -55,12 +49,7 @@ module _ (port : Port) where
       (either Keeps (offset == 6) _ _ refl refl))))))
 
 pub reaches_divisor : ReachesDivisor
-reaches_divisor = record {
-  low = low_read;
-  high = high_read;
-  both = both_written;
-  hidden = λ offset value now port. hidden port offset value now;
-}
+reaches_divisor = search (low_read, high_read, both_written, hidden)
 
 -- ---- the modem status in loop mode
 

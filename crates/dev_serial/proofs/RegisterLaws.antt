@@ -1,45 +1,52 @@
 -- The identified interrupt, the effects of the FIFO control register, and the level, which each call keeps.
-use Rattle.dev_serial.proofs.Facade.{◌≡◌, ℕ, ◌<◌, ◌≤◌, Bool, true, false, not, ◌&&◌, cond, Option, Some, None, refl, sym, ap, ◌∙◌, ◌/◌, arith, ◌==◌, cond_both}
+use Rattle.dev_serial.proofs.Facade.{◌≡◌, ℕ, Bool, true, false, not, ◌&&◌, cond, List, [], ◌∷◌, ◌++◌, Option, Some, None, refl, sym, ap, ◌∙◌, ◌/◌, arith, ◌==◌}
 use Rattle.dev_serial.proofs.Facade.{is_some, nat_le, is_empty, switch_of, fcr_cleared, fcr_written, receiver_cleared, transmitter_cleared, read_of}
-use Rattle.dev_serial.proofs.Facade.{thr_written, ier_written, written, came_in, advanced, has, trigger_of, Port, asks, interrupt, is_pending, line_of, rank}
+use Rattle.dev_serial.proofs.Facade.{thr_written, ier_written, written, came_in, advanced, has, trigger_of, Port, asks, interrupt, is_pending, line_of}
 use Rattle.dev_serial.proofs.Facade.{IsFirstAsking, IdentifiesFirst, SomeAsks, LineTellsAsking, HasNoBytes, SwitchClearsBoth, IsResetBy, ResetsByBits, StaysOff}
 use Rattle.dev_serial.proofs.Facade.{IsSwitched, WritesSwitch, Interrupt, LineStatus, ReceivedData, CharacterTimeout, ThrEmpty, NonePending, Trigger, either}
-use Rattle.dev_serial.proofs.Facade.{ReadsKeepLevel, WritesKeepLevel, BytesInKeepLevel, AdvancesKeepLevel}
+use Rattle.dev_serial.proofs.Facade.{ReadsKeepLevel, WritesKeepLevel, BytesInKeepLevel, AdvancesKeepLevel, cond_both, first_asking, priorities, All-cons}
+use Rattle.dev_serial.proofs.Facade.{All-nil}
 
 module _ (now : ℕ) (port : Port) where
-  -- none of the first k asks
-  none : (k : ℕ) → k ≤ 4 → (0 < k → asks now port LineStatus ≡ false) → (1 < k → asks now port ReceivedData ≡ false) → (2 < k → asks now port CharacterTimeout ≡ false) → (3 < k → asks now port ThrEmpty ≡ false) → (other : Interrupt) → rank other < k → asks now port other ≡ false
-  none k m a b c d LineStatus l = a l
-  none k m a b c d ReceivedData l = b l
-  none k m a b c d CharacterTimeout l = c l
-  none k m a b c d ThrEmpty l = d l
-  none k m a b c d NonePending l = absurd (omega arith)
+  abbrev Silent : Interrupt → Type 0
+  Silent interrupt = asks now port interrupt ≡ false
 
-  first : IsFirstAsking now port (interrupt now port)
-  unfolding interrupt
-  first =
-      cond_both (asks now port LineStatus) _ _ (IsFirstAsking now port) (λ h. record { itself = h; higher = λ other l. absurd (omega arith) })
-      (λ a. cond_both (asks now port ReceivedData) _ _ (IsFirstAsking now port)
-      (λ h. record { itself = h; higher = none 1 (omega arith) (λ l. a) (λ l. absurd (omega arith)) (λ l. absurd (omega arith)) (λ l. absurd (omega arith)) })
-      (λ b. cond_both (asks now port CharacterTimeout) _ _ (IsFirstAsking now port)
-      (λ h. record { itself = h; higher = none 2 (omega arith) (λ l. a) (λ l. b) (λ l. absurd (omega arith)) (λ l. absurd (omega arith)) })
-      (λ c. cond_both (asks now port ThrEmpty) _ _ (IsFirstAsking now port)
-      (λ h. record { itself = h; higher = none 3 (omega arith) (λ l. a) (λ l. b) (λ l. c) (λ l. absurd (omega arith)) })
-      (λ d. record { itself = refl; higher = none 4 (omega arith) (λ l. a) (λ l. b) (λ l. c) (λ l. d) }))))
+  abbrev Pending : Interrupt → Type 0
+  Pending interrupt = is_pending interrupt ≡ true
 
-  -- an interrupt that is requested is pending unless a higher one hides it
-  pending : (identified some : Interrupt) → IsFirstAsking now port identified → is_pending some ≡ true → asks now port some ≡ true
-      → is_pending identified ≡ true
-  pending NonePending NonePending f p h = p
-  pending NonePending some f p h = let l = f.higher some (omega arith) in cc
-  pending other some f p h = refl
+  -- of any list, with NonePending after it
+  first : (list : List Interrupt) → IsFirstAsking now port (list ++ NonePending ∷ []) (first_asking now port list)
+  first [] = record { itself = refl; higher = []; lower = []; order = refl; silent = All-nil Silent }
+  first (one ∷ list) =
+      cond_both (asks now port one) _ _ (IsFirstAsking now port (one ∷ (list ++ NonePending ∷ [])))
+      (λ asked. record { itself = asked; higher = []; lower = list ++ NonePending ∷ []; order = refl; silent = All-nil Silent })
+      (λ silent.
+      let rest = first list in
+      record {
+        itself = rest.itself;
+        higher = one ∷ rest.higher;
+        lower = rest.lower;
+        order = ap (λ l. one ∷ l) rest.order;
+        silent = All-cons Silent one rest.higher silent rest.silent;
+      })
+
+  -- if one is requested, that of highest priority isn't NonePending
+  pending : (some : Interrupt) → Pending some → asks now port some ≡ true → Pending (first_asking now port priorities)
+  pending LineStatus p h = rw h refl
+  pending ReceivedData p h = either Pending (asks now port LineStatus) _ _ refl (rw h refl)
+  pending CharacterTimeout p h = either Pending (asks now port LineStatus) _ _ refl (either Pending (asks now port ReceivedData) _ _ refl (rw h refl))
+  pending ThrEmpty p h =
+      either Pending (asks now port LineStatus) _ _ refl (either Pending (asks now port ReceivedData) _ _ refl
+      (either Pending (asks now port CharacterTimeout) _ _ refl (rw h refl)))
+  pending NonePending p h = cc
 
   line : (line_of now port ≡ true → SomeAsks now port) × (SomeAsks now port → line_of now port ≡ true)
-  unfolding line_of
-  line = (λ h. (interrupt now port, h, first.itself), λ s. pending (interrupt now port) s.0 first s.1 s.2)
+  unfolding line_of interrupt
+  line = (λ h. (interrupt now port, h, (first priorities).itself), λ s. pending s.0 s.1 s.2)
 
 pub identifies_first : IdentifiesFirst
-identifies_first now port = first now port
+unfolding interrupt
+identifies_first now port = first now port priorities
 
 pub line_tells_asking : LineTellsAsking
 line_tells_asking now port = line now port
@@ -58,9 +65,8 @@ module _ (value : ℕ) (port : Port) where
   flags : (second first : Bool) (fifos : Option Trigger) → (second ≡ has value 2) → (first ≡ has value 1)
       → IsResetBy value port (record (transmitter_cleared second (receiver_cleared first port)) { fifos = fifos })
   flags true true fifos s f = record { held = rw (← f) refl; timeout = rw (← f) refl; waiting = rw (← s) refl }
-  flags true false fifos s f = record { held = rw (← f) refl; timeout = rw (← f) refl; waiting = rw (← s) refl }
-  flags false true fifos s f = record { held = rw (← f) refl; timeout = rw (← f) refl; waiting = rw (← s) refl }
   flags false false fifos s f = record { held = rw (← f) refl; timeout = rw (← f) refl; waiting = rw (← s) refl }
+  flags _ _ fifos s f = record { held = rw (← f) refl; timeout = rw (← f) refl; waiting = rw (← s) refl }
 
   reset : (before after : Option Trigger) → is_some before ≡ true → is_some after ≡ true
       → IsResetBy value port (record (fcr_cleared before after value port) { fifos = after })
@@ -134,9 +140,8 @@ module _ (port : Port) where
 
   cleared : (second first : Bool) → Stays (transmitter_cleared second (receiver_cleared first port))
   cleared true true = (refl, refl)
-  cleared true false = (refl, refl)
-  cleared false true = (refl, refl)
   cleared false false = (refl, refl)
+  cleared _ _ = (refl, refl)
 
   pub switch_stays : (value : ℕ) (before after : Option Trigger) → Stays (fcr_cleared before after value port)
   unfolding fcr_cleared

@@ -6,8 +6,8 @@ use Rattle.dev_serial.proofs.Facade.{fcr_holds, status_holds, shift_holds, timeo
 use Rattle.dev_serial.proofs.Facade.{rings_hold, longest_timeout, is_unused, PortNumbers, first_failing, judged_by, IsFirstFailing, is_empty, IsShort, same}
 use Rattle.dev_serial.proofs.Facade.{has, AreBytes, IsShift, IsTimeout, IsSound, HasRegisters, IsReceiver, IsTransmitter, Trigger, LONGEST_CHARACTER, NEVER}
 use Rattle.dev_serial.proofs.Facade.{cell_at, number_at, IsLevel, U8, U16, number-lt, IsPortCells, bytes_at, array_at, ring_at, numbers_of, IsSoundAt}
-use Rattle.dev_serial.proofs.Facade.{RestoredIsSound, DIVISOR, LCR, SCR, RBR, THR, TSR, THR_IPENDING, RX_COUNT, RX, TX_COUNT, TX, TIMEOUT_AT, RX_DATA, TX_DATA}
-use Rattle.dev_serial.proofs.StoredLaws.{in_arrays, ring-bytes, stored-empty, stored-short, stored-bytes, firsts-bytes}
+use Rattle.dev_serial.proofs.Facade.{RestoredIsSound, DIVISOR, THR_IPENDING, RX_COUNT, RX, TX_COUNT, TX, TIMEOUT_AT, RX_DATA, TX_DATA}
+use Rattle.dev_serial.proofs.StoredLaws.{in_arrays, ring-bytes, stored-empty, stored-short, stored-bytes, firsts-bytes, byte-at}
 
 -- ---- every rule holds for numbers that are restored
 
@@ -119,15 +119,10 @@ module _ (level now : ℕ) (n : PortNumbers) (is_level : IsLevel level) (ranges 
   unfolding registers_hold fcr_holds
   registers =
       let low = and_parts _ _ rules.registers in
-      record {
-        is_level = is_level;
-        divisor_range = ranges.divisor;
-        ier_range = leb-true _ _ low.0;
-        lcr_range = ranges.lcr;
-        mcr_range = leb-true _ _ (and_parts _ _ low.1).0;
-        scr_range = ranges.scr;
-        fifos = level-on level n.fcr rules.fcr;
-      }
+      let ier : n.ier ≤ 15 = leb-true _ _ low.0 in
+      let mcr : n.mcr ≤ 31 = leb-true _ _ (and_parts _ _ low.1).0 in
+      let fifos = level-on level n.fcr rules.fcr in
+      search
 
   receiver : IsReceiver now level (is_some (fifos_of n.fcr)) (port_of level n).receiver
   unfolding port_of timeout_holds
@@ -165,18 +160,13 @@ module _ (cells : List ℤ) (is : IsPortCells cells) where
 
   ranges-of : HasRanges (numbers_of cells)
   unfolding numbers_of
-  ranges-of = record {
-    divisor = number-lt U16 _ (is.of_kinds.in_range DIVISOR (omega arith));
-    lcr = number-lt U8 _ (is.of_kinds.in_range LCR (omega arith));
-    scr = number-lt U8 _ (is.of_kinds.in_range SCR (omega arith));
-    rbr = number-lt U8 _ (is.of_kinds.in_range RBR (omega arith));
-    thr = number-lt U8 _ (is.of_kinds.in_range THR (omega arith));
-    tsr = number-lt U8 _ (is.of_kinds.in_range TSR (omega arith));
-    rx = stored-bytes (array_at cells RX_COUNT) (ring_at cells RX_DATA) (array-bytes RX (omega arith) (omega arith))
-        (ring-bytes cells is.of_kinds RX_DATA (omega arith) (omega arith));
-    tx = stored-bytes (array_at cells TX_COUNT) (ring_at cells TX_DATA) (array-bytes TX (omega arith) (omega arith))
-        (ring-bytes cells is.of_kinds TX_DATA (omega arith) (omega arith));
-  }
+  ranges-of =
+      let divisor = number-lt U16 (cell_at cells DIVISOR) (is.of_kinds.in_range DIVISOR (omega arith)) in
+      let rx = stored-bytes (array_at cells RX_COUNT) (ring_at cells RX_DATA) (array-bytes RX (omega arith) (omega arith))
+      (ring-bytes cells is.of_kinds RX_DATA (omega arith) (omega arith)) in
+      let tx = stored-bytes (array_at cells TX_COUNT) (ring_at cells TX_DATA) (array-bytes TX (omega arith) (omega arith))
+      (ring-bytes cells is.of_kinds TX_DATA (omega arith) (omega arith)) in
+      search (arith, byte-at cells is.of_kinds)
 
 own-level : (level : ℕ) (n : PortNumbers) → (port_of level n).level ≡ level
 unfolding port_of

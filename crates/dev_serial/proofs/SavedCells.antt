@@ -5,10 +5,10 @@ use Rattle.dev_serial.proofs.Facade.{◌∙◌, [], arith, append_assoc, length,
 use Rattle.dev_serial.proofs.Facade.{get_or-append-add, get_or_append_left, get_or-map, get_or_past, and_le_r, nil_from_length, serial_rows, InRange, U8, I8}
 use Rattle.dev_serial.proofs.Facade.{of_none, of_more, byte, word, timer, AllHold, one_holds, of_rows, AreOf, firsts, cell_at, since, named, field_cells}
 use Rattle.dev_serial.proofs.Facade.{array_cells, ring_cells, cells_of, kinds, IsPortCells, FIFOS_SINCE, TIMEOUT_SINCE, RINGS_SINCE, PortNumbers, Counted, Ring}
-use Rattle.dev_serial.proofs.Facade.{NEWEST, LAST_MOMENT, lsr_of, has, AreSaved, SavedAreCells, IsShort, Port, interrupt, id_number, is_thr_empty, saved}
+use Rattle.dev_serial.proofs.Facade.{NEWEST, LAST_MOMENT, lsr_of, has, AreSaved, SavedAreCells, IsShort, Port, interrupt, id_number, saved}
 use Rattle.dev_serial.proofs.Facade.{ipending_of, single_byte, fifo_bytes, in_array, in_ring, fcr_number, shift_number, due_number, moment_number, IsSound}
-use Rattle.dev_serial.proofs.Facade.{AreBytes, IsShift, IsTimeout, byte_of, padded, counted_of, ring_of, Interrupt, LineStatus, Shift, Trigger, One, Four}
-use Rattle.dev_serial.proofs.Facade.{Eight, Fourteen, RX, TX_COUNT, TX, TIMEOUT_AT, number_at, RX_COUNT}
+use Rattle.dev_serial.proofs.Facade.{AreBytes, IsShift, IsTimeout, byte_of, padded, counted_of, ring_of, Interrupt, LineStatus, Shift, Trigger, One}
+use Rattle.dev_serial.proofs.Facade.{RX, TX_COUNT, TX, TIMEOUT_AT, number_at, RX_COUNT}
 
 -- ---- the numbers in each row of the list of fields
 
@@ -149,11 +149,8 @@ moment-range now runs None h t = omega arith
 moment-range now runs (Some timeout) h t = omega arith
 
 fcr-range : (fifos : Option Trigger) → fcr_number fifos < 256
-fcr-range None = omega arith
 fcr-range (Some One) = omega arith
-fcr-range (Some Four) = omega arith
-fcr-range (Some Eight) = omega arith
-fcr-range (Some Fourteen) = omega arith
+fcr-range _ = omega arith
 
 ipending-range : (enabled latch identified : Bool) → InRange I8 (ipending_of enabled latch identified)
 ipending-range true true true = (omega arith, omega arith)
@@ -188,27 +185,7 @@ module _ (set now : ℕ) (port : Port) (early : now ≤ LAST_MOMENT) (sound : Is
   pub in-ranges : InRanges (saved set now port)
   unfolding saved
   in-ranges =
-      let r = sound.registers in
-      record {
-        divisor = r.divisor_range;
-        ier = (omega arith);
-        iir = id-range (interrupt now port);
-        lcr = r.lcr_range;
-        mcr = (omega arith);
-        lsr = lsr-range now port early sound;
-        scr = r.scr_range;
-        rbr = single-range port.fifos port.receiver.held sound.receiver.bytes;
-        thr = single-range port.fifos port.transmitter.waiting sound.transmitter.bytes;
-        tsr = shift-range now port.transmitter.shift sound.transmitter.shift;
-        tx_due = due-range now port.transmitter.shift early sound.transmitter.shift;
-        fcr = fcr-range port.fifos;
-        thr_ipending = ipending-range (has port.ier 1) port.thr_empty (is_thr_empty (interrupt now port));
-        rx = array-part port.receiver.held sound.receiver.short sound.receiver.bytes;
-        tx = array-part port.transmitter.waiting sound.transmitter.short sound.transmitter.bytes;
-        timeout_at = moment-range now _ port.receiver.timeout early sound.receiver.timeout;
-        rx_ring = ring-part port.receiver.held sound.receiver.short sound.receiver.bytes;
-        tx_ring = ring-part port.transmitter.waiting sound.transmitter.short sound.transmitter.bytes;
-      }
+      search (arith, id-range, lsr-range, single-range, shift-range, due-range, fcr-range, ipending-range, array-part, moment-range, ring-part)
 
 -- a number from 1 to 4 is one of these
 each_set : (P : ℕ → Type 0) (set : ℕ) → 1 ≤ set → set ≤ NEWEST → P 1 → P 2 → P 3 → P 4 → P set

@@ -1,14 +1,13 @@
 -- The saved numbers of a sound port meet every rule, and are restored as a port like it.
-use Rattle.dev_serial.proofs.{Facade.is_data_ready, Facade.has_come, Facade.interrupt, Facade.id_number, SoundLaws.not_empty}
+use Rattle.dev_serial.proofs.{SoundLaws.not_empty, StoredLaws.counted-back, StoredLaws.ring-back, StoredLaws.ring_of-holds}
 use Rattle.dev_serial.proofs.AlikeLaws.{IsStatus, lsr-status, latch_back, IsLatchBack, latch_comes_back}
-use Rattle.dev_serial.proofs.Facade.{◌≡◌, ℕ, ◌+◌, ◌%◌, ◌≤◌, ◌==◌, Bool, true, false, not, ◌&&◌, ◌||◌, cond, List, [], ◌∷◌, length, Option, Some, None, refl}
-use Rattle.dev_serial.proofs.Facade.{arith, Ok, sym, ap, ◌∙◌, and-true, and-false, or-true, le-leb, lt-ltb, ne_eqb, and_from, or_right, eq-eqb, nat_le, nat_lt}
-use Rattle.dev_serial.proofs.Facade.{is_some, is_empty, lsr_of, LAST_MOMENT, moment_number, due_number, shift_number, single_byte, fifo_bytes, in_array}
-use Rattle.dev_serial.proofs.Facade.{in_ring, fcr_number, moment_of, shift_of, fifos_of, stored_bytes, bytes_held, saved, port_of, IsShort, same, has}
-use Rattle.dev_serial.proofs.Facade.{is_unused, is_stored_once, longest_timeout, registers_hold, fcr_holds, unused_hold, status_holds, shift_holds}
-use Rattle.dev_serial.proofs.Facade.{timeout_holds, latch_holds, id_holds, once_holds, rings_hold, rules, restored, IsShift, IsTimeout, IsSound, Alike}
-use Rattle.dev_serial.proofs.Facade.{counted_of, ring_of, Shift, Trigger, One, Four, Eight, Fourteen, LONGEST_CHARACTER, NEVER, AllTrue, judged-all, Port}
-use Rattle.dev_serial.proofs.StoredLaws.{counted-back, ring-back, ring_of-holds}
+use Rattle.dev_serial.proofs.Facade.{judged-all, Port, is_data_ready, has_come, interrupt, id_number, ◌≡◌, ℕ, ◌+◌, ◌%◌, ◌≤◌, ◌==◌, Bool, true, false, not, ◌&&◌}
+use Rattle.dev_serial.proofs.Facade.{◌||◌, cond, List, [], ◌∷◌, length, Option, Some, None, refl, arith, Ok, sym, ap, ◌∙◌, and-true, and-false, or-true, le-leb}
+use Rattle.dev_serial.proofs.Facade.{lt-ltb, ne_eqb, and_from, or_right, eq-eqb, nat_le, nat_lt, is_some, is_empty, lsr_of, LAST_MOMENT, moment_number}
+use Rattle.dev_serial.proofs.Facade.{due_number, shift_number, single_byte, fifo_bytes, in_array, in_ring, fcr_number, moment_of, shift_of, fifos_of}
+use Rattle.dev_serial.proofs.Facade.{stored_bytes, bytes_held, saved, port_of, IsShort, same, has, is_unused, is_stored_once, longest_timeout, registers_hold}
+use Rattle.dev_serial.proofs.Facade.{fcr_holds, unused_hold, status_holds, shift_holds, timeout_holds, latch_holds, id_holds, once_holds, rings_hold, rules}
+use Rattle.dev_serial.proofs.Facade.{restored, IsShift, IsTimeout, IsSound, Alike, counted_of, ring_of, Shift, Trigger, One, LONGEST_CHARACTER, NEVER, AllTrue}
 
 -- ---- each part of a port is restored from its numbers
 
@@ -22,11 +21,8 @@ on_bit One = refl
 on_bit _ = refl
 
 pub fifos-back : (fifos : Option Trigger) → fifos_of (fcr_number fifos) ≡ fifos
-fifos-back None = refl
 fifos-back (Some One) = refl
-fifos-back (Some Four) = refl
-fifos-back (Some Eight) = refl
-fifos-back (Some Fourteen) = refl
+fifos-back _ = refl
 
 pub fcr-saved : (level : ℕ) (fifos : Option Trigger) → (is_some fifos ≡ true → 2 ≤ level)
     → ((fcr_number fifos == 0) || (nat_le 2 level && (fcr_number fifos % 64 == 1))) ≡ true

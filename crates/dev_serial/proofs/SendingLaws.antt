@@ -229,9 +229,8 @@ in-order character to (Some shift) waiting =
 pending-loaded : (due : ℕ) (shift : Option Shift) (waiting : List ℕ)
     → pending_of (loaded due shift waiting).shift (loaded due shift waiting).waiting ≡ pending_of shift waiting
 unfolding loaded
-pending-loaded due (Some shift) waiting = refl
 pending-loaded due None [] = refl
-pending-loaded due None (byte ∷ rest) = refl
+pending-loaded due _ _ = refl
 
 pending-append : (shift : Option Shift) (xs ys : List ℕ) → pending_of shift (xs ++ ys) ≡ pending_of shift xs ++ ys
 pending-append None xs ys = refl

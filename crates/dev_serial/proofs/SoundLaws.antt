@@ -75,11 +75,7 @@ module _ (now at character byte : ℕ) (looped : Bool) (receiver : ReceiverState
 
   pub received-sound : (level : ℕ) (on : Bool) → byte < 256 → IsReceiver now level on receiver
       → IsReceiver now level on (received (mode_at character on (nat_le 3 level) looped) byte at receiver)
-  received-sound level on b s = record {
-    short = received-short on (nat_le 3 level) s.short;
-    bytes = received-bytes on (nat_le 3 level) b s.bytes;
-    timeout = received-timeout on (nat_le 3 level) s.timeout;
-  }
+  received-sound level on b s = search (received-short, received-bytes, received-timeout)
 
 -- the first byte leaves
 module _ (now at character : ℕ) (looped : Bool) (early : at ≤ now) (quick : character ≤ LONGEST_CHARACTER) where
@@ -87,9 +83,8 @@ module _ (now at character : ℕ) (looped : Bool) (early : at ≤ now) (quick : 
   taken-timeout true true byte rest timeout s =
       cond_both (is_empty rest) None (Some (at + 4 * character)) (λ (t : Option ℕ). IsTimeout now (not (is_empty rest)) t)
       (λ e. rw e) (λ e. record { runs_now = rw e; in_time = omega arith })
-  taken-timeout true false byte rest timeout s = s
-  taken-timeout false true byte rest timeout s = s
   taken-timeout false false byte rest timeout s = s
+  taken-timeout _ _ byte rest timeout s = s
 
   pub taken-held : (level : ℕ) (on : Bool) (held : List ℕ) (receiver : ReceiverState) → receiver.held ≡ held → IsReceiver now level on receiver
       → IsReceiver now level on (taken_at (mode_at character on (nat_le 3 level) looped) at held receiver).1
@@ -153,13 +148,9 @@ thr-sound now character byte on latch transmitter p q b s =
 
 -- another latch
 pub latched-sound : (now : ℕ) (on first second : Bool) (transmitter : TransmitterState) → (second ≡ true → (first ≡ true) ⊎ (is_empty transmitter.waiting ≡ true)) → IsTransmitter now on transmitter first → IsTransmitter now on transmitter second
-latched-sound now on first second transmitter h s = record {
-  short = s.short;
-  bytes = s.bytes;
-  shift = s.shift;
-  idle = s.idle;
-  latched = λ e. ⊎_elim (λ f. s.latched f) (λ f. f) (h e);
-}
+latched-sound now on first second transmitter h s =
+    let latched : second ≡ true → is_empty transmitter.waiting ≡ true = λ e. ⊎_elim s.latched (λ f. f) (h e) in
+    search
 
 -- no byte waits any more, with FIFOs or not
 pub cleared-sound : (now : ℕ) (on other latch new_latch : Bool) (transmitter : TransmitterState) → IsTransmitter now on transmitter latch

@@ -16,19 +16,10 @@ is-byte now None s = tt
 is-byte now (Some shift) s = s.byte
 
 held : (now : ℕ) (port : Port) → now ≤ LAST_MOMENT → IsSound now port → IsHeld port
-held now port h s = let r = s.registers in record {
-  is_level = r.is_level;
-  divisor_range = r.divisor_range;
-  lcr_range = r.lcr_range;
-  scr_range = r.scr_range;
-  held_short = s.receiver.short;
-  held_bytes = s.receiver.bytes;
-  waiting_short = s.transmitter.short;
-  waiting_bytes = s.transmitter.bytes;
-  timeout = told now _ port.receiver.timeout h s.receiver.timeout;
-  shift = is-byte now port.transmitter.shift s.transmitter.shift;
-  latched = s.transmitter.latched;
-}
+held now port h s =
+    let timeout = told now _ port.receiver.timeout h s.receiver.timeout in
+    let shift = is-byte now port.transmitter.shift s.transmitter.shift in
+    search
 
 -- and back, by the rules
 level-on : (level : ℕ) (fifos : Option Trigger) (rest : Bool) → ((fcr_number fifos == 0) || (nat_le 2 level && rest)) ≡ true → is_some fifos ≡ true → 2 ≤ level
@@ -65,15 +56,10 @@ module _ (now : ℕ) (port : Port) (is : IsHeld port) (rules : Hold port.level n
   unfolding registers_hold fcr_holds saved
   registers =
       let low = and_parts _ _ rules.registers in
-      record {
-        is_level = is.is_level;
-        divisor_range = is.divisor_range;
-        ier_range = leb-true _ _ low.0;
-        lcr_range = is.lcr_range;
-        mcr_range = leb-true _ _ (and_parts _ _ low.1).0;
-        scr_range = is.scr_range;
-        fifos = level-on port.level port.fifos _ rules.fcr;
-      }
+      let ier : port.ier ≤ 15 = leb-true _ _ low.0 in
+      let mcr : port.mcr ≤ 31 = leb-true _ _ (and_parts _ _ low.1).0 in
+      let fifos = level-on port.level port.fifos _ rules.fcr in
+      search
 
   timeout : IsTimeout now (nat_le 3 port.level && (is_some port.fifos && not (is_empty port.receiver.held))) port.receiver.timeout
   unfolding timeout_holds saved
@@ -90,11 +76,7 @@ module _ (now : ℕ) (port : Port) (is : IsHeld port) (rules : Hold port.level n
   idle = idle-from port.transmitter.shift (has (lsr_of port) 6) (is_empty port.transmitter.waiting) _ lsr.idle_bit rules.shifts
 
   sound : IsSound now port
-  sound = record {
-    registers = registers;
-    receiver = record { short = is.held_short; bytes = is.held_bytes; timeout = timeout };
-    transmitter = record { short = is.waiting_short; bytes = is.waiting_bytes; shift = shift; idle = idle; latched = is.latched };
-  }
+  sound = search (registers, timeout, shift, idle)
 
 pub sound_meets_rules : SoundMeetsRules
 sound_meets_rules now port early = (

@@ -127,6 +127,10 @@ arrays k low high = bytes_within (field_kinds ++ U8 ∷ I8 ∷ []) (Timer ∷ re
 rings : (k : ℕ) → RX_DATA ≤ k → k < 84 → kind_at (kinds 4) k ≡ U8
 rings k low high = bytes_within (field_kinds ++ U8 ∷ I8 ∷ replicate 34 U8 ++ Timer ∷ []) [] 36 k low high
 
+-- the number in a cell that is a byte
+pub byte-at : (cells : List ℤ) → AreOf (kinds 4) cells → (place : ℕ) → place < 84 → kind_at (kinds 4) place ≡ U8 → number_at cells place < 256
+byte-at cells all place l e = number-lt U8 (cell_at cells place) (subst (λ kind. InRange kind (cell_at cells place)) e (all.in_range place (omega arith)))
+
 -- a run of bytes, within the arrays or the rings
 pub in_arrays : (cells : List ℤ) (place count : ℕ) → AreOf (kinds 4) cells → RX_COUNT ≤ place → place + count ≤ TIMEOUT_AT → AreBytesIn cells place count
 in_arrays cells place count all low high k l h =

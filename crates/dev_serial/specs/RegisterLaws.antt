@@ -1,29 +1,23 @@
 -- The laws of the identification, of the FIFO control register, of the divisor latch and of the
 -- modem status in loop mode. Their terms are those of the NS16550A data sheet.
-use Rattle.std.specs.Prelude.{◌≡◌, ℕ, ◌+◌, ◌*◌, ◌/◌, ◌%◌, ◌<◌, ◌↔◌, true, false, ◌&&◌, not, if◌then◌else◌, [], None, is_some}
+use Rattle.std.specs.Prelude.{◌≡◌, ℕ, ◌+◌, ◌*◌, ◌/◌, ◌%◌, ◌<◌, ◌↔◌, true, false, ◌&&◌, not, if◌then◌else◌, List, [], ◌∷◌, ◌++◌, All, None, is_some}
 use Rattle.dev_serial.specs.Access.{is_empty, switch_of, fcr_written, msr_of, read_of, written}
 use Rattle.dev_base.specs.Bits.{has}
-use Rattle.dev_serial.specs.Port.{Port, asks, interrupt, is_pending, line_of}
+use Rattle.dev_serial.specs.Port.{Port, asks, interrupt, is_pending, line_of, priorities}
 use Rattle.dev_serial.specs.declared.interrupt.Interrupt.{Interrupt}
-use Rattle.dev_serial.specs.declared.interrupt.Interrupt.TheVariants.{LineStatus, ReceivedData, CharacterTimeout, ThrEmpty, NonePending}
+use Rattle.dev_serial.specs.declared.interrupt.Interrupt.TheVariants.{NonePending}
 
--- The rank of an interrupt by priority, the highest first ("Interrupt Identification Register", the
--- table of interrupt control functions).
-abbrev pub rank : Interrupt → ℕ
-rank LineStatus = 0
-rank ReceivedData = 1
-rank CharacterTimeout = 2
-rank ThrEmpty = 3
-rank NonePending = 4
-
--- The interrupt `identified` is requested, and none of higher priority is.
-pub record IsFirstAsking (now : ℕ) (port : Port) (identified : Interrupt) : Type 0 where
+-- Of the interrupts of a list, `identified` is requested, and none before it is.
+pub record IsFirstAsking (now : ℕ) (port : Port) (list : List Interrupt) (identified : Interrupt) : Type 0 where
   pub itself : asks now port identified ≡ true
-  pub higher : (other : Interrupt) → rank other < rank identified → asks now port other ≡ false
+  pub higher : List Interrupt
+  pub lower : List Interrupt
+  pub order : list ≡ higher ++ identified ∷ lower
+  pub silent : All (λ other. asks now port other ≡ false) higher
 
--- The identified interrupt is requested, and none of higher priority is.
+-- The identified interrupt is requested, and none of higher priority is; NonePending is the last.
 abbrev pub IdentifiesFirst : Type 0
-IdentifiesFirst = (now : ℕ) (port : Port) → IsFirstAsking now port (interrupt now port)
+IdentifiesFirst = (now : ℕ) (port : Port) → IsFirstAsking now port (priorities ++ NonePending ∷ []) (interrupt now port)
 
 -- Some interrupt is requested.
 abbrev pub SomeAsks : ℕ → Port → Type 0

@@ -1,7 +1,7 @@
 -- Each call keeps the chip sound.
 use Rattle.vms_rtc.proofs.Facade.{◌≡◌, ℕ, ◌<◌, ◌≤◌, ◌==◌, ◌||◌, ◌%◌, Bool, true, false, if◌then◌else◌, List, length, ◌⊎◌, inl, inr, replicate, set, get_or}
-use Rattle.vms_rtc.proofs.Facade.{eqb-true, refl, sym, subst, ◌∙◌, arith, eq-eqb, false≢true, cases_Bool, cond_both, nat_tests, get_or-replicate}
-use Rattle.vms_rtc.proofs.Facade.{get_or-set_other, get_or-set_same, length-replicate, length-set, ⊎_elim, cases_eq, either, power_on, data_read, read_of}
+use Rattle.vms_rtc.proofs.Facade.{eqb-true, sym, subst, ◌∙◌, arith, eq-eqb, false≢true, cases_Bool, cond_both, nat_tests, get_or-replicate, get_or-set_other}
+use Rattle.vms_rtc.proofs.Facade.{get_or-set_same, length-set, ⊎_elim, cases_eq, either, power_on, data_read, read_of, has_mask, has}
 use Rattle.vms_rtc.proofs.Facade.{index_written, data_written, written, passed, CallsKeepSound, IsSound, INDEX_PORT, REGISTER_A, REGISTER_C, REGISTER_D, Rtc}
 
 -- the flag of the periodic interrupt isn't part of soundness
@@ -16,16 +16,10 @@ read-sound port chip s =
 
 index-sound : (value : ℕ) (chip : Rtc) → IsSound chip → IsSound (index_written value chip)
 unfolding index_written
-index-sound value chip s = record {
-  version = s.version;
-  index = omega arith;
-  count = s.count;
-  bytes = s.bytes;
-  a = s.a;
-  c = s.c;
-  d = s.d;
-  mask = λ none. let kept = s.mask none in rw none kept;
-}
+index-sound value chip s =
+    let index : value % 64 ≤ 63 = omega arith in
+    let mask : has_mask chip ≡ false → (if has_mask chip then has value 7 else chip.nmi_mask) ≡ false = λ none. rw none (s.mask none) in
+    search
 
 -- a register of a written chip
 byte-kept : (xs : List ℕ) (i v k : ℕ) → i < length xs → v < 256 → get_or xs k 0 < 256 → get_or (set xs i v) k 0 < 256
@@ -78,16 +72,9 @@ passed-sound from to chip s = flagged _ chip s
 pub calls_keep_sound : CallsKeepSound
 unfolding power_on
 calls_keep_sound = record {
-  power_on = λ version v. record {
-    version = v;
-    index = omega arith;
-    count = length-replicate {A = ℕ} 64 0;
-    bytes = λ k lt. let e : get_or (replicate 64 0) k 0 ≡ 0 = get_or-replicate {A = ℕ} 64 k 0 0 lt in omega arith;
-    a = omega arith;
-    c = refl;
-    d = refl;
-    mask = λ none. refl;
-  };
+  power_on = λ version v.
+      let bytes : (k : ℕ) → k < 64 → get_or (replicate 64 0) k 0 < 256 = λ k lt. let e = get_or-replicate {A = ℕ} 64 k 0 0 lt in omega arith in
+      search arith;
   read = read-sound;
   write = write-sound;
   passed = passed-sound;
