@@ -12,10 +12,7 @@ use Rattle.vms_spec.specs.declared.Part.TheVariants as parts
 
 pub has_step_of : (xs : List Slot) (c : ℕ) → has_step (steps_of xs) c ≡ has_cell xs c
 has_step_of [] c = refl
-has_step_of (Number k kind caps ∷ xs) c = rw (has_step_of xs c)
-has_step_of (Constant kind z ∷ xs) c = has_step_of xs c
-has_step_of (Filler k ∷ xs) c = has_step_of xs c
-has_step_of (Rule b ∷ xs) c = has_step_of xs c
+has_step_of (x ∷ xs) c = rw (has_step_of xs c)
 
 pub keeps_below : (cell : ℕ) (xs : List Slot) (n m : List ℤ) → IsAbove cell xs → Keeps (steps_of xs) n m → SameBelow cell n m
 keeps_below cell xs n m above k = record { same = λ c lt. k.same c (has_step_of xs c ∙ above.below c lt) }
