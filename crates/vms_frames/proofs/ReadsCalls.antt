@@ -23,8 +23,7 @@ calls_number kind at r h = reads_as (λ n l. bare (λ _. width kind) (width kind
 pub calls_behind : {a b : Intake} (t : Tail) (id at : ℕ) (x : Behind) → ReadsBehind a b t id [] at (Ok x)
     → BehindReads a b t id at (held_of (Ok x)) (after_of (Ok x))
 calls_behind t id at (Sub name version) h = reads_as (λ n l. omega arith) (λ rest left p. p) h
-calls_behind t id at (Next b) h = reads_as (λ n l. omega arith) (λ rest left p. p) h
-calls_behind t id at Done h = reads_as (λ n l. omega arith) (λ rest left p. p) h
+calls_behind t id at _ h = reads_as (λ n l. omega arith) (λ rest left p. p) h
 
 -- a fault says nothing about the byte that is held
 pub calls_none_behind : {a b : Intake} (t : Tail) (id at : ℕ) (held : Option ℕ) (e : FrameFault) → ReadsBehind a b t id [] at (Err e)
