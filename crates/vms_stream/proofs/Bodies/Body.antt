@@ -32,17 +32,14 @@ by_tests cut bad other x n reason = if cut then Short else if bad then Bad n rea
 tests_taken : (p : Progress) (cut bad other : Bool) (x : Piece) (n : ℕ) (reason : Reason) → taken_by p (by_tests cut bad other x n reason)
     ≡ (if cut then refuse p reasons.Truncated (length p.rest) else if bad then refuse p reasons.BadBool n else if other then refuse p reason n else on n
     (put x p.numbers) p)
-tests_taken p true bad other x n reason = refl
-tests_taken p false true other x n reason = refl
-tests_taken p false false true x n reason = refl
 tests_taken p false false false x n reason = refl
+tests_taken p _ _ _ x n reason = refl
 
 module _ (k : ℕ) (known : Known) where
   rows_tested : (section : Option ℕ) (bad other : Bool) (x : Piece) (n : ℕ) (reason : Reason)
       → seen_by (two_rows section bad other reason) x n ≡ by_tests false bad other x n reason
-  rows_tested section true other x n reason = refl
-  rows_tested section false true x n reason = refl
   rows_tested section false false x n reason = refl
+  rows_tested section _ _ x n reason = refl
 
   pub tested : (slot : Slot) (cut bad other : Bool) (x : Piece) (n : ℕ) (reason : Reason)
       → first_row (alone (Field k slot) known x) ≡ two_rows known.section bad other reason

@@ -84,9 +84,4 @@ field_solid t o slots = tt
 
 pub due_solid : (set : Set) (u : List Piece) → IsSolid (due set u)
 due_solid set [] = tt
-due_solid set (Magic bytes ∷ u) = tt
-due_solid set (Version v ∷ u) = tt
-due_solid set (Configuration name ∷ u) = tt
-due_solid set (Foot id ∷ u) = tt
-due_solid set (End ∷ u) = tt
-due_solid set (x ∷ u) = field_solid (tail set (x ∷ u)) (opened set (x ∷ u)) (drop (passed set (x ∷ u)) (slots set (x ∷ u)))
+due_solid set (x ∷ u) = assumption (field_solid (tail set (x ∷ u)) (opened set (x ∷ u)) (drop (passed set (x ∷ u)) (slots set (x ∷ u))))
