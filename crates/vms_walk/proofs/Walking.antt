@@ -101,13 +101,10 @@ least_again (Some most) = refl
 
 pub steps_bare : (ms : List Meaning) (n : List ℤ) (item : Item) (caps : List ℕ) (k at step : ℕ)
     → steps_of (times k (item_slots ms item caps n) at step) ≡ steps_of (times k (item_slots ms item (capacities_of (least_of caps)) n) at step)
-steps_bare ms n (Num kind) caps zero at step = refl
 steps_bare ms n (Num kind) caps (suc k) at step =
     ap (λ (o : Option ℕ). steps.Number at kind o ∷ steps_of (times k (item_slots ms (Num kind) caps n) (at + step) step)) (sym (least_again (least_of caps)))
     ∙ ap (λ (l : List WalkStep). steps.Number at kind (least_of (capacities_of (least_of caps))) ∷ l) (steps_bare ms n (Num kind) caps k (at + step) step)
-steps_bare ms n (Equal kind z) caps k at step = refl
-steps_bare ms n (Unused b) caps k at step = refl
-steps_bare ms n (Struct j) caps k at step = refl
+steps_bare ms n _ caps k at step = refl
 
 -- ---- the next field
 

@@ -7,9 +7,7 @@ use Rattle.vms_walk.specs.declared.step.WalkStep.TheVariants.{Number, Constant, 
 -- The cell of a number is among `numbers`.
 abbrev pub IsInside : List ℤ → WalkStep → Type 0
 IsInside numbers (Number cell kind most) = cell < length numbers
-IsInside numbers (Constant kind value) = Unit {0}
-IsInside numbers (Filler bytes) = Unit {0}
-IsInside numbers (Rule holds) = Unit {0}
+IsInside numbers step = Unit {0}
 
 -- Whether a step is for cell `c`.
 abbrev pub is_for : ℕ → WalkStep → Bool
