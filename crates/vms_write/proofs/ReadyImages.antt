@@ -9,8 +9,7 @@ can_write : (cells : List Cell) (m : List ℤ) (slots : List Slot) → AreCells 
 can_write cells m [] are f = tt
 can_write cells m (Number a kind caps ∷ slots) are f = (get_or-map (λ c. c.kind) cells a no_cell U8 are.0.within ∙ are.0.kind, can_write cells m slots are.1 f.2)
 can_write cells m (Constant kind z ∷ slots) are f = (f.0, can_write cells m slots are f.1)
-can_write cells m (Filler n ∷ slots) are f = (tt, can_write cells m slots are f)
-can_write cells m (Rule b ∷ slots) are f = (tt, can_write cells m slots are f)
+can_write cells m (_ ∷ slots) are f = (tt, can_write cells m slots are f)
 
 -- device i of a set has an image whose bytes can be written
 pub record IsWritable (set : Set) (i : ℕ) (image : Image) : Type 0 where

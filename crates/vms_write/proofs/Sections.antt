@@ -8,10 +8,7 @@ use Rattle.vms_spec.specs.declared.Part.TheVariants as parts
 
 pub bytes_zeroed : (n : List ℤ) (xs : List Slot) → bytes_of n (steps_of xs) ≡ zeroed n xs
 bytes_zeroed n [] = refl
-bytes_zeroed n (Number c kind caps ∷ xs) = rw (bytes_zeroed n xs)
-bytes_zeroed n (Constant kind z ∷ xs) = rw (bytes_zeroed n xs)
-bytes_zeroed n (Filler k ∷ xs) = rw (bytes_zeroed n xs)
-bytes_zeroed n (Rule b ∷ xs) = bytes_zeroed n xs
+bytes_zeroed n (x ∷ xs) = rw (bytes_zeroed n xs)
 
 -- any step of these slots
 pub can_write_step : (kinds : List Kind) (slots : List Slot) (xs rest : List WalkStep) (x : WalkStep) → CanWrite kinds slots → steps_of slots ≡ xs ++ (x ∷ rest) → CanStep kinds x

@@ -15,9 +15,8 @@ pub fit_append : (n : List ℤ) (xs ys : List Slot) → are_fit n (xs ++ ys) ≡
 fit_append n [] ys = refl
 fit_append n (Number c kind caps ∷ xs) ys =
     rw (fit_append n xs ys) (sym (and_assoc (in_range kind (get_or n c (pos 0)) && counts_well caps (get_or n c (pos 0))) (are_fit n xs) (are_fit n ys)))
-fit_append n (Constant kind z ∷ xs) ys = fit_append n xs ys
-fit_append n (Filler k ∷ xs) ys = fit_append n xs ys
 fit_append n (Rule b ∷ xs) ys = rw (fit_append n xs ys) (sym (and_assoc b (are_fit n xs) (are_fit n ys)))
+fit_append n (_ ∷ xs) ys = fit_append n xs ys
 
 pub settle_plus : (slots : List Slot) (forms : List CellForm) (n : List ℤ) (at a b : ℕ) → settle slots forms n at (a + b) ≡ (settle slots forms n at a && settle slots forms n (at + a) b)
 settle_plus slots forms n at zero b = ap (settle slots forms n at) (omega arith) ∙ ap (λ x. settle slots forms n x b) (omega arith)

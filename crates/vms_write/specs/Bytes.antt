@@ -12,8 +12,7 @@ use Rattle.vms_walk.specs.declared.step.WalkStep.TheVariants.{Number, Constant, 
 abbrev pub CanStep : List Kind → WalkStep → Type 0
 CanStep kinds (Number cell kind most) = get_or kinds cell U8 ≡ kind
 CanStep kinds (Constant kind value) = InRange kind value
-CanStep kinds (Filler bytes) = Unit {0}
-CanStep kinds (Rule holds) = Unit {0}
+CanStep kinds step = Unit {0}
 
 -- The same for each of these steps.
 abbrev pub CanSteps : List Kind → List WalkStep → Type 0

@@ -16,16 +16,13 @@ is_number_fine kind most z = in_range kind z && is_within most z
 -- their defaults, the number is fine, and a rule holds.
 abbrev pub is_step_fine : List CellForm → List ℤ → ℕ → WalkStep → Bool
 is_step_fine forms numbers at (Number cell kind most) = is_number_fine kind most (get_or numbers cell (pos 0)) && settle [] forms numbers at (cell - at)
-is_step_fine forms numbers at (Constant kind value) = true
-is_step_fine forms numbers at (Filler bytes) = true
 is_step_fine forms numbers at (Rule holds) = holds
+is_step_fine forms numbers at step = true
 
 -- The first cell that hasn't been judged after a step.
 abbrev pub after : ℕ → WalkStep → ℕ
 after at (Number cell kind most) = cell + 1
-after at (Constant kind value) = at
-after at (Filler bytes) = at
-after at (Rule holds) = at
+after at step = at
 
 -- The same after steps.
 abbrev pub behind : ℕ → List WalkStep → ℕ
