@@ -1,5 +1,5 @@
 -- In the fields of a part the judge reads slot by slot, as the structural reader does: taking a slot is what is seen of its unit.
-use Rattle.vms_stream.proofs.{Finding.Advancing.advances, Judging.Mirrors.solid}
+use Rattle.vms_stream.proofs.{Finding.Advancing.advances, Finding.Advancing.IsFramed, Finding.Advancing.behind_each, Judging.Mirrors.solid}
 use Rattle.vms_stream.proofs.Facade.{◌≡◌, if_both, ℕ, length, take, Option, Some, None, ℤ, refl, ap, ◌∙◌, Bool, true, false, not, nat_lt, ◌&&◌, if◌then◌else◌}
 use Rattle.vms_stream.proofs.Facade.{zero, suc, ◌+◌, ◌<◌, List, [], ◌∷◌, get_or, drop, slice_set, Ok, Err, sym, arith, ◌==◌, slice_get, drop-append_seam, Kind}
 use Rattle.vms_stream.proofs.Facade.{width, value_of, Reason, is_truth, is_above, exceeds, same_number, is_bad_bool, number_at, Slot, desc_slots, meanings}
@@ -257,30 +257,8 @@ module _ (set : Set) (names : List (List ℕ)) (state : State) (d : Device) (ima
 
     -- a unit that belongs to no slot
     abbrev Outer : Found → Type 0
-    Outer (Whole (Number c kind z) n) = ⊥
-    Outer (Whole (Constant kind z) n) = ⊥
-    Outer (Whole (Filler bytes) n) = ⊥
-    Outer _ = Unit {0}
-
-    needs_outer : (n : ℕ) (rest : List ℕ) (x : Piece) → Outer (Whole x n) → Outer (needs n rest x)
-    needs_outer n rest x o = if_both Outer (nat_lt (length rest) n) Cut (Whole x n) tt o
-
-    between_outer : (first : Bool) (m : ℕ) (rest : List ℕ) → Outer (between_at first m rest)
-    unfolding between_at
-    between_outer first m rest =
-        let size = number_at 4 1 rest in
-        if_both Outer (m == 0x00) _ _ (needs_outer 1 rest End tt)
-        (if_both Outer (m == 0x01) _ _ (needs_outer (6 + get_or rest 5 0) rest (Start _ _) tt)
-        (if_both Outer (m == 0x04) _ _ (needs_outer (14 + get_or rest 5 0) rest (Head _ _ _ _) tt)
-        (if_both Outer (m == 0x07 && first) _ _ (if_both Outer (nat_lt LONGEST_NAME size) _ _ (needs_outer 5 rest (Long 0x07 size) tt)
-        (needs_outer (5 + size) rest (Configuration _) tt)) (needs_outer 1 rest (Mark m) tt))))
-
-    behind_outer : (t : Tail) (m : ℕ) (rest : List ℕ) → Outer (behind_at t m rest)
-    unfolding behind_at
-    behind_outer t m rest =
-        if_both Outer (m == 0x05) _ _ (needs_outer (6 + get_or rest 1 0) rest (SubHead _ _) tt)
-        (if_both Outer (is_foot t m) _ _ (if_both Outer (m == 0x7e) _ _ (needs_outer 5 rest (Foot _) tt) (needs_outer 1 rest (Mark m) tt))
-        (between_outer false m rest))
+    Outer (Whole x n) = IsFramed x
+    Outer Cut = Unit {0}
 
     outer_same : (i j : ℕ) (p : Progress) (f : Found) → Outer f → verdict i p (AfterFields k state.tail) f ≡ verdict j p (AfterFields k state.tail) f
     outer_same i j p (Whole (Number c kind z) n) o = absurd o
@@ -291,4 +269,8 @@ module _ (set : Set) (names : List (List ℕ)) (state : State) (d : Device) (ima
     -- if all slots are passed, what may follow the fields is found, whatever their number
     pub after_read : (i : ℕ) (p : Progress) → drop i (total p.numbers) ≡ []
         → goes_on i p ≡ reads p (verdict 0 p (AfterFields k state.tail) (unit_at (AfterFields k state.tail) p.rest))
-    after_read i p h = cc (so i p [] h, outer_same i 0 p (unit_at (AfterFields k state.tail) p.rest) (behind_outer state.tail (get_or p.rest 0 0) p.rest))
+    after_read i p h = cc (
+      so i p [] h,
+      outer_same i 0 p (unit_at (AfterFields k state.tail) p.rest)
+          (behind_each Outer p.rest (λ n x _ framed. if_both Outer (nat_lt (length p.rest) n) Cut (Whole x n) tt framed) state.tail (get_or p.rest 0 0)),
+    )
