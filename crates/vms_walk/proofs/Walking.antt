@@ -89,10 +89,6 @@ part_left before here rest whole ys ws zs x e f =
     left_within (steps_of before) (steps_of here) (steps_of rest) (steps_of whole) ys ws zs x
     (ap steps_of e ∙ steps_append before (here ++ rest) ∙ ap (λ l. steps_of before ++ l) (steps_append here rest)) f
 
--- the first of the elements that are left
-pub times_next : {B : Type 0} (part : ℕ → List B) (n m at step : ℕ) → n ≡ suc m → times n part at step ≡ part at ++ times m part (at + step) step
-times_next part n m at step e = rw e
-
 -- ---- the least of the capacities that a number counts is enough
 
 pub least_again : (o : Option ℕ) → least_of (capacities_of o) ≡ o
