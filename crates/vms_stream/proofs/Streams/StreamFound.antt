@@ -42,9 +42,6 @@ pub record SectionsRead (r : Run) (s : State) (place : ℕ) (rest : List ℕ) : 
   pub tail_last : Tail
   pub goes : Goes r (record s { images = states; came = came_last; tail = tail_last; spot = Ended }) ((place + length sections) + 1) after
 
-four_long : (a b c d : List ℕ) → length (((a ++ b) ++ c) ++ d) ≡ length a + (length b + (length c + length d))
-four_long a b c d = simp length-append (omega arith)
-
 regrouped : (a b c d e : List ℕ) → (((a ++ b) ++ c) ++ d) ++ e ≡ a ++ (b ++ (c ++ (d ++ e)))
 regrouped a b c d e = simp append_assoc
 
@@ -120,7 +117,7 @@ module _ (r : Run) (good : IsGood r.set) where
             };
             agrees = q'.agrees;
             opens = subst (λ (x : ℕ). Opening r false (came_to s k (image_so v q'.all q'.numbers) q'.footed) x q'.after)
-                (omega (arith, b.place, four_long head b.bytes q'.tail close)) q'.opens;
+                (omega (arith, b.place, length-append {A = ℕ})) q'.opens;
           }
 
       pub section_found : HasRead r s place rest
@@ -209,9 +206,6 @@ record Ending (r : Run) (s : State) (place : ℕ) (rest : List ℕ) : Type 0 whe
   machine_is : r.end.machine ≡ s.machine
   images_are : r.end.images ≡ s.images
 
-nothing_may : (x : Piece) → May Nothing x → ⊥
-nothing_may x m = elim m [ ]
-
 none_left : (rest : List ℕ) → owes AfterEnd rest ≡ false → rest ≡ []
 none_left [] e = refl
 none_left (b ∷ rest) e = cc
@@ -220,7 +214,7 @@ module _ {r : Run} (s : State) {place : ℕ} {rest : List ℕ} (ok : IsBytes res
   -- if nothing is due, a reading has ended
   over_is : s.spot ≡ Over → Goes r s place rest → (place ≡ r.taken) × (s ≡ r.end)
   over_is over h = elim (next ok h) [
-    | inl t ↦ absurd (nothing_may t.unit (rw over at t.may))
+    | inl t ↦ elim (rw over at t.may) [ ]
     | inr t ↦ (t.place_is, t.end_is)
   ]
 
