@@ -132,10 +132,3 @@ field_needs set well spot n h k cell count item most lt is there least room =
           ∙ ap (λ x. steps_of (times count (item_slots (table set) x caps n) cell (size_in set x))) (sym is)
           ∙ steps_bare (table set) n item caps count cell (size_in set item) ∙ ap (λ o. steps_of (elements_slots set item o n count cell)) (sym least);
     }
-
--- the next of the elements that are left
-pub record NextItem (set : Set) (n : List ℤ) (item : Item) (most : Option ℕ) (left more cell : ℕ) : Type 0 where
-  pub room : cell + size_in set item ≤ length n
-  pub later : (cell + size_in set item) + more * size_in set item ≤ length n
-  pub steps : steps_of (elements_slots set item most n left cell)
-      ≡ steps_of (item_slots (table set) item (capacities_of most) n cell) ++ steps_of (elements_slots set item most n more (cell + size_in set item))
