@@ -1,5 +1,5 @@
 use Rattle.vms_frames.proofs.{HeadLemmas.kept_byte, ReadsParts.grown_both}
-use Rattle.vms_frames.proofs.Facade.{rules, arith, ◌≡◌, ◌+◌, ◌-◌, ◌<◌, length, get_or, ap, err_from_is_err_and, on_ok_weaker, IfErr-weaker}
+use Rattle.vms_frames.proofs.Facade.{rules, arith, ◌≡◌, ◌+◌, ◌-◌, ◌<◌, length, get_or, ap, err_from_is_err_and, on_ok_weaker, IfErr-weaker, intake, CutsShort, CutsHead}
 use Rattle.vms_frames.specs.Reads.{InFront, AfterFront}
 use Rattle.vms_frames.proofs.fill.grow_head.Goals as goal
 
@@ -21,5 +21,11 @@ returns-clause-grown g c =
 pub returns-clause-cut : goal.returns-clause-cut
 returns-clause-cut g c =
     let one = c.in_ok-grow.ensures.grown in
-    let low : get_or c.deref.result.now (c.args.front - 1) 0 < 256 = search rules in
-    IfErr-weaker c.grow-2.result _ _ (λ fault cut. AfterFront _ _ one (rw c.deref.ensures.0 at low) (rw c.deref.ensures.0 at cut)) c.grow-2.ensures.cut
+    let i = c.args.front - 1 in
+    let byte : get_or c.deref.result.now i 0 ≡ get_or c.grow.new.unit.items i 0 = ap (λ l. get_or l i 0) c.deref.ensures.0 in
+    let low : get_or c.deref.result.now i 0 < 256 = search rules in
+    let mid = intake g.S.Source c.grow.new.source in
+    let new = intake g.S.Source c.grow-2.new.source in
+    IfErr-weaker c.grow-2.result (CutsShort mid new c.args.at (get_or c.deref.result.now i 0 + c.args.rest))
+    (CutsHead (intake g.S.Source c.args.source.now) new c.args.at c.args.unit.now.items c.args.front c.args.rest)
+    (λ fault cut. AfterFront mid c.grow.new.unit.items one (omega arith) (rw byte at cut)) c.grow-2.ensures.cut
