@@ -2,7 +2,7 @@
 use Rattle.std.specs.Prelude.{◌≡◌, ℕ, ◌<◌, Bool, false, ◌==◌, List, length, get_or, ℤ, pos}
 use Rattle.std.specs.List.{list_any}
 use Rattle.vms_walk.specs.declared.step.WalkStep.{WalkStep}
-use Rattle.vms_walk.specs.declared.step.WalkStep.TheVariants.{Number, Constant, Filler, Rule}
+use Rattle.vms_walk.specs.declared.step.WalkStep.TheVariants.{Number}
 
 -- The cell of a number is among `numbers`.
 abbrev pub IsInside : List ℤ → WalkStep → Type 0

@@ -1,7 +1,7 @@
 -- What the calls need, and what they judge and write, of the set that they borrow.
 use Rattle.std.specs.Prelude.{◌≡◌, ℕ, ◌<◌, ◌≤◌, Bool, List, length, map, Option, None, get_or, IfSome, ℤ}
 use Rattle.std.specs.Bool.{OnFalse, OnTrue}
-use Rattle.vms_spec.specs.Images.{own_cells, zeroed}
+use Rattle.vms_spec.specs.Images.{zeroed}
 use Rattle.vms_spec.specs.Lists.{at_option}
 use Rattle.vms_spec.specs.Places.{own_cell_count}
 use Rattle.vms_spec.specs.Streams as streams
