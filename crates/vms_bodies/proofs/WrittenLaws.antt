@@ -1,5 +1,5 @@
 -- The bytes that the writer gives for slots are of the slots.
-use Rattle.vms_bodies.proofs.Facade.{List, [], ◌∷◌, replicate, ℤ, refl, length-replicate, Slot, Number, Constant, Filler, Rule, Spells, zeroed}
+use Rattle.vms_bodies.proofs.Facade.{List, [], ◌∷◌, replicate, ℤ, refl, length-replicate, Slot, Filler, Rule, Spells, zeroed}
 
 -- the zeroed bytes of slots are of the slots
 pub zeroed_spells : (m : List ℤ) (slots : List Slot) → Spells m slots (zeroed m slots)

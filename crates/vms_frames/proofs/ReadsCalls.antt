@@ -1,7 +1,7 @@
 -- The calls of a cursor, by what is read.
 use Rattle.vms_frames.proofs.Facade.{◌≡◌, ℕ, ◌+◌, List, [], take, drop, Option, Some, None, Result, Ok, Err, ℤ, subst, arith, same_Some, Intake}
 use Rattle.vms_frames.proofs.Facade.{reads_as, reads_both, Kind, width, number_at, Magic, Version, AMagic, AVersion, Seen, Good, seen}
-use Rattle.vms_frames.proofs.Facade.{nothing_known, FrameFault, Refused, ReadFault, Between, Step, Tail, Behind, Sub, Next, Done, AnswersHead, AnswersAfter}
+use Rattle.vms_frames.proofs.Facade.{nothing_known, FrameFault, Refused, ReadFault, Between, Step, Tail, Behind, Sub, AnswersHead, AnswersAfter}
 use Rattle.vms_frames.proofs.Facade.{AnswersSeen, AnswersEnd, ReadsNumber, after_of, held_of, IsLong, ReadsAs, ReadsMagic, ReadsVersion, ReadsCode, ReadsStep}
 use Rattle.vms_frames.proofs.Facade.{ReadsBehind, HeadReads, BetweenReads, BehindReads, EndReads, held_bytes}
 

@@ -1,10 +1,9 @@
 -- What the units so far say of a set without its validations is what they say of the set; its validations hold, since it has none.
-use Rattle.vms_stream_laws.proofs.Facade.{◌≡◌, ℕ, true, false, nat_lt, List, [], ◌∷◌, ◌++◌, drop, Option, Some, None, refl, sym, ap, ◌∙◌, option_map}
-use Rattle.vms_stream_laws.proofs.Facade.{bytes_eq, at_option, position, Device, Set, Sub, come, device, device_named, image, mark_come, opened, part, slots}
-use Rattle.vms_stream_laws.proofs.Facade.{sub_named, subs_of, Piece, Magic, Version, Configuration, Head, Number, Constant, Filler, SubHead, Foot, End, due}
-use Rattle.vms_stream_laws.proofs.Facade.{due_field, holds, rules_hold, Front, Known, Tail, behind, known, passed, tail, alone, asking, first_row, reason_of}
-use Rattle.vms_stream_laws.proofs.Facade.{HoldsBefore, unruled, unruled_device, unruled_sub, first_of}
-use Rattle.vms_stream_laws.proofs.Lists.{at_map, map_both, position_map, test_map}
+use Rattle.vms_stream_laws.proofs.{Facade.first_of, Lists.at_map, Lists.map_both, Lists.position_map, Lists.test_map}
+use Rattle.vms_stream_laws.proofs.Facade.{◌≡◌, ℕ, true, false, nat_lt, List, [], ◌∷◌, ◌++◌, drop, Option, Some, None, refl, sym, ap, ◌∙◌, option_map, bytes_eq}
+use Rattle.vms_stream_laws.proofs.Facade.{at_option, position, Device, Set, Sub, come, device, device_named, image, mark_come, opened, part, slots, sub_named}
+use Rattle.vms_stream_laws.proofs.Facade.{subs_of, Piece, Head, Number, Constant, Filler, SubHead, End, due, due_field, holds, rules_hold, Front, Known, Tail}
+use Rattle.vms_stream_laws.proofs.Facade.{behind, known, passed, tail, alone, asking, first_row, reason_of, HoldsBefore, unruled, unruled_device, unruled_sub}
 use Rattle.vms_stream_laws.proofs.Parts.{beyond_held, drop_held, due_held, fresh_same, held, part_held, rules_held, subs_held}
 
 module _ (set : Set) where

@@ -1,5 +1,5 @@
 -- A walk over parts: what is done at each of them is done at the whole.
-use Rattle.vms_walk.proofs.Facade.{◌≡◌, ℕ, suc, ◌+◌, ◌*◌, ◌<◌, ◌≤◌, List, [], ◌∷◌, ◌++◌, length, get_or, take, ℤ, refl, sym, ap, ◌∙◌, arith, append_assoc}
+use Rattle.vms_walk.proofs.Facade.{◌≡◌, ℕ, ◌+◌, ◌*◌, ◌<◌, ◌≤◌, List, [], ◌∷◌, ◌++◌, length, take, ℤ, refl, sym, ap, ◌∙◌, arith, append_assoc}
 use Rattle.vms_walk.proofs.Facade.{append-nil, pos, Option, Bool, true, take_all, Item, Field, Set, Slot, Rule, item_slots, slots_from, field_slots, all_hold}
 use Rattle.vms_walk.proofs.Facade.{capacity_of, counted, IsGood, SameBelow, IsAbove, item_above, field_above, meanings_above, least_of, field_at}
 use Rattle.vms_walk.proofs.Facade.{is_well_formed, HasPart, desc_at, WalkStep, PartAt, Keeps, steps_of, table, spot_numbers, spot_slots, slots_at, size_in}

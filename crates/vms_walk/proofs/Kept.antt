@@ -1,6 +1,6 @@
 -- What steps keep of the numbers, one after the other.
 use Rattle.vms_walk.proofs.Facade.{IsErrAnd, Result, Ok, Err, IfErr, ◌≡◌, sym, subst, ℕ, List, ◌∷◌, ◌++◌, length, length-set, slice_set, Option, ℤ, pos, refl}
-use Rattle.vms_walk.proofs.Facade.{ap, ◌∙◌, false, ◌==◌, [], ◌||◌, get_or-set_other, eq-eqb, or_parts, or_assoc, Kind, WalkStep, Number, has_step, Keeps}
+use Rattle.vms_walk.proofs.Facade.{ap, ◌∙◌, false, ◌==◌, [], ◌||◌, get_or-set_other, eq-eqb, or_parts, Kind, WalkStep, Number, has_step, Keeps}
 use Rattle.std.proofs.lemmas.List.Folds.{list_any-append}
 use Rattle.vms_walk.specs.{Calls.Takes, Inside.is_for}
 

@@ -1,11 +1,10 @@
 -- The slots up to a place depend only on the cells below it.
-use Rattle.vms_walk.proofs.{Facade.table, Facade.cells_in, Facade.steps_of, Facade.present_of, Kept.has_append, Walking.fields_more}
-use Rattle.vms_walk.proofs.Facade.{◌≡◌, ℕ, zero, suc, ◌+◌, ◌*◌, ◌<◌, ◌≤◌, List, ◌∷◌, ◌++◌, length, get_or, take, drop, ℤ, refl, sym, ap, ◌∙◌, arith, []}
-use Rattle.vms_walk.proofs.Facade.{drop_more, or_parts, slice_get-get_or, Item, Part, Field, Desc, Set, has_cell, Slot, Constant, Filler, Rule, Meaning}
+use Rattle.vms_walk.proofs.{Kept.has_append, Walking.fields_more}
+use Rattle.vms_walk.proofs.Facade.{table, cells_in, steps_of, present_of, ◌≡◌, ℕ, zero, suc, ◌+◌, ◌*◌, ◌<◌, ◌≤◌, List, ◌∷◌, ◌++◌, length, get_or, take, drop, ℤ}
+use Rattle.vms_walk.proofs.Facade.{refl, sym, ap, ◌∙◌, arith, [], drop_more, or_parts, slice_get-get_or, Item, Part, Field, Desc, Set, has_cell, Slot, Meaning}
 use Rattle.vms_walk.proofs.Facade.{item_slots, item_size, times, field_slots, slots_from, field_cells, place_of, numbers_of, no_field, IsSound, IsSoundField}
 use Rattle.vms_walk.proofs.Facade.{AreSoundFields, IsEarlier, IsGood, SameBelow, same_less, place_next, own_same, there_same, elements_same, IsAbove, SameIn}
 use Rattle.vms_walk.proofs.Facade.{MeanSettled, item_settled, field_settled, meanings_settled, device_at, HasPart, desc_at, sub_at, WalkStep, has_step, Keeps}
-use Rattle.vms_spec.specs.Layout.{Number}
 use Rattle.vms_spec.specs.declared.Part.TheVariants as parts
 
 -- ---- what steps keep

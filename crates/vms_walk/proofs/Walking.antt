@@ -2,7 +2,7 @@
 use Rattle.vms_walk.proofs.Facade.{◌≡◌, ℕ, zero, suc, ◌+◌, ◌*◌, ◌<◌, List, [], ◌∷◌, ◌++◌, length, get_or, take, ℤ, sym, ap, ◌∙◌, arith, append_assoc}
 use Rattle.vms_walk.proofs.Facade.{append-nil, ◌≤◌, drop, refl, Bool, true, false, if◌then◌else◌, Option, Some, None, drop_more, Field, Slot, Meaning, times}
 use Rattle.vms_walk.proofs.Facade.{field_slots, slots_from, field_cells, place_of, no_field, item_slots, item_size, elements_of, capacity_of, counted}
-use Rattle.vms_walk.proofs.Facade.{no_parent, cells_in, steps_of, present_of, capacities_of, Item, Num, Equal, Unused, Struct, is_there, field_size}
+use Rattle.vms_walk.proofs.Facade.{no_parent, cells_in, steps_of, present_of, capacities_of, Item, Num, is_there, field_size}
 use Rattle.vms_walk.proofs.Facade.{elements_fit, room_for_less, least_of, WalkStep}
 use Rattle.vms_walk.specs.declared.step.WalkStep.TheVariants as steps
 

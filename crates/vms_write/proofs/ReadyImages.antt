@@ -1,7 +1,7 @@
 -- What ready images have, one after the other.
 use Rattle.vms_write.proofs.Facade.{cases_lt, ⊎_elim, ◌≡◌, ℕ, ◌<◌, ◌≤◌, List, [], ◌∷◌, length, map, ℤ, ◌∙◌, arith, true, ◌+◌, get_or, Some, sym, ap}
 use Rattle.vms_write.proofs.Facade.{get_or-map, slice_get-get_or, slice_get_within, get_or_from_slice_get, slice_get, U8, MOST_ITEMS, Set, Device}
-use Rattle.vms_write.proofs.Facade.{Slot, Number, Constant, Filler, Rule, Cell, no_cell, no_desc, device_cells, Image, own_cells, own_slots, sub_place}
+use Rattle.vms_write.proofs.Facade.{Slot, Number, Constant, Cell, no_cell, no_desc, device_cells, Image, own_cells, own_slots, sub_place}
 use Rattle.vms_write.proofs.Facade.{sub_slots, IsReady, AreReady, AreCells, FitsHeads, own_constants, part_constants, sub_are, fit_slots, own_are, FitSlots}
 use Rattle.vms_write.proofs.Facade.{versions_long, device_at, is_well_formed, sub_at, kinds_at, few_cells, good_of, CanWrite, Typed, IsImageOf, AreImagesOf}
 

@@ -1,6 +1,6 @@
 -- The bytes of steps, runs of numbers, subsections and sections, one after the other.
 use Rattle.vms_write.proofs.Facade.{◌≡◌, ℕ, List, [], ◌∷◌, ◌++◌, get_or, ℤ, pos, refl, ap, zero, suc, ◌+◌, ◌≤◌, length, take, drop, Ok, Err}
-use Rattle.vms_write.proofs.Facade.{OnOk, IfErr, ◌∙◌, arith, ◌<◌, Option, Some, None, sym, ◌&&◌, drop_more, Result, Slot, Number, Constant, Filler, Rule}
+use Rattle.vms_write.proofs.Facade.{OnOk, IfErr, ◌∙◌, arith, ◌<◌, Option, Some, None, sym, ◌&&◌, drop_more, Result, Slot}
 use Rattle.vms_write.proofs.Facade.{no_desc, desc_cells, struct_cells, zeroed, Image, own_cells, steps_of, WalkStep, Kind, CanWrite, CanSteps, CanStep, bytes_of, Outlet}
 use Rattle.vms_write.proofs.Facade.{Wrote, Puts, Stops, codes_of, run_of, Set, Device, Sub, AtLeast, written_subs, written_section, written_sections}
 use Rattle.vms_write.proofs.Facade.{first_cell, device_at, sub_at, sub_next, CellForm, sub_fine, subs_fine, written_sub}

@@ -3,7 +3,7 @@ use Rattle.std.proofs.{Math.Bool.or-false, lemmas.Bool.false_from_ne_true}
 use Rattle.vms_bodies.proofs.AgreeLaws.{named_inside}
 use Rattle.vms_write.proofs.Facade.{◌≡◌, ℕ, zero, suc, ◌+◌, ◌<◌, ◌≤◌, List, [], ◌∷◌, ◌++◌, length, length-append, get_or, replicate, ℤ, pos, refl, sym, ap, ◌∙◌}
 use Rattle.vms_write.proofs.Facade.{subst, arith, Bool, true, false, ◌&&◌, ◌||◌, ◌-◌, Option, Some, None, length-replicate, ne_eqb, eq-eqb, and-true, and_assoc}
-use Rattle.vms_write.proofs.Facade.{same_number, in_range, counts_well, int_le, Desc, Set, Cell, no_cell, Slot, Number, Constant, Filler, Rule, Meaning}
+use Rattle.vms_write.proofs.Facade.{same_number, in_range, counts_well, int_le, Desc, Set, Cell, no_cell, Slot, Number, Rule, Meaning}
 use Rattle.vms_write.proofs.Facade.{desc_slots, desc_cells, has_cell, AreCells, IsAbove, MeanCells, desc_are, cells_first, names_append, and_swap, both_below}
 use Rattle.vms_write.proofs.Facade.{CellForm, no_form, are_fit, settle, is_fine, is_within, cells_in, steps_of, table, spot_slots, stands_behind, Kind}
 use Rattle.vms_write.proofs.Facade.{own_cell_count, lesser, least_from, least_of, desc_at, PartAt, Ascends, below_from, from_end, desc_ascends, meanings_ascend}

@@ -1,15 +1,14 @@
 -- In the fields of a part the judge reads slot by slot, as the structural reader does: taking a slot is what is seen of its unit.
 use Rattle.vms_stream.proofs.{Finding.Advancing.advances, Finding.Advancing.IsFramed, Finding.Advancing.behind_each, Judging.Mirrors.solid}
 use Rattle.vms_stream.proofs.Facade.{◌≡◌, if_both, ℕ, length, take, Option, Some, None, ℤ, refl, ap, ◌∙◌, Bool, true, false, not, nat_lt, ◌&&◌, if◌then◌else◌}
-use Rattle.vms_stream.proofs.Facade.{zero, suc, ◌+◌, ◌<◌, List, [], ◌∷◌, get_or, drop, slice_set, Ok, Err, sym, arith, ◌==◌, slice_get, drop-append_seam, Kind}
-use Rattle.vms_stream.proofs.Facade.{width, value_of, Reason, is_truth, is_above, exceeds, same_number, is_bad_bool, number_at, Slot, desc_slots, meanings}
-use Rattle.vms_stream.proofs.Facade.{desc_cells, Progress, Taken, refuse, on, if_whole, take_value, take_slot, Refusal, take_desc, takers, cells_of, Piece}
-use Rattle.vms_stream.proofs.Facade.{Number, Constant, Filler, Configuration, Long, Head, SubHead, Foot, End, Start, Mark, raw_same, bad_same, raw, Field, Due}
-use Rattle.vms_stream.proofs.Facade.{is_foot, AfterFields, due_field, rules_hold, Whole, Cut, needs, Found, between_at, behind_at, unit_at, Seen, Good, Bad}
-use Rattle.vms_stream.proofs.Facade.{Short, seen, seen_in, seen_by, Known, Tail, beyond, skipped, first_row, alone, first_of, put, taken_by, LONGEST_NAME, Set}
-use Rattle.vms_stream.proofs.Facade.{Device, Desc, Image, Verdict, Faulty, Reading, Refused, reading_after, part_slots, reading_on, at_set, set_twice, one_unit}
-use Rattle.vms_stream.proofs.Facade.{none_taken, IsSound, AreSound, same_refl, drop_next, Comes, set_desc_comes, step, Walks, Is, steps_keep, cut_in, Grammar}
-use Rattle.vms_stream.proofs.Facade.{judge, judge_found, by_row, owes, State, Inside, image_at, part_at, known_at, after, by_state}
+use Rattle.vms_stream.proofs.Facade.{zero, suc, ◌+◌, ◌<◌, List, [], ◌∷◌, get_or, drop, slice_set, Ok, Err, sym, arith, slice_get, drop-append_seam, Kind, width}
+use Rattle.vms_stream.proofs.Facade.{value_of, Reason, is_truth, is_above, exceeds, same_number, is_bad_bool, Slot, desc_slots, meanings, desc_cells, Progress}
+use Rattle.vms_stream.proofs.Facade.{Taken, refuse, on, if_whole, take_value, take_slot, Refusal, take_desc, takers, cells_of, Piece, Number, Constant, Filler}
+use Rattle.vms_stream.proofs.Facade.{raw_same, bad_same, raw, Field, Due, AfterFields, due_field, rules_hold, Whole, Cut, needs, Found, unit_at, Seen, Good}
+use Rattle.vms_stream.proofs.Facade.{Bad, Short, seen, seen_in, seen_by, Known, beyond, skipped, first_row, alone, first_of, put, taken_by, Set, Device, Desc}
+use Rattle.vms_stream.proofs.Facade.{Image, Verdict, Faulty, Reading, Refused, reading_after, part_slots, reading_on, at_set, set_twice, one_unit, none_taken}
+use Rattle.vms_stream.proofs.Facade.{IsSound, AreSound, same_refl, drop_next, Comes, set_desc_comes, step, Walks, Is, steps_keep, cut_in, Grammar, judge}
+use Rattle.vms_stream.proofs.Facade.{judge_found, by_row, owes, State, Inside, image_at, part_at, known_at, after, by_state}
 use Rattle.vms_spec.specs.Layout.{Number as NumberSlot, Constant as ConstantSlot, Filler as FillerSlot, Rule as RuleSlot}
 use Rattle.vms_spec.specs.Readings.{Over as IsOver}
 use Rattle.vms_bodies.proofs.StepLaws.{after as step_after, Refuses}

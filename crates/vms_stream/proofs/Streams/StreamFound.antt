@@ -6,7 +6,7 @@ use Rattle.vms_stream.proofs.Facade.{EachOnce, be32, magic, stream_head, configu
 use Rattle.vms_stream.proofs.Facade.{take_desc, takers, cells_of, IsGood, same_refl, at_set, body_found, own_are, defaults_at, defaults_long, none_versions}
 use Rattle.vms_stream.proofs.Facade.{all_came, falses, defaults_of, its_spelled, at_other, none_of, none_came, beside_start, Fine, fine_normal, fine_valid}
 use Rattle.vms_stream.proofs.Facade.{Tail, Unknown, Footed, Bare, State, Free, Ended, Headed, known_at, after, between, by_state, at_start, IsSection, BeginsSection}
-use Rattle.vms_stream.proofs.Facade.{SectionsSpell, Takes, Piece, spell, Accepted, AMagic, AVersion, AfterEnd, Nothing, May, AtMagic, AtVersion}
+use Rattle.vms_stream.proofs.Facade.{SectionsSpell, Takes, Piece, spell, Accepted, AMagic, AVersion, AfterEnd, May, AtMagic, AtVersion}
 use Rattle.vms_stream.proofs.Facade.{AtDescription, AtLongText, AtTrailing, first_of, owes, reading}
 use Rattle.vms_stream.specs.State.{Over}
 use Rattle.vms_stream.proofs.Bodies.Body.{Reads, body_read}
