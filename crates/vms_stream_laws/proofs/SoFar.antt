@@ -1,6 +1,6 @@
 -- What the units so far say of a set without its validations is what they say of the set; its validations hold, since it has none.
-use Rattle.vms_stream_laws.proofs.{Facade.first_of, Lists.at_map, Lists.map_both, Lists.position_map, Lists.test_map}
-use Rattle.vms_stream_laws.proofs.Facade.{◌≡◌, ℕ, true, false, nat_lt, List, [], ◌∷◌, ◌++◌, drop, Option, Some, None, refl, sym, ap, ◌∙◌, option_map, bytes_eq}
+use Rattle.vms_stream_laws.proofs.{Facade.first_of, Lists.at_map, Lists.position_map, Lists.test_map}
+use Rattle.vms_stream_laws.proofs.Facade.{map-map, ◌≡◌, ℕ, true, false, nat_lt, List, [], ◌∷◌, ◌++◌, drop, Option, Some, None, refl, sym, ap, ◌∙◌, option_map, bytes_eq}
 use Rattle.vms_stream_laws.proofs.Facade.{at_option, position, Device, Set, Sub, come, device, device_named, image, mark_come, opened, part, slots, sub_named}
 use Rattle.vms_stream_laws.proofs.Facade.{subs_of, Piece, Head, Number, Constant, Filler, SubHead, End, due, due_field, holds, rules_hold, Front, Known, Tail}
 use Rattle.vms_stream_laws.proofs.Facade.{behind, known, passed, tail, alone, asking, first_row, reason_of, HoldsBefore, unruled, unruled_device, unruled_sub}
@@ -17,7 +17,7 @@ module _ (set : Set) where
   at_same o = at_map unruled_device set.devices o
 
   come_same : (u : List Piece) → come bare u ≡ come set u
-  come_same [] = map_both unruled_device (λ (d : Device). false) set.devices
+  come_same [] = map-map (λ (d : Device). false) unruled_device set.devices
   come_same (Head id name instance v ∷ u) = rw (come_same u) (ap (mark_come (come set u)) (named_same name instance))
   come_same (x ∷ u) = come_same u
 
