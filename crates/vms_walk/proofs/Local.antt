@@ -5,13 +5,15 @@ use Rattle.vms_walk.proofs.Facade.{refl, sym, ap, ◌∙◌, arith, [], drop_mor
 use Rattle.vms_walk.proofs.Facade.{item_slots, item_size, times, field_slots, slots_from, field_cells, place_of, numbers_of, no_field, IsSound, IsSoundField}
 use Rattle.vms_walk.proofs.Facade.{AreSoundFields, IsEarlier, IsGood, SameBelow, same_less, place_next, own_same, there_same, elements_same, IsAbove, SameIn}
 use Rattle.vms_walk.proofs.Facade.{MeanSettled, item_settled, field_settled, meanings_settled, device_at, HasPart, desc_at, sub_at, WalkStep, has_step, Keeps}
+use Rattle.vms_spec.specs.Layout.{Number}
 use Rattle.vms_spec.specs.declared.Part.TheVariants as parts
 
 -- ---- what steps keep
 
 pub has_step_of : (xs : List Slot) (c : ℕ) → has_step (steps_of xs) c ≡ has_cell xs c
 has_step_of [] c = refl
-has_step_of (x ∷ xs) c = rw (has_step_of xs c)
+has_step_of (Number k kind caps ∷ xs) c = rw (has_step_of xs c)
+has_step_of (_ ∷ xs) c = has_step_of xs c
 
 pub keeps_below : (cell : ℕ) (xs : List Slot) (n m : List ℤ) → IsAbove cell xs → Keeps (steps_of xs) n m → SameBelow cell n m
 keeps_below cell xs n m above k = record { same = λ c lt. k.same c (has_step_of xs c ∙ above.below c lt) }
