@@ -1,5 +1,5 @@
 -- The bytes of steps, runs of numbers, subsections and sections, one after the other.
-use Rattle.vms_write.proofs.Facade.{◌≡◌, ℕ, List, [], ◌∷◌, ◌++◌, get_or, ℤ, pos, refl, ap, zero, suc, ◌+◌, ◌≤◌, length, take, drop, Ok, Err}
+use Rattle.vms_write.proofs.Facade.{Rule, ◌≡◌, ℕ, List, [], ◌∷◌, ◌++◌, get_or, ℤ, pos, refl, ap, zero, suc, ◌+◌, ◌≤◌, length, take, drop, Ok, Err}
 use Rattle.vms_write.proofs.Facade.{OnOk, IfErr, ◌∙◌, arith, ◌<◌, Option, Some, None, sym, ◌&&◌, drop_more, Result, Slot}
 use Rattle.vms_write.proofs.Facade.{no_desc, desc_cells, struct_cells, zeroed, Image, own_cells, steps_of, WalkStep, Kind, CanWrite, CanSteps, CanStep, bytes_of, Outlet}
 use Rattle.vms_write.proofs.Facade.{Wrote, Puts, Stops, codes_of, run_of, Set, Device, Sub, AtLeast, written_subs, written_section, written_sections}
@@ -8,7 +8,8 @@ use Rattle.vms_spec.specs.declared.Part.TheVariants as parts
 
 pub bytes_zeroed : (n : List ℤ) (xs : List Slot) → bytes_of n (steps_of xs) ≡ zeroed n xs
 bytes_zeroed n [] = refl
-bytes_zeroed n (x ∷ xs) = rw (bytes_zeroed n xs)
+bytes_zeroed n (Rule b ∷ xs) = bytes_zeroed n xs
+bytes_zeroed n (_ ∷ xs) = rw (bytes_zeroed n xs)
 
 -- any step of these slots
 pub can_write_step : (kinds : List Kind) (slots : List Slot) (xs rest : List WalkStep) (x : WalkStep) → CanWrite kinds slots → steps_of slots ≡ xs ++ (x ∷ rest) → CanStep kinds x
