@@ -94,4 +94,5 @@ field_solid t o slots = tt
 
 pub due_solid : (set : Set) (u : List Piece) → IsSolid (due set u)
 due_solid set [] = tt
+due_solid set (End ∷ u) = tt
 due_solid set (x ∷ u) = assumption (field_solid (tail set (x ∷ u)) (opened set (x ∷ u)) (drop (passed set (x ∷ u)) (slots set (x ∷ u))))

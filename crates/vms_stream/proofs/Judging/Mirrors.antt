@@ -106,12 +106,14 @@ module _ (set : Set) where
       }
 
   reads : (u : List Piece) → Reads u
-  reads [] = search
-  reads (Magic bytes ∷ u) = search
-  reads (Version v ∷ u) = search
-  reads (Configuration name ∷ u) = search
-  reads (Foot id ∷ u) = search
-  reads (End ∷ u) = search
+  reads [] = record { section = refl; due_is = refl; held = refl; known_is = λ i. absurd i; to_part = λ j. refl; next = refl; put = λ step. refl }
+  reads (Magic bytes ∷ u) =
+      record { section = refl; due_is = refl; held = refl; known_is = λ i. absurd i; to_part = λ j. refl; next = refl; put = λ step. refl }
+  reads (Version v ∷ u) = record { section = refl; due_is = refl; held = refl; known_is = λ i. absurd i; to_part = λ j. refl; next = refl; put = λ step. refl }
+  reads (Configuration name ∷ u) =
+      record { section = refl; due_is = refl; held = refl; known_is = λ i. absurd i; to_part = λ j. refl; next = refl; put = λ step. refl }
+  reads (Foot id ∷ u) = record { section = refl; due_is = refl; held = refl; known_is = λ i. absurd i; to_part = λ j. refl; next = refl; put = λ step. refl }
+  reads (End ∷ u) = record { section = refl; due_is = refl; held = refl; known_is = λ i. absurd i; to_part = λ j. refl; next = refl; put = λ step. refl }
   reads (x ∷ u) = reads_part (x ∷ u) (opened set (x ∷ u)) refl refl refl
 
   -- ---- the rows

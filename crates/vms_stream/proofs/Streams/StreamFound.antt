@@ -117,7 +117,8 @@ module _ (r : Run) (good : IsGood r.set) where
             };
             agrees = q'.agrees;
             opens = subst (λ (x : ℕ). Opening r false (came_to s k (image_so v q'.all q'.numbers) q'.footed) x q'.after)
-                (omega (arith, b.place, length-append {A = ℕ})) q'.opens;
+                (omega (arith, b.place, length-append ((head ++ b.bytes) ++ q'.tail) close, length-append (head ++ b.bytes) q'.tail, length-append head b.bytes))
+                q'.opens;
           }
 
       pub section_found : HasRead r s place rest
