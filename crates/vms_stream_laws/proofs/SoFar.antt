@@ -75,6 +75,7 @@ module _ (set : Set) where
 
   pub due_same : (u : List Piece) → due bare u ≡ due set u
   due_same [] = refl
+  due_same (End ∷ u) = refl
   due_same (x ∷ u) = assumption (field_same (x ∷ u))
 
   -- no validation fails
