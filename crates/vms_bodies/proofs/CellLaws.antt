@@ -1,9 +1,9 @@
 -- The numbers that are in the bytes of a description are its cells.
-use Rattle.vms_bodies.proofs.{Facade.first_cells, Names.if_there}
-use Rattle.vms_bodies.proofs.Facade.{one_more, drop_on, ◌≡◌, ℕ, zero, suc, ◌+◌, ◌<◌, ◌≤◌, List, ◌∷◌, ◌++◌, length, get_or, map, drop, ℤ, ◌∙◌, refl, arith}
-use Rattle.vms_bodies.proofs.Facade.{append_assoc, [], get_or-map, Item, Num, Struct, Field, Desc, is_there, Slot, Number, Cell, no_cell, Meaning, no_meaning}
-use Rattle.vms_bodies.proofs.Facade.{no_desc, item_cells, item_slots, item_size, times, field_slots, slots_from, desc_slots, desc_cells, cells_from}
+use Rattle.vms_bodies.proofs.Facade.{first_cells, one_more, drop_on, ◌≡◌, ℕ, zero, suc, ◌+◌, ◌<◌, ◌≤◌, List, ◌∷◌, ◌++◌, length, get_or, map, drop, ℤ, ◌∙◌, refl}
+use Rattle.vms_bodies.proofs.Facade.{arith, append_assoc, [], get_or-map, Item, Num, Struct, Field, Desc, is_there, Slot, Number, Cell, no_cell, Meaning}
+use Rattle.vms_bodies.proofs.Facade.{no_meaning, no_desc, item_cells, item_slots, item_size, times, field_slots, slots_from, desc_slots, desc_cells, cells_from}
 use Rattle.vms_bodies.proofs.Facade.{field_cells, elements_of, capacity_of, counted, no_parent, first, meaning, meanings, AreCells, size_same, elements_fit}
+use Rattle.vms_bodies.proofs.Names.{if_there}
 
 -- from an index on, these cells are in a list
 pub record Stands (all : List Cell) (at : ℕ) (cells : List Cell) : Type 0 where

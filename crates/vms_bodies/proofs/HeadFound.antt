@@ -20,11 +20,8 @@ big_from_take : (i k : ℕ) (xs : List ℕ) (m : ℕ) → i + k ≤ m → big_fr
 big_from_take i zero xs m le = refl
 big_from_take i (suc k) xs m le = rw (get_or-take m xs i 0 (omega arith), (big_from_take (suc i) k xs m (omega arith))) refl
 
-number_take : (k : ℕ) (xs : List ℕ) → big_number k (take k xs) ≡ big_number k xs
-number_take k xs = big_from_take 0 k xs k (omega arith)
-
 pub split_four : (xs : List ℕ) → IsBytes xs → 4 ≤ length xs → xs ≡ be32 (big_number 4 xs) ++ drop 4 xs
-split_four xs ok long = cc (take-append-drop 4 xs, again U32 (take 4 xs) (length-take-le 4 xs long) (bytes_first 4 xs ok), number_take 4 xs)
+split_four xs ok long = cc (take-append-drop 4 xs, again U32 (take 4 xs) (length-take-le 4 xs long) (bytes_first 4 xs ok), big_from_take 0 4 xs 4 (omega arith))
 
 pub four_at : (k after : ℕ) (rest : List ℕ) → IsBytes rest → after ≡ k + 4 → after ≤ length rest → drop k rest ≡ be32 (number_at 4 k rest) ++ drop after rest
 four_at k after rest ok e le =

@@ -24,10 +24,9 @@ value_law kind bs len ok good = value_taken kind bs len ok (not_bad kind good)
 
 pub spells_append : (m : List ℤ) (xs ys : List Slot) (a b : List ℕ) → Spells m xs a → Spells m ys b → Spells m (xs ++ ys) (a ++ b)
 spells_append m [] ys a b p q = rw p q
-spells_append m (Number c kind caps ∷ xs) ys a b p q = (p.0 ++ b, rw (p.1, append_assoc) refl, spells_append m xs ys p.0 b p.2 q)
-spells_append m (Constant kind z ∷ xs) ys a b p q = (p.0 ++ b, rw (p.1, append_assoc) refl, spells_append m xs ys p.0 b p.2 q)
 spells_append m (Filler n ∷ xs) ys a b p q = (p.0, p.1 ++ b, p.2, rw (p.3, append_assoc) refl, spells_append m xs ys p.1 b p.4 q)
 spells_append m (Rule r ∷ xs) ys a b p q = spells_append m xs ys a b p q
+spells_append m (_ ∷ xs) ys a b p q = (p.0 ++ b, rw (p.1, append_assoc) refl, spells_append m xs ys p.0 b p.2 q)
 
 -- each number fits its kind and the capacities that it counts, and each constant its kind
 abbrev pub FitSlots : List ℤ → List Slot → Type 0

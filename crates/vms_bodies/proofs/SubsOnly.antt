@@ -1,12 +1,12 @@
 -- A section with subsections in any order is read.
-use Rattle.vms_bodies.proofs.{Facade.IsValid, Facade.IsVersionOf, Facade.sub_head, BodyLaws.at_set, SpellLaws.FitSlots, BodyOnly.body_only, SettledLaws.SameIn}
-use Rattle.vms_bodies.proofs.{FineLaws.part_place, Names.names_append, Names.none_in_both, Names.none_joined}
+use Rattle.vms_bodies.proofs.{Facade.has_cell, Facade.IsNormal, BodyLaws.at_set, SpellLaws.FitSlots, BodyOnly.body_only, SettledLaws.SameIn}
+use Rattle.vms_bodies.proofs.{FineLaws.part_place, ConstantLaws.own_constants, ConstantLaws.part_constants}
 use Rattle.vms_bodies.proofs.AgreeLaws.{its_same, its_spelled, its_fit, its_hold, its_below, its_outside}
-use Rattle.vms_bodies.proofs.ConstantLaws.{own_constants, part_constants}
-use Rattle.vms_bodies.proofs.Facade.{take_desc, takers, IsGood, ◌≡◌, ℕ, zero, suc, ◌+◌, ◌<◌, ◌≤◌, List, ◌∷◌, ◌++◌, length, get_or, map, slice_set, Option, Some}
-use Rattle.vms_bodies.proofs.Facade.{None, Ok, ℤ, pos, refl, sym, ap, ◌∙◌, arith, true, false, if◌then◌else◌, ◌||◌, [], slice_get, ext_get_or}
-use Rattle.vms_bodies.proofs.Facade.{get_or-eq_default, cases_lt, cases_eq, cases_Bool, ⊎_elim, slice_get_within, Device, Set, Sub, Slot, Rule, Cell, no_cell}
-use Rattle.vms_bodies.proofs.Facade.{device_cells, Image, default_image, own_slots, own_cells, sub_slots, came_slots, Spells, RulesHold, has_cell, IsNormal}
+use Rattle.vms_bodies.proofs.Facade.{IsValid, IsVersionOf, sub_head, take_desc, takers, IsGood, ◌≡◌, ℕ, zero, suc, ◌+◌, ◌<◌, ◌≤◌, List, ◌∷◌, ◌++◌, length}
+use Rattle.vms_bodies.proofs.Facade.{get_or, map, slice_set, Option, Some, None, Ok, ℤ, pos, refl, sym, ap, ◌∙◌, arith, true, false, if◌then◌else◌, ◌||◌, []}
+use Rattle.vms_bodies.proofs.Facade.{slice_get, ext_get_or, get_or-eq_default, cases_lt, cases_eq, cases_Bool, ⊎_elim, slice_get_within, Device, Set, Sub, Slot}
+use Rattle.vms_bodies.proofs.Facade.{Rule, Cell, no_cell, device_cells, Image, default_image, own_slots, own_cells, sub_slots, came_slots, Spells, RulesHold}
+use Rattle.vms_bodies.proofs.Names.{names_append, none_in_both, none_joined}
 use Rattle.vms_bodies.proofs.PartLaws.{sub_size, sub_are, sub_place_up, parts_apart, parts_together, part_apart, names_next, none_of, none_came}
 use Rattle.vms_bodies.proofs.SectionLaws.{fit_slots, own_are, defaults_at, defaults_long}
 use Rattle.vms_spec.specs.Streams

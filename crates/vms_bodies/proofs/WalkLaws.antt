@@ -67,10 +67,9 @@ pub zero_plus : (i : ℕ) → 0 + i ≡ i
 zero_plus i = omega arith
 
 pub drop_next : {A : Type 0} (xs : List A) (i : ℕ) (x : A) (more : List A) → drop i xs ≡ x ∷ more → drop (suc i) xs ≡ more
-drop_next [] zero x more e = cc
 drop_next [] (suc i) x more e = cc
-drop_next (y ∷ ys) zero x more e = cc
 drop_next (y ∷ ys) (suc i) x more e = drop_next ys i x more e
+drop_next _ _ x more e = cc
 
 -- ---- readings by slots
 

@@ -1,5 +1,5 @@
 -- The names of other crates, and of this crate's `specs`, that the proofs use.
-pub use Rattle.std.proofs.{lemmas.Int.to_z-of_z, lemmas.Option.same_Some, lemmas.Result.err_from_is_err_and, lemmas.Slice.Eq.bytes_eq-Decides}
+pub use Rattle.std.proofs.{lemmas.Int.to_z-of_z, lemmas.Option.same_Some, lemmas.Result.err_from_is_err_and, lemmas.Result.on_ok_weaker, lemmas.Result.IfErr-weaker, lemmas.Slice.Eq.bytes_eq-Decides}
 pub use Rattle.std.proofs.Common.{Bool, Err, List, None, Ok, Option, Result, Some, [], ap, append_assoc, arith, drop, drop_at, false, get_or, if◌then◌else◌}
 pub use Rattle.std.proofs.Common.{length, length-append, length-drop, nat_lt, not, refl, rules, slice_index, subst, suc, sym, take, take-append-drop, take_all}
 pub use Rattle.std.proofs.Common.{take_at, true, zero, ℕ, ℤ, ◌&&◌, ◌++◌, ◌+◌, ◌-◌, ◌<◌, ◌==◌, ◌^◌, ◌∙◌, ◌∷◌, ◌≡◌, ◌≤◌}
@@ -22,7 +22,7 @@ pub use Rattle.vms_frames.specs.Calls.{due_of, held_of, in_section, step_long, t
 pub use Rattle.vms_frames.specs.Reads.{BehindReads, BetweenReads, CutsShort, EndReads, Grows, HeadReads, IsBegun, IsLong, Passes, ReadsAs, ReadsBehind}
 pub use Rattle.vms_frames.specs.Reads.{ReadsCode, ReadsFoot, ReadsMagic, ReadsNext, ReadsStep, ReadsSub, ReadsText, ReadsTrailer, ReadsUnit, ReadsVersion}
 pub use Rattle.vms_frames.specs.Reads.{configuration_seen, described, foot_seen, head_seen, held_bytes, IsStartReason, start_seen, sub_long, IsMarkReason}
-pub use Rattle.vms_frames.specs.Reads.{sub_seen}
+pub use Rattle.vms_frames.specs.Reads.{sub_seen, CutsHead}
 pub use Rattle.vms_frames.specs.declared.fault.FrameFault.{FrameFault, TheVariants.ReadFault, TheVariants.Refused}
 pub use Rattle.vms_frames.specs.declared.units.Behind.{Behind, TheVariants.Done, TheVariants.Next, TheVariants.Sub}
 pub use Rattle.vms_frames.specs.declared.units.Between.{Between, TheVariants.First}

@@ -16,14 +16,8 @@ kept_byte i unit more kept h = sym (get_or-take (length unit) more i 0 h) ∙ ap
 
 -- ---- heads of sections
 
-pub head_begins : (unit rest : List ℕ) → length unit + length rest < 6 → head_seen (unit ++ rest) ≡ Short
-head_begins unit rest few =
-    cut_short (IsBetween true false) nothing_known (14 + get_or (unit ++ rest) 5 0) (unit ++ rest) _ (omega (arith, length-append unit rest))
-
-pub head_cut : (unit rest : List ℕ) → 6 ≤ length unit → length unit + length rest < 14 + get_or unit 5 0 → head_seen (unit ++ rest) ≡ Short
-head_cut unit rest some few =
-    let n : get_or (unit ++ rest) 5 0 ≡ get_or unit 5 0 = byte_of_unit 5 unit rest (omega arith) in
-    cut_short (IsBetween true false) nothing_known (14 + get_or (unit ++ rest) 5 0) (unit ++ rest) _ (omega (arith, length-append unit rest))
+pub head_cut : (all : List ℕ) → length all < 14 + get_or all 5 0 → head_seen all ≡ Short
+head_cut all few = cut_short (IsBetween true false) nothing_known (14 + get_or all 5 0) all _ few
 
 pub head_long : (unit : List ℕ) → length unit ≡ 14 + get_or unit 5 0 → length unit ≡ step_long (Section (head_in unit))
 head_long unit long = rw (length-take-le (get_or unit 5 0) (drop 6 unit) (omega (arith, length-drop 6 unit))) long
@@ -46,14 +40,8 @@ head_whole unit rest long =
 
 -- ---- heads of subsections
 
-pub sub_begins : (unit rest : List ℕ) → length unit + length rest < 2 → sub_seen (unit ++ rest) ≡ Short
-sub_begins unit rest few =
-    cut_short (AfterFields 0 tails.Unknown) nothing_known (6 + get_or (unit ++ rest) 1 0) (unit ++ rest) _ (omega (arith, length-append unit rest))
-
-pub sub_cut : (unit rest : List ℕ) → 2 ≤ length unit → length unit + length rest < 6 + get_or unit 1 0 → sub_seen (unit ++ rest) ≡ Short
-sub_cut unit rest some few =
-    let n : get_or (unit ++ rest) 1 0 ≡ get_or unit 1 0 = byte_of_unit 1 unit rest (omega arith) in
-    cut_short (AfterFields 0 tails.Unknown) nothing_known (6 + get_or (unit ++ rest) 1 0) (unit ++ rest) _ (omega (arith, length-append unit rest))
+pub sub_cut : (all : List ℕ) → length all < 6 + get_or all 1 0 → sub_seen all ≡ Short
+sub_cut all few = cut_short (AfterFields 0 tails.Unknown) nothing_known (6 + get_or all 1 0) all _ few
 
 pub sub_whole_long : (unit : List ℕ) → length unit ≡ 6 + get_or unit 1 0 → length unit ≡ 6 + length (sub_head_in unit).name.items
 sub_whole_long unit long = rw (length-take-le (get_or unit 1 0) (drop 2 unit) (omega (arith, length-drop 2 unit))) long
@@ -88,14 +76,8 @@ module _ (id : ℕ) where
 
 -- ---- sections that are sent in parts
 
-pub start_begins : (unit rest : List ℕ) → length unit + length rest < 6 → start_seen (unit ++ rest) ≡ Short
-start_begins unit rest few =
-    cut_short (IsBetween true false) nothing_known (6 + get_or (unit ++ rest) 5 0) (unit ++ rest) _ (omega (arith, length-append unit rest))
-
-pub start_cut : (unit rest : List ℕ) → 6 ≤ length unit → length unit + length rest < 6 + get_or unit 5 0 → start_seen (unit ++ rest) ≡ Short
-start_cut unit rest some few =
-    let n : get_or (unit ++ rest) 5 0 ≡ get_or unit 5 0 = byte_of_unit 5 unit rest (omega arith) in
-    cut_short (IsBetween true false) nothing_known (6 + get_or (unit ++ rest) 5 0) (unit ++ rest) _ (omega (arith, length-append unit rest))
+pub start_cut : (all : List ℕ) → length all < 6 + get_or all 5 0 → start_seen all ≡ Short
+start_cut all few = cut_short (IsBetween true false) nothing_known (6 + get_or all 5 0) all _ few
 
 pub start_whole : (unit rest : List ℕ) (reason : Reason) → length unit ≡ 6 + get_or unit 5 0 → IsStartReason (drop 6 unit) reason
     → start_seen (unit ++ rest) ≡ Bad (6 + get_or unit 5 0) reason

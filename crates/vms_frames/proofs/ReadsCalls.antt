@@ -1,7 +1,7 @@
 -- The calls of a cursor, by what is read.
 use Rattle.vms_frames.proofs.Facade.{◌≡◌, ℕ, ◌+◌, List, [], take, drop, Option, Some, None, Result, Ok, Err, ℤ, subst, arith, same_Some, Intake}
 use Rattle.vms_frames.proofs.Facade.{reads_as, reads_both, Kind, width, number_at, Magic, Version, AMagic, AVersion, Seen, Good, seen}
-use Rattle.vms_frames.proofs.Facade.{nothing_known, FrameFault, Refused, ReadFault, Between, Step, Tail, Behind, Sub, Next, Done, AnswersHead, AnswersAfter}
+use Rattle.vms_frames.proofs.Facade.{nothing_known, FrameFault, Refused, ReadFault, Between, Step, Tail, Behind, Sub, AnswersHead, AnswersAfter}
 use Rattle.vms_frames.proofs.Facade.{AnswersSeen, AnswersEnd, ReadsNumber, after_of, held_of, IsLong, ReadsAs, ReadsMagic, ReadsVersion, ReadsCode, ReadsStep}
 use Rattle.vms_frames.proofs.Facade.{ReadsBehind, HeadReads, BetweenReads, BehindReads, EndReads, held_bytes}
 
@@ -23,8 +23,7 @@ calls_number kind at r h = reads_as (λ n l. bare (λ _. width kind) (width kind
 pub calls_behind : {a b : Intake} (t : Tail) (id at : ℕ) (x : Behind) → ReadsBehind a b t id [] at (Ok x)
     → BehindReads a b t id at (held_of (Ok x)) (after_of (Ok x))
 calls_behind t id at (Sub name version) h = reads_as (λ n l. omega arith) (λ rest left p. p) h
-calls_behind t id at (Next b) h = reads_as (λ n l. omega arith) (λ rest left p. p) h
-calls_behind t id at Done h = reads_as (λ n l. omega arith) (λ rest left p. p) h
+calls_behind t id at _ h = reads_as (λ n l. omega arith) (λ rest left p. p) h
 
 -- a fault says nothing about the byte that is held
 pub calls_none_behind : {a b : Intake} (t : Tail) (id at : ℕ) (held : Option ℕ) (e : FrameFault) → ReadsBehind a b t id [] at (Err e)

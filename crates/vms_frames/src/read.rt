@@ -1,5 +1,5 @@
 // Reads one unit a call, from its first byte on. Each is refused at the offset `at`.
-ghost use Rattle.std.specs.Prelude.{◌≡◌, true, false, ◌∷◌, [], ◌≤◌, length, IfOk};
+ghost use Rattle.std.specs.Prelude.{◌≡◌, true, false, ◌∷◌, [], ◌≤◌, length, IfOk, Err};
 ghost use Rattle.vms_kinds.specs.Codes.{InRange};
 ghost use Rattle.vms_frames.specs.Calls.{IsNext, is_configuration, tail_of};
 ghost use Rattle.vms_io.specs.Told.{intake};
@@ -7,7 +7,7 @@ ghost use Rattle.vms_frames.specs.Reads.{ReadsMagic, ReadsVersion, ReadsCode, Re
 ghost use Rattle.vms_marks.specs.declared.description.TheConstants.{DESCRIPTION_FRONT, LONGEST_DESCRIPTION};
 
 use crate::fault::refused;
-use crate::fill::{Unit, fill, grow, pass};
+use crate::fill::{Unit, fill, grow, grow_head, pass};
 use crate::units::{Begins, Behind};
 use crate::{Between, FrameFault, Step, Tail};
 use byteorder::{BigEndian, ByteOrder};
@@ -96,7 +96,7 @@ fn marked<S: Source>(
     let mark = unit[0];
     match Mark::of(mark) {
         Some(Mark::End) => Ok(Step::End),
-        Some(Mark::Start) => start(source, at, unit),
+        Some(Mark::Start) => Err(start(source, at, unit)),
         Some(Mark::Full) => section(source, at, unit),
         Some(Mark::Configuration) if between == Between::First => configuration(source, at, unit),
         _ => Err(refused(at, mark_reason(mark, between))),
@@ -123,9 +123,7 @@ fn section<S: Source>(source: &mut S, at: u64, unit: Unit) -> Result<Step, Frame
     ensures section { IfOk result (λ step. is_configuration step ≡ false) }
 {
     let mut unit = unit;
-    grow(source, at, &mut unit, HEAD_FRONT - 1)?;
-    let ahead = Head::name_length(&unit) + 8;
-    grow(source, at, &mut unit, ahead)?;
+    grow_head(source, at, &mut unit, HEAD_FRONT, 8)?;
     Ok(Step::Section(Head::of(&unit)))
 }
 
@@ -145,18 +143,18 @@ fn configuration<S: Source>(source: &mut S, at: u64, unit: Unit) -> Result<Step,
     Ok(Step::Configuration(Configuration::of(&unit).machine))
 }
 
-// Reads the head of a section that is sent in parts, whose mark is in `unit`, and refuses it.
-fn start<S: Source>(source: &mut S, at: u64, unit: Unit) -> Result<Step, FrameFault>
+// Reads the head of a section that is sent in parts, whose mark is in `unit`, and returns why it is
+// refused.
+fn start<S: Source>(source: &mut S, at: u64, unit: Unit) -> FrameFault
     requires { length unit.items ≡ 1 }
-    ensures reads { ReadsNext (intake S.Source source.old) (intake S.Source source.new)
-        start_seen unit.items at result }
-    ensures none { IfOk result (λ step. is_configuration step ≡ false) }
+    ensures { ReadsNext (intake S.Source source.old) (intake S.Source source.new)
+        start_seen unit.items at (Err result) }
 {
     let mut unit = unit;
-    grow(source, at, &mut unit, HEAD_FRONT - 1)?;
-    let ahead = Head::name_length(&unit);
-    grow(source, at, &mut unit, ahead)?;
-    Err(refused(at, start_reason(&unit[HEAD_FRONT..])))
+    match grow_head(source, at, &mut unit, HEAD_FRONT, 0) {
+        Ok(()) => refused(at, start_reason(&unit[HEAD_FRONT..])),
+        Err(fault) => fault,
+    }
 }
 
 // Returns why the section `name`, which is sent in parts, is refused.
@@ -236,9 +234,7 @@ fn subsection<S: Source>(source: &mut S, at: u64, unit: Unit) -> Result<SubHead,
         unit.items at result }
 {
     let mut unit = unit;
-    grow(source, at, &mut unit, SUB_FRONT - 1)?;
-    let ahead = SubHead::name_length(&unit) + 4;
-    grow(source, at, &mut unit, ahead)?;
+    grow_head(source, at, &mut unit, SUB_FRONT, 4)?;
     Ok(SubHead::of(&unit))
 }
 

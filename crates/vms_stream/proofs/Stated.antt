@@ -130,21 +130,8 @@ section_found_holds set names well heads machine images came tail first after im
     by (Names name more is e one le goes) = let f = sym four ∙ ap (λ l. get_or l 0 0) e in cc
     by (Opens k id v d more f e there new version goes) =
         let inside = slice_get_within set.devices k d there in
-        let q = section_found (record { set = set; names = names; taken = n; end = end }) (well_good set well heads)
-        (between machine images came tail false false) place k id v d more there (omega arith) came_long ok f e version goes in
-        record {
-          number = k;
-          device = d;
-          there = there;
-          new = new;
-          id = q.id;
-          image = q.image;
-          footed = q.footed;
-          bytes = q.bytes;
-          after = q.after;
-          is = q.is;
-          spelled = q.spelled;
-        }
+        (section_found (record { set = set; names = names; taken = n; end = end }) (well_good set well heads)
+        (between machine images came tail false false) place k id v d more there (omega arith) came_long ok f e new version goes).begins
 
 -- ---- what the writer gives
 

@@ -106,9 +106,6 @@ head_bytes id instance version name p short =
           (bytes_append (be32 id) (length name ∷ name) (be32_bytes id) named) (be32_bytes instance)) (be32_bytes version),
     )
 
-sub-head-bytes : (name : List ℕ) (v : ℕ) → AreBytes name → length name < 256 → AreBytes (sub_head name v)
-sub-head-bytes name v p short = (omega arith, bytes_append (length name ∷ name) (be32 v) (short, p) (be32_bytes v))
-
 pub foot_bytes : (id : ℕ) → AreBytes (foot id)
 foot_bytes id = (omega arith, be32_bytes id)
 
@@ -120,7 +117,7 @@ module _ (set : Set) where
       let next = at + length (desc_cells (struct_cells set) s.desc) in
       bytes_append (sub_head s.desc.name v ++ zeroed image.numbers (sub_slots set s v image.numbers at)) (written_subs set d image next subs came)
       (bytes_append (sub_head s.desc.name v) (zeroed image.numbers (sub_slots set s v image.numbers at))
-      (sub-head-bytes s.desc.name v named.0.octets named.0.short)
+      (omega arith, bytes_append (length s.desc.name ∷ s.desc.name) (be32 v) (named.0.short, named.0.octets) (be32_bytes v))
       (zeroed-bytes image.numbers (sub_slots set s v image.numbers at))) (subs-bytes d image next subs came named.1)
   subs-bytes d image at _ _ named = tt
 

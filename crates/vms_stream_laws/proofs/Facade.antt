@@ -1,24 +1,25 @@
 -- The names of other crates, and of this crate's `specs`, that the proofs use.
 pub use Rattle.vms_bodies.proofs.{Names.if_there, ComeLaws.none_missing, ConstantLaws.own_constants, ConstantLaws.part_constants, SectionLaws.AreConstants}
-pub use Rattle.std.proofs.{Math.Nat.mul-le-mul_right, Math.Seq.take-append_seam, lemmas.Option.slice_get-map, lemmas.Option.slice_get_within}
+pub use Rattle.std.proofs.{Math.Nat.mul-le-mul_right, Math.Seq.take-append_seam, lemmas.Simd.map-map}
 pub use Rattle.std.proofs.Common.{Bool, List, None, Option, Some, [], ap, append_assoc, arith, drop, false, get_or, if◌then◌else◌, length, length-append}
 pub use Rattle.std.proofs.Common.{length-drop, length-set, map, nat_le, nat_lt, negsuc, not, pos, refl, slice_set, subst, suc, sym, take, true, zero, ℕ, ℤ}
 pub use Rattle.std.proofs.Common.{◌&&◌, ◌*◌, ◌++◌, ◌+◌, ◌<◌, ◌^◌, ◌∙◌, ◌∷◌, ◌≡◌, ◌≤◌}
 pub use Rattle.std.proofs.lemmas.Bool.{and_from, and_parts, le-ltb, leb-true, ltb-false}
 pub use Rattle.std.proofs.lemmas.List.{append-nil, drop-map, length-map, length-replicate, map-append, take-map}
+pub use Rattle.std.proofs.lemmas.Option.{slice_get-map, slice_get_within}
 pub use Rattle.std.specs.{List.flat_map, List.list_any, List.slice_get, Option.option_map, Prelude.replicate, Str.bytes_eq}
 pub use Rattle.vms_kinds.proofs.ByteLemmas.{bytes_both, bytes_first}
 pub use Rattle.vms_kinds.specs.{Bytes.IsBytes, Codes.InRange, declared.Item.Item, declared.Item.TheVariants.Struct, declared.Kind.Kind}
 pub use Rattle.vms_kinds.specs.{declared.Kind.TheVariants.U8}
 pub use Rattle.vms_spec.proofs.{Faultless.AllTrue, Faultless.all_true, Faultless.or_else_none, ListLaws.both_none, NumberLaws.is_below, NumberLaws.not_above}
 pub use Rattle.vms_spec.proofs.{NumberLaws.same_number_itself, Sizes.elements_fit, Tables.one_more, WellFormedLaws.device_parts, WellFormedLaws.well_good}
-pub use Rattle.vms_spec.specs.{Good.IsGood, Heads.FitsHeads, Layout.numbers_of, Layout.slots_from, Lists.at_option, Lists.first_answer, Lists.or_else}
-pub use Rattle.vms_spec.specs.{Lists.position, Lookup.raw, Rules.is_small_test, Sets.Desc, Sets.Device, Sets.Field, Sets.Set, Sets.Sub, SoFar.sub_named}
-pub use Rattle.vms_spec.specs.{Streams.AllCame, Streams.magic, Tests.is_there, declared.Part.Part, Numbers.exceeds, Numbers.is_above, Numbers.is_truth}
-pub use Rattle.vms_spec.specs.Images.{Image, default_image, own_cells, sub_place}
-pub use Rattle.vms_spec.specs.Layout.{struct_cells, times, Cell, Meaning, Rule, Slot, all_hold, capacity_of, counted, desc_cells, desc_slots, device_cells}
-pub use Rattle.vms_spec.specs.Layout.{elements_of, field_cells, field_slots, item_size, item_slots, meaning, meanings, no_desc, no_meaning, no_parent}
-pub use Rattle.vms_spec.specs.SoFar.{subs_of, come, device, device_named, fresh, id_of, image, mark_come, opened, part, part_slots, slots, slots_of_sub}
+pub use Rattle.vms_spec.specs.{Good.IsGood, Heads.FitsHeads, Layout.no_meaning, Layout.no_parent, Lookup.raw, Rules.is_small_test, Sets.Desc, Sets.Device}
+pub use Rattle.vms_spec.specs.{Sets.Field, Sets.Set, Sets.Sub, SoFar.slots_of_sub, Streams.AllCame, Streams.magic, Tests.is_there, declared.Part.Part}
+pub use Rattle.vms_spec.specs.{Numbers.exceeds, Numbers.is_above, Numbers.is_truth, Images.Image, Images.default_image, Images.own_cells, Images.sub_place}
+pub use Rattle.vms_spec.specs.Layout.{numbers_of, slots_from, struct_cells, times, Cell, Meaning, Rule, Slot, all_hold, capacity_of, counted, desc_cells}
+pub use Rattle.vms_spec.specs.Layout.{desc_slots, device_cells, elements_of, field_cells, field_slots, item_size, item_slots, meaning, meanings, no_desc}
+pub use Rattle.vms_spec.specs.Lists.{at_option, first_answer, or_else, position}
+pub use Rattle.vms_spec.specs.SoFar.{sub_named, subs_of, come, device, device_named, fresh, id_of, image, mark_come, opened, part, part_slots, slots}
 pub use Rattle.vms_spec.specs.Units.{Configuration, Constant, End, Filler, Foot, Head, Magic, Number, Piece, SubHead, Version, spell, spelled}
 pub use Rattle.vms_spec.specs.WellFormed.{WellFormed, deepest, desc_fault, device_fault, device_rules, devices_items, failing, fields_fault, has_few, here}
 pub use Rattle.vms_spec.specs.WellFormed.{is_same_device, items_in, set_rules, size_rules, struct_depths, struct_fault, struct_items, struct_rules, sub_fault}

@@ -3,10 +3,6 @@ use Rattle.vms_stream_laws.proofs.Facade.{◌≡◌, ℕ, zero, suc, Bool, List,
 use Rattle.vms_stream_laws.proofs.Facade.{at_option, first_answer, position, or_else_none, both_none, test_some}
 
 module _ {X Y : Type 0} (f : X → Y) where
-  pub map_both : {Z : Type 0} (g : Y → Z) (xs : List X) → map g (map f xs) ≡ map (λ x. g (f x)) xs
-  map_both g [] = refl
-  map_both g (x ∷ xs) = rw (map_both g xs)
-
   pub position_map : (p : Y → Bool) (k : ℕ) (xs : List X) → position p k (map f xs) ≡ position (λ x. p (f x)) k xs
   position_map p k [] = refl
   position_map p k (x ∷ xs) = rw (position_map p (suc k) xs)

@@ -57,12 +57,12 @@ module _ (set : Set) (names : List (List ℕ)) (well : WellFormed set) (heads : 
   constants_of (Some k) i p = by (slice_get set.devices k) refl p
     where
       of_sub : (d : Device) → slice_get set.devices k ≡ Some d → (j : ℕ) (s : Option Sub) → slice_get d.subs j ≡ s → (c : Option (Option ℕ)) → AreConstants (slots_of_sub set d i j s c)
-      of_sub d e j (Some s) f (Some (Some v)) = part_constants set (well_good set well heads) k j d s e f v (sub_place set (own_cells set d) d.subs j) i.numbers
+      of_sub d e j (Some s) f (Some (Some v)) = part_constants set good k j d s e f v (sub_place set (own_cells set d) d.subs j) i.numbers
       of_sub d e j _ f _ = tt
 
       by : (o : Option Device) → slice_get set.devices k ≡ o → (p : Option ℕ) → AreConstants (part_slots set o i p)
       by None e p = tt
-      by (Some d) e None = own_constants set (well_good set well heads) k d e i.version 0 i.numbers
+      by (Some d) e None = own_constants set good k d e i.version 0 i.numbers
       by (Some d) e (Some j) = of_sub d e j (slice_get d.subs j) refl (slice_get i.came j)
 
   abbrev left : List Piece → List Slot
@@ -174,8 +174,8 @@ module _ (set : Set) (names : List (List ℕ)) (well : WellFormed set) (heads : 
   section_on u k d there new front opens next =
       let v = d.desc.version in
       let x = Head 0 d.desc.name d.instance v in
-      let tops = (well_good set well heads).instance k d there in
-      let named = (well_good set well heads).distinct k d there in
+      let tops = good.instance k d there in
+      let named = good.distinct k d there in
       on u x front (opens.head 0 d.desc.name d.instance v (omega arith) tops.0 tops.1)
       (head_passes set names (due set u) (known set u) 0 d.desc.name d.instance v k d named there new (leb-true d.desc.minimum v (device_parts set well k d there).0.own.1.1.0, omega arith))
       (let named = (parts_named set well k d there).0 in head_bytes 0 d.instance v d.desc.name named.octets named.short)

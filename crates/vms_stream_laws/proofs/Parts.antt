@@ -1,5 +1,5 @@
 -- The slots of a set without its validations are those of the set, with every rule true.
-use Rattle.vms_stream_laws.proofs.{Facade.unruled_device, Facade.unruled_sub, Lists.map_both}
+use Rattle.vms_stream_laws.proofs.Facade.{unruled_device, unruled_sub, map-map}
 use Rattle.vms_stream_laws.proofs.Facade.{◌≡◌, ℕ, zero, suc, ◌+◌, Bool, true, false, if◌then◌else◌, List, [], ◌∷◌, length, map, get_or, drop, Option, Some}
 use Rattle.vms_stream_laws.proofs.Facade.{None, ℤ, refl, sym, ap, ◌∙◌, flat_map, slice_get, option_map, drop-map, length-map, map-append, slice_get-map}
 use Rattle.vms_stream_laws.proofs.Facade.{fun_ext, Item, Struct, Image, default_image, own_cells, sub_place, Cell, Slot, Rule, Meaning, no_meaning, no_desc}
@@ -133,7 +133,7 @@ module _ (set : Set) where
   default_same : (d : Device) → default_image (unruled set) (unruled_device d) ≡ default_image set d
   default_same d =
       let none : Sub → Option ℕ = λ s. None in
-      rw (map_both unruled_sub none d.subs, device_same d) refl
+      rw (map-map none unruled_sub d.subs, device_same d) refl
 
   pub fresh_same : (o : Option Device) (v : ℕ) → fresh (unruled set) (option_map unruled_device o) v ≡ fresh set o v
   fresh_same None v = refl

@@ -1,10 +1,9 @@
 -- What the units so far say of a set without its validations is what they say of the set; its validations hold, since it has none.
-use Rattle.vms_stream_laws.proofs.Facade.{◌≡◌, ℕ, true, false, nat_lt, List, [], ◌∷◌, ◌++◌, drop, Option, Some, None, refl, sym, ap, ◌∙◌, option_map}
-use Rattle.vms_stream_laws.proofs.Facade.{bytes_eq, at_option, position, Device, Set, Sub, come, device, device_named, image, mark_come, opened, part, slots}
-use Rattle.vms_stream_laws.proofs.Facade.{sub_named, subs_of, Piece, Magic, Version, Configuration, Head, Number, Constant, Filler, SubHead, Foot, End, due}
-use Rattle.vms_stream_laws.proofs.Facade.{due_field, holds, rules_hold, Front, Known, Tail, behind, known, passed, tail, alone, asking, first_row, reason_of}
-use Rattle.vms_stream_laws.proofs.Facade.{HoldsBefore, unruled, unruled_device, unruled_sub, first_of}
-use Rattle.vms_stream_laws.proofs.Lists.{at_map, map_both, position_map, test_map}
+use Rattle.vms_stream_laws.proofs.{Facade.first_of, Lists.at_map, Lists.position_map, Lists.test_map}
+use Rattle.vms_stream_laws.proofs.Facade.{map-map, ◌≡◌, ℕ, true, false, nat_lt, List, [], ◌∷◌, ◌++◌, drop, Option, Some, None, refl, sym, ap, ◌∙◌, option_map, bytes_eq}
+use Rattle.vms_stream_laws.proofs.Facade.{at_option, position, Device, Set, Sub, come, device, device_named, image, mark_come, opened, part, slots, sub_named}
+use Rattle.vms_stream_laws.proofs.Facade.{subs_of, Piece, Head, Number, Constant, Filler, SubHead, End, due, due_field, holds, rules_hold, Front, Known, Tail}
+use Rattle.vms_stream_laws.proofs.Facade.{behind, known, passed, tail, alone, asking, first_row, reason_of, HoldsBefore, unruled, unruled_device, unruled_sub}
 use Rattle.vms_stream_laws.proofs.Parts.{beyond_held, drop_held, due_held, fresh_same, held, part_held, rules_held, subs_held}
 
 module _ (set : Set) where
@@ -18,17 +17,14 @@ module _ (set : Set) where
   at_same o = at_map unruled_device set.devices o
 
   come_same : (u : List Piece) → come bare u ≡ come set u
-  come_same [] = map_both unruled_device (λ (d : Device). false) set.devices
+  come_same [] = map-map (λ (d : Device). false) unruled_device set.devices
   come_same (Head id name instance v ∷ u) = rw (come_same u) (ap (mark_come (come set u)) (named_same name instance))
   come_same (x ∷ u) = come_same u
 
   opened_same : (u : List Piece) → opened bare u ≡ opened set u
+  opened_same [] = refl
   opened_same (Head id name instance v ∷ u) = named_same name instance
-  opened_same (Number c kind z ∷ u) = opened_same u
-  opened_same (Constant kind z ∷ u) = opened_same u
-  opened_same (Filler bytes ∷ u) = opened_same u
-  opened_same (SubHead name v ∷ u) = opened_same u
-  opened_same u = refl
+  opened_same (x ∷ u) = assumption (opened_same u)
 
   device_held : (u : List Piece) → device bare u ≡ option_map unruled_device (device set u)
   device_held u = ap (at_option bare.devices) (opened_same u) ∙ at_same (opened set u)
@@ -43,27 +39,22 @@ module _ (set : Set) where
 
   tail_same : (u : List Piece) → tail bare u ≡ tail set u
   tail_same [] = refl
-  tail_same (Configuration name ∷ u) = refl
-  tail_same (Foot id ∷ u) = refl
   tail_same (Head id name instance v ∷ u) = rw (opened_same u, tail_same u) (behind_same (opened set u) (tail set u))
   tail_same (End ∷ u) = rw (opened_same u, tail_same u) (behind_same (opened set u) (tail set u))
-  tail_same (x ∷ u) = tail_same u
+  tail_same (x ∷ u) = assumption (tail_same u)
 
   part_same : (u : List Piece) → part bare u ≡ part set u
+  part_same [] = refl
   part_same (SubHead name v ∷ u) = sub_same u name
-  part_same (Number c kind z ∷ u) = part_same u
-  part_same (Constant kind z ∷ u) = part_same u
-  part_same (Filler bytes ∷ u) = part_same u
-  part_same u = refl
+  part_same (x ∷ u) = assumption (part_same u)
 
   image_same : (u : List Piece) → image bare u ≡ image set u
+  image_same [] = refl
   image_same (Head id name instance v ∷ u) =
       rw (named_same name instance, at_same (device_named set name instance)) (fresh_same set (at_option set.devices (device_named set name instance)) v)
   image_same (Number c kind z ∷ u) = rw (image_same u)
   image_same (SubHead name v ∷ u) = rw (image_same u, sub_same u name)
-  image_same (Constant kind z ∷ u) = image_same u
-  image_same (Filler bytes ∷ u) = image_same u
-  image_same u = refl
+  image_same (x ∷ u) = assumption (image_same u)
 
   slots_held : (u : List Piece) → slots bare u ≡ held (slots set u)
   slots_held u = rw (device_held u, image_same u, part_same u) (part_held set (device set u) (image set u) (part set u))
@@ -84,12 +75,8 @@ module _ (set : Set) where
 
   pub due_same : (u : List Piece) → due bare u ≡ due set u
   due_same [] = refl
-  due_same (Magic bytes ∷ u) = refl
-  due_same (Version v ∷ u) = refl
-  due_same (Configuration name ∷ u) = refl
-  due_same (Foot id ∷ u) = refl
   due_same (End ∷ u) = refl
-  due_same (x ∷ u) = field_same (x ∷ u)
+  due_same (x ∷ u) = assumption (field_same (x ∷ u))
 
   -- no validation fails
   pub all_hold : (u : List Piece) → holds bare u ≡ true

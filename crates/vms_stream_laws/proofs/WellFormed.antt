@@ -1,7 +1,7 @@
 -- A well-formed set is well formed without its validations.
-use Rattle.vms_stream_laws.proofs.{Lists.any_map, Lists.came_from, Lists.map_both, Lists.none_after, Parts.first_unruled}
+use Rattle.vms_stream_laws.proofs.{Lists.any_map, Lists.came_from, Lists.none_after, Parts.first_unruled}
 use Rattle.vms_stream_laws.proofs.Facade.{◌≡◌, ℕ, suc, ◌^◌, ◌<◌, Bool, true, false, not, ◌&&◌, nat_le, List, [], ◌∷◌, ◌+◌, length, get_or, map, take, None}
-use Rattle.vms_stream_laws.proofs.Facade.{refl, ap, ◌∙◌, subst, slice_get, and_from, and_parts, length-map, take-map, Part, FitsHeads, first_answer, or_else}
+use Rattle.vms_stream_laws.proofs.Facade.{refl, ap, ◌∙◌, subst, slice_get, and_from, and_parts, length-map, map-map, take-map, Part, FitsHeads, first_answer, or_else}
 use Rattle.vms_stream_laws.proofs.Facade.{is_small_test, Desc, Device, Set, Sub, WellFormed, deepest, desc_fault, device_fault, device_rules, devices_items}
 use Rattle.vms_stream_laws.proofs.Facade.{failing, fields_fault, first_fault, has_few, here, is_same_device, items_in, set_rules, size_rules, struct_depths}
 use Rattle.vms_stream_laws.proofs.Facade.{struct_fault, struct_items, struct_rules, sub_fault, sub_rules, subs_items, validations_fault, AllTrue, all_true}
@@ -39,7 +39,7 @@ items_same ds = rw (length-map ds unruled_desc) (first_unruled (λ sizes d. item
 -- the names of the first of them
 first_names : {X : Type 0} (f : X → X) (name_of : X → List ℕ) → ((x : X) → name_of (f x) ≡ name_of x) → (i : ℕ) (xs : List X)
     → map name_of (take i (map f xs)) ≡ map name_of (take i xs)
-first_names {X = X} f name_of same i xs = ap (map name_of) (take-map f i xs) ∙ map_both f name_of (take i xs) ∙ each (take i xs)
+first_names {X = X} f name_of same i xs = ap (map name_of) (take-map f i xs) ∙ map-map name_of f (take i xs) ∙ each (take i xs)
   where
     each : (ys : List X) → map (λ (x : X). name_of (f x)) ys ≡ map name_of ys
     each [] = refl

@@ -10,23 +10,20 @@ pub use Rattle.std.proofs.Common.{if◌then◌else◌, length, length-append, le
 pub use Rattle.std.proofs.Common.{true, zero, ℕ, ℤ, ◌*◌, ◌++◌, ◌+◌, ◌-◌, ◌<◌, ◌==◌, ◌||◌, ◌∙◌, ◌∷◌, ◌≡◌, ◌≤◌}
 pub use Rattle.std.proofs.lemmas.Bool.{eq-eqb, lt-ltb, ltb-false, ltb-true, ne_eqb, or_parts}
 pub use Rattle.std.specs.{Prelude.IsErrAnd}
-pub use Rattle.vms_kinds.specs.{declared.Item.Item, declared.Kind.Kind}
-pub use Rattle.vms_kinds.specs.declared.Item.TheVariants.{Equal, Num, Struct, Unused}
+pub use Rattle.vms_kinds.specs.{declared.Item.Item, declared.Kind.Kind, declared.Item.TheVariants.Num, declared.Item.TheVariants.Struct}
 pub use Rattle.vms_spec.proofs.{ListLaws.same_tests, Sizes.elements_fit, Sizes.field_size, Sizes.one_fits, Sizes.room_for_less, Tables.one_more}
 pub use Rattle.vms_spec.proofs.Prefixes.{FieldsBelow, all_below, struct_cells_at, struct_slots}
-pub use Rattle.vms_spec.specs.{Good.IsGood, Images.has_cell, Layout.slots_from, Layout.struct_cells, Layout.times, Numbers.exceeds, Numbers.is_above}
-pub use Rattle.vms_spec.specs.{Rules.uses_below, Sets.Desc, Sets.Field, Sets.Set, Tests.is_there, declared.Part.Part, declared.TheConstants.MOST_ITEMS}
-pub use Rattle.vms_spec.specs.Layout.{Constant, Filler, Meaning, Rule, Slot, all_hold, capacity_of, cells_from, counted, desc_cells, desc_slots, elements_of}
-pub use Rattle.vms_spec.specs.Layout.{field_cells, field_slots, item_size, item_slots, meaning, meanings, no_desc, no_field, no_meaning, no_parent}
-pub use Rattle.vms_spec.specs.Layout.{numbers_of, place_of}
+pub use Rattle.vms_spec.specs.{Good.IsGood, Images.has_cell, Layout.numbers_of, Layout.place_of, Numbers.exceeds, Numbers.is_above, Rules.uses_below, Sets.Desc}
+pub use Rattle.vms_spec.specs.{Sets.Field, Sets.Set, Tests.is_there, declared.Part.Part, declared.TheConstants.MOST_ITEMS}
+pub use Rattle.vms_spec.specs.Layout.{slots_from, struct_cells, times, Meaning, Rule, Slot, all_hold, capacity_of, cells_from, counted, desc_cells, desc_slots}
+pub use Rattle.vms_spec.specs.Layout.{elements_of, field_cells, field_slots, item_size, item_slots, meaning, meanings, no_desc, no_field, no_meaning, no_parent}
 pub use Rattle.vms_spec.specs.Sound.{AreSoundFields, IsEarlier, IsSound, IsSoundField}
 unfoldable pub use Rattle.vms_spec.specs.Layout.{first}
-pub use Rattle.vms_desc.proofs.{AskLaws.found_field, AskLaws.here_fields, Bounds.good_of, EvalLaws.place_after, EvalLaws.place_within}
-pub use Rattle.vms_desc.proofs.Clean.{field_clean, reach, struct_clean}
-pub use Rattle.vms_desc.proofs.Ranks.{item_rank, part_rank, rank_below, reach_whole, uses_more}
-pub use Rattle.vms_desc.specs.{Asks.field_at, Asks.field_start, Asks.own_numbers, Described.described, Described.device_at, Formed.is_well_formed}
-pub use Rattle.vms_desc.specs.Parts.{HasPart, desc_at, sub_at}
+pub use Rattle.vms_desc.proofs.{AskLaws.found_field, AskLaws.here_fields, Bounds.good_of, EvalLaws.place_after, EvalLaws.place_within, Clean.field_clean}
+pub use Rattle.vms_desc.proofs.{Clean.reach, Clean.struct_clean, Ranks.item_rank, Ranks.part_rank, Ranks.rank_below, Ranks.reach_whole, Ranks.uses_more}
+pub use Rattle.vms_desc.specs.{Described.described, Described.device_at, Formed.is_well_formed, Parts.HasPart, Parts.desc_at, Parts.sub_at}
+pub use Rattle.vms_desc.specs.Asks.{field_at, field_start, own_numbers}
 pub use Rattle.vms_parts.specs.{Capacities.least_from, Capacities.least_of, Capacities.lesser, Sizes.in_u32}
-pub use Rattle.vms_walk.specs.{Inside.Keeps, Inside.has_step, Runs.MayRun, Runs.run_of, Steps.spot_slots, Steps.steps_of, Steps.table}
+pub use Rattle.vms_walk.specs.{Inside.Keeps, Inside.has_step, Runs.MayRun, Runs.run_of, Steps.size_in, Steps.slots_at, Steps.spot_numbers}
 pub use Rattle.vms_walk.specs.{declared.fields.PartAt.PartAt, declared.step.WalkStep.WalkStep, declared.step.WalkStep.TheVariants.Number}
-pub use Rattle.vms_walk.specs.Steps.{HasSpot, MayCome, capacities_of, cell_of, cells_in, elements_slots, holds_at, present_of, size_in, slots_at, spot_numbers}
+pub use Rattle.vms_walk.specs.Steps.{spot_slots, steps_of, table, HasSpot, MayCome, capacities_of, cell_of, cells_in, elements_slots, holds_at, present_of}

@@ -1,10 +1,11 @@
 -- A walk over parts: what is done at each of them is done at the whole.
-use Rattle.vms_walk.proofs.Facade.{◌≡◌, ℕ, suc, ◌+◌, ◌*◌, ◌<◌, ◌≤◌, List, [], ◌∷◌, ◌++◌, length, get_or, take, ℤ, refl, sym, ap, ◌∙◌, arith, append_assoc}
+use Rattle.vms_walk.proofs.Facade.{◌≡◌, ℕ, ◌+◌, ◌*◌, ◌<◌, ◌≤◌, List, [], ◌∷◌, ◌++◌, length, take, ℤ, refl, sym, ap, ◌∙◌, arith, append_assoc}
 use Rattle.vms_walk.proofs.Facade.{append-nil, pos, Option, Bool, true, take_all, Item, Field, Set, Slot, Rule, item_slots, slots_from, field_slots, all_hold}
 use Rattle.vms_walk.proofs.Facade.{capacity_of, counted, IsGood, SameBelow, IsAbove, item_above, field_above, meanings_above, least_of, field_at}
 use Rattle.vms_walk.proofs.Facade.{is_well_formed, HasPart, desc_at, WalkStep, PartAt, Keeps, steps_of, table, spot_numbers, spot_slots, slots_at, size_in}
 use Rattle.vms_walk.proofs.Facade.{capacities_of, elements_slots, present_of, cell_of, HasSpot, MayCome}
 use Rattle.vms_walk.specs.declared.step.WalkStep.TheVariants as steps
+use Rattle.std.proofs.lemmas.List.{ext_get_or}
 use Rattle.vms_walk.proofs.Walking.{steps_append, part_left, times_more, times_split, fields_split, fields_more}
 use Rattle.vms_walk.proofs.Spots.{field_needs}
 use Rattle.vms_walk.proofs.Local.{keeps_below, keeps_first, items_local, fields_local, present_local, part_sound, set_settled}
@@ -187,10 +188,4 @@ module _ {S F : Type 0} {N : S → List ℤ} {goes : List WalkStep → S → S �
 
 -- a rule changes no number
 pub same_rule : (b : Bool) (n m : List ℤ) → Keeps (steps.Rule b ∷ []) n m → m ≡ n
-same_rule b n m k = same_numbers n m k.long (λ c. k.same c refl)
-  where
-    same_numbers : (n m : List ℤ) → length m ≡ length n → ((c : ℕ) → get_or m c (pos 0) ≡ get_or n c (pos 0)) → m ≡ n
-    same_numbers [] [] e h = refl
-    same_numbers [] (y ∷ m) e h = absurd (omega arith)
-    same_numbers (x ∷ n) [] e h = absurd (omega arith)
-    same_numbers (x ∷ n) (y ∷ m) e h = ap (λ (z : ℤ). z ∷ m) (h 0) ∙ ap (λ (l : List ℤ). x ∷ l) (same_numbers n m (omega arith) (λ c. h (suc c)))
+same_rule b n m k = ext_get_or (pos 0) m n k.long (λ c lt. k.same c refl)

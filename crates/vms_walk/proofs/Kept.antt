@@ -1,8 +1,8 @@
 -- What steps keep of the numbers, one after the other.
 use Rattle.vms_walk.proofs.Facade.{IsErrAnd, Result, Ok, Err, IfErr, ◌≡◌, sym, subst, ℕ, List, ◌∷◌, ◌++◌, length, length-set, slice_set, Option, ℤ, pos, refl}
-use Rattle.vms_walk.proofs.Facade.{ap, ◌∙◌, false, ◌==◌, [], ◌||◌, get_or-set_other, eq-eqb, or_parts, or_assoc, Kind, WalkStep, Number, has_step, Keeps}
-use Rattle.vms_walk.specs.Calls.{Takes}
-use Rattle.vms_walk.specs.declared.step.WalkStep.TheVariants.{Constant, Filler, Rule}
+use Rattle.vms_walk.proofs.Facade.{ap, ◌∙◌, false, ◌==◌, [], ◌||◌, get_or-set_other, eq-eqb, or_parts, Kind, WalkStep, Number, has_step, Keeps}
+use Rattle.std.proofs.lemmas.List.Folds.{list_any-append}
+use Rattle.vms_walk.specs.{Calls.Takes, Inside.is_for}
 
 pub err_is : {T E : Type 0} (Q : E → Type 0) (r : Result T E) (e : E) → IsErrAnd r (λ x. x ≡ e) → Q e → IfErr r Q
 err_is Q (Ok x) e h q = tt
@@ -17,11 +17,7 @@ err_takes goes stops steps (Err x) e a b h q = record { ok = tt; err = subst (λ
 -- ---- What steps keep of the numbers, one after the other.
 
 pub has_append : (xs ys : List WalkStep) (c : ℕ) → has_step (xs ++ ys) c ≡ (has_step xs c || has_step ys c)
-has_append [] ys c = refl
-has_append (Number k kind most ∷ xs) ys c = rw (has_append xs ys c) (sym (or_assoc (k == c) (has_step xs c) (has_step ys c)))
-has_append (Constant kind z ∷ xs) ys c = has_append xs ys c
-has_append (Filler k ∷ xs) ys c = has_append xs ys c
-has_append (Rule b ∷ xs) ys c = has_append xs ys c
+has_append xs ys c = list_any-append (is_for c) xs ys
 
 -- no number is put
 pub keeps_same : (xs : List WalkStep) (n m : List ℤ) → m ≡ n → Keeps xs n m

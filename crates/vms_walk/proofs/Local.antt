@@ -1,7 +1,7 @@
 -- The slots up to a place depend only on the cells below it.
-use Rattle.vms_walk.proofs.{Facade.table, Facade.cells_in, Facade.steps_of, Facade.present_of, Kept.has_append, Walking.fields_more}
-use Rattle.vms_walk.proofs.Facade.{◌≡◌, ℕ, zero, suc, ◌+◌, ◌*◌, ◌<◌, ◌≤◌, List, ◌∷◌, ◌++◌, length, get_or, take, drop, ℤ, refl, sym, ap, ◌∙◌, arith, []}
-use Rattle.vms_walk.proofs.Facade.{drop_more, or_parts, slice_get-get_or, Item, Part, Field, Desc, Set, has_cell, Slot, Constant, Filler, Rule, Meaning}
+use Rattle.vms_walk.proofs.{Kept.has_append, Walking.fields_more}
+use Rattle.vms_walk.proofs.Facade.{table, cells_in, steps_of, present_of, ◌≡◌, ℕ, zero, suc, ◌+◌, ◌*◌, ◌<◌, ◌≤◌, List, ◌∷◌, ◌++◌, length, get_or, take, drop, ℤ}
+use Rattle.vms_walk.proofs.Facade.{refl, sym, ap, ◌∙◌, arith, [], drop_more, or_parts, slice_get-get_or, Item, Part, Field, Desc, Set, has_cell, Slot, Meaning}
 use Rattle.vms_walk.proofs.Facade.{item_slots, item_size, times, field_slots, slots_from, field_cells, place_of, numbers_of, no_field, IsSound, IsSoundField}
 use Rattle.vms_walk.proofs.Facade.{AreSoundFields, IsEarlier, IsGood, SameBelow, same_less, place_next, own_same, there_same, elements_same, IsAbove, SameIn}
 use Rattle.vms_walk.proofs.Facade.{MeanSettled, item_settled, field_settled, meanings_settled, device_at, HasPart, desc_at, sub_at, WalkStep, has_step, Keeps}
@@ -13,9 +13,7 @@ use Rattle.vms_spec.specs.declared.Part.TheVariants as parts
 pub has_step_of : (xs : List Slot) (c : ℕ) → has_step (steps_of xs) c ≡ has_cell xs c
 has_step_of [] c = refl
 has_step_of (Number k kind caps ∷ xs) c = rw (has_step_of xs c)
-has_step_of (Constant kind z ∷ xs) c = has_step_of xs c
-has_step_of (Filler k ∷ xs) c = has_step_of xs c
-has_step_of (Rule b ∷ xs) c = has_step_of xs c
+has_step_of (_ ∷ xs) c = has_step_of xs c
 
 pub keeps_below : (cell : ℕ) (xs : List Slot) (n m : List ℤ) → IsAbove cell xs → Keeps (steps_of xs) n m → SameBelow cell n m
 keeps_below cell xs n m above k = record { same = λ c lt. k.same c (has_step_of xs c ∙ above.below c lt) }

@@ -1,5 +1,5 @@
 -- Numbers of one kind whose cells follow one another are the elements of an array.
-use Rattle.vms_walk.proofs.{Facade.item_slots, Going.Laws, Walking.times_split, Walking.left_within}
+use Rattle.vms_walk.proofs.{Facade.item_slots, Walking.times_split, Walking.left_within}
 use Rattle.vms_walk.proofs.Facade.{◌≡◌, ℕ, zero, suc, ◌+◌, ◌-◌, ◌*◌, ◌<◌, ◌≤◌, List, [], ◌∷◌, ◌++◌, ℤ, Option, None, refl, ap, ◌∙◌, arith, append_assoc}
 use Rattle.vms_walk.proofs.Facade.{append-nil, Kind, Item, Num, Set, WalkStep, Number, run_of, MayRun, steps_of, elements_slots, table, capacities_of}
 
@@ -60,7 +60,7 @@ run_parts first n m count kind le =
 
 -- ---- some of them after those before them
 
-module _ {S F : Type 0} (N : S → List ℤ) (goes : List WalkStep → S → S → Type 0) (stops : List WalkStep → S → F → S → Type 0) (laws : Laws N goes stops)
+module _ {S : Type 0} (goes : List WalkStep → S → S → Type 0) (more : (xs ys : List WalkStep) (a b c : S) → goes xs a b → goes ys b c → goes (xs ++ ys) a c)
     (first cell : ℕ) (kind : Kind) (a b : S) (from : first ≤ cell) (way : goes (run_of first (cell - first) kind) a b) (some : ℕ) where
   here : first + (cell - first) ≡ cell
   here = omega arith
@@ -70,7 +70,7 @@ module _ {S F : Type 0} (N : S → List ℤ) (goes : List WalkStep → S → S �
       let n = cell - first in
       let sum : (cell + some) - first ≡ n + some = omega arith in
       rw (ap (λ (k : ℕ). run_of first k kind) sum ∙ run_both first n some kind ∙ ap (λ (k : ℕ). run_of first n kind ++ run_of k some kind) here)
-      (laws.more (run_of first n kind) (run_of cell some kind) a b c way h)
+      (more (run_of first n kind) (run_of cell some kind) a b c way h)
 
   module _ (count : ℕ) (le : cell + some ≤ first + count) where
     abbrev behind : List WalkStep
@@ -79,12 +79,14 @@ module _ {S F : Type 0} (N : S → List ℤ) (goes : List WalkStep → S → S �
     parts : run_of first count kind ≡ run_of first (cell - first) kind ++ (run_of cell some kind ++ behind)
     parts = run_parts first (cell - first) some count kind (omega arith) ∙ ap (λ k. run_of first (cell - first) kind ++ (run_of k some kind ++ behind)) here
 
-    pub run_stop : (c : S) (f : F) → stops (run_of cell some kind) b f c → stops (run_of first count kind) a f c
-    run_stop c f h =
-        rw parts (laws.after (run_of first (cell - first) kind) (run_of cell some kind ++ behind) a b c f way
-        (laws.before (run_of cell some kind) behind b c f h))
+    pub run_stop : {F : Type 0} (stops : List WalkStep → S → F → S → Type 0)
+        → ((xs ys : List WalkStep) (a b c : S) (f : F) → goes xs a b → stops ys b f c → stops (xs ++ ys) a f c)
+        → ((xs ys : List WalkStep) (a b : S) (f : F) → stops xs a f b → stops (xs ++ ys) a f b)
+        → (c : S) (f : F) → stops (run_of cell some kind) b f c → stops (run_of first count kind) a f c
+    run_stop stops after before c f h =
+        rw parts (after (run_of first (cell - first) kind) (run_of cell some kind ++ behind) a b c f way (before (run_of cell some kind) behind b c f h))
 
     pub run_may : (may : S → WalkStep → Type 0) → MayRun goes may (run_of first count kind) a → MayRun goes may (run_of cell some kind) b
     run_may may all = λ ys ws zs x d h e.
-        all (run_of first (cell - first) kind ++ ys) ws (zs ++ behind) x d (laws.more (run_of first (cell - first) kind) ys a b d way h)
+        all (run_of first (cell - first) kind ++ ys) ws (zs ++ behind) x d (more (run_of first (cell - first) kind) ys a b d way h)
         (left_within (run_of first (cell - first) kind) (run_of cell some kind) behind (run_of first count kind) ys ws zs x parts e)

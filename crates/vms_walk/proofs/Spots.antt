@@ -4,7 +4,7 @@ use Rattle.vms_walk.proofs.Facade.{Option, Item, Struct, MOST_ITEMS, Set, Field,
 use Rattle.vms_walk.proofs.Facade.{slots_from, desc_slots, desc_cells, struct_cells, elements_of, capacity_of, counted, times, FieldsBelow, all_below}
 use Rattle.vms_walk.proofs.Facade.{struct_slots, struct_cells_at, room_for_less, one_fits, cells_first, in_u32, field_at, own_numbers, is_well_formed, desc_at}
 use Rattle.vms_walk.proofs.Facade.{reach, field_clean, struct_clean, PartAt, table, cells_in, HasSpot, spot_numbers, spot_slots, slots_at, present_of, size_in}
-use Rattle.vms_walk.proofs.Facade.{capacities_of, elements_slots, steps_of, item_rank, part_rank, reach_whole, uses_more, rank_below, place_of, place_after}
+use Rattle.vms_walk.proofs.Facade.{elements_slots, steps_of, item_rank, part_rank, reach_whole, uses_more, rank_below, place_of, place_after}
 use Rattle.vms_walk.proofs.Facade.{place_within, field_start, cell_of, all_hold, holds_at}
 use Rattle.vms_spec.specs.declared.Part.TheVariants as parts
 use Rattle.vms_walk.proofs.Walking.{slots_next, fields_at, present_slots, present_fits, steps_bare}
@@ -132,10 +132,3 @@ field_needs set well spot n h k cell count item most lt is there least room =
           ∙ ap (λ x. steps_of (times count (item_slots (table set) x caps n) cell (size_in set x))) (sym is)
           ∙ steps_bare (table set) n item caps count cell (size_in set item) ∙ ap (λ o. steps_of (elements_slots set item o n count cell)) (sym least);
     }
-
--- the next of the elements that are left
-pub record NextItem (set : Set) (n : List ℤ) (item : Item) (most : Option ℕ) (left more cell : ℕ) : Type 0 where
-  pub room : cell + size_in set item ≤ length n
-  pub later : (cell + size_in set item) + more * size_in set item ≤ length n
-  pub steps : steps_of (elements_slots set item most n left cell)
-      ≡ steps_of (item_slots (table set) item (capacities_of most) n cell) ++ steps_of (elements_slots set item most n more (cell + size_in set item))

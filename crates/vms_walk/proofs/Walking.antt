@@ -2,7 +2,7 @@
 use Rattle.vms_walk.proofs.Facade.{◌≡◌, ℕ, zero, suc, ◌+◌, ◌*◌, ◌<◌, List, [], ◌∷◌, ◌++◌, length, get_or, take, ℤ, sym, ap, ◌∙◌, arith, append_assoc}
 use Rattle.vms_walk.proofs.Facade.{append-nil, ◌≤◌, drop, refl, Bool, true, false, if◌then◌else◌, Option, Some, None, drop_more, Field, Slot, Meaning, times}
 use Rattle.vms_walk.proofs.Facade.{field_slots, slots_from, field_cells, place_of, no_field, item_slots, item_size, elements_of, capacity_of, counted}
-use Rattle.vms_walk.proofs.Facade.{no_parent, cells_in, steps_of, present_of, capacities_of, Item, Num, Equal, Unused, Struct, is_there, field_size}
+use Rattle.vms_walk.proofs.Facade.{no_parent, cells_in, steps_of, present_of, capacities_of, Item, Num, is_there, field_size}
 use Rattle.vms_walk.proofs.Facade.{elements_fit, room_for_less, least_of, WalkStep}
 use Rattle.vms_walk.specs.declared.step.WalkStep.TheVariants as steps
 
@@ -89,10 +89,6 @@ part_left before here rest whole ys ws zs x e f =
     left_within (steps_of before) (steps_of here) (steps_of rest) (steps_of whole) ys ws zs x
     (ap steps_of e ∙ steps_append before (here ++ rest) ∙ ap (λ l. steps_of before ++ l) (steps_append here rest)) f
 
--- the first of the elements that are left
-pub times_next : {B : Type 0} (part : ℕ → List B) (n m at step : ℕ) → n ≡ suc m → times n part at step ≡ part at ++ times m part (at + step) step
-times_next part n m at step e = rw e
-
 -- ---- the least of the capacities that a number counts is enough
 
 pub least_again : (o : Option ℕ) → least_of (capacities_of o) ≡ o
@@ -101,13 +97,10 @@ least_again (Some most) = refl
 
 pub steps_bare : (ms : List Meaning) (n : List ℤ) (item : Item) (caps : List ℕ) (k at step : ℕ)
     → steps_of (times k (item_slots ms item caps n) at step) ≡ steps_of (times k (item_slots ms item (capacities_of (least_of caps)) n) at step)
-steps_bare ms n (Num kind) caps zero at step = refl
 steps_bare ms n (Num kind) caps (suc k) at step =
     ap (λ (o : Option ℕ). steps.Number at kind o ∷ steps_of (times k (item_slots ms (Num kind) caps n) (at + step) step)) (sym (least_again (least_of caps)))
     ∙ ap (λ (l : List WalkStep). steps.Number at kind (least_of (capacities_of (least_of caps))) ∷ l) (steps_bare ms n (Num kind) caps k (at + step) step)
-steps_bare ms n (Equal kind z) caps k at step = refl
-steps_bare ms n (Unused b) caps k at step = refl
-steps_bare ms n (Struct j) caps k at step = refl
+steps_bare ms n _ caps k at step = refl
 
 -- ---- the next field
 

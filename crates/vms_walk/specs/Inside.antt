@@ -1,22 +1,22 @@
 -- The cells of steps.
-use Rattle.std.specs.Prelude.{◌≡◌, ℕ, ◌<◌, Bool, false, ◌||◌, ◌==◌, List, [], ◌∷◌, length, get_or, ℤ, pos}
+use Rattle.std.specs.Prelude.{◌≡◌, ℕ, ◌<◌, Bool, false, ◌==◌, List, length, get_or, ℤ, pos}
+use Rattle.std.specs.List.{list_any}
 use Rattle.vms_walk.specs.declared.step.WalkStep.{WalkStep}
-use Rattle.vms_walk.specs.declared.step.WalkStep.TheVariants.{Number, Constant, Filler, Rule}
+use Rattle.vms_walk.specs.declared.step.WalkStep.TheVariants.{Number}
 
 -- The cell of a number is among `numbers`.
 abbrev pub IsInside : List ℤ → WalkStep → Type 0
 IsInside numbers (Number cell kind most) = cell < length numbers
-IsInside numbers (Constant kind value) = Unit {0}
-IsInside numbers (Filler bytes) = Unit {0}
-IsInside numbers (Rule holds) = Unit {0}
+IsInside numbers step = Unit {0}
 
--- Whether one of the steps is for cell `c`.
+-- Whether a step is for cell `c`.
+abbrev pub is_for : ℕ → WalkStep → Bool
+is_for c (Number cell kind most) = cell == c
+is_for c step = false
+
+-- Whether one of the steps is.
 abbrev pub has_step : List WalkStep → ℕ → Bool
-has_step [] c = false
-has_step (Number cell kind most ∷ xs) c = cell == c || has_step xs c
-has_step (Constant kind value ∷ xs) c = has_step xs c
-has_step (Filler bytes ∷ xs) c = has_step xs c
-has_step (Rule holds ∷ xs) c = has_step xs c
+has_step xs c = list_any (is_for c) xs
 
 -- The numbers of all other cells stay.
 pub record Keeps (xs : List WalkStep) (old new : List ℤ) : Type 0 where

@@ -39,6 +39,6 @@ pub use Rattle.vms_spots.specs.Spots.{Held, codes_of}
 pub use Rattle.vms_walk.proofs.{Order.Ascends, Order.below_from, Order.desc_ascends, Order.from_end, Order.meanings_ascend, Runs.run_each}
 pub use Rattle.vms_walk.specs.{Runs.run_of, declared.fields.PartAt.PartAt, declared.step.WalkStep.WalkStep}
 pub use Rattle.vms_walk.specs.Steps.{cells_in, spot_slots, steps_of, table}
-pub use Rattle.vms_write.specs.{Bytes.CanStep, Bytes.CanWrite, Bytes.bytes_of, Judged.all_subs_fine, Judged.forms_of, Writing.written_sub}
+pub use Rattle.vms_write.specs.{Bytes.CanStep, Bytes.CanSteps, Bytes.CanWrite, Bytes.bytes_of, Judged.all_subs_fine, Judged.forms_of, Writing.written_sub}
 pub use Rattle.vms_write.specs.Fine.{are_fit, formed, formed_of, is_fine, is_within, no_form, settle, sub_fine, sub_size, subs_fine}
 pub use Rattle.vms_write.specs.Steps.{are_steps_fine, behind, is_number_fine}

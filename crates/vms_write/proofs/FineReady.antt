@@ -1,6 +1,6 @@
 -- What the judging walk finds fine is ready, and what is ready it finds fine.
 use Rattle.vms_write.proofs.{Facade.subs_fine, StepsFine.IsBelow, StepsFine.fine_parts, StepsFine.desc_below}
-use Rattle.vms_write.proofs.Facade.{OnTrue_from, OnFalse_from, get_or_from_slice_get, slice_get_within, ◌≡◌, ℕ, zero, suc, ◌+◌, ◌<◌, ◌≤◌, List, [], ◌∷◌, ◌++◌}
+use Rattle.vms_write.proofs.Facade.{⊎_elim, OnTrue_from, OnFalse_from, get_or_from_slice_get, slice_get_within, ◌≡◌, ℕ, zero, suc, ◌+◌, ◌<◌, ◌≤◌, List, [], ◌∷◌, ◌++◌}
 use Rattle.vms_write.proofs.Facade.{length, length-append, get_or, map, Option, Some, None, ℤ, pos, refl, sym, ap, ◌∙◌, subst, arith, Bool, true, false, not}
 use Rattle.vms_write.proofs.Facade.{◌&&◌, ◌||◌, ◌==◌, OnTrue, OnFalse, flat_map, slice_get, and_parts, leb-true, eqb-true, eq-eqb, and_from, slice_get-get_or}
 use Rattle.vms_write.proofs.Facade.{same_number, Set, Device, Sub, Desc, AtLeast, Cell, no_cell, no_desc, Slot, Number, Constant, Filler, Rule, meanings}
@@ -11,57 +11,40 @@ use Rattle.vms_write.proofs.Facade.{constants_append, own_constants, part_consta
 use Rattle.vms_write.proofs.Facade.{counted_well, is_same, needed_are, are_needed, AreConstants, fit_slots, FitSlots, ranges, within, or_second, and_swap}
 use Rattle.vms_write.proofs.Facade.{form_of, CellForm, device_at, is_well_formed, sub_at, device_clean, sub_clean, no_form, are_fit, settle, is_fine, sub_size}
 use Rattle.std.proofs.Math.ListN.{get_or-map}
+use Rattle.std.proofs.lemmas.Bool.{cases_Bool, cases_eq}
+use Rattle.std.proofs.lemmas.Bool.Decides.{Decides-and, Decides-eqb, Decides-like}
+use Rattle.std.specs.Bool.{Decides}
+use Rattle.vms_spec.specs.Streams.{ComeAsNeeded}
 
 -- ---- slots that fit
 
-fit_true : (n : List ℤ) (slots : List Slot) → are_fit n slots ≡ true → AreConstants slots → FitSlots n slots × RulesHold slots
-fit_true n [] e k = (tt, tt)
-fit_true n (Number c kind caps ∷ slots) e k =
-    let p = and_parts (in_range kind (get_or n c (pos 0)) && counts_well caps (get_or n c (pos 0))) (are_fit n slots) e in
-    let q = and_parts (in_range kind (get_or n c (pos 0))) (counts_well caps (get_or n c (pos 0))) p.0 in
-    let more = fit_true n slots p.1 k in
-    ((ranges kind (get_or n c (pos 0)) q.0, within caps (get_or n c (pos 0)) q.1, more.0), more.1)
-fit_true n (Constant kind z ∷ slots) e k = let more = fit_true n slots e k.1 in ((k.0, more.0), more.1)
-fit_true n (Filler m ∷ slots) e k = fit_true n slots e k
-fit_true n (Rule b ∷ slots) e k =
-    let p = and_parts b (are_fit n slots) e in
-    let more = fit_true n slots p.1 k in
-    (more.0, (p.0, more.1))
-
-fit_all : (n : List ℤ) (slots : List Slot) → FitSlots n slots → RulesHold slots → are_fit n slots ≡ true
-fit_all n [] f r = refl
-fit_all n (Number c kind caps ∷ slots) f r =
-    and_from (in_range kind (get_or n c (pos 0)) && counts_well caps (get_or n c (pos 0))) (are_fit n slots)
-    (and_from (in_range kind (get_or n c (pos 0))) (counts_well caps (get_or n c (pos 0))) (ranged kind (get_or n c (pos 0)) f.0) (counted_well caps (get_or n c (pos 0)) f.1))
-    (fit_all n slots f.2 r)
-fit_all n (Constant kind z ∷ slots) f r = fit_all n slots f.1 r
-fit_all n (Filler m ∷ slots) f r = fit_all n slots f r
-fit_all n (Rule b ∷ slots) f r = and_from b (are_fit n slots) r.0 (fit_all n slots f r.1)
+fit_decides : (n : List ℤ) (slots : List Slot) → AreConstants slots → Decides (are_fit n slots) (FitSlots n slots × RulesHold slots)
+fit_decides n [] k = (λ e. (tt, tt), λ h. refl)
+fit_decides n (Number c kind caps ∷ slots) k =
+    let z = get_or n c (pos 0) in
+    Decides-like _ (λ h. ((h.0.0, h.0.1, h.1.0), h.1.1)) (λ h. ((h.0.0, h.0.1), (h.0.2, h.1)))
+    (Decides-and _ _ (Decides-and _ _ (ranges kind z, ranged kind z) (within caps z, counted_well caps z)) (fit_decides n slots k))
+fit_decides n (Constant kind z ∷ slots) k = Decides-like _ (λ h. ((k.0, h.0), h.1)) (λ h. (h.0.1, h.1)) (fit_decides n slots k.1)
+fit_decides n (Rule b ∷ slots) k =
+    Decides-like _ (λ h. (h.1.0, (h.0, h.1.1))) (λ h. (h.1.0, (h.0, h.1.1))) (Decides-and b _ (λ e. e, λ e. e) (fit_decides n slots k))
+fit_decides n (_ ∷ slots) k = fit_decides n slots k
 
 -- ---- cells that are in the slots or at their defaults
 
-settle_at : (slots : List Slot) (forms : List CellForm) (n : List ℤ) (from k : ℕ) → settle slots forms n from k ≡ true
-    → (c : ℕ) → c < k → has_cell slots (from + c) ≡ false → get_or n (from + c) (pos 0) ≡ (get_or forms (from + c) no_form).default
-settle_at slots forms n from zero e c lt bare = absurd (omega arith)
-settle_at slots forms n from (suc k) e zero lt bare =
-    let here : from ≡ from + 0 = omega arith in
-    let p = and_parts (has_cell slots from || same_number (get_or n from (pos 0)) (get_or forms from no_form).default) (settle slots forms n (from + 1) k) e in
-    rw here at (same_number_is (get_or n from (pos 0)) (get_or forms from no_form).default (or_second (has_cell slots from) (same_number (get_or n from (pos 0)) (get_or forms from no_form).default) p.0 (ap (has_cell slots) here ∙ bare)))
-settle_at slots forms n from (suc k) e (suc c) lt bare =
-    let next : (from + 1) + c ≡ from + suc c = omega arith in
-    let p = and_parts (has_cell slots from || same_number (get_or n from (pos 0)) (get_or forms from no_form).default) (settle slots forms n (from + 1) k) e in
-    rw next at (settle_at slots forms n (from + 1) k p.1 c (omega arith) (ap (has_cell slots) next ∙ bare))
-
-settle_all : (slots : List Slot) (forms : List CellForm) (n : List ℤ) (from k : ℕ) → ((c : ℕ) → c < from + k → has_cell slots c ≡ false → get_or n c (pos 0) ≡ (get_or forms c no_form).default)
-    → settle slots forms n from k ≡ true
-settle_all slots forms n from zero h = refl
-settle_all slots forms n from (suc k) h =
-    and_from (has_cell slots from || same_number (get_or n from (pos 0)) (get_or forms from no_form).default) (settle slots forms n (from + 1) k) (here (has_cell slots from) refl)
-    (settle_all slots forms n (from + 1) k (λ c lt bare. h c (omega arith) bare))
-  where
-    here : (b : Bool) → has_cell slots from ≡ b → (b || same_number (get_or n from (pos 0)) (get_or forms from no_form).default) ≡ true
-    here true e = refl
-    here false e = is_same (get_or n from (pos 0)) (get_or forms from no_form).default (h from (omega arith) e)
+settle_decides : (slots : List Slot) (forms : List CellForm) (n : List ℤ) (from k : ℕ) → Decides (settle slots forms n from k)
+    ((c : ℕ) → from ≤ c → c < from + k → has_cell slots c ≡ false → get_or n c (pos 0) ≡ (get_or forms c no_form).default)
+settle_decides slots forms n from zero = (λ e c le lt bare. absurd (omega arith), λ h. refl)
+settle_decides slots forms n from (suc k) =
+    let z = get_or n from (pos 0) in
+    let default = (get_or forms from no_form).default in
+    Decides-like _ (λ h c le lt bare. ⊎_elim (λ (same : c ≡ from). rw same (h.0 (rw same at bare)))
+    (λ (ne : c ≡ from → ⊥). h.1 c (omega arith) (omega arith) bare) (cases_eq c from))
+    (λ h. (λ bare. h from (omega arith) (omega arith) bare, λ c le lt bare. h c (omega arith) (omega arith) bare))
+    (Decides-and _ _ (
+      λ e bare. same_number_is z default (or_second (has_cell slots from) (same_number z default) e bare),
+      λ h. ⊎_elim (λ (t : has_cell slots from ≡ true). rw t refl) (λ (f : has_cell slots from ≡ false). rw f (is_same z default (h f)))
+          (cases_Bool (has_cell slots from)),
+    ) (settle_decides slots forms n (from + 1) k))
 
 -- ---- the subsections
 
@@ -142,25 +125,19 @@ whole_fine set d forms image e =
 -- ---- readiness
 
 -- subsections came at versions of theirs
-versions_are : (set : Set) (d : Device) (image : Image) (j : ℕ) (subs : List Sub) (came : List (Option ℕ)) → ((k : ℕ) (s : Sub) → slice_get subs k ≡ Some s → s.desc.minimum ≤ s.desc.version)
-    → come_as_needed set d image j subs came ≡ true → AreVersionsOf subs came
+versions_are : (set : Set) (d : Device) (image : Image) (j : ℕ) (subs : List Sub) (came : List (Option ℕ))
+    → ((k : ℕ) (s : Sub) → slice_get subs k ≡ Some s → s.desc.minimum ≤ s.desc.version) → ComeAsNeeded set d image j subs came → AreVersionsOf subs came
 versions_are set d image j [] [] h e = tt
-versions_are set d image j (s ∷ subs) (None ∷ came) h e =
-    versions_are set d image (suc j) subs came (λ k t g. h (suc k) t g) (and_parts (not (is_needed set d image s j)) (come_as_needed set d image (suc j) subs came) e).1
+versions_are set d image j [] (o ∷ came) h e = cc
+versions_are set d image j (s ∷ subs) [] h e = absurd e
+versions_are set d image j (s ∷ subs) (None ∷ came) h e = versions_are set d image (suc j) subs came (λ k. h (suc k)) e.1
 versions_are set d image j (s ∷ subs) (Some v ∷ came) h e =
-    let p = and_parts (is_needed set d image s j && v == s.desc.version) (come_as_needed set d image (suc j) subs came) e in
-    let same = eqb-true v s.desc.version (and_parts (is_needed set d image s j) (v == s.desc.version) p.0).1 in
-    let low : s.desc.minimum ≤ s.desc.version = h 0 s refl in
-    ((omega arith, omega arith), versions_are set d image (suc j) subs came (λ k t g. h (suc k) t g) p.1)
-versions_are set d image j _ _ h e = cc
+    let low = h 0 s refl in
+    let same = e.1 in
+    ((omega arith, omega arith), versions_are set d image (suc j) subs came (λ k. h (suc k)) e.2)
 
 form_default : (cells : List Cell) (c : ℕ) → (get_or (map form_of cells) c no_form).default ≡ (get_or cells c no_cell).default
 form_default cells c = rw (get_or-map form_of cells c no_cell)
-
-cell_fits : (all : List Cell) (n : List ℤ) (slots : List Slot) (c : ℕ) → c < length all → DefaultsFit all → AreCells all slots → FitSlots n slots → (has_cell slots c ≡ false → get_or n c (pos 0) ≡ (get_or all c no_cell).default)
-    → (b : Bool) → has_cell slots c ≡ b → FitsCell (get_or all c no_cell) (get_or n c (pos 0))
-cell_fits all n slots c lt fine a f h true e = named_fits all n slots c e f a
-cell_fits all n slots c lt fine a f h false e = rw (h e) (fine c lt)
 
 image_constants : (set : Set) → IsGood set → (k : ℕ) (d : Device) (image : Image) → slice_get set.devices k ≡ Some d → AreConstants (image_slots set d image)
 image_constants set good k d image e =
@@ -179,62 +156,51 @@ module _ (set : Set) (well : is_well_formed set ≡ true) (good : IsGood set) (i
       let same : sub_at d k ≡ s = get_or_from_slice_get d.subs k s (record { desc = no_desc; needed = AtLeast 0 }) e in
       rw same at (leb-true (sub_at d k).desc.minimum (sub_at d k).desc.version (sub_clean set well i k lt (slice_get_within d.subs k s e)).own.1.1.0)
 
-  default_at : (c : ℕ) → (get_or forms c no_form).default ≡ (get_or (device_cells set (device_at set i)) c no_cell).default
-  default_at c = rw is (form_default (device_cells set (device_at set i)) c)
+  abbrev slots : List Slot
+  slots = image_slots set (device_at set i) image
 
-  fine_ready : device_fine set (device_at set i) forms image ≡ true → IsReady set (device_at set i) image
-  fine_ready e =
+  ready : image.version ≡ (device_at set i).desc.version → ComeAsNeeded set (device_at set i) image 0 (device_at set i).subs image.came
+      → FitSlots image.numbers slots × RulesHold slots → ((c : ℕ) → 0 ≤ c → c < 0 + length (device_cells set (device_at set i)) → has_cell slots c ≡ false
+      → get_or image.numbers c (pos 0) ≡ (get_or forms c no_form).default) → IsReady set (device_at set i) image
+  ready same needed fits settled =
       let d = device_at set i in
       let n = image.numbers in
       let all = device_cells set d in
-      let slots = image_slots set d image in
-      let version = image.version == d.desc.version in
-      let come = come_as_needed set d image 0 d.subs image.came in
-      let p = and_parts (version && come) (is_fine forms n slots 0 (length all)) (sym (whole_fine set d forms image subs) ∙ e) in
-      let q = and_parts version come p.0 in
-      let r = and_parts (are_fit n slots) (settle slots forms n 0 (length all)) p.1 in
-      let same : image.version ≡ d.desc.version = eqb-true image.version d.desc.version q.0 in
       let low : d.desc.minimum ≤ d.desc.version = leb-true d.desc.minimum d.desc.version (device_clean set well i lt).own.1.1.0 in
-      let fits = fit_true n slots r.0 (image_constants set good i d image found) in
       let absent : (c : ℕ) → c < length all → has_cell slots c ≡ false → get_or n c (pos 0) ≡ (get_or all c no_cell).default =
-      λ c l bare. settled c l bare r.1 in
+      λ c l bare. settled c (omega arith) (omega arith) bare ∙ rw is (form_default all c) in
       record {
         normal = record {
           version = (omega arith, omega arith);
-          subs = versions_are set d image 0 d.subs image.came lowest q.1;
-          cells = record { long = cells; fits = λ c l. cell_fits all n slots c l (good.defaults i d found) (image_are set d image) fits.0 (absent c l) (has_cell slots c) refl };
+          subs = versions_are set d image 0 d.subs image.came lowest needed;
+          cells = record {
+            long = cells;
+            fits = λ c l. ⊎_elim (λ e. named_fits all n slots c e fits.0 (image_are set d image)) (λ e. rw (absent c l e) (good.defaults i d found c l))
+                (cases_Bool (has_cell slots c));
+          };
           absent = λ c l bare. absent c (omega arith) bare;
         };
         valid = fits.1;
         version = same;
-        needed = needed_are set d image 0 d.subs image.came q.1;
+        needed = needed;
       }
-    where
-      settled : (c : ℕ) → c < length (device_cells set (device_at set i)) → has_cell (image_slots set (device_at set i) image) c ≡ false
-          → settle (image_slots set (device_at set i) image) forms image.numbers 0 (length (device_cells set (device_at set i))) ≡ true
-          → get_or image.numbers c (pos 0) ≡ (get_or (device_cells set (device_at set i)) c no_cell).default
-      settled c l bare e =
-          let slots = image_slots set (device_at set i) image in
-          let here : 0 + c ≡ c = omega arith in
-          subst (λ x. get_or image.numbers x (pos 0) ≡ (get_or forms x no_form).default) here
-          (settle_at slots forms image.numbers 0 (length (device_cells set (device_at set i))) e c l (ap (has_cell slots) here ∙ bare)) ∙ default_at c
 
-  ready_fine : IsReady set (device_at set i) image → device_fine set (device_at set i) forms image ≡ true
-  ready_fine ready =
+  decides : Decides (device_fine set (device_at set i) forms image) (IsReady set (device_at set i) image)
+  decides =
       let d = device_at set i in
-      let n = image.numbers in
-      let all = device_cells set d in
-      let slots = image_slots set d image in
-      let come = are_needed set d image 0 d.subs image.came ready.needed in
-      let fits = fit_slots all n slots ready.normal.cells (image_are set d image) (image_constants set good i d image found) in
-      whole_fine set d forms image subs
-      ∙ and_from (image.version == d.desc.version && come_as_needed set d image 0 d.subs image.came) (is_fine forms n slots 0 (length all))
-      (and_from (image.version == d.desc.version) (come_as_needed set d image 0 d.subs image.came) (eq-eqb image.version d.desc.version ready.version) come)
-      (and_from (are_fit n slots) (settle slots forms n 0 (length all)) (fit_all n slots fits ready.valid)
-      (settle_all slots forms n 0 (length all) (λ c l bare. ready.normal.absent c (omega arith) bare ∙ sym (default_at c))))
+      subst (λ b. Decides b (IsReady set d image)) (sym (whole_fine set d forms image subs)) (Decides-like _ (λ h. ready h.0.0 h.0.1 h.1.0 h.1.1) (λ r. (
+        (r.version, r.needed),
+        (
+          (fit_slots (device_cells set d) image.numbers slots r.normal.cells (image_are set d image) (image_constants set good i d image found), r.valid),
+          λ c le l bare. r.normal.absent c (omega arith) bare ∙ sym (rw is (form_default (device_cells set d) c)),
+        ),
+      )) (Decides-and _ _
+      (Decides-and _ _ (Decides-eqb image.version d.desc.version) (needed_are set d image 0 d.subs image.came, are_needed set d image 0 d.subs image.came))
+      (Decides-and _ _ (fit_decides image.numbers slots (image_constants set good i d image found))
+      (settle_decides slots forms image.numbers 0 (length (device_cells set d))))))
 
   pub ready_by : (b : Bool) → b ≡ device_fine set (device_at set i) forms image → OnTrue b (IsReady set (device_at set i) image)
-  ready_by b e = OnTrue_from b _ (λ is. fine_ready (sym e ∙ is))
+  ready_by b e = OnTrue_from b _ (λ is. decides.0 (sym e ∙ is))
 
   pub other_by : (b : Bool) → b ≡ device_fine set (device_at set i) forms image → OnFalse b (IsReady set (device_at set i) image → ⊥)
-  other_by b e = OnFalse_from b _ (λ is ready. let fine = ready_fine ready in cc)
+  other_by b e = OnFalse_from b _ (λ is ready. let fine = decides.1 ready in cc)

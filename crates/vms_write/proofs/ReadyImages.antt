@@ -1,7 +1,7 @@
 -- What ready images have, one after the other.
 use Rattle.vms_write.proofs.Facade.{cases_lt, ⊎_elim, ◌≡◌, ℕ, ◌<◌, ◌≤◌, List, [], ◌∷◌, length, map, ℤ, ◌∙◌, arith, true, ◌+◌, get_or, Some, sym, ap}
 use Rattle.vms_write.proofs.Facade.{get_or-map, slice_get-get_or, slice_get_within, get_or_from_slice_get, slice_get, U8, MOST_ITEMS, Set, Device}
-use Rattle.vms_write.proofs.Facade.{Slot, Number, Constant, Filler, Rule, Cell, no_cell, no_desc, device_cells, Image, own_cells, own_slots, sub_place}
+use Rattle.vms_write.proofs.Facade.{Slot, Number, Constant, Cell, no_cell, no_desc, device_cells, Image, own_cells, own_slots, sub_place}
 use Rattle.vms_write.proofs.Facade.{sub_slots, IsReady, AreReady, AreCells, FitsHeads, own_constants, part_constants, sub_are, fit_slots, own_are, FitSlots}
 use Rattle.vms_write.proofs.Facade.{versions_long, device_at, is_well_formed, sub_at, kinds_at, few_cells, good_of, CanWrite, Typed, IsImageOf, AreImagesOf}
 
@@ -9,8 +9,7 @@ can_write : (cells : List Cell) (m : List ℤ) (slots : List Slot) → AreCells 
 can_write cells m [] are f = tt
 can_write cells m (Number a kind caps ∷ slots) are f = (get_or-map (λ c. c.kind) cells a no_cell U8 are.0.within ∙ are.0.kind, can_write cells m slots are.1 f.2)
 can_write cells m (Constant kind z ∷ slots) are f = (f.0, can_write cells m slots are f.1)
-can_write cells m (Filler n ∷ slots) are f = can_write cells m slots are f
-can_write cells m (Rule b ∷ slots) are f = can_write cells m slots are f
+can_write cells m (_ ∷ slots) are f = (tt, can_write cells m slots are f)
 
 -- device i of a set has an image whose bytes can be written
 pub record IsWritable (set : Set) (i : ℕ) (image : Image) : Type 0 where

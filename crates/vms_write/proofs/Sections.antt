@@ -1,36 +1,23 @@
 -- The bytes of steps, runs of numbers, subsections and sections, one after the other.
-use Rattle.vms_write.proofs.Facade.{◌≡◌, ℕ, List, [], ◌∷◌, ◌++◌, get_or, ℤ, pos, refl, ap, zero, suc, ◌+◌, ◌≤◌, length, take, drop, Ok, Err}
-use Rattle.vms_write.proofs.Facade.{OnOk, IfErr, ◌∙◌, arith, ◌<◌, Option, Some, None, sym, ◌&&◌, drop_more, Result, Slot, Number, Constant, Filler, Rule}
-use Rattle.vms_write.proofs.Facade.{no_desc, desc_cells, struct_cells, zeroed, Image, own_cells, steps_of, WalkStep, Kind, CanWrite, CanStep, bytes_of, Outlet}
+use Rattle.vms_write.proofs.Facade.{Rule, ◌≡◌, ℕ, List, [], ◌∷◌, ◌++◌, get_or, ℤ, pos, refl, ap, zero, suc, ◌+◌, ◌≤◌, length, take, drop, Ok, Err}
+use Rattle.vms_write.proofs.Facade.{OnOk, IfErr, ◌∙◌, arith, ◌<◌, Option, Some, None, sym, ◌&&◌, drop_more, Result, Slot}
+use Rattle.vms_write.proofs.Facade.{no_desc, desc_cells, struct_cells, zeroed, Image, own_cells, steps_of, WalkStep, Kind, CanWrite, CanSteps, CanStep, bytes_of, Outlet}
 use Rattle.vms_write.proofs.Facade.{Wrote, Puts, Stops, codes_of, run_of, Set, Device, Sub, AtLeast, written_subs, written_section, written_sections}
 use Rattle.vms_write.proofs.Facade.{first_cell, device_at, sub_at, sub_next, CellForm, sub_fine, subs_fine, written_sub}
 use Rattle.vms_spec.specs.declared.Part.TheVariants as parts
 
 pub bytes_zeroed : (n : List ℤ) (xs : List Slot) → bytes_of n (steps_of xs) ≡ zeroed n xs
 bytes_zeroed n [] = refl
-bytes_zeroed n (Number c kind caps ∷ xs) = rw (bytes_zeroed n xs)
-bytes_zeroed n (Constant kind z ∷ xs) = rw (bytes_zeroed n xs)
-bytes_zeroed n (Filler k ∷ xs) = rw (bytes_zeroed n xs)
 bytes_zeroed n (Rule b ∷ xs) = bytes_zeroed n xs
-
-abbrev AllCan : List Kind → List WalkStep → Type 0
-AllCan kinds [] = Unit {0}
-AllCan kinds (x ∷ xs) = CanStep kinds x × AllCan kinds xs
-
-all_can : (kinds : List Kind) (xs : List Slot) → CanWrite kinds xs → AllCan kinds (steps_of xs)
-all_can kinds [] h = tt
-all_can kinds (Number c kind caps ∷ xs) h = (h.0, all_can kinds xs h.1)
-all_can kinds (Constant kind z ∷ xs) h = (h.0, all_can kinds xs h.1)
-all_can kinds (Filler k ∷ xs) h = (tt, all_can kinds xs h)
-all_can kinds (Rule b ∷ xs) h = (tt, all_can kinds xs h)
-
-one_of : (kinds : List Kind) (xs rest : List WalkStep) (x : WalkStep) → AllCan kinds (xs ++ (x ∷ rest)) → CanStep kinds x
-one_of kinds [] rest x h = h.0
-one_of kinds (y ∷ xs) rest x h = one_of kinds xs rest x h.1
+bytes_zeroed n (_ ∷ xs) = rw (bytes_zeroed n xs)
 
 -- any step of these slots
 pub can_write_step : (kinds : List Kind) (slots : List Slot) (xs rest : List WalkStep) (x : WalkStep) → CanWrite kinds slots → steps_of slots ≡ xs ++ (x ∷ rest) → CanStep kinds x
-can_write_step kinds slots xs rest x h e = one_of kinds xs rest x (rw e at (all_can kinds slots h))
+can_write_step kinds slots xs rest x h e = one_of xs (rw e at h)
+  where
+    one_of : (ys : List WalkStep) → CanSteps kinds (ys ++ (x ∷ rest)) → CanStep kinds x
+    one_of [] h = h.0
+    one_of (y ∷ ys) h = one_of ys h.1
 
 -- ---- The bytes of numbers of one kind whose cells follow one another.
 

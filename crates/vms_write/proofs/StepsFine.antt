@@ -3,7 +3,7 @@ use Rattle.std.proofs.{Math.Bool.or-false, lemmas.Bool.false_from_ne_true}
 use Rattle.vms_bodies.proofs.AgreeLaws.{named_inside}
 use Rattle.vms_write.proofs.Facade.{◌≡◌, ℕ, zero, suc, ◌+◌, ◌<◌, ◌≤◌, List, [], ◌∷◌, ◌++◌, length, length-append, get_or, replicate, ℤ, pos, refl, sym, ap, ◌∙◌}
 use Rattle.vms_write.proofs.Facade.{subst, arith, Bool, true, false, ◌&&◌, ◌||◌, ◌-◌, Option, Some, None, length-replicate, ne_eqb, eq-eqb, and-true, and_assoc}
-use Rattle.vms_write.proofs.Facade.{same_number, in_range, counts_well, int_le, Desc, Set, Cell, no_cell, Slot, Number, Constant, Filler, Rule, Meaning}
+use Rattle.vms_write.proofs.Facade.{same_number, in_range, counts_well, int_le, Desc, Set, Cell, no_cell, Slot, Number, Rule, Meaning}
 use Rattle.vms_write.proofs.Facade.{desc_slots, desc_cells, has_cell, AreCells, IsAbove, MeanCells, desc_are, cells_first, names_append, and_swap, both_below}
 use Rattle.vms_write.proofs.Facade.{CellForm, no_form, are_fit, settle, is_fine, is_within, cells_in, steps_of, table, spot_slots, stands_behind, Kind}
 use Rattle.vms_write.proofs.Facade.{own_cell_count, lesser, least_from, least_of, desc_at, PartAt, Ascends, below_from, from_end, desc_ascends, meanings_ascend}
@@ -15,9 +15,8 @@ pub fit_append : (n : List ℤ) (xs ys : List Slot) → are_fit n (xs ++ ys) ≡
 fit_append n [] ys = refl
 fit_append n (Number c kind caps ∷ xs) ys =
     rw (fit_append n xs ys) (sym (and_assoc (in_range kind (get_or n c (pos 0)) && counts_well caps (get_or n c (pos 0))) (are_fit n xs) (are_fit n ys)))
-fit_append n (Constant kind z ∷ xs) ys = fit_append n xs ys
-fit_append n (Filler k ∷ xs) ys = fit_append n xs ys
 fit_append n (Rule b ∷ xs) ys = rw (fit_append n xs ys) (sym (and_assoc b (are_fit n xs) (are_fit n ys)))
+fit_append n (_ ∷ xs) ys = fit_append n xs ys
 
 pub settle_plus : (slots : List Slot) (forms : List CellForm) (n : List ℤ) (at a b : ℕ) → settle slots forms n at (a + b) ≡ (settle slots forms n at a && settle slots forms n (at + a) b)
 settle_plus slots forms n at zero b = ap (settle slots forms n at) (omega arith) ∙ ap (λ x. settle slots forms n x b) (omega arith)

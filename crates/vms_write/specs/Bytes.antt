@@ -3,7 +3,8 @@ use Rattle.std.specs.Prelude.{◌≡◌, ℕ, List, [], ◌∷◌, ◌++◌, get
 use Rattle.vms_kinds.specs.declared.Kind.{Kind}
 use Rattle.vms_kinds.specs.declared.Kind.TheVariants.{U8}
 use Rattle.vms_kinds.specs.Codes.{InRange, code}
-use Rattle.vms_spec.specs.Layout as slots
+use Rattle.vms_spec.specs.Layout.{Slot}
+use Rattle.vms_walk.specs.Steps.{steps_of}
 use Rattle.vms_walk.specs.declared.step.WalkStep.{WalkStep}
 use Rattle.vms_walk.specs.declared.step.WalkStep.TheVariants.{Number, Constant, Filler, Rule}
 
@@ -11,16 +12,16 @@ use Rattle.vms_walk.specs.declared.step.WalkStep.TheVariants.{Number, Constant, 
 abbrev pub CanStep : List Kind → WalkStep → Type 0
 CanStep kinds (Number cell kind most) = get_or kinds cell U8 ≡ kind
 CanStep kinds (Constant kind value) = InRange kind value
-CanStep kinds (Filler bytes) = Unit {0}
-CanStep kinds (Rule holds) = Unit {0}
+CanStep kinds step = Unit {0}
 
--- The same for each slot.
-abbrev pub CanWrite : List Kind → List slots.Slot → Type 0
-CanWrite kinds [] = Unit {0}
-CanWrite kinds (slots.Number c kind capacities ∷ xs) = (get_or kinds c U8 ≡ kind) × CanWrite kinds xs
-CanWrite kinds (slots.Constant kind z ∷ xs) = InRange kind z × CanWrite kinds xs
-CanWrite kinds (slots.Filler n ∷ xs) = CanWrite kinds xs
-CanWrite kinds (slots.Rule b ∷ xs) = CanWrite kinds xs
+-- The same for each of these steps.
+abbrev pub CanSteps : List Kind → List WalkStep → Type 0
+CanSteps kinds [] = Unit {0}
+CanSteps kinds (x ∷ xs) = CanStep kinds x × CanSteps kinds xs
+
+-- The same for the step of each slot.
+abbrev pub CanWrite : List Kind → List Slot → Type 0
+CanWrite kinds slots = CanSteps kinds (steps_of slots)
 
 -- The bytes of a step; unused ones are 0.
 abbrev pub step_bytes : List ℤ → WalkStep → List ℕ

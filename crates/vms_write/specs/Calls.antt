@@ -1,7 +1,7 @@
 -- What the calls need, and what they judge and write, of the set that they borrow.
 use Rattle.std.specs.Prelude.{◌≡◌, ℕ, ◌<◌, ◌≤◌, Bool, List, length, map, Option, None, get_or, IfSome, ℤ}
 use Rattle.std.specs.Bool.{OnFalse, OnTrue}
-use Rattle.vms_spec.specs.Images.{own_cells, zeroed}
+use Rattle.vms_spec.specs.Images.{zeroed}
 use Rattle.vms_spec.specs.Lists.{at_option}
 use Rattle.vms_spec.specs.Places.{own_cell_count}
 use Rattle.vms_spec.specs.Streams as streams
@@ -104,30 +104,12 @@ module _ (set : DescSet) where
 
   -- ---- a section
 
-  -- The image is one of device i and may be written.
-  pub record CanWriteSubs (i : ℕ) (image : Typed) : Type 0 where
-    pub is_device : i < length (described set).devices
-    pub kinds : image.kinds ≡ kinds_at (described set) i
-    pub ready : IsReady (described set) (device_at (described set) i) (state_of image)
-
   -- The image is one of device i, which has subsection j, and may be written.
   pub record CanWriteSub (i j : ℕ) (image : Typed) : Type 0 where
     pub is_device : i < length (described set).devices
     pub is_sub : j < length (device_at (described set) i).subs
     pub kinds : image.kinds ≡ kinds_at (described set) i
     pub ready : IsReady (described set) (device_at (described set) i) (state_of image)
-
-  -- The bytes of the section's head.
-  abbrev pub head_bytes : ℕ → Typed → List ℕ
-  head_bytes i image =
-      let d = device_at (described set) i in
-      streams.section_head i d.desc.name d.instance image.version
-
-  -- The bytes of the subsections that came.
-  abbrev pub subs_bytes : ℕ → Typed → List ℕ
-  subs_bytes i image =
-      let d = device_at (described set) i in
-      streams.written_subs (described set) d (state_of image) (own_cells (described set) d) d.subs image.came
 
   -- The bytes of subsection j, if it came.
   abbrev pub sub_bytes : ℕ → ℕ → Typed → List ℕ

@@ -6,7 +6,7 @@ use Rattle.vms_kinds.specs.declared.Kind.TheVariants.{U8}
 use Rattle.vms_spec.specs.Numbers.{same_number}
 use Rattle.vms_spec.specs.Rules.{in_range, int_le, counts_well}
 use Rattle.vms_spec.specs.Sets.{Set, Sub, Device}
-use Rattle.vms_spec.specs.Layout.{Slot, Number, Constant, Filler, Rule, desc_cells, struct_cells}
+use Rattle.vms_spec.specs.Layout.{Slot, Number, Rule, desc_cells, struct_cells}
 use Rattle.vms_spec.specs.Images.{Image, has_cell, sub_slots}
 use Rattle.vms_spec.specs.Streams.{is_needed}
 use Rattle.vms_parts.specs.declared.types.CellForm.{CellForm}
@@ -36,9 +36,8 @@ is_within (Some most) z = int_le z (pos most)
 abbrev pub are_fit : List ℤ → List Slot → Bool
 are_fit numbers [] = true
 are_fit numbers (Number c kind capacities ∷ slots) = (in_range kind (get_or numbers c (pos 0)) && counts_well capacities (get_or numbers c (pos 0))) && are_fit numbers slots
-are_fit numbers (Constant kind z ∷ slots) = are_fit numbers slots
-are_fit numbers (Filler n ∷ slots) = are_fit numbers slots
 are_fit numbers (Rule b ∷ slots) = b && are_fit numbers slots
+are_fit numbers (slot ∷ slots) = are_fit numbers slots
 
 -- Whether each of the `n` cells from `at` on is in the slots or at its default.
 abbrev pub settle : List Slot → List CellForm → List ℤ → ℕ → ℕ → Bool

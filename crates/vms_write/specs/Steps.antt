@@ -1,11 +1,12 @@
 -- Steps that are fine: what readiness checks of them, one after the other.
 use Rattle.std.specs.Prelude.{◌≡◌, ℕ, ◌+◌, ◌-◌, Bool, true, false, ◌&&◌, List, [], ◌∷◌, ◌++◌, get_or, Option, ℤ, pos}
 use Rattle.std.proofs.Common.{refl, sym, ap, ◌∙◌}
+use Rattle.std.proofs.Math.Bool.{and_assoc}
 use Rattle.vms_kinds.specs.declared.Kind.{Kind}
 use Rattle.vms_spec.specs.Rules.{in_range}
 use Rattle.vms_parts.specs.declared.types.CellForm.{CellForm}
 use Rattle.vms_walk.specs.declared.step.WalkStep.{WalkStep}
-use Rattle.vms_walk.specs.declared.step.WalkStep.TheVariants.{Number, Constant, Filler, Rule}
+use Rattle.vms_walk.specs.declared.step.WalkStep.TheVariants.{Number, Rule}
 use Rattle.vms_write.specs.Fine.{is_within, settle}
 
 -- Whether a number is in its kind's range and at most `most`.
@@ -16,16 +17,13 @@ is_number_fine kind most z = in_range kind z && is_within most z
 -- their defaults, the number is fine, and a rule holds.
 abbrev pub is_step_fine : List CellForm → List ℤ → ℕ → WalkStep → Bool
 is_step_fine forms numbers at (Number cell kind most) = is_number_fine kind most (get_or numbers cell (pos 0)) && settle [] forms numbers at (cell - at)
-is_step_fine forms numbers at (Constant kind value) = true
-is_step_fine forms numbers at (Filler bytes) = true
 is_step_fine forms numbers at (Rule holds) = holds
+is_step_fine forms numbers at step = true
 
 -- The first cell that hasn't been judged after a step.
 abbrev pub after : ℕ → WalkStep → ℕ
 after at (Number cell kind most) = cell + 1
-after at (Constant kind value) = at
-after at (Filler bytes) = at
-after at (Rule holds) = at
+after at step = at
 
 -- The same after steps.
 abbrev pub behind : ℕ → List WalkStep → ℕ
@@ -39,10 +37,6 @@ are_steps_fine forms numbers at (x ∷ xs) = is_step_fine forms numbers at x && 
 
 -- ---- laws
 
-and_assoc : (a b c : Bool) → (a && (b && c)) ≡ ((a && b) && c)
-and_assoc true b c = refl
-and_assoc false b c = refl
-
 pub behind_append : (at : ℕ) (xs ys : List WalkStep) → behind at (xs ++ ys) ≡ behind (behind at xs) ys
 behind_append at [] ys = refl
 behind_append at (x ∷ xs) ys = behind_append (after at x) xs ys
@@ -51,7 +45,7 @@ fine_append : (f : List CellForm) (n : List ℤ) (at : ℕ) (xs ys : List WalkSt
 fine_append f n at [] ys = refl
 fine_append f n at (x ∷ xs) ys =
     let next = after at x in
-    ap (λ (b : Bool). is_step_fine f n at x && b) (fine_append f n next xs ys) ∙ and_assoc (is_step_fine f n at x) (are_steps_fine f n next xs) (are_steps_fine f n (behind next xs) ys)
+    ap (λ (b : Bool). is_step_fine f n at x && b) (fine_append f n next xs ys) ∙ sym (and_assoc (is_step_fine f n at x) (are_steps_fine f n next xs) (are_steps_fine f n (behind next xs) ys))
 
 -- What is fine up to a cell, and from there on.
 pub fine_then : (f g : List CellForm) (n m : List ℤ) (at next : ℕ) (xs ys : List WalkStep) (b : Bool) → g ≡ f → m ≡ n → next ≡ behind at xs → are_steps_fine f n at xs ≡ true → are_steps_fine g m next ys ≡ b

@@ -6,7 +6,7 @@ ghost use Rattle.vms_spec.specs.Streams.{IsReady, written_section};
 ghost use Rattle.vms_desc.specs.Described.{described, device_at};
 ghost use Rattle.vms_desc.specs.Spots.{kinds_at};
 ghost use Rattle.vms_image.specs.Typed.{state_of};
-ghost use Rattle.vms_write.specs.Calls.{CanWriteSub, CanWriteSubs, HasDevice, head_bytes, sub_bytes, subs_bytes};
+ghost use Rattle.vms_write.specs.Calls.{CanWriteSub, sub_bytes};
 
 use crate::WriteFault;
 use crate::body::write_fields;
@@ -44,53 +44,21 @@ pub fn write_section<K: Sink>(
         let bytes = written_section set d (state_of image.now) device in
         Wrote (outlet K.Sink sink.old) (outlet K.Sink sink.new) bytes result }
 {
-    write_head(set, device, image, sink)?;
+    let described = set.device(device);
+    let name = described.desc.name.as_bytes();
+    let version = image.version();
+    let head = section_head(device, name, described.instance, version);
+    append(sink, head.as_slice())?;
     let own = PartAt {
         part: Part::Device(device),
-        version: image.version(),
+        version,
         base: 0,
     };
     write_fields(set, own, image, sink)?;
-    write_subs(set, device, image, sink)?;
-    append(sink, &Foot { id: device }.bytes())
-}
-
-// Writes the head of a device's section, at the version of its image.
-fn write_head<K: Sink>(
-    set: &DescSet,
-    device: u32,
-    image: &Image,
-    sink: &mut K,
-) -> Result<(), WriteFault>
-    requires { HasDevice set.now device }
-    ensures { let bytes = head_bytes set.now device image.now in
-        Wrote (outlet K.Sink sink.old) (outlet K.Sink sink.new) bytes result }
-{
-    let described = set.device(device);
-    let head = section_head(
-        device,
-        described.desc.name.as_bytes(),
-        described.instance,
-        image.version(),
-    );
-    append(sink, head.as_slice())
-}
-
-// Writes the subsections that came, in the description's order.
-fn write_subs<K: Sink>(
-    set: &DescSet,
-    device: u32,
-    image: &Image,
-    sink: &mut K,
-) -> Result<(), WriteFault>
-    requires { CanWriteSubs set.now device image.now }
-    ensures { let bytes = subs_bytes set.now device image.now in
-        Wrote (outlet K.Sink sink.old) (outlet K.Sink sink.new) bytes result }
-{
     for sub in 0..set.sub_count(device) {
         write_sub(set, device, sub, image, sink)?;
     }
-    Ok(())
+    append(sink, &Foot { id: device }.bytes())
 }
 
 // Writes a subsection, if it came.

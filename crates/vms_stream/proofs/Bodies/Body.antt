@@ -1,15 +1,14 @@
 -- In the fields of a part the judge reads slot by slot, as the structural reader does: taking a slot is what is seen of its unit.
-use Rattle.vms_stream.proofs.{Finding.Advancing.advances, Judging.Mirrors.solid}
+use Rattle.vms_stream.proofs.{Finding.Advancing.advances, Finding.Advancing.IsFramed, Finding.Advancing.behind_each, Judging.Mirrors.solid}
 use Rattle.vms_stream.proofs.Facade.{◌≡◌, if_both, ℕ, length, take, Option, Some, None, ℤ, refl, ap, ◌∙◌, Bool, true, false, not, nat_lt, ◌&&◌, if◌then◌else◌}
-use Rattle.vms_stream.proofs.Facade.{zero, suc, ◌+◌, ◌<◌, List, [], ◌∷◌, get_or, drop, slice_set, Ok, Err, sym, arith, ◌==◌, slice_get, drop-append_seam, Kind}
-use Rattle.vms_stream.proofs.Facade.{width, value_of, Reason, is_truth, is_above, exceeds, same_number, is_bad_bool, number_at, Slot, desc_slots, meanings}
-use Rattle.vms_stream.proofs.Facade.{desc_cells, Progress, Taken, refuse, on, if_whole, take_value, take_slot, Refusal, take_desc, takers, cells_of, Piece}
-use Rattle.vms_stream.proofs.Facade.{Number, Constant, Filler, Configuration, Long, Head, SubHead, Foot, End, Start, Mark, raw_same, bad_same, raw, Field, Due}
-use Rattle.vms_stream.proofs.Facade.{is_foot, AfterFields, due_field, rules_hold, Whole, Cut, needs, Found, between_at, behind_at, unit_at, Seen, Good, Bad}
-use Rattle.vms_stream.proofs.Facade.{Short, seen, seen_in, seen_by, Known, Tail, beyond, skipped, first_row, alone, first_of, put, taken_by, LONGEST_NAME, Set}
-use Rattle.vms_stream.proofs.Facade.{Device, Desc, Image, Verdict, Faulty, Reading, Refused, reading_after, part_slots, reading_on, at_set, set_twice, one_unit}
-use Rattle.vms_stream.proofs.Facade.{none_taken, IsSound, AreSound, same_refl, drop_next, Comes, set_desc_comes, step, Walks, Is, steps_keep, cut_in, Grammar}
-use Rattle.vms_stream.proofs.Facade.{judge, judge_found, by_row, owes, State, Inside, image_at, part_at, known_at, after, by_state}
+use Rattle.vms_stream.proofs.Facade.{zero, suc, ◌+◌, ◌<◌, List, [], ◌∷◌, get_or, drop, slice_set, Ok, Err, sym, arith, slice_get, drop-append_seam, Kind, width}
+use Rattle.vms_stream.proofs.Facade.{value_of, Reason, is_truth, is_above, exceeds, same_number, is_bad_bool, Slot, desc_slots, meanings, desc_cells, Progress}
+use Rattle.vms_stream.proofs.Facade.{Taken, refuse, on, if_whole, take_value, take_slot, Refusal, take_desc, takers, cells_of, Piece, Number, Constant, Filler}
+use Rattle.vms_stream.proofs.Facade.{raw_same, bad_same, raw, Field, Due, AfterFields, due_field, rules_hold, Whole, Cut, needs, Found, unit_at, Seen, Good}
+use Rattle.vms_stream.proofs.Facade.{Bad, Short, seen, seen_in, seen_by, Known, beyond, skipped, first_row, alone, first_of, put, taken_by, Set, Device, Desc}
+use Rattle.vms_stream.proofs.Facade.{Image, Verdict, Faulty, Reading, Refused, reading_after, part_slots, reading_on, at_set, set_twice, one_unit, none_taken}
+use Rattle.vms_stream.proofs.Facade.{IsSound, AreSound, same_refl, drop_next, Comes, set_desc_comes, step, Walks, Is, steps_keep, cut_in, Grammar, judge}
+use Rattle.vms_stream.proofs.Facade.{judge_found, by_row, owes, State, Inside, image_at, part_at, known_at, after, by_state}
 use Rattle.vms_spec.specs.Layout.{Number as NumberSlot, Constant as ConstantSlot, Filler as FillerSlot, Rule as RuleSlot}
 use Rattle.vms_spec.specs.Readings.{Over as IsOver}
 use Rattle.vms_bodies.proofs.StepLaws.{after as step_after, Refuses}
@@ -32,17 +31,14 @@ by_tests cut bad other x n reason = if cut then Short else if bad then Bad n rea
 tests_taken : (p : Progress) (cut bad other : Bool) (x : Piece) (n : ℕ) (reason : Reason) → taken_by p (by_tests cut bad other x n reason)
     ≡ (if cut then refuse p reasons.Truncated (length p.rest) else if bad then refuse p reasons.BadBool n else if other then refuse p reason n else on n
     (put x p.numbers) p)
-tests_taken p true bad other x n reason = refl
-tests_taken p false true other x n reason = refl
-tests_taken p false false true x n reason = refl
 tests_taken p false false false x n reason = refl
+tests_taken p _ _ _ x n reason = refl
 
 module _ (k : ℕ) (known : Known) where
   rows_tested : (section : Option ℕ) (bad other : Bool) (x : Piece) (n : ℕ) (reason : Reason)
       → seen_by (two_rows section bad other reason) x n ≡ by_tests false bad other x n reason
-  rows_tested section true other x n reason = refl
-  rows_tested section false true x n reason = refl
   rows_tested section false false x n reason = refl
+  rows_tested section _ _ x n reason = refl
 
   pub tested : (slot : Slot) (cut bad other : Bool) (x : Piece) (n : ℕ) (reason : Reason)
       → first_row (alone (Field k slot) known x) ≡ two_rows known.section bad other reason
@@ -260,30 +256,8 @@ module _ (set : Set) (names : List (List ℕ)) (state : State) (d : Device) (ima
 
     -- a unit that belongs to no slot
     abbrev Outer : Found → Type 0
-    Outer (Whole (Number c kind z) n) = ⊥
-    Outer (Whole (Constant kind z) n) = ⊥
-    Outer (Whole (Filler bytes) n) = ⊥
-    Outer _ = Unit {0}
-
-    needs_outer : (n : ℕ) (rest : List ℕ) (x : Piece) → Outer (Whole x n) → Outer (needs n rest x)
-    needs_outer n rest x o = if_both Outer (nat_lt (length rest) n) Cut (Whole x n) tt o
-
-    between_outer : (first : Bool) (m : ℕ) (rest : List ℕ) → Outer (between_at first m rest)
-    unfolding between_at
-    between_outer first m rest =
-        let size = number_at 4 1 rest in
-        if_both Outer (m == 0x00) _ _ (needs_outer 1 rest End tt)
-        (if_both Outer (m == 0x01) _ _ (needs_outer (6 + get_or rest 5 0) rest (Start _ _) tt)
-        (if_both Outer (m == 0x04) _ _ (needs_outer (14 + get_or rest 5 0) rest (Head _ _ _ _) tt)
-        (if_both Outer (m == 0x07 && first) _ _ (if_both Outer (nat_lt LONGEST_NAME size) _ _ (needs_outer 5 rest (Long 0x07 size) tt)
-        (needs_outer (5 + size) rest (Configuration _) tt)) (needs_outer 1 rest (Mark m) tt))))
-
-    behind_outer : (t : Tail) (m : ℕ) (rest : List ℕ) → Outer (behind_at t m rest)
-    unfolding behind_at
-    behind_outer t m rest =
-        if_both Outer (m == 0x05) _ _ (needs_outer (6 + get_or rest 1 0) rest (SubHead _ _) tt)
-        (if_both Outer (is_foot t m) _ _ (if_both Outer (m == 0x7e) _ _ (needs_outer 5 rest (Foot _) tt) (needs_outer 1 rest (Mark m) tt))
-        (between_outer false m rest))
+    Outer (Whole x n) = IsFramed x
+    Outer Cut = Unit {0}
 
     outer_same : (i j : ℕ) (p : Progress) (f : Found) → Outer f → verdict i p (AfterFields k state.tail) f ≡ verdict j p (AfterFields k state.tail) f
     outer_same i j p (Whole (Number c kind z) n) o = absurd o
@@ -294,4 +268,8 @@ module _ (set : Set) (names : List (List ℕ)) (state : State) (d : Device) (ima
     -- if all slots are passed, what may follow the fields is found, whatever their number
     pub after_read : (i : ℕ) (p : Progress) → drop i (total p.numbers) ≡ []
         → goes_on i p ≡ reads p (verdict 0 p (AfterFields k state.tail) (unit_at (AfterFields k state.tail) p.rest))
-    after_read i p h = cc (so i p [] h, outer_same i 0 p (unit_at (AfterFields k state.tail) p.rest) (behind_outer state.tail (get_or p.rest 0 0) p.rest))
+    after_read i p h = cc (
+      so i p [] h,
+      outer_same i 0 p (unit_at (AfterFields k state.tail) p.rest)
+          (behind_each Outer p.rest (λ n x _ framed. if_both Outer (nat_lt (length p.rest) n) Cut (Whole x n) tt framed) state.tail (get_or p.rest 0 0)),
+    )

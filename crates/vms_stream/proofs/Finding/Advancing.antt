@@ -4,7 +4,7 @@ use Rattle.vms_stream.proofs.Facade.{arith, Bool, true, false, nat_lt, ◌==◌,
 use Rattle.vms_stream.proofs.Facade.{longest_text, number_at, bytes_at, Verdict, Goes, Over, Piece, Magic, Version, Configuration, Long, Number, Constant}
 use Rattle.vms_stream.proofs.Facade.{Filler, Foot, End, Description, Mark, opened, slots, Due, is_foot, AMagic, AVersion, Between, Field, AfterFields}
 use Rattle.vms_stream.proofs.Facade.{AfterEnd, due, due_field, Advances, width_positive, Found, Whole, Cut, needs, text_at, between_at, behind_at, trailer_at}
-use Rattle.vms_stream.proofs.Facade.{unit_at, Grammar, judge, judge_found, by_row, owes, Tail, passed, tail}
+use Rattle.vms_stream.proofs.Facade.{unit_at, Grammar, judge, judge_found, by_row, owes, Tail, passed, tail, Start, Head, SubHead}
 use Rattle.vms_spec.specs.Layout.{Number as NumberSlot, Constant as ConstantSlot, Filler as FillerSlot, Rule as RuleSlot}
 
 abbrev Stays : List ℕ → Found → Type 0
@@ -18,19 +18,37 @@ some_bytes n rest x h = by (nat_lt (length rest) n) refl
     by true e = tt
     by false e = (h, ltb-false (length rest) n e)
 
-text_stays : (mark longest : ℕ) (unit : List ℕ → Piece) (rest : List ℕ) (n : ℕ) → Stays rest (text_at mark longest unit rest n)
-text_stays mark longest unit rest n =
-    if_both (Stays rest) (nat_lt longest n) _ _ (some_bytes 5 rest (Long mark n) (omega arith))
-    (some_bytes (5 + n) rest (unit (bytes_at n 5 rest)) (omega arith))
+-- a unit that is no field's
+abbrev pub IsFramed : Piece → Type 0
+IsFramed (Number c kind z) = ⊥
+IsFramed (Constant kind z) = ⊥
+IsFramed (Filler bytes) = ⊥
+IsFramed x = Unit {0}
 
-between_stays : (first : Bool) (m : ℕ) (rest : List ℕ) → Stays rest (between_at first m rest)
-unfolding between_at
-between_stays first m rest =
-    if_both (Stays rest) (m == 0x00) _ _ (some_bytes 1 rest End (omega arith))
-    (if_both (Stays rest) (m == 0x01) _ _ (some_bytes (6 + get_or rest 5 0) rest _ (omega arith))
-    (if_both (Stays rest) (m == 0x04) _ _ (some_bytes (14 + get_or rest 5 0) rest _ (omega arith))
-    (if_both (Stays rest) (m == 0x07 && first) _ _ (text_stays 0x07 LONGEST_NAME Configuration rest (number_at 4 1 rest))
-    (some_bytes 1 rest (Mark m) (omega arith)))))
+-- what holds of each such unit, whether it is whole or not, holds of what is found by a mark
+module _ (P : Found → Type 0) (rest : List ℕ) (each : (n : ℕ) (x : Piece) → 0 < n → IsFramed x → P (needs n rest x)) where
+  text_each : (mark longest : ℕ) (unit : List ℕ → Piece) (n : ℕ) → IsFramed (unit (bytes_at n 5 rest)) → P (text_at mark longest unit rest n)
+  text_each mark longest unit n framed =
+      if_both P (nat_lt longest n) _ _ (each 5 (Long mark n) (omega arith) tt) (each (5 + n) (unit (bytes_at n 5 rest)) (omega arith) framed)
+
+  between_each : (first : Bool) (m : ℕ) → P (between_at first m rest)
+  unfolding between_at
+  between_each first m =
+      if_both P (m == 0x00) _ _ (each 1 End (omega arith) tt)
+      (if_both P (m == 0x01) _ _ (each (6 + get_or rest 5 0) (Start _ _) (omega arith) tt)
+      (if_both P (m == 0x04) _ _ (each (14 + get_or rest 5 0) (Head _ _ _ _) (omega arith) tt)
+      (if_both P (m == 0x07 && first) _ _ (text_each 0x07 LONGEST_NAME Configuration (number_at 4 1 rest) tt) (each 1 (Mark m) (omega arith) tt))))
+
+  pub behind_each : (tail : Tail) (m : ℕ) → P (behind_at tail m rest)
+  unfolding behind_at
+  behind_each tail m =
+      if_both P (m == 0x05) _ _ (each (6 + get_or rest 1 0) (SubHead _ _) (omega arith) tt)
+      (if_both P (is_foot tail m) _ _ (if_both P (m == 0x7e) _ _ (each 5 (Foot _) (omega arith) tt) (each 1 (Mark m) (omega arith) tt)) (between_each false m))
+
+  trailer_each : (m : ℕ) → P (trailer_at m rest)
+  unfolding trailer_at
+  trailer_each m =
+      if_both P (m == 0x06) _ _ (text_each 0x06 longest_text Description (number_at 4 1 rest) tt) (each 1 (Mark m) (omega arith) tt)
 
 -- no filler of 0 bytes is due
 abbrev pub IsSolid : Due → Type 0
@@ -38,23 +56,15 @@ IsSolid (Field k (FillerSlot zero)) = ⊥
 IsSolid _ = Unit {0}
 
 stays : (d : Due) (rest : List ℕ) → IsSolid d → Stays rest (unit_at d rest)
-unfolding behind_at trailer_at
 stays AMagic rest solid = some_bytes 4 rest (Magic (take 4 rest)) (omega arith)
 stays AVersion rest solid = some_bytes 4 rest (Version (number_at 4 0 rest)) (omega arith)
-stays (Between first after) rest solid = between_stays first (get_or rest 0 0) rest
+stays (Between first after) rest solid = between_each (Stays rest) rest (λ n x some _. some_bytes n rest x some) first (get_or rest 0 0)
 stays (Field k (NumberSlot c kind capacities)) rest solid = some_bytes (width kind) rest (Number c kind _) (width_positive kind)
 stays (Field k (ConstantSlot kind z)) rest solid = some_bytes (width kind) rest (Constant kind _) (width_positive kind)
 stays (Field k (FillerSlot zero)) rest solid = absurd solid
 stays (Field k (FillerSlot (suc n))) rest solid = some_bytes (suc n) rest (Filler (take (suc n) rest)) (omega arith)
-stays (AfterFields k tail) rest solid =
-    let m = get_or rest 0 0 in
-    if_both (Stays rest) (m == 0x05) _ _ (some_bytes (6 + get_or rest 1 0) rest _ (omega arith))
-    (if_both (Stays rest) (is_foot tail m) _ _
-    (if_both (Stays rest) (m == 0x7e) _ _ (some_bytes 5 rest (Foot (number_at 4 1 rest)) (omega arith)) (some_bytes 1 rest (Mark m) (omega arith)))
-    (between_stays false m rest))
-stays AfterEnd rest solid =
-    if_both (Stays rest) (get_or rest 0 0 == 0x06) _ _ (text_stays 0x06 longest_text Description rest (number_at 4 1 rest))
-    (some_bytes 1 rest (Mark (get_or rest 0 0)) (omega arith))
+stays (AfterFields k tail) rest solid = behind_each (Stays rest) rest (λ n x some _. some_bytes n rest x some) tail (get_or rest 0 0)
+stays AfterEnd rest solid = trailer_each (Stays rest) rest (λ n x some _. some_bytes n rest x some) (get_or rest 0 0)
 stays _ rest solid = tt
 
 module _ {S : Type 0} (g : Grammar S) (solid : (s : S) → IsSolid (g.due s)) where
@@ -84,9 +94,5 @@ field_solid t o slots = tt
 
 pub due_solid : (set : Set) (u : List Piece) → IsSolid (due set u)
 due_solid set [] = tt
-due_solid set (Magic bytes ∷ u) = tt
-due_solid set (Version v ∷ u) = tt
-due_solid set (Configuration name ∷ u) = tt
-due_solid set (Foot id ∷ u) = tt
 due_solid set (End ∷ u) = tt
-due_solid set (x ∷ u) = field_solid (tail set (x ∷ u)) (opened set (x ∷ u)) (drop (passed set (x ∷ u)) (slots set (x ∷ u)))
+due_solid set (x ∷ u) = assumption (field_solid (tail set (x ∷ u)) (opened set (x ∷ u)) (drop (passed set (x ∷ u)) (slots set (x ∷ u))))

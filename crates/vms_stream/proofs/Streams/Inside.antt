@@ -104,9 +104,10 @@ module _ {r : Run} (c : Section r.set) (image : Image) (part : Option ℕ) (n : 
       let d = AfterFields c.k c.state.tail in
       let h = sub_is_one r.set r.names d (knows c image part n) c.device.subs name v (subs_are c image part n)
       (subst (λ k. first_of r.set r.names d k (SubHead name v) ≡ None) (known_is c image part n) none) in
-      let lt : h.j < length c.device.subs = slice_get_within c.device.subs h.j h.sub h.there in
-      ASub h.j v h.sub more (rw h.name_is e) h.there (none_from image.came h.j (omega arith) h.new) h.version
-      (rw (h.name_is, ← sub_after c image part n h.j name v h.named) goes)
+      let s = h.found in
+      let lt : h.j < length c.device.subs = slice_get_within c.device.subs h.j s.item s.there in
+      ASub h.j v s.item more (rw s.is e) s.there (none_from image.came h.j (omega arith) h.new) h.version
+      (rw (s.is, ← sub_after c image part n h.j name v h.named) goes)
   by_unit {more = more} ok _ (AtFoot _ _ its f g) none e goes =
       let e2 = rw (foot_is r.set r.names (AfterFields c.k c.state.tail) (known_at r.set (stands c image part n)) its none) at e in
       AnEnd true more (foot_agrees c.state.tail f) e2 (free_opens false false refl (bytes_rest (foot c.id) more (subst IsBytes e2 ok)) long goes)

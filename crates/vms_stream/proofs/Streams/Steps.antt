@@ -131,9 +131,10 @@ opening {r} _ _ d s long b _ (AtMark first c m e) none there goes = absurd (mark
 opening {r} _ _ d s long b _ (AtEnd first c) none there goes = Closes _ there (end_is r.set r.names d (known_at r.set s) none) goes
 opening {r} _ _ d s {more = more} long b _ (AtHead first c id name instance v f g i) none there goes =
     let h = head_is r.set r.names d (known_at r.set s) id name instance v none in
-    let lt : h.k < length r.set.devices = slice_get_within r.set.devices h.k h.device h.there in
-    Opens h.k id v h.device more f (rw (h.name_is, h.instance_is) there) h.there (false_from s.came h.k (omega arith) h.new) h.version
-    (rw (h.name_is, h.instance_is, ← head_after r.set s id name instance v h.k h.device h.named h.there) goes)
+    let d = h.found in
+    let lt : h.k < length r.set.devices = slice_get_within r.set.devices h.k d.item d.there in
+    Opens h.k id v d.item more f (rw (d.is.0, d.is.1) there) d.there (false_from s.came h.k (omega arith) h.new) h.version
+    (rw (d.is.0, d.is.1, ← head_after r.set s id name instance v h.k d.item h.named d.there) goes)
 
 pub free_opens : {r : Run} {s : State} (first c : Bool) {place : ℕ} {rest : List ℕ} → s.spot ≡ Free first c → IsBytes rest
     → length s.came ≡ length r.set.devices → Goes r s place rest → Opening r first (record s { spot = Free false false }) place rest

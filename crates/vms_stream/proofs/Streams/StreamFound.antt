@@ -5,8 +5,8 @@ use Rattle.vms_stream.proofs.Facade.{add-zero, IsBytes, bytes_rest, Device, Set,
 use Rattle.vms_stream.proofs.Facade.{EachOnce, be32, magic, stream_head, configuration, end_mark, trailer, IsConfiguration, IsTrailer, Taken, Progress}
 use Rattle.vms_stream.proofs.Facade.{take_desc, takers, cells_of, IsGood, same_refl, at_set, body_found, own_are, defaults_at, defaults_long, none_versions}
 use Rattle.vms_stream.proofs.Facade.{all_came, falses, defaults_of, its_spelled, at_other, none_of, none_came, beside_start, Fine, fine_normal, fine_valid}
-use Rattle.vms_stream.proofs.Facade.{Tail, Unknown, Footed, Bare, State, Free, Ended, Headed, known_at, after, between, by_state, at_start, IsSection}
-use Rattle.vms_stream.proofs.Facade.{SectionsSpell, Takes, Piece, spell, Accepted, AMagic, AVersion, AfterEnd, Nothing, May, AtMagic, AtVersion}
+use Rattle.vms_stream.proofs.Facade.{Tail, Unknown, Footed, Bare, State, Free, Ended, Headed, known_at, after, between, by_state, at_start, IsSection, BeginsSection}
+use Rattle.vms_stream.proofs.Facade.{SectionsSpell, Takes, Piece, spell, Accepted, AMagic, AVersion, AfterEnd, May, AtMagic, AtVersion}
 use Rattle.vms_stream.proofs.Facade.{AtDescription, AtLongText, AtTrailing, first_of, owes, reading}
 use Rattle.vms_stream.specs.State.{Over}
 use Rattle.vms_stream.proofs.Bodies.Body.{Reads, body_read}
@@ -18,17 +18,11 @@ use Rattle.vms_stream.proofs.Streams.UnitRows.{magic_is, version_is_3, trailing_
 abbrev pub came_to : State → ℕ → Image → Bool → State
 came_to s k image footed = record s { images = slice_set s.images k image; came = slice_set s.came k true; tail = tail_of footed; spot = Free false false }
 
--- device k's section is at the front, and the reading goes on after it
-pub record HasRead (r : Run) (s : State) (k : ℕ) (d : Device) (place : ℕ) (rest : List ℕ) : Type 0 where
-  pub id : ℕ
-  pub image : Image
-  pub footed : Bool
-  pub agrees : Agrees s.tail footed
-  pub bytes : List ℕ
-  pub after : List ℕ
-  pub is : IsSection r.set d image id footed bytes
-  pub spelled : rest ≡ bytes ++ after
-  pub opens : Opening r false (came_to s k image footed) (place + length bytes) after
+-- a section is at the front, and the reading goes on after it
+pub record HasRead (r : Run) (s : State) (place : ℕ) (rest : List ℕ) : Type 0 where
+  pub begins : BeginsSection r.set s.came rest
+  pub agrees : Agrees s.tail begins.footed
+  pub opens : Opening r false (came_to s begins.number begins.image begins.footed) (place + length begins.bytes) begins.after
 
 -- the sections that are read, from a place between sections on
 pub record SectionsRead (r : Run) (s : State) (place : ℕ) (rest : List ℕ) : Type 0 where
@@ -47,9 +41,6 @@ pub record SectionsRead (r : Run) (s : State) (place : ℕ) (rest : List ℕ) : 
   pub came_last : List Bool
   pub tail_last : Tail
   pub goes : Goes r (record s { images = states; came = came_last; tail = tail_last; spot = Ended }) ((place + length sections) + 1) after
-
-four_long : (a b c d : List ℕ) → length (((a ++ b) ++ c) ++ d) ≡ length a + (length b + (length c + length d))
-four_long a b c d = simp length-append (omega arith)
 
 regrouped : (a b c d e : List ℕ) → (((a ++ b) ++ c) ++ d) ++ e ≡ a ++ (b ++ (c ++ (d ++ e)))
 regrouped a b c d e = simp append_assoc
@@ -75,9 +66,9 @@ module _ (r : Run) (good : IsGood r.set) where
     start = record { numbers = (default_image r.set d).numbers; place = place + length head; rest = more }
 
     module _ {rest : List ℕ} (long : length s.came ≡ length r.set.devices) (ok : IsBytes rest) (id_fits : id < 4294967296) (spelled : rest ≡ head ++ more)
-        (version : IsVersionOf d.desc v) (h : Goes r (opened r.set s k id d v) (place + length head) more) where
+        (new : slice_get s.came k ≡ Some false) (version : IsVersionOf d.desc v) (h : Goes r (opened r.set s k id d v) (place + length head) more) where
       by_taken : (q : Taken) → take_desc (takers r.set.structs (length r.set.structs)) d.desc v 0 start ≡ q
-          → Reads r.set r.names c.state d (record (default_image r.set d) { version = v }) k id None there room 0 start q → HasRead r s k d place rest
+          → Reads r.set r.names c.state d (record (default_image r.set d) { version = v }) k id None there room 0 start q → HasRead r s place rest
       by_taken (Err e) is reads = let f = sym reads ∙ h.is in cc
       by_taken (Ok q) is reads =
           let all = device_cells r.set d in
@@ -100,64 +91,73 @@ module _ (r : Run) (good : IsGood r.set) where
           (omega arith) (bytes_rest b.bytes q.rest (subst IsBytes b.front okm)) so_far (record { is = sym reads.2 ∙ h.is }) in
           let close = closing q'.footed id in
           record {
-            id = id;
-            image = image_so v q'.all q'.numbers;
-            footed = q'.footed;
-            agrees = q'.agrees;
-            bytes = ((head ++ b.bytes) ++ q'.tail) ++ close;
-            after = q'.after;
-            is = record {
-              fits = id_fits;
-              normal = fine_normal r.set d v q'.all q'.numbers version (good.defaults k d there) q'.fine;
-              valid = fine_valid r.set d v q'.all q'.numbers q'.fine;
-              body = b.bytes;
-              own = its_spelled r.set d.desc v 0 good.structs sound q.numbers q'.numbers b.bytes q'.stays.own (b.spells q.numbers m);
-              order = q'.order;
-              each_once = rw (← beside_start d.subs q'.left q'.all q'.beside) q'.once;
-              tail = q'.tail;
-              subs = q'.subs;
-              whole = refl;
+            begins = record {
+              number = k;
+              device = d;
+              there = there;
+              new = new;
+              id = id;
+              image = image_so v q'.all q'.numbers;
+              footed = q'.footed;
+              bytes = ((head ++ b.bytes) ++ q'.tail) ++ close;
+              after = q'.after;
+              is = record {
+                fits = id_fits;
+                normal = fine_normal r.set d v q'.all q'.numbers version (good.defaults k d there) q'.fine;
+                valid = fine_valid r.set d v q'.all q'.numbers q'.fine;
+                body = b.bytes;
+                own = its_spelled r.set d.desc v 0 good.structs sound q.numbers q'.numbers b.bytes q'.stays.own (b.spells q.numbers m);
+                order = q'.order;
+                each_once = rw (← beside_start d.subs q'.left q'.all q'.beside) q'.once;
+                tail = q'.tail;
+                subs = q'.subs;
+                whole = refl;
+              };
+              spelled = cc (regrouped head b.bytes q'.tail close q'.after);
             };
-            spelled = cc (regrouped head b.bytes q'.tail close q'.after);
+            agrees = q'.agrees;
             opens = subst (λ (x : ℕ). Opening r false (came_to s k (image_so v q'.all q'.numbers) q'.footed) x q'.after)
-                (omega (arith, b.place, four_long head b.bytes q'.tail close)) q'.opens;
+                (omega (arith, b.place, length-append ((head ++ b.bytes) ++ q'.tail) close, length-append (head ++ b.bytes) q'.tail, length-append head b.bytes))
+                q'.opens;
           }
 
-      pub section_found : HasRead r s k d place rest
+      pub section_found : HasRead r s place rest
       section_found =
           by_taken (take_desc (takers r.set.structs (length r.set.structs)) d.desc v 0 start) refl
           (body_read r.set r.names c.state d (record (default_image r.set d) { version = v }) k id None there room good.structs d.desc v 0
           (good.devices k d there) (λ m. refl) start)
 
-  sections_next : {s : State} {place : ℕ} {rest : List ℕ} {k : ℕ} {d : Device} → length s.came ≡ length r.set.devices → length s.images ≡ length r.set.devices
-      → slice_get r.set.devices k ≡ Some d → slice_get s.came k ≡ Some false
-      → (h : HasRead r s k d place rest) → SectionsRead r (came_to s k h.image h.footed) (place + length h.bytes) h.after → SectionsRead r s place rest
-  sections_next {s} {place} {rest} {k} {d} came_long images_long there new h q =
-      let inside : k < length r.set.devices = slice_get_within r.set.devices k d there in
+  sections_next : {s : State} {place : ℕ} {rest : List ℕ} → length s.came ≡ length r.set.devices → length s.images ≡ length r.set.devices
+      → (h : HasRead r s place rest)
+      → SectionsRead r (came_to s h.begins.number h.begins.image h.begins.footed) (place + length h.begins.bytes) h.begins.after → SectionsRead r s place rest
+  sections_next {s} {place} {rest} came_long images_long h q =
+      let b = h.begins in
+      let k = b.number in
+      let inside : k < length r.set.devices = slice_get_within r.set.devices k b.device b.there in
       record {
         order = k ∷ q.order;
-        each_once = (new, q.each_once);
-        sections = h.bytes ++ q.sections;
+        each_once = (b.new, q.each_once);
+        sections = b.bytes ++ q.sections;
         after = q.after;
-        spelled = h.spelled ∙ rw (q.spelled, append_assoc h.bytes q.sections (0x00 ∷ q.after));
-        footed = h.footed;
+        spelled = b.spelled ∙ rw (q.spelled, append_assoc b.bytes q.sections (0x00 ∷ q.after));
+        footed = b.footed;
         agrees = h.agrees;
         states = q.states;
         sections_are = (
-          h.bytes,
+          b.bytes,
           q.sections,
-          rw (there, (q.kept k (at_set s.came k true (omega arith)) ∙ at_set s.images k h.image (omega arith))) (h.id, h.is),
-          rw (same_footed h.footed q.footed q.agrees) at q.sections_are,
+          rw (b.there, (q.kept k (at_set s.came k true (omega arith)) ∙ at_set s.images k b.image (omega arith))) (b.id, b.is),
+          rw (same_footed b.footed q.footed q.agrees) at q.sections_are,
           refl,
         );
-        long = cc (length-set s.images k h.image);
+        long = cc (length-set s.images k b.image);
         kept = λ j e.
-            let ne : j ≡ k → ⊥ = λ same. (let f = sym e ∙ ap (slice_get s.came) same ∙ new in cc) in
-            q.kept j (at_other s.came k j true ne ∙ e) ∙ at_other s.images k j h.image ne;
+            let ne : j ≡ k → ⊥ = λ same. (let f = sym e ∙ ap (slice_get s.came) same ∙ b.new in cc) in
+            q.kept j (at_other s.came k j true ne ∙ e) ∙ at_other s.images k j b.image ne;
         came_last = q.came_last;
         tail_last = q.tail_last;
         goes = subst (λ (x : ℕ). Goes r (record s { images = q.states; came = q.came_last; tail = q.tail_last; spot = Ended }) (x + 1) q.after)
-            (sym (omega (arith, length-append h.bytes q.sections))) q.goes;
+            (sym (omega (arith, length-append b.bytes q.sections))) q.goes;
       }
 
   -- the sections, in any order, each once
@@ -185,13 +185,15 @@ module _ (r : Run) (good : IsGood r.set) where
   sections_found (suc most) s came_long images_long less ok (Names name more first e one le goes) = cc
   sections_found (suc most) s {place} {rest} came_long images_long less ok (Opens k id v d more f e there new version goes) =
       let inside : k < length r.set.devices = slice_get_within r.set.devices k d there in
-      let h = section_found s place k id v d more there (omega arith) came_long ok f e version goes in
-      sections_next came_long images_long there new h
-      (sections_found most (came_to s k h.image h.footed) (length-set s.came k true ∙ came_long) (length-set s.images k h.image ∙ images_long)
-      (omega (arith, ap length h.spelled, length-append h.bytes h.after, has_bytes h.is)) (bytes_rest h.bytes h.after (subst IsBytes h.spelled ok)) h.opens)
+      let h = section_found s place k id v d more there (omega arith) came_long ok f e new version goes in
+      let b = h.begins in
+      sections_next came_long images_long h
+      (sections_found most (came_to s b.number b.image b.footed) (length-set s.came b.number true ∙ came_long)
+      (length-set s.images b.number b.image ∙ images_long) (omega (arith, ap length b.spelled, length-append b.bytes b.after, has_bytes b.is))
+      (bytes_rest b.bytes b.after (subst IsBytes b.spelled ok)) h.opens)
     where
-      has_bytes : {image : Image} {footed : Bool} {bytes : List ℕ} {id : ℕ} → IsSection r.set d image id footed bytes → 0 < length bytes
-      has_bytes {image = image} {footed = footed} {bytes = bytes} {id = id} s = omega (arith, simp length-append at (ap length s.whole))
+      has_bytes : {d : Device} {image : Image} {footed : Bool} {bytes : List ℕ} {id : ℕ} → IsSection r.set d image id footed bytes → 0 < length bytes
+      has_bytes s = omega (arith, simp length-append at (ap length s.whole))
 
 -- what ends a stream: nothing, or a description
 record Ending (r : Run) (s : State) (place : ℕ) (rest : List ℕ) : Type 0 where
@@ -205,9 +207,6 @@ record Ending (r : Run) (s : State) (place : ℕ) (rest : List ℕ) : Type 0 whe
   machine_is : r.end.machine ≡ s.machine
   images_are : r.end.images ≡ s.images
 
-nothing_may : (x : Piece) → May Nothing x → ⊥
-nothing_may x m = elim m [ ]
-
 none_left : (rest : List ℕ) → owes AfterEnd rest ≡ false → rest ≡ []
 none_left [] e = refl
 none_left (b ∷ rest) e = cc
@@ -216,7 +215,7 @@ module _ {r : Run} (s : State) {place : ℕ} {rest : List ℕ} (ok : IsBytes res
   -- if nothing is due, a reading has ended
   over_is : s.spot ≡ Over → Goes r s place rest → (place ≡ r.taken) × (s ≡ r.end)
   over_is over h = elim (next ok h) [
-    | inl t ↦ absurd (nothing_may t.unit (rw over at t.may))
+    | inl t ↦ elim (rw over at t.may) [ ]
     | inr t ↦ (t.place_is, t.end_is)
   ]
 

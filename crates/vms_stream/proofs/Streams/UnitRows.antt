@@ -1,11 +1,31 @@
 -- What it means for a unit that no row of the table takes it. Each proof searches the unit's rows, whichever they are.
 use Rattle.vms_stream.proofs.Facade.{◌≡◌, ℕ, zero, suc, ◌<◌, List, ◌∷◌, length, Option, Some, None, refl, ap, arith, Bool, true, false, not, [], slice_get}
 use Rattle.vms_stream.proofs.Facade.{bytes_eq, le-ltb, eq-eqb, bytes_eq-Decides, Reason, at_option, position, Set, Device, Sub, IsVersionOf, magic, is_one_of}
-use Rattle.vms_stream.proofs.Facade.{Piece, Magic, Version, Configuration, Head, SubHead, Foot, End, Start, Mark, subs_of, device_named, found_is, sub_is}
+use Rattle.vms_stream.proofs.Facade.{Piece, Magic, Version, Configuration, Head, SubHead, Foot, End, Start, Mark, subs_of, device_named, found_is, sub_is, find_sub}
+use Rattle.vms_spec.specs.Lookup.{find_device}
 use Rattle.vms_stream.proofs.Facade.{Known, Due, first_of, is_between, wants_foot, is_after_end, test_some, is_none}
 
 abbrev pub Line : Type 0
 Line = Option (Option ℕ × Reason)
+
+-- the element at a number, and what holds of it
+pub record At {X : Type 0} (xs : List X) (k : ℕ) (P : X → Type 0) : Type 0 where
+  pub item : X
+  pub there : slice_get xs k ≡ Some item
+  pub is : P item
+
+device_at : (devices : List Device) (name : List ℕ) (instance k : ℕ) → find_device 0 devices name instance ≡ Some k
+    → At devices k (λ (d : Device). (d.desc.name ≡ name) × (d.instance ≡ instance))
+device_at devices name instance k e =
+    let f = found_is devices 0 name instance k e in
+    let same : f.i ≡ k = omega arith in
+    record { item = f.device; there = rw same at f.there; is = ((bytes_eq-Decides f.device.desc.name name).0 f.name_is, f.instance_is) }
+
+sub_at : (subs : List Sub) (name : List ℕ) (k : ℕ) → find_sub 0 subs name ≡ Some k → At subs k (λ (s : Sub). s.desc.name ≡ name)
+sub_at subs name k e =
+    let f = sub_is subs 0 name k e in
+    let same : f.i ≡ k = omega arith in
+    record { item = f.sub; there = rw same at f.there; is = (bytes_eq-Decides f.sub.desc.name name).0 f.name_is }
 
 module _ (set : Set) (names : List (List ℕ)) (d : Due) (so_far : Known) where
   abbrev row_of : Piece → Line
@@ -54,13 +74,10 @@ module _ (set : Set) (names : List (List ℕ)) (d : Due) (so_far : Known) where
   -- a section head that no row takes: of a device that has not come, at a version of its description
   pub record HeadIs (name : List ℕ) (instance v : ℕ) : Type 0 where
     pub k : ℕ
-    pub device : Device
     pub named : device_named set name instance ≡ Some k
-    pub there : slice_get set.devices k ≡ Some device
-    pub name_is : device.desc.name ≡ name
-    pub instance_is : device.instance ≡ instance
+    pub found : At set.devices k (λ (d : Device). (d.desc.name ≡ name) × (d.instance ≡ instance))
     pub new : test_some (λ (b : Bool). b) (slice_get so_far.came k) ≡ false
-    pub version : IsVersionOf device.desc v
+    pub version : IsVersionOf found.item.desc v
 
   pub head_is : (id : ℕ) (name : List ℕ) (instance v : ℕ) → row_of (Head id name instance v) ≡ None → HeadIs name instance v
   head_is id name instance v e = by (device_named set name instance) refl
@@ -68,20 +85,9 @@ module _ (set : Set) (names : List (List ℕ)) (d : Due) (so_far : Known) where
       by : (o : Option ℕ) → device_named set name instance ≡ o → HeadIs name instance v
       by None n = let f = rw n at e in cc
       by (Some j) n =
-          let f = found_is set.devices 0 name instance j n in
-          let same : f.i ≡ j = (omega arith) in
-          let there = rw same at f.there in
-          let free = rw there at (rw n at e) in
-          record {
-            k = j;
-            device = f.device;
-            named = n;
-            there = there;
-            name_is = (bytes_eq-Decides f.device.desc.name name).0 f.name_is;
-            instance_is = f.instance_is;
-            new = grind arith;
-            version = (grind arith, grind arith);
-          }
+          let found = device_at set.devices name instance j n in
+          let free = rw found.there at (rw n at e) in
+          record { k = j; named = n; found = found; new = grind arith; version = (grind arith, grind arith) }
 
   pub head_passes : (id : ℕ) (name : List ℕ) (instance v k : ℕ) (device : Device) → device_named set name instance ≡ Some k
       → slice_get set.devices k ≡ Some device → slice_get so_far.came k ≡ Some false → IsVersionOf device.desc v → row_of (Head id name instance v) ≡ None
@@ -91,12 +97,10 @@ module _ (set : Set) (names : List (List ℕ)) (d : Due) (so_far : Known) where
   -- a subsection head that no row takes: of a subsection that has not come, at a version of its description
   pub record SubIs (subs : List Sub) (came : List (Option ℕ)) (name : List ℕ) (v : ℕ) : Type 0 where
     pub j : ℕ
-    pub sub : Sub
     pub named : position (λ (s : Sub). bytes_eq s.desc.name name) 0 subs ≡ Some j
-    pub there : slice_get subs j ≡ Some sub
-    pub name_is : sub.desc.name ≡ name
+    pub found : At subs j (λ (s : Sub). s.desc.name ≡ name)
     pub new : test_some (λ (o : Option ℕ). not (is_none o)) (slice_get came j) ≡ false
-    pub version : IsVersionOf sub.desc v
+    pub version : IsVersionOf found.item.desc v
 
   pub sub_is_one : (subs : List Sub) (name : List ℕ) (v : ℕ) → subs_of (at_option set.devices so_far.section) ≡ subs → row_of (SubHead name v) ≡ None
       → SubIs subs so_far.image.came name v
@@ -105,19 +109,9 @@ module _ (set : Set) (names : List (List ℕ)) (d : Due) (so_far : Known) where
       by : (o : Option ℕ) → position (λ (s : Sub). bytes_eq s.desc.name name) 0 subs ≡ o → SubIs subs so_far.image.came name v
       by None n = let f = rw (is, n) at e in cc
       by (Some j) n =
-          let f = sub_is subs 0 name j n in
-          let same : f.i ≡ j = (omega arith) in
-          let there = rw same at f.there in
-          let free = rw (is, n, there) at e in
-          record {
-            j = j;
-            sub = f.sub;
-            named = n;
-            there = there;
-            name_is = (bytes_eq-Decides f.sub.desc.name name).0 f.name_is;
-            new = grind arith;
-            version = (grind arith, grind arith);
-          }
+          let found = sub_at subs name j n in
+          let free = rw (is, n, found.there) at e in
+          record { j = j; named = n; found = found; new = grind arith; version = (grind arith, grind arith) }
 
   pub sub_passes : (subs : List Sub) (name : List ℕ) (v j : ℕ) (sub : Sub) → subs_of (at_option set.devices so_far.section) ≡ subs
       → position (λ (s : Sub). bytes_eq s.desc.name name) 0 subs ≡ Some j → slice_get subs j ≡ Some sub → slice_get so_far.image.came j ≡ Some None

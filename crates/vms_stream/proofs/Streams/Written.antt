@@ -18,10 +18,9 @@ count_from k [] = []
 count_from k (x ∷ xs) = k ∷ count_from (suc k) xs
 
 drop_head : {A : Type 0} (xs : List A) (j : ℕ) (x : A) (more : List A) → drop j xs ≡ x ∷ more → slice_get xs j ≡ Some x
-drop_head [] zero x more e = cc
 drop_head [] (suc j) x more e = cc
-drop_head (y ∷ xs) zero x more e = cc
 drop_head (y ∷ xs) (suc j) x more e = drop_head xs j x more e
+drop_head _ _ x more e = cc
 
 place_next : (set : Set) (at : ℕ) (subs : List Sub) (j : ℕ) (x : Sub) (more : List Sub) → drop j subs ≡ x ∷ more
     → sub_place set at subs (suc j) ≡ sub_place set at subs j + length (desc_cells (struct_cells set) x.desc)

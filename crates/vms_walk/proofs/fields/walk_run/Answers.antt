@@ -1,16 +1,6 @@
-use Rattle.vms_walk.proofs.{Going.Laws, Kept.err_takes, Runs.run_next, Runs.run_stop, Runs.run_may, fields.walk_run.Given.Over}
+use Rattle.vms_walk.proofs.{Kept.err_takes, Runs.run_next, Runs.run_stop, Runs.run_may}
 use Rattle.vms_walk.proofs.Facade.{rules, ◌≡◌, ◌+◌, ◌-◌, ◌≤◌, refl, ◌∙◌, arith, zero, run_of}
 use Rattle.vms_walk.proofs.fields.walk_run.Goals as goal
-
-laws_of : (g : Over) → Laws g.W.Cells.numbers g.W.Walker.goes g.W.Walker.stops
-laws_of g =
-    record {
-      more = g.met.W.Walker.more;
-      after = g.met.W.Walker.stops_after;
-      before = g.met.W.Walker.stops_before;
-      keeps = g.met.W.Walker.keeps;
-      stopped = g.met.W.Walker.keeps_stopped;
-    }
 
 pub loop-cell-init : goal.loop-cell-init
 loop-cell-init g c =
@@ -19,14 +9,14 @@ loop-cell-init g c =
 
 pub loop-cell-preserved : goal.loop-cell-preserved
 loop-cell-preserved g c =
-    let laws = laws_of g in
     let inv = c.loop-cell.invariant in
     let b = c.loop-cell.walker in
     let d = c.run.new.self in
     let le : c.loop-cell.cell + c.min-some.result ≤ c.args.first + c.args.count = search rules in
     record {
-      way = run_next _ _ _ laws c.args.first c.loop-cell.cell c.args.kind c.args.walker.now b inv.from inv.way c.min-some.result d c.in_ok-run.ensures.ok;
-      long = (laws.keeps _ b d c.in_ok-run.ensures.ok).long ∙ inv.long;
+      way = run_next g.W.Walker.goes g.met.W.Walker.more c.args.first c.loop-cell.cell c.args.kind c.args.walker.now b inv.from inv.way c.min-some.result d
+          c.in_ok-run.ensures.ok;
+      long = (g.met.W.Walker.keeps _ b d c.in_ok-run.ensures.ok).long ∙ inv.long;
       from = omega arith;
       within = le;
     }
@@ -35,8 +25,8 @@ pub run-requires-clause-may : goal.run-requires-clause-may
 run-requires-clause-may g c =
     let inv = c.loop-cell.invariant in
     let le : c.loop-cell.cell + c.min-some.result ≤ c.args.first + c.args.count = search rules in
-    run_may _ _ _ (laws_of g) c.args.first c.loop-cell.cell c.args.kind c.args.walker.now c.loop-cell.walker inv.from inv.way c.min-some.result c.args.count
-    le g.W.Walker.may c.requires.may
+    run_may g.W.Walker.goes g.met.W.Walker.more c.args.first c.loop-cell.cell c.args.kind c.args.walker.now c.loop-cell.walker inv.from inv.way
+    c.min-some.result c.args.count le g.W.Walker.may c.requires.may
 
 pub returns-in_err-run : goal.returns-in_err-run
 returns-in_err-run g c =
@@ -46,5 +36,5 @@ returns-in_err-run g c =
     let fault = c.in_err-run.field-0.0 in
     let le : c.loop-cell.cell + c.min-some.result ≤ c.args.first + c.args.count = search rules in
     err_takes g.W.Walker.goes g.W.Walker.stops (run_of c.args.first c.args.count c.args.kind) c.from_residual.result fault a d c.from_residual.ensures.1
-    (run_stop _ _ _ (laws_of g) c.args.first c.loop-cell.cell c.args.kind a c.loop-cell.walker inv.from inv.way c.min-some.result c.args.count le d fault
-    c.in_err-run.ensures.err)
+    (run_stop g.W.Walker.goes g.met.W.Walker.more c.args.first c.loop-cell.cell c.args.kind a c.loop-cell.walker inv.from inv.way c.min-some.result c.args.count
+    le g.W.Walker.stops g.met.W.Walker.stops_after g.met.W.Walker.stops_before d fault c.in_err-run.ensures.err)

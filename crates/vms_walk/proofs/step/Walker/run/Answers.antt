@@ -1,15 +1,6 @@
-use Rattle.vms_walk.proofs.{Going.Laws, Kept.err_is, Runs.run_next, Runs.run_stop, Runs.run_may, step.Walker.run.Given.Over}
+use Rattle.vms_walk.proofs.{Kept.err_is, Runs.run_next, Runs.run_stop, Runs.run_may}
 use Rattle.vms_walk.proofs.Facade.{[], ◌≡◌, ◌-◌, refl, ◌∙◌, arith, zero, run_of}
 use Rattle.vms_walk.proofs.step.Walker.run.Goals as goal
-
-laws_of : (g : Over) → Laws g.Self.Cells.numbers g.Self.Walker.goes g.Self.Walker.stops
-laws_of g = record {
-  more = g.met.Self.Walker.more;
-  after = g.met.Self.Walker.stops_after;
-  before = g.met.Self.Walker.stops_before;
-  keeps = g.met.Self.Walker.keeps;
-  stopped = g.met.Self.Walker.keeps_stopped;
-}
 
 pub loop-cell-init : goal.loop-cell-init
 loop-cell-init g c =
@@ -18,13 +9,13 @@ loop-cell-init g c =
 
 pub loop-cell-preserved : goal.loop-cell-preserved
 loop-cell-preserved g c =
-    let laws = laws_of g in
     let inv = c.loop-cell.invariant in
     let b = c.loop-cell.self in
     let d = c.step.new.self in
     record {
-      way = run_next _ _ _ laws c.args.first c.loop-cell.cell c.args.kind c.args.self.now b c.loop-cell.auto.cell inv.way 1 d c.in_ok-step.ensures.ok;
-      long = (laws.keeps _ b d c.in_ok-step.ensures.ok).long ∙ inv.long;
+      way = run_next g.Self.Walker.goes g.met.Self.Walker.more c.args.first c.loop-cell.cell c.args.kind c.args.self.now b c.loop-cell.auto.cell inv.way 1 d
+          c.in_ok-step.ensures.ok;
+      long = (g.met.Self.Walker.keeps _ b d c.in_ok-step.ensures.ok).long ∙ inv.long;
       within = omega arith;
     }
 
@@ -33,8 +24,8 @@ step-requires-clause-inside g c = omega arith
 
 pub step-requires-clause-may : goal.step-requires-clause-may
 step-requires-clause-may g c =
-    run_may _ _ _ (laws_of g) c.args.first c.loop-cell.cell c.args.kind c.args.self.now c.loop-cell.self c.loop-cell.auto.cell c.loop-cell.invariant.way
-    1 c.args.count (omega arith) g.Self.Walker.may c.requires.may [] [] [] _ c.loop-cell.self (g.met.Self.Walker.none c.loop-cell.self) refl
+    run_may g.Self.Walker.goes g.met.Self.Walker.more c.args.first c.loop-cell.cell c.args.kind c.args.self.now c.loop-cell.self c.loop-cell.auto.cell
+    c.loop-cell.invariant.way 1 c.args.count (omega arith) g.Self.Walker.may c.requires.may [] [] [] _ c.loop-cell.self (g.met.Self.Walker.none c.loop-cell.self) refl
 
 pub returns-clause-ok : goal.returns-clause-ok
 returns-clause-ok g c =
@@ -47,5 +38,5 @@ returns-in_err-step-clause-err g c =
     let d = c.step.new.self in
     let fault = c.in_err-step.field-0.0 in
     err_is (λ fault. g.Self.Walker.stops (run_of c.args.first c.args.count c.args.kind) a fault d) c.from_residual.result fault c.from_residual.ensures.1
-    (run_stop _ _ _ (laws_of g) c.args.first c.loop-cell.cell c.args.kind a c.loop-cell.self c.loop-cell.auto.cell c.loop-cell.invariant.way
-    1 c.args.count (omega arith) d fault c.in_err-step.ensures.err)
+    (run_stop g.Self.Walker.goes g.met.Self.Walker.more c.args.first c.loop-cell.cell c.args.kind a c.loop-cell.self c.loop-cell.auto.cell
+    c.loop-cell.invariant.way 1 c.args.count (omega arith) g.Self.Walker.stops g.met.Self.Walker.stops_after g.met.Self.Walker.stops_before d fault c.in_err-step.ensures.err)
