@@ -58,9 +58,23 @@ impl Source for Lent<'_> {
     fn read(&mut self, buf: &mut [u8]) -> Result<usize, Failed> {
         let rest = self.bytes.len() - self.at;
         let count = buf.len().min(rest);
-        buf[..count].copy_from_slice(&self.bytes[self.at..self.at + count]);
+        copy(&mut buf[..count], &self.bytes[self.at..self.at + count]);
         self.at += count;
         self.given = self.given.saturating_add(count as u64);
         Ok(count)
+    }
+}
+
+// Copies `from`, a single byte without a call.
+#[inline(always)]
+#[tactic(auto, using(crate::proofs::Front::one_copied))]
+fn copy(to: &mut [u8], from: &[u8])
+    requires { length to.old ≡ length from.now }
+    ensures { to.new ≡ from.now }
+{
+    if from.len() == 1 {
+        to[0] = from[0];
+    } else {
+        to.copy_from_slice(from);
     }
 }

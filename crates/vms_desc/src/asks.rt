@@ -210,7 +210,6 @@ impl DescSet {
     ///
     /// The set has `part`, and `cells` has the part's cells from `base` on and at most
     /// [`MOST_ITEMS`](vms_spec::MOST_ITEMS) numbers.
-    #[inline(always)]
     pub fn holds_rules<C: Cells>(&self, part: Part, base: u32, version: u32, cells: &C) -> bool
         requires { CanAsk self.now part base (C.numbers cells.now) }
         ensures { result ≡ rules_hold_in self.now part base version (C.numbers cells.now) }

@@ -1,5 +1,5 @@
 -- The names of other crates, and of this crate's `specs`, that the proofs use.
-pub use Rattle.std.proofs.{Common.◌||◌, Common.◌∙◌, lemmas.Int.to_z-of_z, lemmas.Result.IfErr-weaker, lemmas.Result.err_from_is_err_and}
+pub use Rattle.std.proofs.{Common.◌||◌, Common.◌∙◌, lemmas.Int.to_z-of_z, lemmas.Result.IfErr-weaker, lemmas.Result.err_from_is_err_and, lemmas.Result.on_ok_weaker}
 pub use Rattle.std.proofs.Common.{◌∷◌, ◌≡◌, ◌≤◌, Bool, Err, IfErr, IfSome, List, None, Ok, OnOk, Option, Result, SFits, Some, [], ap, append-nil, append_assoc}
 pub use Rattle.std.proofs.Common.{arith, drop, false, get_or, if◌then◌else◌, inl, inr, length, length-append, length-drop, map, nat_le, nat_lt, not, of_z, refl}
 pub use Rattle.std.proofs.Common.{replicate, rules, slice_set, subst, suc, sym, take, true, zero, ℕ, ℤ, ⊎_elim, ◌&&◌, ◌*◌, ◌++◌, ◌+◌, ◌-◌, ◌/◌, ◌<◌, ◌==◌, ◌^◌}

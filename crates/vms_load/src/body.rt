@@ -107,11 +107,12 @@ impl<S: Source> Walker for Reader<'_, S> {
         read_step(step, self.image, self.cursor, self.source)
     }
 
-    // As the trait has it. It isn't marked for inlining: with it `walk` would be too large for its own
-    // mark, which the compiler would drop.
+    // As the trait has it, but without the match on the step: `walk` keeps its mark for inlining only
+    // if what is inlined into it is small.
+    #[inline(always)]
     fn rules(&mut self, set: &DescSet, spot: PartAt) -> Result<(), FrameFault> {
         let holds = set.holds_rules(spot.part, spot.base, spot.version, self);
-        self.step(WalkStep::Rule { holds })
+        rule(holds, self.cursor)
     }
 
     fn run(&mut self, first: u32, count: u32, kind: Kind) -> Result<(), FrameFault> {
