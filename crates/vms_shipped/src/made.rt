@@ -214,18 +214,34 @@ fn needed(alloc: Global, needed: Needed) -> Result<Test, NoMemory>
     }
 }
 
+fn sub(alloc: Global, row: &SubRow) -> Result<Sub, NoMemory>
+    ensures { IfOk result (λ s. sub_of s ≡ sub_in row.now) }
+{
+    let (name, rows, sent) = *row;
+    Ok(Sub {
+        desc: desc(alloc, name, 1, rows)?,
+        needed: needed(alloc, sent)?,
+    })
+}
+
 fn subs(alloc: Global, rows: &[SubRow]) -> Result<Listed<Sub>, NoMemory>
     ensures { IfOk result (λ subs. map sub_of subs ≡ map sub_in rows.now) }
 {
     let mut subs = Vec::with_capacity(alloc, rows.len())?;
     for row in rows {
-        let (name, fields, sent) = *row;
-        subs.push(Sub {
-            desc: desc(alloc, name, 1, fields)?,
-            needed: needed(alloc, sent)?,
-        })?;
+        subs.push(sub(alloc, row)?)?;
     }
     Ok(Listed::new(subs))
+}
+
+fn device(alloc: Global, row: &DeviceRow) -> Result<Device, NoMemory>
+    ensures { IfOk result (λ d. device_of d ≡ device_in row.now) }
+{
+    Ok(Device {
+        instance: row.instance,
+        desc: desc(alloc, row.name, row.version, row.rows)?,
+        subs: subs(alloc, row.subs)?,
+    })
 }
 
 fn devices(alloc: Global, rows: &[DeviceRow]) -> Result<Listed<Device>, NoMemory>
@@ -233,11 +249,7 @@ fn devices(alloc: Global, rows: &[DeviceRow]) -> Result<Listed<Device>, NoMemory
 {
     let mut devices = Vec::with_capacity(alloc, rows.len())?;
     for row in rows {
-        devices.push(Device {
-            instance: row.instance,
-            desc: desc(alloc, row.name, row.version, row.rows)?,
-            subs: subs(alloc, row.subs)?,
-        })?;
+        devices.push(device(alloc, row)?)?;
     }
     Ok(Listed::new(devices))
 }
