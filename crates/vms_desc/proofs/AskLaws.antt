@@ -98,6 +98,11 @@ pub found_field : (fields : List CodeField) (all : List Field) (k : ℕ) (f : Co
     → field_of f ≡ get_or all k no_field
 found_field fields all k f e lt is = rw (← e) (sym (get_map_at field_of fields k f no_field (omega (arith, ap length e, length-map fields field_of)) is))
 
+-- the same of a description that the code found
+pub field_found : (set : Set) (part : Part) (d : CodeDesc) (fields : List CodeField) (k : ℕ) (f : CodeField) → desc_of d ≡ desc_at set part → fields ≡ d.fields
+    → k < length (desc_at set part).fields → f ≡ get_or fields k f → field_of f ≡ get_or (desc_at set part).fields k no_field
+field_found set part d fields k f d_is fields_are lt is = found_field fields (desc_at set part).fields k f (here_fields set part d fields d_is fields_are) lt is
+
 all_hold_same : (ts : List Formula) (v : ℕ) (own now : ℕ → ℕ) → ((k : ℕ) → own k ≡ now k) → all_hold ts v own ≡ all_hold ts v now
 all_hold_same [] v own now h = refl
 all_hold_same (t ∷ ts) v own now h = cc (truth_same v own now no_parent no_parent h (λ k. refl) t, all_hold_same ts v own now h)

@@ -1,5 +1,6 @@
 -- What the calls on a set need and return, by the set that they borrow.
-use Rattle.std.specs.Prelude.{◌≡◌, ℕ, ◌+◌, ◌*◌, ◌<◌, ◌≤◌, true, Bool, List, length, ℤ}
+use Rattle.std.specs.Prelude.{◌≡◌, ℕ, ◌+◌, ◌*◌, ◌<◌, ◌≤◌, true, Bool, List, length, map, ℤ}
+use Rattle.vms_parts.specs.{Capacities.AreLeast, Views.field_of}
 use Rattle.vms_kinds.specs.declared.Item.{Item}
 use Rattle.vms_spec.specs.declared.Part.{Part}
 use Rattle.vms_spec.specs.declared.Part.TheVariants as parts
@@ -18,7 +19,8 @@ use Rattle.vms_desc.specs.Numbers.{sizes_of}
 use Rattle.vms_desc.specs.Parts.{HasParentCells, HasPart, desc_at, is_number_in, is_placed, parent_of}
 use Rattle.vms_desc.specs.Scopes.{IsScope}
 use Rattle.vms_desc.specs.Spots.{defaults_at, kinds_at}
-use Rattle.vms_desc.specs.Tables.{AreTables, IsTable, device_fields}
+use Rattle.vms_desc.specs.Tables.{AreStarts, AreTables, IsTable, device_fields}
+use Rattle.vms_desc.specs.declared.asks.PartFields.{PartFields}
 use Rattle.vms_desc.specs.declared.eval.Scope.{Scope}
 use Rattle.vms_desc.specs.declared.set.DescSet.{DescSet}
 use Rattle.vms_desc.specs.declared.table.Table.{Table}
@@ -134,6 +136,12 @@ truth_in s p base t v numbers =
 
 -- ---- fields
 
+-- these are the fields of part p with their tables
+pub record AreFieldsOf (s : DescSet) (p : Part) (f : PartFields) : Type 0 where
+  pub fields : map field_of f.fields.now ≡ (desc_in s p).fields
+  pub starts : AreStarts (sizes_of (described s)) (desc_in s p).fields f.starts.now
+  pub mosts : AreLeast (desc_in s p).fields f.mosts.now
+
 -- the set describes field k of part p
 pub record DescribesField (s : DescSet) (p : Part) (k : ℕ) : Type 0 where
   pub part : DescribesPart s p
@@ -162,13 +170,27 @@ pub record CanAskField (s : DescSet) (p : Part) (base k : ℕ) (numbers : List �
   pub few : length numbers ≤ MOST_ITEMS
   pub own : HasCells (described s) p numbers base
 
+-- f is a field of this part, whose cells are among a few numbers
+pub record CanAskOf (s : DescSet) (p : Part) (base : ℕ) (f : Field) (numbers : List ℤ) : Type 0 where
+  pub number : ℕ
+  pub is : f ≡ field_in s p number
+  pub ask : CanAskField s p base number numbers
+
+-- whether field f of part p is present at version v
+abbrev pub is_present_in : DescSet → Part → ℕ → Field → ℕ → List ℤ → Bool
+is_present_in s p base f v numbers = is_there f.test f.since v (own_numbers_in s p base numbers) no_parent
+
+-- the number of its elements in the bytes, if it is present
+abbrev pub count_in : DescSet → Part → ℕ → Field → List ℤ → ℕ
+count_in s p base f numbers = elements_of f.count (own_numbers_in s p base numbers)
+
 -- whether field k is present at version v
 abbrev pub is_there_in : DescSet → Part → ℕ → ℕ → ℕ → List ℤ → Bool
-is_there_in s p base k v numbers = is_there (field_in s p k).test (field_in s p k).since v (own_numbers_in s p base numbers) no_parent
+is_there_in s p base k v numbers = is_present_in s p base (field_in s p k) v numbers
 
 -- the number of its elements in the bytes, if it is present
 abbrev pub elements_in : DescSet → Part → ℕ → ℕ → List ℤ → ℕ
-elements_in s p base k numbers = elements_of (field_in s p k).count (own_numbers_in s p base numbers)
+elements_in s p base k numbers = count_in s p base (field_in s p k) numbers
 
 -- ---- subsections
 

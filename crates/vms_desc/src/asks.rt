@@ -5,17 +5,35 @@ ghost use Rattle.vms_spec.specs.Layout.{counted};
 ghost use Rattle.vms_spec.specs.declared.Part.TheVariants as parts;
 ghost use Rattle.vms_parts.specs.Capacities.{least_of};
 ghost use Rattle.vms_parts.specs.Sizes.{in_u32};
-ghost use Rattle.vms_parts.specs.Views.{formula};
+ghost use Rattle.vms_parts.specs.Views.{field_of, formula};
 
 use crate::eval::{Scope, all_hold, holds, number_at};
-use crate::{Cells, Count, DescSet, Part, Test};
+use crate::{Cells, Count, DescSet, Field, Part, Test};
 use vms_kinds::Item;
 use vms_parts::{Measure, capacity, item_size};
 
+/// The fields of a part with their tables, looked up once for all that a walk asks about them.
+#[derive(Clone, Copy, Drop)]
+pub struct PartFields<'a> {
+    fields: &'a [Field],
+    starts: &'a [u32],
+    mosts: &'a [Option<u32>],
+}
+
+impl<'a> PartFields<'a> {
+    /// Returns the fields, in order.
+    #[inline(always)]
+    pub fn as_slice(&self) -> &'a [Field]
+        ensures { result.now ≡ self.now.fields.now }
+    {
+        self.fields
+    }
+}
+
 impl DescSet {
-    ghost use Rattle.vms_desc.specs.Calls.{CanAsk, CanAskField, CanTest, DescribesDevice, DescribesField, DescribesPart, DescribesSub, IsScopeOf};
-    ghost use Rattle.vms_desc.specs.Calls.{desc_in, device_in, elements_in, field_size_in, field_start_in, first_cell_in, is_needed_in};
-    ghost use Rattle.vms_desc.specs.Calls.{is_there_in, item_size_in, own_count_in, own_truth_in, rules_hold_in};
+    ghost use Rattle.vms_desc.specs.Calls.{AreFieldsOf, CanAsk, CanAskField, CanAskOf, CanTest, DescribesDevice, DescribesField, DescribesPart, DescribesSub, IsScopeOf};
+    ghost use Rattle.vms_desc.specs.Calls.{count_in, desc_in, device_in, elements_in, field_size_in, field_start_in, first_cell_in, is_needed_in};
+    ghost use Rattle.vms_desc.specs.Calls.{is_present_in, is_there_in, item_size_in, own_count_in, own_truth_in, rules_hold_in};
 
     /// Returns the first cell of `part` among the cells of its device: 0, or the first cell after
     /// those that precede a subsection's.
@@ -103,7 +121,7 @@ impl DescSet {
         requires few { base + own_count_in self.now part ≤ MOST_ITEMS }
         ensures { result ≡ field_start_in self.now part base field }
     {
-        base + self.table(part).starts.as_slice()[field as usize]
+        self.start_in(part, self.fields_of(part), base, field)
     }
 
     /// Returns the least capacity of the arrays whose elements field `field` of `part` counts, or
@@ -116,7 +134,56 @@ impl DescSet {
         requires { DescribesField self.now part field }
         ensures { result ≡ least_of (counted field (desc_in self.now part).fields) }
     {
-        self.table(part).mosts.as_slice()[field as usize]
+        self.most_in(part, self.fields_of(part), field)
+    }
+
+    /// Returns the fields of `part`.
+    ///
+    /// # Requires
+    ///
+    /// The set has `part`.
+    #[inline(always)]
+    pub fn fields_of(&self, part: Part) -> PartFields<'_>
+        requires { DescribesPart self.now part }
+        ensures { AreFieldsOf self.now part result }
+    {
+        let table = self.table(part);
+        PartFields {
+            fields: self.desc(part).fields.as_slice(),
+            starts: table.starts.as_slice(),
+            mosts: table.mosts.as_slice(),
+        }
+    }
+
+    /// Returns the first cell of field `field` of `part`, as [`field_start`](Self::field_start)
+    /// does.
+    ///
+    /// # Requires
+    ///
+    /// As [`field_start`](Self::field_start), and `fields` are those of the part.
+    #[inline(always)]
+    pub fn start_in(&self, part: Part, fields: PartFields<'_>, base: u32, field: u32) -> u32
+        requires of { AreFieldsOf self.now part fields }
+        requires field { DescribesField self.now part field }
+        requires few { base + own_count_in self.now part ≤ MOST_ITEMS }
+        ensures { result ≡ field_start_in self.now part base field }
+    {
+        base + fields.starts[field as usize]
+    }
+
+    /// Returns the least capacity of the arrays that field `field` counts, as [`most`](Self::most)
+    /// does.
+    ///
+    /// # Requires
+    ///
+    /// As [`most`](Self::most), and `fields` are those of the part.
+    #[inline(always)]
+    pub fn most_in(&self, part: Part, fields: PartFields<'_>, field: u32) -> Option<u32>
+        requires of { AreFieldsOf self.now part fields }
+        requires field { DescribesField self.now part field }
+        ensures { result ≡ least_of (counted field (desc_in self.now part).fields) }
+    {
+        fields.mosts[field as usize]
     }
 
     // Returns the scope of a part, or of one element of a structure, whose first cell is `base`.
@@ -153,6 +220,27 @@ impl DescSet {
         ensures { result ≡ is_there_in self.now part base field version (C.numbers cells.now) }
     {
         let field = &self.desc(part).fields.as_slice()[field as usize];
+        self.is_present(part, base, field, version, cells)
+    }
+
+    /// Returns whether `field` is present at `version`, as [`is_there`](Self::is_there) does.
+    ///
+    /// # Requires
+    ///
+    /// As [`is_there`](Self::is_there), and `field` is one of the part's.
+    #[inline(always)]
+    pub fn is_present<C: Cells>(
+        &self,
+        part: Part,
+        base: u32,
+        field: &Field,
+        version: u32,
+        cells: &C,
+    ) -> bool
+        requires { CanAskOf self.now part base (field_of field.now) (C.numbers cells.now) }
+        ensures { let f = field_of field.now in
+            result ≡ is_present_in self.now part base f version (C.numbers cells.now) }
+    {
         match &field.test {
             None => version >= field.since,
             Some(test) => self.holds_test(part, base, test, version, cells),
@@ -192,6 +280,21 @@ impl DescSet {
         ensures { result ≡ elements_in self.now part base field (C.numbers cells.now) }
     {
         let field = &self.desc(part).fields.as_slice()[field as usize];
+        self.count_of(part, base, field, cells)
+    }
+
+    /// Returns the number of elements of `field` in the bytes, as [`elements`](Self::elements)
+    /// does.
+    ///
+    /// # Requires
+    ///
+    /// As [`is_present`](Self::is_present).
+    #[inline(always)]
+    pub fn count_of<C: Cells>(&self, part: Part, base: u32, field: &Field, cells: &C) -> u32
+        requires { CanAskOf self.now part base (field_of field.now) (C.numbers cells.now) }
+        ensures { let f = field_of field.now in
+            result ≡ count_in self.now part base f (C.numbers cells.now) }
+    {
         match field.count {
             Count::One => 1,
             Count::Fixed(length) => length,

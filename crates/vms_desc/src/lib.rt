@@ -14,6 +14,7 @@ mod set;
 mod spots;
 mod table;
 
+pub use asks::PartFields;
 pub use eval::{Cells, Numbers};
 pub use names::{find_name, find_sub, is_one_of};
 pub use set::DescSet;

@@ -7,6 +7,8 @@ use Rattle.vms_kinds.specs.declared.Kind.TheVariants as kinds
 use Rattle.vms_spec.specs.declared.TheConstants.{MOST_ITEMS}
 use Rattle.vms_spec.specs.Layout.{Slot, capacity_of}
 use Rattle.vms_spec.specs.Rules.{uses_below}
+use Rattle.vms_spec.specs.Sets.{Field}
+use Rattle.vms_desc.specs.Calls.{AreFieldsOf}
 use Rattle.vms_desc.specs.Asks.{field_at}
 use Rattle.vms_desc.specs.Described.{described}
 use Rattle.vms_desc.specs.Parts.{desc_at}
@@ -14,6 +16,7 @@ use Rattle.vms_desc.specs.declared.set.DescSet.{DescSet}
 use Rattle.vms_walk.specs.Runs.{MayRun, run_of}
 use Rattle.vms_walk.specs.Steps.{HasSpot, MayCome, cell_of, elements_by, field_by, holds_at, item_by, present_of, size_in, spot_numbers, spot_slots, steps_of}
 use Rattle.vms_walk.specs.declared.fields.Elements.{Elements}
+use Rattle.vms_walk.specs.declared.fields.Here.{Here}
 use Rattle.vms_walk.specs.declared.fields.PartAt.{PartAt}
 use Rattle.vms_walk.specs.declared.step.WalkStep.{WalkStep}
 
@@ -23,14 +26,16 @@ use Rattle.vms_walk.specs.declared.step.WalkStep.{WalkStep}
 abbrev pub IsSpotOf : DescSet → PartAt → List ℤ → Type 0
 IsSpotOf set p numbers = HasSpot (described set) p numbers
 
--- it has field k
-pub record HasField (set : DescSet) (p : PartAt) (k : ℕ) (numbers : List ℤ) : Type 0 where
+-- f is one of its fields
+pub record HasField (set : DescSet) (p : PartAt) (f : Field) (numbers : List ℤ) : Type 0 where
   pub spot : IsSpotOf set p numbers
-  pub field : k < length (desc_at (described set) p.part).fields
+  pub number : ℕ
+  pub field : number < length (desc_at (described set) p.part).fields
+  pub is : f ≡ field_at (described set) p.part number
 
--- how many elements of field k are in the bytes
-abbrev pub present_in : DescSet → PartAt → ℕ → List ℤ → ℕ
-present_in set p k numbers = present_of (field_at (described set) p.part k) p.version (spot_numbers (described set) p numbers)
+-- how many elements of field f are in the bytes
+abbrev pub present_in : DescSet → PartAt → Field → List ℤ → ℕ
+present_in set p f numbers = present_of f p.version (spot_numbers (described set) p numbers)
 
 -- whether the validations of the spot hold
 abbrev pub holds_in : DescSet → PartAt → List ℤ → Bool
@@ -84,12 +89,13 @@ module _ {S : Type 0} (goes : List WalkStep → S → S → Type 0) (numbers_of 
     pub may : MayRun goes lets (run_of first count kind) walker
 
   -- field k of a spot, whose cells begin at `cell`
-  pub record CanWalkField (set : DescSet) (p : PartAt) (k cell : ℕ) (walker : S) : Type 0 where
-    pub spot : IsSpotOf set p (numbers_of walker)
-    pub field : k < length (desc_at (described set) p.part).fields
-    pub here : cell ≡ cell_of (described set) p k
-    pub may : MayCome goes numbers_of lets (field_in set p k cell) walker
-    pub room : cell + capacity_of (field_at (described set) p.part k).count * size_in (described set) (field_at (described set) p.part k).item
+  pub record CanWalkField (set : DescSet) (h : Here) (k cell : ℕ) (walker : S) : Type 0 where
+    pub spot : IsSpotOf set h.spot (numbers_of walker)
+    pub fields : AreFieldsOf set h.spot.part h.fields
+    pub field : k < length (desc_at (described set) h.spot.part).fields
+    pub here : cell ≡ cell_of (described set) h.spot k
+    pub may : MayCome goes numbers_of lets (field_in set h.spot k cell) walker
+    pub room : cell + capacity_of (field_at (described set) h.spot.part k).count * size_in (described set) (field_at (described set) h.spot.part k).item
         ≤ length (numbers_of walker)
 
 -- ---- what a walker did

@@ -1,13 +1,14 @@
 // The walk: the fields of a description in order, arrays and structures expanded.
 ghost use Rattle.std.specs.Prelude.{◌≡◌, None, IfSome};
 ghost use Rattle.vms_kinds.specs.declared.Item.TheVariants as items;
+ghost use Rattle.vms_parts.specs.Views.{field_of};
 ghost use Rattle.vms_walk.specs.Calls.{AreFree, CanWalkField, CanWalkItem, CanWalkRow, CanWalkRun, HasField, IsSpotOf, Takes, Walks};
 ghost use Rattle.vms_walk.specs.Calls.{field_in, item_in, present_in, row_in, spot_in};
 ghost use Rattle.vms_walk.specs.Runs.{run_of};
 ghost use Rattle.vms_walk.specs.Steps.{MayCome};
 
 use crate::{LONGEST_RUN, WalkStep, Walker};
-use vms_desc::{Cells, DescSet, Part};
+use vms_desc::{Cells, DescSet, Field, Part, PartFields};
 use vms_kinds::{Item, Kind};
 
 // Runs shorter than this are handled number by number.
@@ -34,14 +35,22 @@ struct Elements<'a> {
     first: u32,
 }
 
+// A part, or one element of a structure, with its fields.
+#[derive(Clone, Copy)]
+struct Here<'a> {
+    spot: PartAt,
+    fields: PartFields<'a>,
+}
+
 // Returns how many elements of a field are in the bytes: none if the field is absent.
 #[inline(always)]
-fn present<C: Cells>(set: &DescSet, spot: PartAt, field: u32, cells: &C) -> u32
-    requires { HasField set.now spot field (C.numbers cells.now) }
-    ensures { result ≡ present_in set.now spot field (C.numbers cells.now) }
+fn present<C: Cells>(set: &DescSet, spot: PartAt, field: &Field, cells: &C) -> u32
+    requires { HasField set.now spot (field_of field.now) (C.numbers cells.now) }
+    ensures { let f = field_of field.now in
+        result ≡ present_in set.now spot f (C.numbers cells.now) }
 {
-    if set.is_there(spot.part, spot.base, field, spot.version, cells) {
-        set.elements(spot.part, spot.base, field, cells)
+    if set.is_present(spot.part, spot.base, field, spot.version, cells) {
+        set.count_of(spot.part, spot.base, field, cells)
     } else {
         0
     }
@@ -188,18 +197,18 @@ fn walk_run<W: Walker>(first: u32, count: u32, kind: Kind, walker: &mut W) -> Re
 #[inline(always)]
 fn walk_field<W: Walker>(
     set: &DescSet,
-    spot: PartAt,
+    here: Here<'_>,
     field: u32,
     cell: u32,
     walker: &mut W,
 ) -> Result<(), W::Fault>
-    requires { CanWalkField W.goes W.numbers W.may set.now spot field cell walker.old }
-    ensures { let slots = field_in set.now spot field cell in
+    requires { CanWalkField W.goes W.numbers W.may set.now here field cell walker.old }
+    ensures { let slots = field_in set.now here.entry.spot field cell in
         Walks W.goes W.stops W.numbers slots result walker.old walker.new }
 {
-    let count = present(set, spot, field, walker);
-    let most = set.most(spot.part, field);
-    let described = &set.desc(spot.part).fields.as_slice()[field as usize];
+    let described = &here.fields.as_slice()[field as usize];
+    let count = present(set, here.spot, described, walker);
+    let most = set.most_in(here.spot.part, here.fields, field);
     let row = Elements {
         item: &described.item,
         most,
@@ -230,9 +239,11 @@ pub fn walk<W: Walker>(set: &DescSet, spot: PartAt, walker: &mut W) -> Result<()
     ensures { let slots = spot_in set.now spot in
         Walks W.goes W.stops W.numbers slots result walker.old walker.new }
 {
+    let fields = set.fields_of(spot.part);
+    let here = Here { spot, fields };
     for field in 0..set.field_count(spot.part) {
-        let cell = set.field_start(spot.part, spot.base, field);
-        walk_field(set, spot, field, cell, walker)?;
+        let cell = set.start_in(spot.part, fields, spot.base, field);
+        walk_field(set, here, field, cell, walker)?;
     }
     walker.rules(set, spot)
 }

@@ -7,6 +7,9 @@ use Rattle.vms_walk.proofs.Facade.{here_fields, good_of, steps_of, table, holds_
 use Rattle.vms_walk.proofs.Going.{Laws, Walked, Past, items_next, items_stop, items_may, field_slots_are, fields_next, fields_stop, fields_may, rule_next}
 use Rattle.vms_walk.proofs.Spots.{Next, next_field, field_needs, size_code, start_code, struct_spot, struct_size, holds_is}
 use Rattle.vms_walk.proofs.fields.+walk.Goals.{walk_items-After-walk_item-arg-1, walk-After-rules-arg-1, walk-After-walk_field-arg-1}
+use Rattle.vms_parts.specs.Views.{field_of}
+use Rattle.std.proofs.Common.{map}
+use Rattle.vms_walk.proofs.{Facade.present_of, Facade.spot_numbers}
 use Rattle.vms_spec.specs.declared.Part.TheVariants as parts
 use Rattle.vms_walk.specs.declared.step.WalkStep.TheVariants as steps
 use Rattle.vms_walk.proofs.fields.+walk.Goals as goal
@@ -120,34 +123,53 @@ walk_row-returns g t c =
 
 -- ---- one field
 
+-- the field that the code has is that of the set
+field_is : (g : Over) (t : ℕ) (c : goal.walk_field-After-walk_row-arg-1 g t)
+    → field_of c.index-as_slice-field.result ≡ field_at (described c.args.set.now) c.args.here.spot.part c.args.field
+field_is g t c =
+    found_field c.as_slice.result.now (desc_at (described c.args.set.now) c.args.here.spot.part).fields c.args.field c.index-as_slice-field.result
+    (ap (map field_of) c.as_slice.ensures ∙ c.requires.fields.fields) c.requires.field c.index-as_slice-field.is
+
 item_is : (g : Over) (t : ℕ) (c : goal.walk_field-After-walk_row-arg-1 g t)
-    → c.index-as_slice-field.result.item ≡ (field_at (described c.args.set.now) c.args.spot.part c.args.field).item
-item_is g t c =
-    let set = described c.args.set.now in
-    ap (λ x. x.item)
-    (found_field c.as_slice.result.now (desc_at set c.args.spot.part).fields c.args.field c.index-as_slice-field.result
-    (here_fields set c.args.spot.part c.desc.result.now c.as_slice.result.now c.desc.ensures c.as_slice.ensures)
-    c.requires.field c.index-as_slice-field.is)
+    → c.index-as_slice-field.result.item ≡ (field_at (described c.args.set.now) c.args.here.spot.part c.args.field).item
+item_is g t c = ap (λ x. x.item) (field_is g t c)
+
+count_is : (g : Over) (t : ℕ) (c : goal.walk_field-After-walk_row-arg-1 g t)
+    → c.present-count.result ≡ present_of (field_at (described c.args.set.now) c.args.here.spot.part c.args.field)
+    c.args.here.spot.version (spot_numbers (described c.args.set.now) c.args.here.spot (g.W.Cells.numbers c.args.walker.now))
+count_is g t c =
+    c.present-count.ensures
+    ∙ ap (λ x. present_of x c.args.here.spot.version (spot_numbers (described c.args.set.now) c.args.here.spot (g.W.Cells.numbers c.args.walker.now)))
+    (field_is g t c)
 
 -- the steps of the field are those of its elements
 steps_are : (g : Over) (t : ℕ) (c : goal.walk_field-After-walk_row-arg-1 g t) (m : List ℤ) → length m ≡ length (g.W.Cells.numbers c.args.walker.now)
     → SameBelow c.args.cell (g.W.Cells.numbers c.args.walker.now) m
-    → steps_of (slots_at (described c.args.set.now) c.args.spot m c.args.field c.args.cell) ≡ steps_of
-    (elements_slots (described c.args.set.now) c.index-as_slice-field.result.item c.most-most.result m c.present-count.result c.args.cell)
+    → steps_of (slots_at (described c.args.set.now) c.args.here.spot m c.args.field c.args.cell) ≡ steps_of
+    (elements_slots (described c.args.set.now) c.index-as_slice-field.result.item c.most_in-most.result m c.present-count.result c.args.cell)
 steps_are g t c m long s =
     let set = described c.args.set.now in
-    field_slots_are set (good_of set c.args.set.now.well_formed c.args.set.now.heads) c.args.set.now.well_formed c.args.spot c.args.field c.args.cell
-    (g.W.Cells.numbers c.args.walker.now) m c.requires.here long c.requires.spot c.present-count.result c.index-as_slice-field.result.item c.most-most.result
-    c.requires.field (item_is g t c) c.present-count.ensures c.most-most.ensures c.requires.room s
+    field_slots_are set (good_of set c.args.set.now.well_formed c.args.set.now.heads) c.args.set.now.well_formed c.args.here.spot c.args.field c.args.cell
+    (g.W.Cells.numbers c.args.walker.now) m c.requires.here long c.requires.spot c.present-count.result c.index-as_slice-field.result.item c.most_in-most.result
+    c.requires.field (item_is g t c) (count_is g t c) c.most_in-most.ensures c.requires.room s
 
 -- they have no cell below the field
 above : (g : Over) (t : ℕ) (c : goal.walk_field-After-walk_row-arg-1 g t) (m : List ℤ)
-    → IsAbove c.args.cell (elements_slots (described c.args.set.now) c.index-as_slice-field.result.item c.most-most.result m c.present-count.result c.args.cell)
+    → IsAbove c.args.cell (elements_slots (described c.args.set.now) c.index-as_slice-field.result.item c.most_in-most.result m c.present-count.result c.args.cell)
 above g t c m =
     let set = described c.args.set.now in
     let item = c.index-as_slice-field.result.item in
-    items_above (table set) (meanings_above set.structs (length set.structs)) item (capacities_of c.most-most.result) m c.present-count.result c.args.cell
+    items_above (table set) (meanings_above set.structs (length set.structs)) item (capacities_of c.most_in-most.result) m c.present-count.result c.args.cell
     (size_in set item)
+
+pub walk_field-present-count-requires : goal.walk_field-present-count-requires
+walk_field-present-count-requires g t c = record {
+  spot = c.requires.spot;
+  number = c.args.field;
+  field = c.requires.field;
+  is = found_field c.as_slice.result.now (desc_at (described c.args.set.now) c.args.here.spot.part).fields c.args.field c.index-as_slice-field.result
+      (ap (map field_of) c.as_slice.ensures ∙ c.requires.fields.fields) c.requires.field c.index-as_slice-field.is;
+}
 
 pub walk_field-walk_row-requires : goal.walk_field-walk_row-requires
 walk_field-walk_row-requires g t c =
@@ -155,10 +177,10 @@ walk_field-walk_row-requires g t c =
     let set = described c.args.set.now in
     let a = c.args.walker.now in
     let cell = c.args.cell in
-    let slots = λ (m : List ℤ). elements_slots set c.index-as_slice-field.result.item c.most-most.result m c.present-count.result cell in
+    let slots = λ (m : List ℤ). elements_slots set c.index-as_slice-field.result.item c.most_in-most.result m c.present-count.result cell in
     let needs =
-    field_needs set c.args.set.now.well_formed c.args.spot (N a) c.requires.spot c.args.field cell _ _ c.most-most.result c.requires.field
-    (item_is g t c) c.present-count.ensures c.most-most.ensures c.requires.room in
+    field_needs set c.args.set.now.well_formed c.args.here.spot (N a) c.requires.spot c.args.field cell _ _ c.most_in-most.result c.requires.field
+    (item_is g t c) (count_is g t c) c.most_in-most.ensures c.requires.room in
     let come : MayCome g.W.Walker.goes N g.W.Walker.may slots a = λ ys ws zs x d h e.
     let kept = (laws_of g).keeps ys a d h in
     c.requires.may ys ws zs x d h
@@ -172,13 +194,13 @@ walk_field-returns g t c =
     let a = c.args.walker.now in
     let b = c.walk_row.new.walker in
     let at = (goal.at.walk_field-returns g t c).After-walk_row-arg-1 in
-    let slots = elements_slots set c.index-as_slice-field.result.item c.most-most.result (N b) c.present-count.result c.args.cell in
+    let slots = elements_slots set c.index-as_slice-field.result.item c.most_in-most.result (N b) c.present-count.result c.args.cell in
     let same = λ (kept : Keeps (steps_of slots) (N a) (N b)).
     steps_are g t at (N b) kept.long (keeps_below c.args.cell slots (N a) (N b) (above g t at (N b)) kept) in
     record {
       ok = on_ok_weaker c.walk_row.result (λ h. rw (same ((laws_of g).keeps _ a b h)) h) c.walk_row.ensures.ok;
       err = IfErr-weaker c.walk_row.result (λ fault. g.W.Walker.stops (steps_of slots) a fault b)
-          (λ fault. g.W.Walker.stops (steps_of (slots_at set c.args.spot (N b) c.args.field c.args.cell)) a fault b)
+          (λ fault. g.W.Walker.stops (steps_of (slots_at set c.args.here.spot (N b) c.args.field c.args.cell)) a fault b)
           (λ fault h. rw (same ((laws_of g).stopped _ a b fault h)) h) c.walk_row.ensures.err;
     }
 
@@ -191,9 +213,9 @@ walk-loop-field-init g t c = record { way = g.met.W.Walker.none c.args.walker.no
 record Turn (g : Over) (t : ℕ) (c : goal.walk-After-walk_field-arg-1 g t) : Type 0 where
   inside : c.loop-field.field < length (desc_at (described c.args.set.now) c.args.spot.part).fields
   has : HasSpot (described c.args.set.now) c.args.spot (g.W.Cells.numbers c.loop-field.walker)
-  next : Next (described c.args.set.now) c.args.spot (g.W.Cells.numbers c.loop-field.walker) c.loop-field.field c.field_start-cell.result
+  next : Next (described c.args.set.now) c.args.spot (g.W.Cells.numbers c.loop-field.walker) c.loop-field.field c.start_in-cell.result
   past : Past g.W.Cells.numbers g.W.Walker.goes
-      (described c.args.set.now) c.args.spot c.loop-field.field c.field_start-cell.result c.args.walker.now c.loop-field.walker
+      (described c.args.set.now) c.args.spot c.loop-field.field c.start_in-cell.result c.args.walker.now c.loop-field.walker
 
 turn : (g : Over) (t : ℕ) (c : goal.walk-After-walk_field-arg-1 g t) → Turn g t c
 turn g t c =
@@ -203,11 +225,11 @@ turn g t c =
     let lt : c.loop-field.field < length (desc_at set spot.part).fields = omega arith in
     let has : HasSpot set spot (g.W.Cells.numbers c.loop-field.walker) =
     record { part = c.requires.spot.part; few = rw inv.long c.requires.spot.few; room = rw inv.long c.requires.spot.room } in
-    let here = start_code set spot c.loop-field.field c.field_start-cell.result c.field_start-cell.ensures in
+    let here = start_code set spot c.loop-field.field c.start_in-cell.result c.start_in-cell.ensures in
     record {
       inside = lt;
       has = has;
-      next = next_field set c.args.set.now.well_formed spot (g.W.Cells.numbers c.loop-field.walker) has c.loop-field.field c.field_start-cell.result lt here;
+      next = next_field set c.args.set.now.well_formed spot (g.W.Cells.numbers c.loop-field.walker) has c.loop-field.field c.start_in-cell.result lt here;
       past = record {
         good = good_of set c.args.set.now.well_formed c.args.set.now.heads;
         has = c.requires.spot.part;
@@ -237,14 +259,14 @@ walk-returns-in_err-walk_field g t c =
     err_takes g.W.Walker.goes g.W.Walker.stops (steps_of slots) c.from_residual.result fault a d c.from_residual.ensures.1
     (fields_stop (laws_of g) s.past s.inside d fault c.in_err-walk_field.ensures.err)
 
-pub walk-field_start-cell-requires-clause-few : goal.walk-field_start-cell-requires-clause-few
-walk-field_start-cell-requires-clause-few g t c = omega (arith, c.requires.spot.room, c.requires.spot.few)
+pub walk-start_in-cell-requires-clause-few : goal.walk-start_in-cell-requires-clause-few
+walk-start_in-cell-requires-clause-few g t c = omega (arith, c.requires.spot.room, c.requires.spot.few)
 
 pub walk-walk_field-requires : goal.walk-walk_field-requires
 walk-walk_field-requires g t c =
     let s = turn g t c in
     let may = fields_may (laws_of g) s.past g.W.Walker.may s.inside c.requires.may in
-    λ κs h. (search rules, (search rules, (search rules, record { spot = s.has; field = s.inside; here = s.past.here; may = may; room = s.next.room })))
+    λ κs h. (search rules, (search rules, (search rules, record { spot = s.has; fields = c.fields_of-fields.ensures; field = s.inside; here = s.past.here; may = may; room = s.next.room })))
 
 -- after the last field
 end_of : (g : Over) (t : ℕ) (c : goal.walk-After-rules-arg-1 g t) → c.loop-field.field ≡ length (desc_at (described c.args.set.now) c.args.spot.part).fields

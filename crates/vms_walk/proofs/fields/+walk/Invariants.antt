@@ -18,7 +18,7 @@ abbrev pub decreases-walk_row : goal.decreases-walk_row
 decreases-walk_row g l = 2 * item_rank l.row.item.now + 2
 
 abbrev pub decreases-walk_field : goal.decreases-walk_field
-decreases-walk_field g l = 2 * part_rank (described l.set.now) l.spot.part + 3
+decreases-walk_field g l = 2 * part_rank (described l.set.now) l.here.spot.part + 3
 
 abbrev pub decreases-walk : goal.decreases-walk
 decreases-walk g l = 2 * part_rank (described l.set.now) l.spot.part + 4
