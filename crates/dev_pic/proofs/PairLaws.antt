@@ -106,7 +106,7 @@ module _ (pair : PicPair) (h : PairHasRegisters pair) where
 pub steps_keep_registers : StepsKeepRegisters
 steps_keep_registers =
     let sound : (pair : PicPair) → IsSoundPair pair → PairHasRegisters pair = λ pair h.
-        record { level = h.level; master = h.master.registers; slave = h.slave.registers } in
+    record { level = h.level; master = h.master.registers; slave = h.slave.registers } in
     search (power-sound, read-kept, written-kept, acked-kept, settle-sound)
 
 -- An answer after which the pair has its level.
