@@ -1,6 +1,6 @@
 -- A board is sound at power on, and each event keeps it sound.
 use Rattle.dev_board.proofs.{Facade.wires_of, Facade.Event, KeepLaws.acted-kept}
-use Rattle.dev_board.proofs.Facade.{ℕ, ◌<◌, ◌^◌, Bool, List, [], ◌∷◌, arith, refl, IsLevel, lines_are_taken, steps_keep_registers, but_not, winner_at}
+use Rattle.dev_board.proofs.Facade.{◌∙◌, ℕ, ◌<◌, ◌^◌, Bool, List, [], ◌∷◌, arith, refl, IsLevel, lines_are_taken, steps_keep_registers, but_not, winner_at}
 use Rattle.dev_board.proofs.Facade.{served_of, winner_of, ready_among, chip_on, lines_of, slave_int_of, settled_pair, IsSoundPair, sound_stays, powered_on}
 use Rattle.dev_board.proofs.Facade.{out_of, new_pit, pit_out, power_on_is_sound, bits_where, interrupt, line_of, IsEvent, AreEvents, SoundStays, HasDevices}
 use Rattle.dev_board.proofs.Facade.{HasLines, IsSound, State, power_on, inputs_of, settled, after_act, step, acted, wires_after, after_all, after_by, AreWires}
