@@ -3,7 +3,7 @@ use Rattle.vms_descfile.proofs.{Facade.test_file, Facade.front_file, Facade.fiel
 use Rattle.vms_descfile.proofs.AnswerLaws.{next_good, judged_good, at_good, maybe_good, default_good, list_or_good, natural_good, integer_good}
 use Rattle.vms_descfile.proofs.Facade.{◌≡◌, ℕ, ◌≤◌, List, [], ◌∷◌, get_or, map, Bool, true, false, not, ◌&&◌, ◌==◌, if◌then◌else◌, Option, Some, None}
 use Rattle.vms_descfile.proofs.Facade.{option_map, is_some, ℤ, pos, negsuc, int_le, int_lt, IfSome, refl, sym, ap, ◌∙◌, subst, codes, arith, and_parts}
-use Rattle.vms_descfile.proofs.Facade.{and_from, eqb-true, false≢true, ints, Data, Members, string, object, get, as_str, Kind, Item, Count, One, Fixed, Counted}
+use Rattle.vms_descfile.proofs.Facade.{and_from, eqb-true, false≢true, ints, Data, Members, string, object, get, as_str, Kind, Item, Count, One}
 use Rattle.vms_descfile.proofs.Facade.{Formula, Field, in_range, defaults_well, same_number, ranges, Sort, good, given, list_of, fits, at, at_or, maybe_at}
 use Rattle.vms_descfile.proofs.Facade.{u16_of, u32_of, integer_of, text_of, Names, number_in, name_in, test_of, sort_named, sort_of, counts_fit, values_fit}
 use Rattle.vms_descfile.proofs.Facade.{sort_fits, field_needs, field_allows, field_fits, count_as, count_of, item_as, front_of, field_after, field_in, field_of}

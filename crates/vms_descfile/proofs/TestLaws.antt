@@ -1,6 +1,6 @@
 -- Faults inside tests, and a test by its form.
-use Rattle.vms_descfile.proofs.Facade.{◌≡◌, ℕ, zero, suc, ◌-◌, ◌<◌, List, ap, sym, subst, ◌∙◌, arith, Result, unary_clauses, Data, formula, Test, Form, Fault}
-use Rattle.vms_descfile.proofs.Facade.{Answer, bad, under, next, changed, Refuses, Answers, IsUnder, Scope, test_within, test_as, form_of}
+use Rattle.vms_descfile.proofs.Facade.{◌≡◌, ℕ, zero, suc, ◌-◌, ◌<◌, List, ap, subst, arith, Result, unary_clauses, Data, formula, Test, Form, Fault}
+use Rattle.vms_descfile.proofs.Facade.{Answer, under, next, changed, Refuses, Answers, IsUnder, Scope, test_within, test_as, form_of}
 use Rattle.vms_json.specs.declared.fault.Fault.TheVariants as faults
 
 -- a test that may have parts is read by its form
