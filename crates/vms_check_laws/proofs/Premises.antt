@@ -154,6 +154,22 @@ pub record Sides : Type 0 where
   pub below' : ℕ
   pub table : Table two.ks cs ms ns numbers numbers' below below'
 
+-- the cells of each side's structures, and the numbers of its fields
+module _ (sides : Sides) where
+  open sides use {two, ms, ns, numbers, numbers', at, at'}
+
+  abbrev pub olds : List (List Cell)
+  olds = cells_in ms
+
+  abbrev pub news : List (List Cell)
+  news = cells_in ns
+
+  abbrev pub older : ℕ → ℕ
+  older k = numbers_of olds two.a numbers at k
+
+  abbrev pub newer : ℕ → ℕ
+  newer k = numbers_of news two.b numbers' at' k
+
 -- constants and unused bytes are single
 abbrev pub IsSingle : Item → Count → Type 0
 IsSingle (Equal kind z) count = is_one count ≡ true
