@@ -39,7 +39,7 @@ unfoldable pub use Rattle.vms_descfile.specs.{Descs.parts_of, Files.file_said}
 pub use Rattle.vms_json.proofs.KeyLaws.{has_value, none_left, object_is}
 pub use Rattle.vms_json.specs.{Keys.fits, Keys.has, Keys.has_all, Keys.has_no_others, declared.fault.Fault.Fault, declared.parse.TheConstants.DEEPEST}
 pub use Rattle.vms_json.specs.{Index.first_of, Index.names_of, Index.text_or_none, Nodes.members_left, Nodes.members_on, Nodes.tree_view, Nodes.view}
-pub use Rattle.vms_json.specs.Answers.{Answer, Answers, IsUnder, Refuses, bad, changed, each_from, each_of, given, good, list_of, next, under}
+pub use Rattle.vms_json.specs.Answers.{Answer, Answers, Refuses, bad, changed, each_from, each_of, given, good, list_of, next, under}
 pub use Rattle.vms_json.specs.Asked.{asks_a_name, asks_in, asks_names, some_ask}
 pub use Rattle.vms_json.specs.Members.{at, at_or, integer_of, judged, maybe_at, member_of, member_or, natural, text_of, u16_of, u32_of, u64_of}
 pub use Rattle.vms_json.specs.Names.{Names, Scope, name_in, names_if, names_seen, number_in, numbered, scope_seen}

@@ -1,10 +1,9 @@
 -- What heads open, as the judge has it.
 use Rattle.vms_load.proofs.Facade.{◌≡◌, ℕ, ◌<◌, List, length, get_or, Option, Some, None, Bool, true, false, if◌then◌else◌, Ok, refl, sym, ap, ◌∙◌, arith}
-use Rattle.vms_load.proofs.Facade.{Result, Err, not, nat_lt, slice_get, slice_get-get_or, slice_get_within, bytes_eq, Reason, position, at_option, Device, Sub}
-use Rattle.vms_load.proofs.Facade.{Set, find_device, find_sub, index, did_come, found_inside, device_at, sub_at, section_opened, device_opened, opened_unless}
-use Rattle.vms_load.proofs.Facade.{reason_against, reason_against_sub, sub_opened, sub_opened_at, opened_at, unfit, Unfit, Piece, SubHead, device_named}
-use Rattle.vms_load.proofs.Facade.{subs_of, found_is, first_row, is_none, test_some, asking, Known, ask, by_row, State, open_at, known_at, after, by_state}
-use Rattle.vms_load.proofs.Facade.{Verdict, Goes, Faulty}
+use Rattle.vms_load.proofs.Facade.{Result, Err, not, nat_lt, slice_get, slice_get-get_or, slice_get_within, Reason, at_option, Device, Sub, Set, find_device}
+use Rattle.vms_load.proofs.Facade.{find_sub, index, did_come, found_inside, device_at, sub_at, section_opened, device_opened, opened_unless, reason_against}
+use Rattle.vms_load.proofs.Facade.{reason_against_sub, sub_opened, sub_opened_at, opened_at, unfit, Unfit, Piece, SubHead, device_named, found_is, first_row}
+use Rattle.vms_load.proofs.Facade.{is_none, test_some, asking, Known, ask, by_row, State, open_at, known_at, after, by_state, Verdict, Goes, Faulty}
 use Rattle.vms_spec.specs.Units.{Head}
 use Rattle.vms_bodies.proofs.SubHeads.{sub_is as sub_found}
 use Rattle.vms_stream.specs.State.{image_at}
@@ -134,12 +133,6 @@ sub_is_opened : (set : Set) (names : List (List ℕ)) (y : Known) (k : ℕ) (d :
     → first_row (asking set names y (SubHead name v)) ≡ unfit_for (sub_opened k d y.image.came name v)
 sub_is_opened set names y k d name v section here long = cc (by (find_sub 0 d.subs name) refl)
   where
-    sub_by : Option Device → Option ℕ
-    sub_by o = position (λ (s : Sub). bytes_eq s.desc.name name) 0 (subs_of o)
-
-    of : Option ℕ → Option ℕ → List Sub → Option (Option ℕ × Reason)
-    of section o subs = sub_rows section o (at_option subs o) (at_option y.image.came o) v
-
     by : (o : Option ℕ) → find_sub 0 d.subs name ≡ o → sub_rows (Some k) o (at_option d.subs o) (at_option y.image.came o) v ≡ unfit_for (sub_opened_at k v o (slice_get d.subs (index o)) (slice_get y.image.came (index o)))
     by None e = refl
     by (Some j) e =
