@@ -114,15 +114,7 @@ value_keys _ z well = refl
 
 in_64 : (kind : Kind) (z : ℤ) → in_range kind z ≡ true → (int_le (negsuc 9223372036854775807) z && int_lt z (pos 18446744073709551616)) ≡ true
 in_64 kinds.U8 z well = let r = ranges kinds.U8 z well in grind (arith, ints)
-in_64 kinds.U16 z well = let r = ranges kinds.U16 z well in grind (arith, ints)
-in_64 kinds.U32 z well = let r = ranges kinds.U32 z well in grind (arith, ints)
-in_64 kinds.U64 z well = let r = ranges kinds.U64 z well in grind (arith, ints)
-in_64 kinds.I8 z well = let r = ranges kinds.I8 z well in grind (arith, ints)
-in_64 kinds.I16 z well = let r = ranges kinds.I16 z well in grind (arith, ints)
-in_64 kinds.I32 z well = let r = ranges kinds.I32 z well in grind (arith, ints)
-in_64 kinds.I64 z well = let r = ranges kinds.I64 z well in grind (arith, ints)
-in_64 kinds.Bool z well = let r = ranges kinds.Bool z well in grind (arith, ints)
-in_64 kinds.Timer z well = let r = ranges kinds.Timer z well in grind (arith, ints)
+in_64 kind z well = let r = ranges kind z well in grind (arith, ints)
 
 zero_is_0 : (z : ℤ) → is_zero z ≡ true → pos 0 ≡ z
 zero_is_0 (pos n) zero = ap pos (sym (eqb-true n 0 zero))
