@@ -91,9 +91,8 @@ known_head k d false v = by (nat_lt d.desc.version v) (nat_lt v d.desc.minimum)
   where
     by : (a b : Bool) → (if a then Some (Some k, reasons.TooNew) else if b then Some (Some k, reasons.TooOld) else None)
         ≡ unfit_for (opened_unless (Some k) k (if a then Some reasons.TooNew else if b then Some reasons.TooOld else None))
-    by true b = refl
     by false true = refl
-    by false false = refl
+    by _ _ = refl
 
 head_opened : (set : Set) (names : List (List ℕ)) (k : Known) (id : ℕ) (name : List ℕ) (instance v : ℕ) → length k.came ≡ length set.devices
     → first_row (asking set names k (Head id name instance v)) ≡ unfit_for (section_opened set k.came name instance v)
@@ -124,10 +123,8 @@ known_rows k j s came v = by (nat_lt s.desc.version v) (nat_lt v s.desc.minimum)
     by : (a b : Bool) (came : Option ℕ)
         → (if a then Some (Some k, reasons.TooNew) else if b then Some (Some k, reasons.TooOld) else if not (is_none came) then Some (Some k, reasons.RepeatedSubsection) else None)
         ≡ unfit_for (opened_unless (Some k) j (if a then Some reasons.TooNew else if b then Some reasons.TooOld else if did_come came then Some reasons.RepeatedSubsection else None))
-    by true b came = refl
-    by false true came = refl
     by false false None = refl
-    by false false (Some n) = refl
+    by _ _ _ = refl
 
 sub_is_opened : (set : Set) (names : List (List ℕ)) (y : Known) (k : ℕ) (d : Device) (name : List ℕ) (v : ℕ) → y.section ≡ Some k → slice_get set.devices k ≡ Some d → length y.image.came ≡ length d.subs
     → first_row (asking set names y (SubHead name v)) ≡ unfit_for (sub_opened k d y.image.came name v)

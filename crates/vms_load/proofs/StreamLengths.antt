@@ -25,10 +25,8 @@ record Bounds (ms : List Meaning) (bytes : List ℕ) : Type 0 where
 
 module _ (ms : List Meaning) (bytes : List ℕ) (bounds : Bounds ms bytes) where
   item_bound : (item : Item) (caps : List ℕ) (n : List ℤ) (at : ℕ) → long (item_slots ms item caps n at) ≤ item_bytes bytes item
-  item_bound (Num kind) caps n at = omega arith
-  item_bound (Equal kind z) caps n at = omega arith
-  item_bound (Unused k) caps n at = omega arith
   item_bound (Struct j) caps n at = bounds.each j n at
+  item_bound _ caps n at = omega arith
 
   items_bound : (item : Item) (caps : List ℕ) (n : List ℤ) (k at step : ℕ) → long (times k (item_slots ms item caps n) at step) ≤ k * item_bytes bytes item
   items_bound item caps n zero at step = omega arith
