@@ -74,12 +74,14 @@ module _ (sides : Sides) where
   pair_aligns ok e f p = pair_by sides ok SlotsAlign e f p
       (λ c.
       let s =
-      covered_slots ms ns numbers numbers' (older sides) (newer sides) e.field.item e.field.count f.field.item f.field.count (counted e.index a.fields) (counted f.index b.fields)
+      covered_slots ms ns numbers numbers' (older sides) (newer sides) e.field.item e.field.count f.field.item f.field.count (counted e.index a.fields)
+      (counted f.index b.fields)
       (at + e.place) (at' + f.place) (old_size e.field.item) (length (item_cells (cells_in ns) f.field.item [] (pos 0))) c.covers p.old.single p.new.single in
       (aligns_nil numbers numbers', rw s.1 (aligns_filler numbers numbers' _ s.0 s.2)))
       (λ m t is.
       items_align e.field.item f.field.item _ _ e.field.default _ _ 0 0 _ _ _
-      (record { same = m.item; structs = p.good.structs; low = p.old.item; low' = p.new.item }) (if_least t _ _ (elements_fit e.field.count (older sides))) p.fits)
+      (record { same = m.item; structs = p.good.structs; low = p.old.item; low' = p.new.item })
+      (if_least t _ _ (elements_fit e.field.count (older sides))) p.fits)
 
   -- ---- numbers that may be named
 
@@ -134,7 +136,8 @@ module _ (sides : Sides) where
     ]
   ]
 
-  same_next : (p i : ℕ) (e f : Entry) (es fs : List Entry) → State p i (e ∷ es) (f ∷ fs) → (is_steady_in b f.index ≡ true → older sides e.index ≡ newer sides f.index)
+  same_next : (p i : ℕ) (e f : Entry) (es fs : List Entry) → State p i (e ∷ es) (f ∷ fs)
+      → (is_steady_in b f.index ≡ true → older sides e.index ≡ newer sides f.index)
       → Same (suc f.index)
   same_next p i e f es fs st here k j lt named place = let le : j ≤ f.index = omega arith in elim (eq-or-lt_of_le le) [
     | inl is ↦ elim (at_or_later k j p e f es fs (st.later k j (omega arith) place)) [
@@ -223,7 +226,8 @@ module _ (sides : Sides) where
     constants_same : (k : Kind) (z u : ℤ) (t t' : Bool) (c d : Count) (caps caps' : List ℕ) (x y step step' : ℕ) → is_one c ≡ true → is_one d ≡ true
         → t ≡ true → t' ≡ true → (body r r' : List ℕ)
         → Spells numbers' (if t' then times (elements_of d (newer sides)) (item_slots ns (Equal k u) caps' numbers') y step' else []) body
-        → body ++ r' ≡ zeroed numbers (if t then times (elements_of c (older sides)) (item_slots ms (Equal k z) caps numbers) x step else []) ++ r → code k z ≡ code k u
+        → body ++ r' ≡ zeroed numbers (if t then times (elements_of c (older sides)) (item_slots ms (Equal k z) caps numbers) x step else []) ++ r
+        → code k z ≡ code k u
     constants_same k z u true true One One caps caps' x y step step' one one' is is' body r r' s h =
         let same = same_bytes numbers _ numbers' _ (aligns_constant _ _ k k z u refl) body r r' s h in
         sym (apart (code k u) (code k z) [] s.0 (length-code k u ∙ sym (length-code k z)) (sym s.1 ∙ same)).0

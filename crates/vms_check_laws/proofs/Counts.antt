@@ -215,7 +215,8 @@ module _ (sides : Sides) where
   -- a number of old that fits, at a pair of numbers, fits all of new's capacities
   pub caps_follow : (kind : Kind) (es : List Entry) (e f : Entry) (z : ℤ) → e.field.item ≡ Num kind
       → ((by : ℕ) → same_place (o by) (n f.index) ≡ true → by ≡ e.index) → Matched two e f
-      → z ≤ℤ highest kind → AllByRecursion (λ m. z ≤ℤ pos m) (counted e.index a.fields) → AllZip (Met sides) es (present_from (news sides) b.fields w 0 0 b.fields)
+      → z ≤ℤ highest kind → AllByRecursion (λ m. z ≤ℤ pos m) (counted e.index a.fields)
+      → AllZip (Met sides) es (present_from (news sides) b.fields w 0 0 b.fields)
       → NewFields below' (is_steady_in b) b.fields → AllByRecursion (λ m. z ≤ℤ pos m) (counted f.index b.fields)
   caps_follow kind es e f z is at_e m high caps met new =
       let arrays = fits_arrays new z _ _ es _ at_e caps met in

@@ -50,7 +50,8 @@ module _ (sides : Sides) where
   number_fits true k l caps caps' d' z same good range follow = ((rw (← (kinds_same k l same)) range, follow refl), tt)
   number_fits false k l caps caps' d' z same good range follow = (good, tt)
 
-  fallback_fits : (j : Item) (caps' : List ℕ) (d' : ℤ) → GoodCells (item_cells (news sides) j caps' d') → FitCells (item_cells (news sides) j caps' d') (fallback j d')
+  fallback_fits : (j : Item) (caps' : List ℕ) (d' : ℤ) → GoodCells (item_cells (news sides) j caps' d')
+      → FitCells (item_cells (news sides) j caps' d') (fallback j d')
   fallback_fits (Num l) caps' d' good = (good.0, tt)
   fallback_fits (Struct j) caps' d' good = fit_defaults _ good
   fallback_fits _ caps' d' good = tt
@@ -89,7 +90,8 @@ module _ (sides : Sides) where
     pub follow : Follows e.field.item f.field.item (counted e.index a.fields) (counted f.index b.fields)
 
   -- each pair's numbers follow
-  module _ (old : OldFields below (older sides) a.fields) (new : NewFields below' (is_steady_in b) b.fields) (fits : FitsAt (desc_cells (olds sides) a) numbers at)
+  module _ (old : OldFields below (older sides) a.fields) (new : NewFields below' (is_steady_in b) b.fields)
+      (fits : FitsAt (desc_cells (olds sides) a) numbers at)
       (all : List Entry) (met : AllZip (Met sides) all (present (news sides) b w)) where
     fit_pair : (e f : Entry) → Met sides e f × IsIndexed o n e f → FitPair e f
     fit_pair e f h = record {
@@ -234,6 +236,7 @@ module _ {ks : List Comparer} {cs : List Carrier} {ms ns : List Meaning} {number
     pub desc_clashes : (at' : ℕ) → Clashes two es fs → (body r r' : List ℕ) → Spells numbers' (desc_slots ns b w numbers' at') body
         → body ++ r' ≡ zeroed numbers (desc_slots ms a v numbers at) ++ r → ⊥
     desc_clashes at' clashes body r r' s h =
-        let t = spells_split _ (slots_from ns b.fields w (newer (sides at')) numbers' 0 at' b.fields) (Rule (all_hold b.validate w (newer (sides at'))) ∷ []) body s in
+        let t = spells_split _ (slots_from ns b.fields w (newer (sides at')) numbers' 0 at' b.fields)
+        (Rule (all_hold b.validate w (newer (sides at'))) ∷ []) body s in
         let split = behind_first numbers (slots_from ms a.fields v own numbers 0 at a.fields) (Rule _ ∷ []) t.0 t.1 r r' (rw t.2 at h) in
         entries_clash (sides at') good.earlier old fits es fs 0 0 clashes (first_state at') t.0 _ _ (rw (← (new_same at')) t.3) (rw old_same at split)

@@ -12,11 +12,11 @@ pub use Rattle.byteorder.specs.Endian.{big_number}
 pub use Rattle.vms_kinds.specs.{Codes.InRange, Codes.code, Codes.highest, Codes.residue, Codes.width, declared.Item.Item, declared.Kind.Kind}
 pub use Rattle.vms_kinds.specs.declared.Item.TheVariants.{Equal, Num, Struct, Unused}
 pub use Rattle.vms_kinds.specs.declared.Kind.TheVariants.{U16, U32, U8}
-pub use Rattle.vms_spec.proofs.{NumberLaws.same_number_is, KindLaws.code_read, KindLaws.length-code, ListLaws.all_right, ListLaws.either_of}
+pub use Rattle.vms_spec.proofs.{NumberLaws.same_number_is, ListLaws.all_right, ListLaws.either_of, Tables.first_at, Tables.first_long}
 pub use Rattle.vms_spec.proofs.Faultless.{AllTrue, answers_none, every_one, few_devices, machine_short, or_else_none}
+pub use Rattle.vms_spec.proofs.KindLaws.{code_read, length-code}
 pub use Rattle.vms_spec.proofs.Prefixes.{FieldsBelow, ItemBelow, desc_cells_same, first_same, item_below, struct_cells_at, struct_slots}
 pub use Rattle.vms_spec.proofs.Sizes.{elements_fit, field_size, size_same}
-pub use Rattle.vms_spec.proofs.Tables.{first_at, first_long}
 pub use Rattle.vms_spec.proofs.WellFormedLaws.{Clean, device_found, device_parts, ranges, struct_clean, sub_clean, sub_found, within}
 pub use Rattle.vms_spec.specs.{Lists.first_answer, Lookup.find_device, Lookup.find_sub, Lookup.index, Readiness.is_version_of, Tests.is_there, Tests.truth}
 pub use Rattle.vms_spec.specs.{declared.Count.Count, declared.Part.Part, declared.Rel.Rel, declared.Whose.TheVariants.Own, declared.Whose.TheVariants.Parent}
@@ -43,17 +43,17 @@ pub use Rattle.vms_bodies.specs.{Cells.AreCells}
 pub use Rattle.vms_stream.proofs.Stated.{trailed}
 pub use Rattle.vms_stream.specs.Streams.{HasSection, IsSection, IsStream, SectionsSpell}
 pub use Rattle.vms_check.proofs.{ListLaws.passes, ReducedLaws.IfOpen, ReducedLaws.open_reduced, ReducedLaws.reduced_holds}
-pub use Rattle.vms_check.specs.{declared.mismatch.Mismatch.Mismatch, Comparing.same_item, Comparing.same_kind, Comparing.same_place}
+pub use Rattle.vms_check.specs.{declared.mismatch.Mismatch.Mismatch, Comparing.same_constant, Comparing.same_count}
 pub use Rattle.vms_check.specs.Carrying.{Carrier, carried_at, carried_device, carried_sub, carrier_of, carriers, carry_desc, carry_field, carry_from}
 pub use Rattle.vms_check.specs.Carrying.{carry_item, carry_items, carry_next, carrying, default_field, defaults, entries_left, no_carrier, no_image, sub_came}
-pub use Rattle.vms_check.specs.Comparing.{same_reduced, same_rest, same_test, Comparer, Compatible, Entry, absent_hold, bound, compare_desc, compare_device}
-pub use Rattle.vms_check.specs.Comparing.{compare_fields, compare_sub, compare_subs, compare_validations, comparer_of, comparers, comparing, entry_of}
-pub use Rattle.vms_check.specs.Comparing.{failing_pair, greatest, has_room, holds_as_much, is_covered, is_found, is_in, is_kept, least_of, names_match}
-pub use Rattle.vms_check.specs.Comparing.{no_comparer, pair_rules, pair_structs, paired_device, position_from, present, present_from, same_constant, same_count}
+pub use Rattle.vms_check.specs.Comparing.{same_item, same_kind, same_place, same_reduced, same_rest, same_test, Comparer, Compatible, Entry, absent_hold, bound}
+pub use Rattle.vms_check.specs.Comparing.{compare_desc, compare_device, compare_fields, compare_sub, compare_subs, compare_validations, comparer_of, comparers}
+pub use Rattle.vms_check.specs.Comparing.{comparing, entry_of, failing_pair, greatest, has_room, holds_as_much, is_covered, is_found, is_in, is_kept, least_of}
+pub use Rattle.vms_check.specs.Comparing.{names_match, no_comparer, pair_rules, pair_structs, paired_device, position_from, present, present_from}
 pub use Rattle.vms_check.specs.Partners.{Pairer, array_partners, desc_partners, field_partners, fields_left, item_partners, named_partners, no_pairer}
 pub use Rattle.vms_check.specs.Partners.{pairer_of, pairers, part_partners, partners_from, unpaired}
 pub use Rattle.vms_check.specs.Reducing.{Known, Open, Reduced, left_of, presence, reduced, truth_of}
 unfoldable pub use Rattle.vms_check.specs.{Carrying.carried, Comparing.first_mismatch, Partners.device_partners}
 pub use Rattle.vms_check_laws.specs.{Carried.IsAtVersions, Carried.IsCarried, CellLaws.CarriedLaw, Fronts.FrontAligns, Pairing.ArePartners, Positions.IsPartOf}
-pub use Rattle.vms_check_laws.specs.{Positions.IsRead, SubCells.IsCellOf, Segments.Aligns, Segments.Carries, Segments.FitsAt, Segments.Holds}
-pub use Rattle.vms_check_laws.specs.Laws.{ArePaired, DeviceLaw, IsSaved, UpgradeLaw}
+pub use Rattle.vms_check_laws.specs.{Positions.IsRead, SubCells.IsCellOf, Laws.ArePaired, Laws.DeviceLaw, Laws.IsSaved, Laws.UpgradeLaw}
+pub use Rattle.vms_check_laws.specs.Segments.{Aligns, Carries, FitsAt, Holds}

@@ -71,7 +71,8 @@ module _ (sides : Sides) where
   next_sized i g (Some rest) (e ∷ es) lt = field_sized e i g lt
   next_sized i g _ _ lt = defaults_size _
 
-  pub fields_sized : (i : ℕ) (gs : List Field) (es : List Entry) → FieldsBelow below' gs → length (all_fields i gs es) ≡ length (cells_from (news sides) b.fields i gs)
+  pub fields_sized : (i : ℕ) (gs : List Field) (es : List Entry) → FieldsBelow below' gs
+      → length (all_fields i gs es) ≡ length (cells_from (news sides) b.fields i gs)
   fields_sized i [] es lt = refl
   fields_sized i (g ∷ gs) es lt =
       let pr = presence w g.test g.since in
@@ -219,7 +220,8 @@ module _ (sides : Sides) where
       pub fits : FitsAt (field_cells (olds sides) a.fields e.index e.field) numbers (at + e.place)
       pub agree : Agree o n ok (older sides) (newer sides)
 
-    same_elements : (c d : Count) → Agree o n ok (older sides) (newer sides) → CountFits (older sides) c → CountNamed ok d → same_count o n c d ≡ true → holds_as_much c d ≡ true
+    same_elements : (c d : Count) → Agree o n ok (older sides) (newer sides) → CountFits (older sides) c → CountNamed ok d → same_count o n c d ≡ true
+        → holds_as_much c d ≡ true
         → elements_of c (older sides) ≡ elements_of d (newer sides)
     same_elements One One agree fits named same room = refl
     same_elements (Fixed p) (Fixed q) agree fits named same room = eqb-true p q same
@@ -250,13 +252,15 @@ module _ (sides : Sides) where
 
     -- a property of slots on both sides, at two fields where no rule fails: of none, of what is covered, and of as many elements
     module _ (P : List Slot → List Slot → Type 0) where
-      pub pair_by : (e f : Entry) → Opposite e f → (CoveredBy two e f → P [] [] × Both P e f (elements_of e.field.count (older sides)) (elements_of f.field.count (newer sides)))
+      pub pair_by : (e f : Entry) → Opposite e f
+          → (CoveredBy two e f → P [] [] × Both P e f (elements_of e.field.count (older sides)) (elements_of f.field.count (newer sides)))
           → (Matched two e f → (t : Bool) → there e ≡ t → Both P e f (count_if t e) (count_if t e))
           → P (slots_at ms a.fields v (older sides) numbers at e.index e.place e.field) (slots_at ns b.fields w (newer sides) numbers' at' f.index f.place f.field)
       pair_by e f p covers items =
           let there_f = is_there f.field.test f.field.since w (newer sides) no_parent in
           let same : same_rest o n e.rest f.rest ≡ true → there e ≡ there_f = λ h.
-          there_here v e.field.test e.field.since e.rest (older sides) no_parent p.known.left ∙ same_there o n ok (older sides) (newer sides) no_parent no_parent v w p.agree e.rest f.rest
+          there_here v e.field.test e.field.since e.rest (older sides) no_parent p.known.left
+          ∙ same_there o n ok (older sides) (newer sides) no_parent no_parent v w p.agree e.rest f.rest
           (presence_named ok w f.field.test f.field.since f.rest p.new.test p.known'.left) h
           ∙ sym (there_here w f.field.test f.field.since f.rest (newer sides) no_parent p.known'.left) in
           let xs = old_slots (elements_of e.field.count (older sides)) e in
@@ -274,7 +278,8 @@ module _ (sides : Sides) where
         → ReadsHere e f [] [] × Both (ReadsHere e f) e f (elements_of e.field.count (older sides)) (elements_of f.field.count (newer sides))
     covers e f p c =
         let empty : length (one_field e f.field) ≡ 0 =
-        field_sized e f.index f.field p.new.item ∙ rw (field_size (news sides), (covers_unused e.field.item e.field.count f.field.item c.covers).1) (omega arith) in
+        field_sized e f.index f.field p.new.item
+        ∙ rw (field_size (news sides), (covers_unused e.field.item e.field.count f.field.item c.covers).1) (omega arith) in
         let s =
         covered_slots ms ns numbers numbers' (older sides) (newer sides) e.field.item e.field.count f.field.item f.field.count (counted e.index a.fields)
         (counted f.index b.fields) (at + e.place) (at' + f.place) (old_size e.field.item) (new_size f.field.item) c.covers p.old.single p.new.single in
@@ -312,7 +317,8 @@ module _ (sides : Sides) where
       pub fields_settle : (i p : ℕ) (gs : List Field) (es : List Entry) → FieldsBelow below' gs → Linked es (present_from (news sides) b.fields w i p gs)
           → Settled (slots_from ns b.fields w (newer sides) numbers' i (at' + p) gs) (at' + p) (cells_from (news sides) b.fields i gs) (all_fields i gs es)
       fields_settle =
-          by_fields _ (λ i p gs es fs zs. Settled (slots_from ns b.fields w (newer sides) numbers' i (at' + p) gs) (at' + p) (cells_from (news sides) b.fields i gs) zs)
+          by_fields _ (λ i p gs es fs zs.
+          Settled (slots_from ns b.fields w (newer sides) numbers' i (at' + p) gs) (at' + p) (cells_from (news sides) b.fields i gs) zs)
           (λ i p. settled_empty [] _ [] [] refl)
           (λ i p g gs es fs zs lt more.
           let e : at' + (p + length (cells_at i g)) ≡ (at' + p) + length (cells_at i g) = omega arith in

@@ -92,7 +92,8 @@ pub desc_tabled : (d : Desc) → desc_members d ≡ members_in (desc_table d)
 desc_tabled d =
     let tests = test_file (own_names d.fields) [] in
     ap (put (codes "version") (natural_file d.version)) (list_if (codes "validate") tests d.validate _
-    ∙ ap (put_if (codes "validate") (listed tests d.validate)) (ap (put (codes "name") (string d.name)) (unless_if (d.minimum == d.version) (codes "minimum") (natural_file d.minimum) _)))
+    ∙ ap (put_if (codes "validate") (listed tests d.validate))
+    (ap (put (codes "name") (string d.name)) (unless_if (d.minimum == d.version) (codes "minimum") (natural_file d.minimum) _)))
 
 -- the object has what the table has, under each key of a description
 abbrev pub HasDesc : Desc → Data → Type 0

@@ -155,7 +155,8 @@ abbrev pub filled : Typed → ℕ → Kind → ℕ → List ℕ → Typed
 filled image first kind count bytes = record image { numbers = put_from image.numbers first (values_of kind count bytes) }
 
 module _ (old new : Intake) (image : Typed) (first count place : ℕ) (kind : Kind) (any : kind ≡ Bool → ⊥) where
-  pub took_run : (after : Typed) (to : ℕ) (bytes : List ℕ) → after ≡ filled image first kind count bytes → to ≡ place + count * width kind → Takes old new bytes → length bytes ≡ count * width kind
+  pub took_run : (after : Typed) (to : ℕ) (bytes : List ℕ) → after ≡ filled image first kind count bytes → to ≡ place + count * width kind
+      → Takes old new bytes → length bytes ≡ count * width kind
       → Took (run_of first count kind) (told image place old) (told after to new)
   took_run after to bytes is there takes long = rw (is, there) (record {
     reads = record {

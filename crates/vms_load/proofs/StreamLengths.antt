@@ -1,6 +1,6 @@
 -- How many bytes the steps of a part and the streams of a set may have.
 use Rattle.vms_load.proofs.Facade.{◌≡◌, ℕ, zero, suc, ◌+◌, ◌*◌, ◌≤◌, List, [], ◌∷◌, ◌++◌, length, get_or, ℤ, sym, ◌∙◌, arith, Bool, true, false}
-use Rattle.vms_load.proofs.Facade.{if◌then◌else◌, Option, Some, None, length-append, mul-le-mul_right, length-replicate, Item, Num, Equal, Unused, Struct}
+use Rattle.vms_load.proofs.Facade.{if◌then◌else◌, Option, Some, None, length-append, mul-le-mul_right, length-replicate, Item, Struct}
 use Rattle.vms_load.proofs.Facade.{Field, Desc, Set, Sub, Device, is_there, Slot, Rule, Meaning, no_meaning, no_desc, item_slots, item_size, times, field_slots}
 use Rattle.vms_load.proofs.Facade.{slots_from, desc_slots, field_cells, numbers_of, elements_of, capacity_of, counted, all_hold, no_parent, first, meaning}
 use Rattle.vms_load.proofs.Facade.{meanings, Number, Constant, Filler, desc_cells, struct_cells, elements_fit, first_long, desc_at, PartAt, steps_of, cells_in}

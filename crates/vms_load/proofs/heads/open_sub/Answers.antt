@@ -18,7 +18,8 @@ found c =
     found_sub c.args.device.now.subs c.as_slice.result.now c.deref.result.now c.args.name.now.items c.find_sub.result c.in-Some.sub c.as_slice.ensures c.deref.ensures.0 c.find_sub.ensures c.in-Some.is
 
 -- it is opened, or refused for the reason against it
-judged : (c : goal.After-against_sub) → find_sub 0 (map sub_of c.args.device.now.subs) c.args.name.now.items ≡ Some c.in-Some.sub → (k : ℕ) (why : Option Reason) → c.against_sub.result ≡ why
+judged : (c : goal.After-against_sub) → find_sub 0 (map sub_of c.args.device.now.subs) c.args.name.now.items ≡ Some c.in-Some.sub
+    → (k : ℕ) (why : Option Reason) → c.against_sub.result ≡ why
     → opened_unless (Some k) c.in-Some.sub why ≡ sub_opened k (device_of c.args.device.now) c.args.image.now.came c.args.name.now.items c.args.version
 judged c it k why is =
     let d = device_of c.args.device.now in

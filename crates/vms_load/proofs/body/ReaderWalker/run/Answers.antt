@@ -36,11 +36,13 @@ returns-clause-ok g c =
     let a = c.args.self.now in
     let n = c.in_ok-came.came in
     let whole = ap (λ k. n / k) c.width-width.ensures in
-    let all = all_came c.args.kind c.args.count n c.codes.new.buf ((search rules) ∙ ap (λ k. c.args.count * k) c.width-width.ensures) (search rules) (omega arith) in (
+    let all = all_came c.args.kind c.args.count n c.codes.new.buf ((search rules) ∙ ap (λ k. c.args.count * k) c.width-width.ensures) (search rules)
+    (omega arith) in (
       refl,
       refl,
       refl,
-      took_run (intake g.S.Source a.source.now) (intake g.S.Source c.codes.new.source) a.image.now c.args.first c.args.count a.cursor.now.at c.args.kind c.requires.number _ _ (take n c.codes.new.buf)
+      took_run (intake g.S.Source a.source.now)
+          (intake g.S.Source c.codes.new.source) a.image.now c.args.first c.args.count a.cursor.now.at c.args.kind c.requires.number _ _ (take n c.codes.new.buf)
           (cc (c.put_codes.ensures)) (cc (c.in_ok-came.ensures.place)) c.in_ok-came.ensures.came all.long,
       λ e. c.in_ok-came.ensures.held,
     )
@@ -57,7 +59,9 @@ returns-then-whole-count-clause-err g c =
       refl,
       refl,
       refl,
-      cut_run (intake g.S.Source a.source.now) (intake g.S.Source c.codes.new.source) a.image.now c.args.first c.args.count a.cursor.now.at c.args.kind c.requires.number _ (take long buf) (drop long (take n buf))
+      cut_run (intake g.S.Source a.source.now)
+          (intake g.S.Source c.codes.new.source) a.image.now c.args.first c.args.count a.cursor.now.at c.args.kind c.requires.number _ (take long buf)
+          (drop long (take n buf))
           (takes_as (sym part.parts) c.in_ok-came.ensures.came) (c.in_ok-came.ensures.end (search (rules, part.short))) part.long part.cut lt part.fewer _ _ _
           (cc (c.put_codes.ensures)) c.in_ok-came.ensures.place (cc (c.at.ensures, c.in_ok-came.ensures.place)),
     )
