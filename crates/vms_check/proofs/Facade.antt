@@ -30,8 +30,8 @@ pub use Rattle.vms_check.specs.{Absent.absent_counted, Absent.least_absent, Comp
 pub use Rattle.vms_check.specs.{declared.mismatch.Mismatch.Mismatch, declared.present.Present.Present, declared.side.Side.Side}
 pub use Rattle.vms_check.specs.Comparing.{Comparer, Compatible, Entry, absent_hold, bound, compare_desc, compare_device, compare_fields, compare_sub}
 pub use Rattle.vms_check.specs.Comparing.{compare_subs, compare_validations, comparer_of, entry_of, failing_pair, greatest, has_room, holds_as_much, is_absent}
-pub use Rattle.vms_check.specs.Comparing.{is_covered, is_found, is_in, is_kept, is_nothing, kind_number, no_comparer, pair_rules, pair_structs, position_from}
-pub use Rattle.vms_check.specs.Comparing.{present, present_from, rel_number, same_constant, same_count, same_item, same_place, same_reduced, same_rest}
+pub use Rattle.vms_check.specs.Comparing.{is_covered, is_found, is_in, is_kept, is_nothing, no_comparer, pair_rules, pair_structs, position_from}
+pub use Rattle.vms_check.specs.Comparing.{present, present_from, same_constant, same_count, same_item, same_place, same_reduced, same_rest}
 pub use Rattle.vms_check.specs.Fitting.{AreAlike, ArePaired, DescsFit, DevicesFit, Fits, IsKept, IsSubFor, SetsFit, fields_at, in_new, in_old}
 pub use Rattle.vms_check.specs.Pairs.{IsFirst, all_fields_on, desc_mismatch, failing_number, fields_on, is_kept_test, is_left, pair_mismatch, rules_on}
 pub use Rattle.vms_check.specs.Pairs.{struct_mismatch, structs_on, table, table_on, tree_of}

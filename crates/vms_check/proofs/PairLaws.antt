@@ -19,9 +19,7 @@ left_same o n (Known true) (Known true) x y = refl
 left_same o n (Known true) (Open t) x y = refl
 left_same o n (Open s) (Known true) x y = refl
 left_same o n (Open s) (Open t) x y = refl
-left_same o n (Known false) q x y = absurd (cc)
-left_same o n (Known true) (Known false) x y = absurd (cc)
-left_same o n (Open s) (Known false) x y = absurd (cc)
+left_same o n _ _ x y = absurd (cc)
 
 -- ---- Two fields of the same position: no rule fails exactly where they are paired as the rules say.
 

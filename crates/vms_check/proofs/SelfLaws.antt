@@ -4,7 +4,7 @@ use Rattle.vms_check.proofs.Facade.{◌≡◌, ℕ, zero, suc, ◌≤◌, min, L
 use Rattle.vms_check.proofs.Facade.{◌+◌, ◌<◌, length, get_or, ◌==◌, ◌&&◌, nat_lt, slice_get, eq-eqb, and_parts, le-leb, leb-true, and_from, eqb-true, or_left}
 use Rattle.vms_check.proofs.Facade.{or_right, get_or_from_slice_get, slice_get_within, bytes_eq, bytes_eq-Decides, any_passes_from_place, Item, Count, One}
 use Rattle.vms_check.proofs.Facade.{Fixed, Counted, counted, no_field, no_desc, Field, Formula, Cell, Desc, Sub, Device, Set, bound, holds_as_much, is_absent}
-use Rattle.vms_check.proofs.Facade.{kind_number, rel_number, same_constant, same_count, same_item, same_place, same_reduced, same_rest, same_test, Compatible}
+use Rattle.vms_check.proofs.Facade.{same_constant, same_count, same_item, same_place, same_reduced, same_rest, same_test, Compatible}
 use Rattle.vms_check.proofs.Facade.{Entry, entry_of, is_found, Num, Equal, Unused, Struct, Own, has_no_test, is_num, is_one, is_steady, is_steady_in}
 use Rattle.vms_check.proofs.Facade.{names_well, nobody, count_names_well, is_counting, is_earlier_in, test_names_well, same_number_itself, untested, Clean}
 use Rattle.vms_check.proofs.Facade.{struct_clean, device_parts, sub_clean, device_found, sub_found, beyond, Reduced, Known, Open, left_of, presence, reduced}
@@ -13,6 +13,9 @@ use Rattle.vms_check.proofs.Facade.{sub_rules, ArePaired, DescsFit, DevicesFit, 
 use Rattle.vms_check.proofs.ReducedLaws.{IfOpen, IsByParts, open_reduced}
 use Rattle.vms_check.specs.{Comparing.least_of}
 use Rattle.std.specs.Prelude.{nat_le}
+use denote.Enum.Bare.{true_same}
+use Rattle.vms_kinds.specs.contracts.Kind.{the_type as kind_type}
+use Rattle.vms_spec.specs.contracts.Rel.{the_type as rel_type}
 
 -- ---- What a number can be is at most each capacity that it counts.
 
@@ -86,7 +89,7 @@ module _ (o : ℕ → Option ℕ) where
     cell : (k mask : ℕ) (rel : Rel) (value : ℕ) → ok k ≡ true → IsSame (Cell Own k mask rel value)
     cell k mask rel value e =
         let p = has k e in
-        rw (same_here (o k) p.0 p.1, itself mask, itself (rel_number rel)) (itself value)
+        rw (same_here (o k) p.0 p.1, itself mask, true_same rel_type rel rel refl) (itself value)
 
   pub same_self : (r : Reduced) → IsSelf r → same_reduced o o r r ≡ true
   same_self (Known true) h = refl
@@ -112,8 +115,8 @@ module _ (o : ℕ → Option ℕ) where
 -- ---- items and capacities
 
 pub item_self : (x : Item) → same_item x x ≡ true
-item_self (Num kind) = itself (kind_number kind)
-item_self (Equal kind z) = itself (kind_number kind)
+item_self (Num kind) = true_same kind_type kind kind refl
+item_self (Equal kind z) = true_same kind_type kind kind refl
 item_self (Unused n) = itself n
 item_self (Struct j) = refl
 

@@ -66,8 +66,7 @@ module _ (structs : List Comparer) (a b : Desc) (v w : ℕ) (in_a in_b : Part) (
   fields_unplaced : (es fs : List Entry) → compares (map unplaced es) (map unplaced fs) ≡ compares es fs
   fields_unplaced (e ∷ es) (f ∷ fs) = cc (fields_unplaced es fs)
   fields_unplaced [] [] = refl
-  fields_unplaced (e ∷ es) [] = refl
-  fields_unplaced [] (f ∷ fs) = refl
+  fields_unplaced _ _ = refl
 
 pub desc_split : (structs : List Comparer) (x y : List (List Cell)) (a b : Desc) (v w : ℕ) (in_a in_b : Part) → compare_desc structs x y a b v w in_a in_b
     ≡ or_else (compare_fields structs a b v w in_a in_b (position_in v a.fields) (position_in w b.fields) (fields_from v 0 a.fields) (fields_from w 0 b.fields))

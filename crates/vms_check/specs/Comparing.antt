@@ -3,15 +3,16 @@
 use Rattle.std.specs.Prelude.{ℕ, suc, ◌+◌, ◌*◌, Bool, true, false, ◌&&◌, ◌||◌, ◌==◌, nat_le, min, if◌then◌else◌, List, [], ◌∷◌, ◌++◌, length, get_or, Option, Some, None, ℤ, pos, negsuc, ◌≡◌}
 use Rattle.std.specs.List.{slice_get, list_all, list_any}
 use Rattle.std.specs.Str.{bytes_eq}
+use denote.Enum.Bare.{sameb}
 use Rattle.vms_kinds.specs.declared.Kind.{Kind}
-use Rattle.vms_kinds.specs.declared.Kind.TheVariants.{U8, U16, U32, U64, I8, I16, I32, I64, Bool as Truth, Timer}
+use Rattle.vms_kinds.specs.contracts.Kind.{the_type as kind_type}
 use Rattle.vms_kinds.specs.declared.Item.{Item}
 use Rattle.vms_kinds.specs.declared.Item.TheVariants.{Num, Equal, Unused, Struct}
 use Rattle.vms_kinds.specs.Codes.{width, highest}
 use Rattle.vms_spec.specs.declared.Count.{Count}
 use Rattle.vms_spec.specs.declared.Count.TheVariants.{One, Fixed, Counted}
 use Rattle.vms_spec.specs.declared.Rel.{Rel}
-use Rattle.vms_spec.specs.declared.Rel.TheVariants.{Eq, Ne, Lt, Ge}
+use Rattle.vms_spec.specs.contracts.Rel.{the_type as rel_type}
 use Rattle.vms_spec.specs.declared.Whose.TheVariants.{Own}
 use Rattle.vms_spec.specs.declared.Part.{Part}
 use Rattle.vms_spec.specs.declared.Part.TheVariants as parts
@@ -63,34 +64,18 @@ same_place _ _ = false
 
 -- ---- the same on both sides
 
--- The number of a relation, by which relations are compared.
-abbrev pub rel_number : Rel → ℕ
-rel_number Eq = 0
-rel_number Ne = 1
-rel_number Lt = 2
-rel_number Ge = 3
-
--- The number of a kind, by which kinds are compared.
-abbrev pub kind_number : Kind → ℕ
-kind_number U8 = 0
-kind_number U16 = 1
-kind_number U32 = 2
-kind_number U64 = 3
-kind_number I8 = 4
-kind_number I16 = 5
-kind_number I32 = 6
-kind_number I64 = 7
-kind_number Truth = 8
-kind_number Timer = 9
+-- Two relations are the same.
+abbrev pub same_rel : Rel → Rel → Bool
+same_rel = sameb rel_type
 
 -- Two kinds are the same.
 abbrev pub same_kind : Kind → Kind → Bool
-same_kind k l = kind_number k == kind_number l
+same_kind = sameb kind_type
 
 -- Two tests are the same trees, where o and n give the positions of the fields on each side.
 abbrev pub same_test : (o n : ℕ → Option ℕ) → Formula → Formula → Bool
 same_test o n (Cell Own i mask rel value) (Cell Own j mask' rel' value') =
-    same_place (o i) (n j) && mask == mask' && rel_number rel == rel_number rel' && value == value'
+    same_place (o i) (n j) && mask == mask' && same_rel rel rel' && value == value'
 same_test o n (Not s) (Not t) = same_test o n s t
 same_test o n (And s s') (And t t') = same_test o n s t && same_test o n s' t'
 same_test o n (Or s s') (Or t t') = same_test o n s t && same_test o n s' t'

@@ -1,7 +1,7 @@
 // Whether reduced tests are the same, where fields are matched by position.
-ghost use Rattle.std.specs.Prelude.{◌≡◌, ◌==◌};
+ghost use Rattle.std.specs.Prelude.{◌≡◌};
 ghost use Rattle.vms_parts.specs.Views.{formula};
-ghost use Rattle.vms_check.specs.Comparing.{rel_number, same_test, same_reduced};
+ghost use Rattle.vms_check.specs.Comparing.{same_test, same_reduced};
 ghost use Rattle.vms_check.specs.Reducing.{reduced};
 ghost use Rattle.vms_check.specs.Places.{HavePlaces};
 ghost use Rattle.vms_check.specs.Sides.{AreAtoms, AreWhole, AreWholeLeft, as_reduced, position_on};
@@ -9,13 +9,7 @@ ghost use Rattle.vms_check.specs.Sides.{AreAtoms, AreWhole, AreWholeLeft, as_red
 use crate::positions::{Places, same_place};
 use crate::reducing::{Left, reduce};
 use crate::side::Side;
-use vms_desc::{Rel, Test, Whose};
-
-fn same_rel(one: Rel, other: Rel) -> bool
-    ensures { result ≡ (rel_number one == rel_number other) }
-{
-    one == other
-}
+use vms_desc::{Test, Whose};
 
 #[cycle(same)]
 pub(crate) fn same_reduced(old: Side, new: Side, places: &Places, one: Left, other: Left) -> bool
@@ -94,7 +88,7 @@ fn same_atoms(old: Side, new: Side, places: &Places, one: &Test, other: &Test) -
         ) => {
             same_place(old, new, places, *one, *other)
                 && one_mask == other_mask
-                && same_rel(*one_rel, *other_rel)
+                && one_rel == other_rel
                 && one_value == other_value
         }
         _ => false,

@@ -6,12 +6,12 @@ use Rattle.vms_check_laws.proofs.{Presence.filler_length, Segments.aligns_filler
 use Rattle.vms_check_laws.proofs.Facade.{◌≡◌, inl, inr, ℕ, zero, suc, ◌+◌, ◌<◌, ◌≤◌, Bool, true, List, ◌∷◌, ◌++◌, length, get_or, Some, None, sym, ap, ◌∙◌}
 use Rattle.vms_check_laws.proofs.Facade.{code_read, big_number, arith, ℤ, pos, if◌then◌else◌, ◌⊎◌, nat_lt, take, refl, slice_get, eqb-true, and_parts, ltb-true}
 use Rattle.vms_check_laws.proofs.Facade.{eq-or-lt_of_le, [], cells_in, Kind, Item, Num, Equal, Unused, Struct, width, residue, code, Count, One, is_steady_in}
-use Rattle.vms_check_laws.proofs.Facade.{is_num, is_one, is_earlier_in, Slot, Number, times, counted, item_cells, elements_of, item_slots, numbers_of, kind_of}
-use Rattle.vms_check_laws.proofs.Facade.{Spells, zeroed, length-code, size_same, elements_fit, Entry, same_count, same_item, FitsAt, Aligns, Cell, desc_cells}
+use Rattle.vms_check_laws.proofs.Facade.{is_num, is_one, is_earlier_in, Slot, Number, times, counted, item_cells, elements_of, item_slots, kind_of}
+use Rattle.vms_check_laws.proofs.Facade.{Spells, zeroed, length-code, size_same, elements_fit, Entry, same_count, same_item, FitsAt, Aligns, desc_cells}
 use Rattle.vms_check_laws.proofs.Facade.{AllZip, cases_lt, eq-eqb, position_from, same_place}
 use Rattle.vms_check_laws.proofs.FieldsRead.{pair_by, Opposite, named_pair}
 use Rattle.vms_check_laws.proofs.Positioned.{same_some, at_or_later, Above, none_before}
-use Rattle.vms_check_laws.proofs.Premises.{kinds_same, slots_at, IsKnown, entries_slots, AreKnown, known_there, Two, PairGood, Pairs, Sides, IsSingle}
+use Rattle.vms_check_laws.proofs.Premises.{olds, older, newer, kinds_same, slots_at, IsKnown, entries_slots, AreKnown, known_there, Two, PairGood, Pairs, Sides, IsSingle}
 use Rattle.vms_check_laws.proofs.Premises.{NamesEarlier, OldFields, covered_slots, Met}
 use Rattle.vms_check_laws.proofs.Segments.{fits_left, fits_right, fits_at, apart, same_bytes, aligns_nil, aligns_append, aligns_number, aligns_constant}
 
@@ -40,22 +40,13 @@ module _ (sides : Sides) where
   open sides use {two, ms, ns, numbers, numbers', at, at', below, below', table}
   open two use {a, b, v, w, o, n}
 
-  abbrev olds : List (List Cell)
-  olds = cells_in ms
-
-  abbrev own : ℕ → ℕ
-  own k = numbers_of olds a numbers at k
-
-  abbrev own' : ℕ → ℕ
-  own' k = numbers_of (cells_in ns) b numbers' at' k
-
   abbrev old_size : Item → ℕ
-  old_size i = length (item_cells olds i [] (pos 0))
+  old_size i = length (item_cells (olds sides) i [] (pos 0))
 
   abbrev SlotsAlign : List Slot → List Slot → Type 0
   SlotsAlign xs ys = Aligns numbers xs numbers' ys
 
-  item_aligns : (i j : Item) (caps caps' : List ℕ) (d : ℤ) (x y : ℕ) → Pairs two below below' i j → FitsAt (item_cells olds i caps d) numbers x
+  item_aligns : (i j : Item) (caps caps' : List ℕ) (d : ℤ) (x y : ℕ) → Pairs two below below' i j → FitsAt (item_cells (olds sides) i caps d) numbers x
       → SlotsAlign (item_slots ms i caps numbers x) (item_slots ns j caps' numbers' y)
   item_aligns (Num k) (Num l) caps caps' d x y pair fits = aligns_number _ _ x y k l caps caps' (kinds_same k l pair.same)
   item_aligns (Equal k z) (Equal l u) caps caps' d x y pair fits = aligns_constant _ _ k l z u (kinds_same k l pair.same)
@@ -64,31 +55,33 @@ module _ (sides : Sides) where
   item_aligns _ _ caps caps' d x y pair fits = absurd (cc)
 
   items_align : (i j : Item) (caps caps' : List ℕ) (d : ℤ) (m most p step x y step' : ℕ) → Pairs two below below' i j → m ≤ most
-      → FitsAt (times most (λ _. item_cells olds i caps d) p step) numbers x
+      → FitsAt (times most (λ _. item_cells (olds sides) i caps d) p step) numbers x
       → SlotsAlign (times m (item_slots ms i caps numbers) x (old_size i)) (times m (item_slots ns j caps' numbers') y step')
   items_align i j caps caps' d zero most p step x y step' pair le fits = aligns_nil _ _
   items_align i j caps caps' d (suc m) zero p step x y step' pair le fits = absurd (omega arith)
   items_align i j caps caps' d (suc m) (suc most) p step x y step' pair le fits =
       aligns_append numbers numbers' _ _ _ _ (item_aligns i j caps caps' d x y pair (fits_left _ fits))
       (items_align i j caps caps' d m most (p + step) step (x + old_size i) (y + step') step' pair (omega arith)
-      (fits_at (omega (arith, size_same olds i caps d)) (fits_right (item_cells olds i caps d) fits)))
+      (fits_at (omega (arith, size_same (olds sides) i caps d)) (fits_right (item_cells (olds sides) i caps d) fits)))
 
   abbrev pub OldSlots : Entry → List Slot
-  OldSlots e = slots_at ms a.fields v own numbers at e.index e.place e.field
+  OldSlots e = slots_at ms a.fields v (older sides) numbers at e.index e.place e.field
 
   abbrev pub NewSlots : Entry → List Slot
-  NewSlots f = slots_at ns b.fields w own' numbers' at' f.index f.place f.field
+  NewSlots f = slots_at ns b.fields w (newer sides) numbers' at' f.index f.place f.field
 
   pair_aligns : (ok : ℕ → Bool) (e f : Entry) → Opposite sides ok e f → SlotsAlign (OldSlots e) (NewSlots f)
   pair_aligns ok e f p = pair_by sides ok SlotsAlign e f p
       (λ c.
       let s =
-      covered_slots ms ns numbers numbers' own own' e.field.item e.field.count f.field.item f.field.count (counted e.index a.fields) (counted f.index b.fields)
+      covered_slots ms ns numbers numbers' (older sides) (newer sides) e.field.item e.field.count f.field.item f.field.count (counted e.index a.fields)
+      (counted f.index b.fields)
       (at + e.place) (at' + f.place) (old_size e.field.item) (length (item_cells (cells_in ns) f.field.item [] (pos 0))) c.covers p.old.single p.new.single in
       (aligns_nil numbers numbers', rw s.1 (aligns_filler numbers numbers' _ s.0 s.2)))
       (λ m t is.
       items_align e.field.item f.field.item _ _ e.field.default _ _ 0 0 _ _ _
-      (record { same = m.item; structs = p.good.structs; low = p.old.item; low' = p.new.item }) (if_least t _ _ (elements_fit e.field.count own)) p.fits)
+      (record { same = m.item; structs = p.good.structs; low = p.old.item; low' = p.new.item })
+      (if_least t _ _ (elements_fit e.field.count (older sides))) p.fits)
 
   -- ---- numbers that may be named
 
@@ -103,27 +96,27 @@ module _ (sides : Sides) where
 
   number_same : (j i : Item) (d c : Count) (t t' : Bool) (caps caps' : List ℕ) (x y step step' : ℕ) → is_num j ≡ true → is_one d ≡ true → same_item i j ≡ true
       → same_count o n c d ≡ true → t ≡ true → t' ≡ true
-      → (body r r' : List ℕ) → Spells numbers' (if t' then times (elements_of d own') (item_slots ns j caps' numbers') y step' else []) body
-      → body ++ r' ≡ zeroed numbers (if t then times (elements_of c own) (item_slots ms i caps numbers) x step else []) ++ r
+      → (body r r' : List ℕ) → Spells numbers' (if t' then times (elements_of d (newer sides)) (item_slots ns j caps' numbers') y step' else []) body
+      → body ++ r' ≡ zeroed numbers (if t then times (elements_of c (older sides)) (item_slots ms i caps numbers) x step else []) ++ r
       → residue (width (kind_of i)) (get_or numbers x (pos 0)) ≡ residue (width (kind_of j)) (get_or numbers' y (pos 0))
   number_same (Num l) (Num k) One One true true caps caps' x y step step' num one same counts is is' body r r' s h = grind (arith, one_same, kinds_same)
   number_same _ _ _ _ _ _ caps caps' x y step step' num one same counts is is' body r r' s h = absurd (cc)
 
   pair_same : (e f : Entry) → Met sides e f → is_steady_in b f.index ≡ true
-      → (body r r' : List ℕ) → Spells numbers' (NewSlots f) body → body ++ r' ≡ zeroed numbers (OldSlots e) ++ r → own e.index ≡ own' f.index
+      → (body r r' : List ℕ) → Spells numbers' (NewSlots f) body → body ++ r' ≡ zeroed numbers (OldSlots e) ++ r → older sides e.index ≡ newer sides f.index
   pair_same e f met is body r r' spells h = grind (arith, named_pair, number_same, known_there)
 
   -- ---- position by position
 
   abbrev all_old : List Entry → List Slot
-  all_old es = entries_slots ms a.fields v own numbers at es
+  all_old es = entries_slots ms a.fields v (older sides) numbers at es
 
   abbrev all_new : List Entry → List Slot
-  all_new fs = entries_slots ns b.fields w own' numbers' at' fs
+  all_new fs = entries_slots ns b.fields w (newer sides) numbers' at' fs
 
   -- numbers that tests and counts may name agree, of the fields before field i
   abbrev pub Same : ℕ → Type 0
-  Same i = (k j : ℕ) → j < i → is_steady_in b j ≡ true → same_place (o k) (n j) ≡ true → own k ≡ own' j
+  Same i = (k j : ℕ) → j < i → is_steady_in b j ≡ true → same_place (o k) (n j) ≡ true → older sides k ≡ newer sides j
 
   -- what is known of the entries from position p on, whose fields have numbers from i on
   pub record State (p i : ℕ) (es fs : List Entry) : Type 0 where
@@ -143,7 +136,8 @@ module _ (sides : Sides) where
     ]
   ]
 
-  same_next : (p i : ℕ) (e f : Entry) (es fs : List Entry) → State p i (e ∷ es) (f ∷ fs) → (is_steady_in b f.index ≡ true → own e.index ≡ own' f.index)
+  same_next : (p i : ℕ) (e f : Entry) (es fs : List Entry) → State p i (e ∷ es) (f ∷ fs)
+      → (is_steady_in b f.index ≡ true → older sides e.index ≡ newer sides f.index)
       → Same (suc f.index)
   same_next p i e f es fs st here k j lt named place = let le : j ≤ f.index = omega arith in elim (eq-or-lt_of_le le) [
     | inl is ↦ elim (at_or_later k j p e f es fs (st.later k j (omega arith) place)) [
@@ -153,7 +147,7 @@ module _ (sides : Sides) where
     | inr less ↦ earlier_same p i e f es fs st k j less named place
   ]
 
-  module _ (named : NamesEarlier below' b) (old : OldFields below own a.fields) (fits : FitsAt (desc_cells olds a) numbers at) where
+  module _ (named : NamesEarlier below' b) (old : OldFields below (older sides) a.fields) (fits : FitsAt (desc_cells (olds sides) a) numbers at) where
     here_aligns : (p i : ℕ) (e f : Entry) (es fs : List Entry) → State p i (e ∷ es) (f ∷ fs) → PairGood two e f → SlotsAlign (OldSlots e) (NewSlots f)
     here_aligns p i e f es fs st good =
         let k = st.known.0 in
@@ -231,8 +225,9 @@ module _ (sides : Sides) where
 
     constants_same : (k : Kind) (z u : ℤ) (t t' : Bool) (c d : Count) (caps caps' : List ℕ) (x y step step' : ℕ) → is_one c ≡ true → is_one d ≡ true
         → t ≡ true → t' ≡ true → (body r r' : List ℕ)
-        → Spells numbers' (if t' then times (elements_of d own') (item_slots ns (Equal k u) caps' numbers') y step' else []) body
-        → body ++ r' ≡ zeroed numbers (if t then times (elements_of c own) (item_slots ms (Equal k z) caps numbers) x step else []) ++ r → code k z ≡ code k u
+        → Spells numbers' (if t' then times (elements_of d (newer sides)) (item_slots ns (Equal k u) caps' numbers') y step' else []) body
+        → body ++ r' ≡ zeroed numbers (if t then times (elements_of c (older sides)) (item_slots ms (Equal k z) caps numbers) x step else []) ++ r
+        → code k z ≡ code k u
     constants_same k z u true true One One caps caps' x y step step' one one' is is' body r r' s h =
         let same = same_bytes numbers _ numbers' _ (aligns_constant _ _ k k z u refl) body r r' s h in
         sym (apart (code k u) (code k z) [] s.0 (length-code k u ∙ sym (length-code k z)) (sym s.1 ∙ same)).0
@@ -242,11 +237,11 @@ module _ (sides : Sides) where
         → (body r r' : List ℕ) → Spells numbers' (NewSlots f) body → body ++ r' ≡ zeroed numbers (OldSlots e) ++ r → ⊥
     clash_refuses e f clash known known' body r r' spells h =
         let d = clash.constants in
-        let there_is' = known_there ns b.fields w numbers' at' f known' clash.rest' own' _ in
+        let there_is' = known_there ns b.fields w numbers' at' f known' clash.rest' (newer sides) _ in
         let one : IsSingle (Equal d.kind d.value) e.field.count = rw d.item at (old e.index e.field known.field).single in
         let one' : IsSingle (Equal d.kind d.other) f.field.count = rw d.item' at (named f.index f.field known'.field).single in
         d.differ (constants_same d.kind d.value d.other _ _ _ _ (counted e.index a.fields) (counted f.index b.fields) _ _ _ _ one one'
-        (known_there ms a.fields v numbers at e known clash.rest own _) there_is' body r r' (rw d.item' at spells) (rw d.item at h))
+        (known_there ms a.fields v numbers at e known clash.rest (older sides) _) there_is' body r r' (rw d.item' at spells) (rw d.item at h))
 
     pub entries_clash : (es fs : List Entry) (p i : ℕ) → Clashes two es fs → State p i es fs → (body r r' : List ℕ) → Spells numbers' (all_new fs) body
         → body ++ r' ≡ zeroed numbers (all_old es) ++ r → ⊥

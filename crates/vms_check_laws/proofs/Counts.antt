@@ -1,12 +1,12 @@
 -- A number that fits its cell is at most every capacity that it counts, and one that fits the older capacities fits the newer.
 use Rattle.vms_check_laws.proofs.{Segments.fits_right, Presence.Steady, Presence.covers_unused, Positioned.at_or_later, Positioned.Above}
-use Rattle.vms_check_laws.proofs.Facade.{cells_in, AllZip, ◌≤ℤ◌, ◌≡◌, inl, inr, ℕ, zero, suc, ◌+◌, ◌≤◌, true, List, ◌∷◌, ◌++◌, length, get_or, Some, refl}
+use Rattle.vms_check_laws.proofs.Facade.{AllZip, ◌≤ℤ◌, ◌≡◌, inl, inr, ℕ, zero, suc, ◌+◌, ◌≤◌, true, List, ◌∷◌, ◌++◌, length, get_or, Some, refl}
 use Rattle.vms_check_laws.proofs.Facade.{arith, ℤ, pos, negsuc, if◌then◌else◌, AllByRecursion, slice_get, eq-eqb, ints, ◌<◌, [], min, Bool, false, Option, None}
 use Rattle.vms_check_laws.proofs.Facade.{sym, nat_le, and_parts, eqb-true, leb-true, Kind, U8, U16, U32, Item, Num, width, residue, Count, One, Counted, Field}
 use Rattle.vms_check_laws.proofs.Facade.{Cell, times, counted, capacity_of, item_cells, field_cells, cells_from, place_of, no_field, kind_of, FitsCell, is_num}
 use Rattle.vms_check_laws.proofs.Facade.{is_one, ItemBelow, FitsAt, all_right, Desc, is_steady_in, no_desc, Struct, highest, Formula, presence, Entry, entry_of}
 use Rattle.vms_check_laws.proofs.Facade.{present_from, position_from, same_place, same_count, holds_as_much, absent_hold, bound, least_of, greatest, has_room}
-use Rattle.vms_check_laws.proofs.Premises.{IsSingle, CountFits, OldFields, DefaultsGood, NamesEarlier, NewFields, RulesNamed, Sides, Matched, decoded, Met}
+use Rattle.vms_check_laws.proofs.Premises.{news, IsSingle, CountFits, OldFields, DefaultsGood, NamesEarlier, NewFields, RulesNamed, Sides, Matched, decoded, Met}
 
 -- the number of field k of these, the first of which has the number i and begins at a place
 abbrev pub field_number : List (List Cell) → List Field → List Field → ℕ → List ℤ → ℕ → ℕ → ℕ
@@ -173,11 +173,8 @@ paired o n (Counted by most') (Counted j m) i most e same room =
 paired o n _ _ i most e same room = absurd (cc)
 
 module _ (sides : Sides) where
-  open sides use {two, ms, ns, numbers, numbers', at, at', below'}
-  open two use {a, b, v, w, o, n}
-
-  abbrev news : List (List Cell)
-  news = cells_in ns
+  open sides use {two, numbers, at, below'}
+  open two use {a, b, w, o, n}
 
   -- z fits each present array that field i counts
   abbrev pub FitsArrays : ℤ → ℕ → List Entry → Type 0
@@ -200,7 +197,7 @@ module _ (sides : Sides) where
       (fits_array z i j e f at_i all met.0 (new f.index f.field met.0.known'.field).single, fits_arrays new z i j es fs at_i all met.1)
   fits_arrays new z i j _ _ at_i all met = absurd met
 
-  each_array : (z : ℤ) (j n i q : ℕ) (gs : List Field) → z ≤ℤ pos n → absent_hold w j n gs ≡ true → FitsArrays z j (present_from news b.fields w i q gs)
+  each_array : (z : ℤ) (j n i q : ℕ) (gs : List Field) → z ≤ℤ pos n → absent_hold w j n gs ≡ true → FitsArrays z j (present_from (news sides) b.fields w i q gs)
       → AllByRecursion (λ g. (most : ℕ) → g.count ≡ Counted j most → z ≤ℤ pos most) gs
   each_array z j n i q [] le absent h = tt
   each_array z j n i q (g ∷ gs) le absent h =
@@ -218,7 +215,8 @@ module _ (sides : Sides) where
   -- a number of old that fits, at a pair of numbers, fits all of new's capacities
   pub caps_follow : (kind : Kind) (es : List Entry) (e f : Entry) (z : ℤ) → e.field.item ≡ Num kind
       → ((by : ℕ) → same_place (o by) (n f.index) ≡ true → by ≡ e.index) → Matched two e f
-      → z ≤ℤ highest kind → AllByRecursion (λ m. z ≤ℤ pos m) (counted e.index a.fields) → AllZip (Met sides) es (present_from news b.fields w 0 0 b.fields)
+      → z ≤ℤ highest kind → AllByRecursion (λ m. z ≤ℤ pos m) (counted e.index a.fields)
+      → AllZip (Met sides) es (present_from (news sides) b.fields w 0 0 b.fields)
       → NewFields below' (is_steady_in b) b.fields → AllByRecursion (λ m. z ≤ℤ pos m) (counted f.index b.fields)
   caps_follow kind es e f z is at_e m high caps met new =
       let arrays = fits_arrays new z _ _ es _ at_e caps met in

@@ -1,21 +1,20 @@
 -- A description on each side: its bytes carry, what isn't in them is at its default, and at one front the newer set
 -- takes exactly the bytes that the older one wrote. Validations that hold in the older set hold in the newer. The carried numbers
 -- fit the cells of the newer set.
-use Rattle.vms_check_laws.proofs.{Facade.reduced_holds, Facade.same_reduced, Facade.truth, Facade.truth_of, Facade.either_of, Positioned.present_above}
+use Rattle.vms_check_laws.proofs.{Facade.no_parent, Facade.passes, Facade.reduced, Positioned.present_above, Counts.caps_follow, Counts.IsIndexed}
+use Rattle.vms_check_laws.proofs.{Counts.DescGood, Counts.indexed, PairLists.if_least, PairLists.one_cell, PairLists.settled_more}
 use Rattle.vms_check_laws.proofs.AlignedDescs.{Clashes, entries_align, entries_clash, State}
-use Rattle.vms_check_laws.proofs.Counts.{caps_follow, IsIndexed, DescGood, indexed}
-use Rattle.vms_check_laws.proofs.Facade.{◌≤ℤ◌, ◌≡◌, inl, inr, ℕ, zero, suc, ◌+◌, ◌<◌, ◌≤◌, Bool, true, false, List, ◌∷◌, ◌++◌, length, get_or, Option, None}
-use Rattle.vms_check_laws.proofs.Facade.{refl, arith, ℤ, pos, if◌then◌else◌, AllByRecursion, [], cells_in, Kind, Item, Num, Struct, Formula, Field, Cell, times}
-use Rattle.vms_check_laws.proofs.Facade.{counted, item_cells, field_cells, cells_from, Entry, same_kind, pair_structs, defaults, carry_item, carry_items}
-use Rattle.vms_check_laws.proofs.Facade.{carry_from, FitsAt, size_same, elements_fit, highest, InRange, is_num, FitsCell, ItemBelow, FieldsBelow, desc_cells}
-use Rattle.vms_check_laws.proofs.Facade.{numbers_of, is_steady_in, present, AllZip, sym, ◌∙◌, and_from, and_parts, list_all, list_any, Desc, Rule, Meaning}
-use Rattle.vms_check_laws.proofs.Facade.{slots_from, desc_slots, all_hold, Part, position_from, Comparer, compare_desc, Carrier, carry_desc, Holds, Aligns}
-use Rattle.vms_check_laws.proofs.Facade.{or_else_none, Spells, zeroed, Carries, Known, Reduced, compare_validations, here, is_kept, no_parent, passes, reduced}
+use Rattle.vms_check_laws.proofs.Facade.{reduced_holds, same_reduced, truth, truth_of, either_of, ◌≤ℤ◌, ◌≡◌, inl, inr, ℕ, zero, suc, ◌+◌, ◌<◌, ◌≤◌, Bool, true}
+use Rattle.vms_check_laws.proofs.Facade.{false, List, ◌∷◌, ◌++◌, length, get_or, Option, None, refl, arith, ℤ, pos, if◌then◌else◌, AllByRecursion, [], cells_in}
+use Rattle.vms_check_laws.proofs.Facade.{Kind, Item, Num, Struct, Formula, Field, Cell, times, counted, item_cells, field_cells, cells_from, Entry, same_kind}
+use Rattle.vms_check_laws.proofs.Facade.{pair_structs, defaults, carry_item, carry_items, carry_from, FitsAt, size_same, elements_fit, highest, InRange, is_num}
+use Rattle.vms_check_laws.proofs.Facade.{FitsCell, ItemBelow, FieldsBelow, desc_cells, is_steady_in, present, AllZip, sym, ◌∙◌, and_from, and_parts, list_all}
+use Rattle.vms_check_laws.proofs.Facade.{list_any, Desc, Rule, Meaning, slots_from, desc_slots, all_hold, Part, position_from, Comparer, compare_desc, Carrier}
+use Rattle.vms_check_laws.proofs.Facade.{carry_desc, Holds, Aligns, or_else_none, Spells, zeroed, Carries, Known, Reduced, compare_validations, here, is_kept}
 use Rattle.vms_check_laws.proofs.FieldsRead.{linked, agree_from, fields_settle, fields_carry, by_fields}
-use Rattle.vms_check_laws.proofs.PairLists.{if_least, one_cell, settled_more}
-use Rattle.vms_check_laws.proofs.Premises.{kinds_same, Matched, decoded, OldFields, NewFields, DefaultsGood, ItemDefault, Sides, fields_below, FitCells}
-use Rattle.vms_check_laws.proofs.Premises.{GoodCells, fit_append, fit_defaults, good_append, good_times, Met, entries_slots, slots_entries, all_known, AreKnown}
-use Rattle.vms_check_laws.proofs.Premises.{Two, Table, Meets, Reads, RulesNamed, all_met}
+use Rattle.vms_check_laws.proofs.Premises.{olds, news, older, newer, kinds_same, Matched, decoded, OldFields, NewFields, DefaultsGood, ItemDefault, Sides}
+use Rattle.vms_check_laws.proofs.Premises.{fields_below, FitCells, GoodCells, fit_append, fit_defaults, good_append, good_times, Met, entries_slots}
+use Rattle.vms_check_laws.proofs.Premises.{slots_entries, all_known, AreKnown, Two, Table, Meets, Reads, RulesNamed, all_met}
 use Rattle.vms_check_laws.proofs.Presence.{not_covered, Agree, Named, named_left, same_reduced_truth}
 use Rattle.vms_check_laws.proofs.Segments.{fits_left, fits_right, fits_at, holds_at, carries_append, spells_split, behind_first, aligns_append, aligns_rule}
 
@@ -39,20 +38,11 @@ Follows i j caps caps' =
     (k : Kind) → i ≡ Num k → is_num j ≡ true → (z : ℤ) → z ≤ℤ highest k → AllByRecursion (λ m. z ≤ℤ pos m) caps → AllByRecursion (λ m. z ≤ℤ pos m) caps'
 
 module _ (sides : Sides) where
-  open sides use {two, cs, ms, ns, numbers, numbers', at, at', below, below', table}
+  open sides use {two, cs, numbers, at, below, below', table}
   open two use {ks, a, b, v, w, part, part', o, n}
 
-  abbrev olds : List (List Cell)
-  olds = cells_in ms
-
-  abbrev news : List (List Cell)
-  news = cells_in ns
-
-  abbrev own_number : ℕ → ℕ
-  own_number k = numbers_of olds a numbers at k
-
   abbrev fallback : Item → ℤ → List ℤ
-  fallback j d = defaults (item_cells news j [] d)
+  fallback j d = defaults (item_cells (news sides) j [] d)
 
   number_fits : (c : Bool) (k l : Kind) (caps caps' : List ℕ) (d' z : ℤ) → same_kind k l ≡ c
       → FitsCell (record { kind = l; capacities = caps'; default = d' }) d' → InRange k z
@@ -60,15 +50,16 @@ module _ (sides : Sides) where
   number_fits true k l caps caps' d' z same good range follow = ((rw (← (kinds_same k l same)) range, follow refl), tt)
   number_fits false k l caps caps' d' z same good range follow = (good, tt)
 
-  fallback_fits : (j : Item) (caps' : List ℕ) (d' : ℤ) → GoodCells (item_cells news j caps' d') → FitCells (item_cells news j caps' d') (fallback j d')
+  fallback_fits : (j : Item) (caps' : List ℕ) (d' : ℤ) → GoodCells (item_cells (news sides) j caps' d')
+      → FitCells (item_cells (news sides) j caps' d') (fallback j d')
   fallback_fits (Num l) caps' d' good = (good.0, tt)
   fallback_fits (Struct j) caps' d' good = fit_defaults _ good
   fallback_fits _ caps' d' good = tt
 
   fit_item : (i j : Item) (caps caps' : List ℕ) (d d' : ℤ) (p : ℕ) → ItemBelow below i → ItemBelow below' j
-      → pair_structs ks a b v w part part' o n i j ≡ None → GoodCells (item_cells news j caps' d')
-      → FitsAt (item_cells olds i caps d) numbers p → Follows i j caps caps'
-      → FitCells (item_cells news j caps' d') (carry_item cs olds news numbers i j (fallback j d') p)
+      → pair_structs ks a b v w part part' o n i j ≡ None → GoodCells (item_cells (news sides) j caps' d')
+      → FitsAt (item_cells (olds sides) i caps d) numbers p → Follows i j caps caps'
+      → FitCells (item_cells (news sides) j caps' d') (carry_item cs (olds sides) (news sides) numbers i j (fallback j d') p)
   fit_item (Num k) (Num l) caps caps' d d' p below_a below_b none good fits follow =
       let z : p + 0 ≡ p = omega arith in
       let f : FitsCell (record { kind = k; capacities = caps; default = d }) (get_or numbers p (pos 0)) = rw (z) at (fits.each 0 (omega arith)) in
@@ -78,9 +69,9 @@ module _ (sides : Sides) where
 
   fit_items : (i j : Item) (caps caps' : List ℕ) (d d' : ℤ) (m most most' q st q' st' p : ℕ) → m ≤ most → ItemBelow below i → ItemBelow below' j
       → pair_structs ks a b v w part part' o n i j ≡ None
-      → GoodCells (item_cells news j caps' d') → FitsAt (times most (λ _. item_cells olds i caps d) q st) numbers p → Follows i j caps caps'
-      → FitCells (times most' (λ _. item_cells news j caps' d') q' st')
-      (carry_items cs olds news numbers i j (fallback j d') (length (item_cells olds i [] (pos 0))) m most' p)
+      → GoodCells (item_cells (news sides) j caps' d') → FitsAt (times most (λ _. item_cells (olds sides) i caps d) q st) numbers p → Follows i j caps caps'
+      → FitCells (times most' (λ _. item_cells (news sides) j caps' d') q' st')
+      (carry_items cs (olds sides) (news sides) numbers i j (fallback j d') (length (item_cells (olds sides) i [] (pos 0))) m most' p)
   fit_items i j caps caps' d d' m most zero q st q' st' p le below_a below_b none good fits follow = tt
   fit_items i j caps caps' d d' zero most (suc most') q st q' st' p le below_a below_b none good fits follow =
       fit_append _ _ _ _ (fallback_fits j caps' d' good)
@@ -89,18 +80,19 @@ module _ (sides : Sides) where
   fit_items i j caps caps' d d' (suc m) (suc most) (suc most') q st q' st' p le below_a below_b none good fits follow =
       fit_append _ _ _ _ (fit_item i j caps caps' d d' p below_a below_b none good (fits_left _ fits) follow)
       (fit_items i j caps caps' d d' m most most' (q + st) st (q' + st') st' _ (omega arith) below_a below_b none good
-      (fits_at (omega (arith, size_same olds i caps d)) (fits_right (item_cells olds i caps d) fits)) follow)
+      (fits_at (omega (arith, size_same (olds sides) i caps d)) (fits_right (item_cells (olds sides) i caps d) fits)) follow)
 
   -- what is known of two paired fields
   pub record FitPair (e f : Entry) : Type 0 where
     pub structs : pair_structs ks a b v w part part' o n e.field.item f.field.item ≡ None
     pub low : ItemBelow below e.field.item
-    pub fits : FitsAt (field_cells olds a.fields e.index e.field) numbers (at + e.place)
+    pub fits : FitsAt (field_cells (olds sides) a.fields e.index e.field) numbers (at + e.place)
     pub follow : Follows e.field.item f.field.item (counted e.index a.fields) (counted f.index b.fields)
 
   -- each pair's numbers follow
-  module _ (old : OldFields below own_number a.fields) (new : NewFields below' (is_steady_in b) b.fields) (fits : FitsAt (desc_cells olds a) numbers at)
-      (all : List Entry) (met : AllZip (Met sides) all (present news b w)) where
+  module _ (old : OldFields below (older sides) a.fields) (new : NewFields below' (is_steady_in b) b.fields)
+      (fits : FitsAt (desc_cells (olds sides) a) numbers at)
+      (all : List Entry) (met : AllZip (Met sides) all (present (news sides) b w)) where
     fit_pair : (e f : Entry) → Met sides e f × IsIndexed o n e f → FitPair e f
     fit_pair e f h = record {
       structs = h.0.good.structs;
@@ -114,53 +106,47 @@ module _ (sides : Sides) where
           caps_follow sides k all e f z is h.1 m high caps met new;
     }
 
-    pub fields_fit : DefaultsGood b.fields 0 b.fields → AllZip (λ e f. Met sides e f × IsIndexed o n e f) all (present news b w)
-        → FitCells (desc_cells news b) (carry_from cs olds news numbers own_number v w at b.fields 0 b.fields all)
-    fields_fit good h = by_fields sides _ (λ i p gs es fs zs. DefaultsGood b.fields i gs → FitCells (cells_from news b.fields i gs) zs) (λ i p good. tt)
+    pub fields_fit : DefaultsGood b.fields 0 b.fields → AllZip (λ e f. Met sides e f × IsIndexed o n e f) all (present (news sides) b w)
+        → FitCells (desc_cells (news sides) b) (carry_from cs (olds sides) (news sides) numbers (older sides) v w at b.fields 0 b.fields all)
+    fields_fit good h = by_fields sides _ (λ i p gs es fs zs. DefaultsGood b.fields i gs → FitCells (cells_from (news sides) b.fields i gs) zs) (λ i p good. tt)
         (λ i p g gs es fs zs lt more good.
-        let here = good_item news below' g.item _ _ (λ j l. (table.rows j l).good) lt good.0 in
+        let here = good_item (news sides) below' g.item _ _ (λ j l. (table.rows j l).good) lt good.0 in
         fit_append _ _ _ _ (fit_defaults _ (good_times _ _ 0 0 here)) (more good.1))
         (λ i p g gs rest e es fs zs lt h more good.
         let q = fit_pair e _ h in
-        fit_append _ _ _ _ (fit_items _ g.item _ _ e.field.default g.default _ _ _ 0 0 0 0 _ (if_least _ _ _ (elements_fit e.field.count own_number))
-        q.low lt q.structs (good_item news below' g.item _ _ (λ j l. (table.rows j l).good) lt good.0) q.fits q.follow) (more good.1))
+        fit_append _ _ _ _ (fit_items _ g.item _ _ e.field.default g.default _ _ _ 0 0 0 0 _ (if_least _ _ _ (elements_fit e.field.count (older sides)))
+        q.low lt q.structs (good_item (news sides) below' g.item _ _ (λ j l. (table.rows j l).good) lt good.0) q.fits q.follow) (more good.1))
         0 0 _ all (fields_below _ _ (λ j f e. (new j f e).item)) h good
 
 -- ---- validations
 
 module _ (sides : Sides) (ok : ℕ → Bool) where
-  open sides use {two, ms, ns, numbers, numbers', at, at'}
+  open sides use {two, numbers, numbers'}
   open two use {ks, a, b, v, w, part, part', o, n}
 
-  abbrev old_number : ℕ → ℕ
-  old_number k = numbers_of (cells_in ms) a numbers at k
-
-  abbrev new_number : ℕ → ℕ
-  new_number k = numbers_of (cells_in ns) b numbers' at' k
-
-  some_same : (r : Reduced) (ss : List Formula) → Named ok r → Agree o n ok old_number new_number → all_hold ss v old_number ≡ true
-      → list_any (λ s. same_reduced o n (reduced v s) r) ss ≡ true → truth_of r w new_number no_parent ≡ true
+  some_same : (r : Reduced) (ss : List Formula) → Named ok r → Agree o n ok (older sides) (newer sides) → all_hold ss v (older sides) ≡ true
+      → list_any (λ s. same_reduced o n (reduced v s) r) ss ≡ true → truth_of r w (newer sides) no_parent ≡ true
   some_same r [] named agree holds h = absurd (cc)
   some_same r (s ∷ ss) named agree holds h =
-      let p = and_parts (truth s v _ no_parent) (all_hold ss v old_number) holds in
+      let p = and_parts (truth s v _ no_parent) (all_hold ss v (older sides)) holds in
       either_of (same_reduced o n (reduced v s) r) (list_any (λ s. same_reduced o n (reduced v s) r) ss) h
-      (λ is. rw (← (same_reduced_truth o n ok old_number new_number no_parent no_parent v w agree (reduced v s) r named is), reduced_holds) p.0)
+      (λ is. rw (← (same_reduced_truth o n ok (older sides) (newer sides) no_parent no_parent v w agree (reduced v s) r named is), reduced_holds) p.0)
       (λ k. some_same r ss named agree p.1 k)
 
-  kept_holds : (r : Reduced) → Named ok r → Agree o n ok old_number new_number → all_hold a.validate v old_number ≡ true
-      → is_kept ks a b v w part part' o n r ≡ true → truth_of r w new_number no_parent ≡ true
+  kept_holds : (r : Reduced) → Named ok r → Agree o n ok (older sides) (newer sides) → all_hold a.validate v (older sides) ≡ true
+      → is_kept ks a b v w part part' o n r ≡ true → truth_of r w (newer sides) no_parent ≡ true
   kept_holds (Known true) named agree holds h = refl
   kept_holds _ named agree holds h = some_same _ a.validate named agree holds h
 
-  rules_hold : (ts : List Formula) → RulesNamed ok ts → Agree o n ok old_number new_number → all_hold a.validate v old_number ≡ true
-      → list_all (λ t. is_kept ks a b v w part part' o n (reduced w t)) ts ≡ true → all_hold ts w new_number ≡ true
+  rules_hold : (ts : List Formula) → RulesNamed ok ts → Agree o n ok (older sides) (newer sides) → all_hold a.validate v (older sides) ≡ true
+      → list_all (λ t. is_kept ks a b v w part part' o n (reduced w t)) ts ≡ true → all_hold ts w (newer sides) ≡ true
   rules_hold [] named agree holds h = refl
   rules_hold (t ∷ ts) named agree holds h =
       let p = and_parts (is_kept ks a b v w part part' o n (reduced w t)) (list_all (λ t. is_kept ks a b v w part part' o n (reduced w t)) ts) h in
       and_from _ _ (sym (reduced_holds t w _ _) ∙ (kept_holds _ (named_left ok w t named.0) agree holds p.0)) (rules_hold ts named.1 agree holds p.1)
 
-  pub rule_carries : compare_validations ks a b v w part part' o n ≡ None → RulesNamed ok b.validate → Agree o n ok old_number new_number
-      → Carries numbers (Rule (all_hold a.validate v old_number) ∷ []) numbers' (Rule (all_hold b.validate w new_number) ∷ [])
+  pub rule_carries : compare_validations ks a b v w part part' o n ≡ None → RulesNamed ok b.validate → Agree o n ok (older sides) (newer sides)
+      → Carries numbers (Rule (all_hold a.validate v (older sides)) ∷ []) numbers' (Rule (all_hold b.validate w (newer sides)) ∷ [])
   rule_carries h named agree =
       let every_is = (passes 15 (list_all (λ t. is_kept ks a b v w part part' o n (reduced w t)) b.validate) [] (here part) (here part') h).0 in
       record { spells = refl; rules = λ h. (rules_hold _ named agree h.0 every_is, tt) }
@@ -190,10 +176,7 @@ module _ {ks : List Comparer} {cs : List Carrier} {ms ns : List Meaning} {number
       record { two = two; cs = cs; ms = ms; ns = ns; numbers = numbers; numbers' = numbers'; at = at; at' = at'; below = below; below' = below'; table = table }
 
   abbrev own : ℕ → ℕ
-  own k = numbers_of (cells_in ms) a numbers at k
-
-  abbrev own' : ℕ → ℕ → ℕ
-  own' at' k = numbers_of (cells_in ns) b numbers' at' k
+  own = older (sides at)
 
   known : AreKnown ms a.fields v numbers at es
   known = all_known ms a.fields v numbers at
@@ -202,8 +185,8 @@ module _ {ks : List Comparer} {cs : List Carrier} {ms ns : List Meaning} {number
   old_same : slots_from ms a.fields v own numbers 0 at a.fields ≡ entries_slots ms a.fields v own numbers at es
   old_same = let z : at + 0 ≡ at = omega arith in rw z at (slots_entries ms a.fields v own numbers at 0 0 a.fields)
 
-  new_same : (at' : ℕ) → slots_from ns b.fields w (own' at') numbers' 0 at' b.fields ≡ entries_slots ns b.fields w (own' at') numbers' at' fs
-  new_same at' = let z : at' + 0 ≡ at' = omega arith in rw z at (slots_entries ns b.fields w (own' at') numbers' at' 0 0 b.fields)
+  new_same : (at' : ℕ) → slots_from ns b.fields w (newer (sides at')) numbers' 0 at' b.fields ≡ entries_slots ns b.fields w (newer (sides at')) numbers' at' fs
+  new_same at' = let z : at' + 0 ≡ at' = omega arith in rw z at (slots_entries ns b.fields w (newer (sides at')) numbers' at' 0 0 b.fields)
 
   pub first_state : (at' : ℕ) → State (sides at') 0 0 es fs
   first_state at' = record {
@@ -232,7 +215,7 @@ module _ {ks : List Comparer} {cs : List Carrier} {ms ns : List Meaning} {number
           let ok = is_steady_in b in
           let below = fields_below _ _ (λ j f e. (good.new j f e).item) in
           let link = linked s 0 0 _ es below (met at') (holds_at (omega arith) held) in
-          let agree : Agree o n ok own (own' at') = λ i j named h. agree_from s i j 0 es fs link named h in
+          let agree : Agree o n ok own (newer (sides at')) = λ i j named h. agree_from s i j 0 es fs link named h in
           let z : at' + 0 ≡ at' = omega arith in
           record {
             carries = carries_append (rw (old_same, new_same at') (fields_carry s ok old good.new fits agree es fs link))
@@ -253,6 +236,7 @@ module _ {ks : List Comparer} {cs : List Carrier} {ms ns : List Meaning} {number
     pub desc_clashes : (at' : ℕ) → Clashes two es fs → (body r r' : List ℕ) → Spells numbers' (desc_slots ns b w numbers' at') body
         → body ++ r' ≡ zeroed numbers (desc_slots ms a v numbers at) ++ r → ⊥
     desc_clashes at' clashes body r r' s h =
-        let t = spells_split _ (slots_from ns b.fields w (own' at') numbers' 0 at' b.fields) (Rule (all_hold b.validate w (own' at')) ∷ []) body s in
+        let t = spells_split _ (slots_from ns b.fields w (newer (sides at')) numbers' 0 at' b.fields)
+        (Rule (all_hold b.validate w (newer (sides at'))) ∷ []) body s in
         let split = behind_first numbers (slots_from ms a.fields v own numbers 0 at a.fields) (Rule _ ∷ []) t.0 t.1 r r' (rw t.2 at h) in
         entries_clash (sides at') good.earlier old fits es fs 0 0 clashes (first_state at') t.0 _ _ (rw (← (new_same at')) t.3) (rw old_same at split)

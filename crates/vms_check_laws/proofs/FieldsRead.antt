@@ -2,65 +2,53 @@
 -- bytes is at its default.
 use Rattle.vms_check_laws.proofs.{Presence.covers_unused, Presence.filler_length, PairLists.when_there, Positioned.at_or_later}
 use Rattle.vms_check_laws.proofs.Facade.{◌≡◌, inl, inr, ℕ, zero, suc, ◌+◌, ◌*◌, ◌≤◌, Bool, true, false, List, ◌∷◌, length, get_or, Option, None, refl, sym}
-use Rattle.vms_check_laws.proofs.Facade.{eq-eqb, ◌∙◌, arith, ℤ, pos, if◌then◌else◌, ◌++◌, Some, eqb-true, leb-true, slice_get, ap, [], length-append, cells_in}
+use Rattle.vms_check_laws.proofs.Facade.{eq-eqb, ◌∙◌, arith, ℤ, pos, if◌then◌else◌, ◌++◌, Some, eqb-true, leb-true, slice_get, ap, [], length-append}
 use Rattle.vms_check_laws.proofs.Facade.{Kind, Item, Num, Equal, Unused, Struct, width, Count, One, Fixed, Counted, Formula, Field, is_there, Slot, Number}
-use Rattle.vms_check_laws.proofs.Facade.{no_parent, times, counted, capacity_of, item_cells, field_cells, elements_of, item_slots, numbers_of, Entry}
+use Rattle.vms_check_laws.proofs.Facade.{no_parent, times, counted, capacity_of, item_cells, field_cells, elements_of, item_slots, Entry}
 use Rattle.vms_check_laws.proofs.Facade.{same_rest, same_count, same_kind, same_constant, holds_as_much, entry_of, present_from, defaults, carry_item}
 use Rattle.vms_check_laws.proofs.Facade.{carry_items, carry_field, Holds, FitsAt, Carries, size_same, elements_fit, ItemBelow, same_number_is, here, presence}
 use Rattle.vms_check_laws.proofs.Facade.{Cell, cells_from, slots_from, kind_of, is_steady_in, is_num, is_one, same_item, position_from, same_place, carry_next}
 use Rattle.vms_check_laws.proofs.Facade.{carry_from, entries_left, field_size, FieldsBelow, residue, desc_cells, AllZip}
 use Rattle.vms_check_laws.proofs.PairLists.{defaults_size, Settled, settled_defaults, settled_empty, settled_append, same_defaults, if_least, one_cell}
-use Rattle.vms_check_laws.proofs.Premises.{kinds_same, slots_at, entries_slots, known_there, Pairs, decoded, CoveredBy, Matched, Sides, CountFits, CountNamed}
+use Rattle.vms_check_laws.proofs.Premises.{olds, news, older, newer, kinds_same, slots_at, entries_slots, known_there, Pairs, decoded, CoveredBy, Matched, Sides, CountFits, CountNamed}
 use Rattle.vms_check_laws.proofs.Premises.{OldGood, NewGood, OldFields, NewFields, Reads, covered_slots, Met}
 use Rattle.vms_check_laws.proofs.Presence.{Agree, same_there, presence_named, there_here, not_covered, steady, steady_rest, rest_none, one_number, Steady}
 use Rattle.vms_check_laws.proofs.Segments.{holds_left, holds_right, holds_at, fits_left, fits_right, fits_at, carries_nil, carries_append, carries_filler}
 
 module _ (sides : Sides) where
   open sides use {two, cs, ms, ns, numbers, numbers', at, at', below, below', table}
-  open two use {ks, a, b, v, w, part, part', o, n}
-
-  abbrev olds : List (List Cell)
-  olds = cells_in ms
-
-  abbrev news : List (List Cell)
-  news = cells_in ns
-
-  abbrev own : ℕ → ℕ
-  own k = numbers_of olds a numbers at k
-
-  abbrev own' : ℕ → ℕ
-  own' k = numbers_of news b numbers' at' k
+  open two use {a, b, v, w, o, n}
 
   abbrev old_size : Item → ℕ
-  old_size i = length (item_cells olds i [] (pos 0))
+  old_size i = length (item_cells (olds sides) i [] (pos 0))
 
   abbrev new_size : Item → ℕ
-  new_size j = length (item_cells news j [] (pos 0))
+  new_size j = length (item_cells (news sides) j [] (pos 0))
 
   abbrev fallback : Item → ℤ → List ℤ
-  fallback j d = defaults (item_cells news j [] d)
+  fallback j d = defaults (item_cells (news sides) j [] d)
 
   -- what is carried of an item, of several, of a field, and of all from one on
   abbrev one_item : Item → Item → ℤ → ℕ → List ℤ
-  one_item i j d x = carry_item cs olds news numbers i j (fallback j d) x
+  one_item i j d x = carry_item cs (olds sides) (news sides) numbers i j (fallback j d) x
 
   abbrev some_items : Item → Item → ℤ → ℕ → ℕ → ℕ → List ℤ
-  some_items i j d m most x = carry_items cs olds news numbers i j (fallback j d) (old_size i) m most x
+  some_items i j d m most x = carry_items cs (olds sides) (news sides) numbers i j (fallback j d) (old_size i) m most x
 
   abbrev one_field : Entry → Field → List ℤ
-  one_field e g = carry_field cs olds news numbers own v at e g
+  one_field e g = carry_field cs (olds sides) (news sides) numbers (older sides) v at e g
 
   abbrev next_field : ℕ → Field → Option (Option Formula) → List Entry → List ℤ
-  next_field i g pr es = carry_next cs olds news numbers own v at b.fields i g pr es
+  next_field i g pr es = carry_next cs (olds sides) (news sides) numbers (older sides) v at b.fields i g pr es
 
   abbrev all_fields : ℕ → List Field → List Entry → List ℤ
-  all_fields i gs es = carry_from cs olds news numbers own v w at b.fields i gs es
+  all_fields i gs es = carry_from cs (olds sides) (news sides) numbers (older sides) v w at b.fields i gs es
 
   abbrev left_of_old : Option (Option Formula) → List Entry → List Entry
-  left_of_old pr es = entries_left cs olds news numbers pr es
+  left_of_old pr es = entries_left cs (olds sides) (news sides) numbers pr es
 
   abbrev cells_at : ℕ → Field → List Cell
-  cells_at i g = field_cells news b.fields i g
+  cells_at i g = field_cells (news sides) b.fields i g
 
   -- ---- how long it is
 
@@ -76,14 +64,15 @@ module _ (sides : Sides) where
   items_sized i j d (suc m) (suc most) k lt = grind (arith, length-append, item_sized, items_sized i j d m most (k + old_size i) lt)
 
   field_sized : (e : Entry) (i : ℕ) (f : Field) → ItemBelow below' f.item → length (one_field e f) ≡ length (cells_at i f)
-  field_sized e i f lt = cc (items_sized e.field.item f.item f.default _ _ _ lt, field_size news b.fields i f)
+  field_sized e i f lt = cc (items_sized e.field.item f.item f.default _ _ _ lt, field_size (news sides) b.fields i f)
 
   next_sized : (i : ℕ) (g : Field) (pr : Option (Option Formula)) (es : List Entry) → ItemBelow below' g.item
       → length (next_field i g pr es) ≡ length (cells_at i g)
   next_sized i g (Some rest) (e ∷ es) lt = field_sized e i g lt
   next_sized i g _ _ lt = defaults_size _
 
-  pub fields_sized : (i : ℕ) (gs : List Field) (es : List Entry) → FieldsBelow below' gs → length (all_fields i gs es) ≡ length (cells_from news b.fields i gs)
+  pub fields_sized : (i : ℕ) (gs : List Field) (es : List Entry) → FieldsBelow below' gs
+      → length (all_fields i gs es) ≡ length (cells_from (news sides) b.fields i gs)
   fields_sized i [] es lt = refl
   fields_sized i (g ∷ gs) es lt =
       let pr = presence w g.test g.since in
@@ -98,8 +87,8 @@ module _ (sides : Sides) where
       → ((i p : ℕ) (g : Field) (gs : List Field) (rest : Option Formula) (e : Entry) (es fs : List Entry) (zs : List ℤ) → ItemBelow below' g.item
       → R e (record { index = i; place = p; field = g; rest = rest }) → P (suc i) (p + length (cells_at i g)) gs es fs zs
       → P i p (g ∷ gs) (e ∷ es) (record { index = i; place = p; field = g; rest = rest } ∷ fs) (one_field e g ++ zs))
-      → (i p : ℕ) (gs : List Field) (es : List Entry) → FieldsBelow below' gs → AllZip R es (present_from news b.fields w i p gs)
-      → P i p gs es (present_from news b.fields w i p gs) (all_fields i gs es)
+      → (i p : ℕ) (gs : List Field) (es : List Entry) → FieldsBelow below' gs → AllZip R es (present_from (news sides) b.fields w i p gs)
+      → P i p gs es (present_from (news sides) b.fields w i p gs) (all_fields i gs es)
   by_fields R P none alone paired i p [] [] lt all = none i p
   by_fields R P none alone paired i p [] (e ∷ es) lt all = absurd all
   by_fields R P none alone paired i p (g ∷ gs) es lt all =
@@ -116,8 +105,8 @@ module _ (sides : Sides) where
   Linked es fs = AllZip (λ e f. Met sides e f × Holds numbers' (at' + f.place) (one_field e f.field)) es fs
 
   -- the carried numbers are at each pair
-  pub linked : (i p : ℕ) (gs : List Field) (es : List Entry) → FieldsBelow below' gs → AllZip (Met sides) es (present_from news b.fields w i p gs)
-      → Holds numbers' (at' + p) (all_fields i gs es) → Linked es (present_from news b.fields w i p gs)
+  pub linked : (i p : ℕ) (gs : List Field) (es : List Entry) → FieldsBelow below' gs → AllZip (Met sides) es (present_from (news sides) b.fields w i p gs)
+      → Holds numbers' (at' + p) (all_fields i gs es) → Linked es (present_from (news sides) b.fields w i p gs)
   linked = by_fields _ (λ i p gs es fs zs. Holds numbers' (at' + p) zs → Linked es fs) (λ i p held. tt)
       (λ i p g gs es fs zs lt more held. more (holds_at (omega (arith, defaults_size (cells_at i g))) (holds_right (defaults (cells_at i g)) held)))
       (λ i p g gs rest e es fs zs lt met more held. (
@@ -131,7 +120,7 @@ module _ (sides : Sides) where
   pub record NamedPair (e f : Entry) : Type 0 where
     pub plain : Steady f.field
     pub matched : Matched two e f
-    pub there_is : is_there e.field.test e.field.since v own no_parent ≡ true
+    pub there_is : is_there e.field.test e.field.since v (older sides) no_parent ≡ true
     pub rest : f.rest ≡ None
 
   pub named_pair : (e f : Entry) → Met sides e f → is_steady_in b f.index ≡ true → NamedPair e f
@@ -145,26 +134,26 @@ module _ (sides : Sides) where
       record {
         plain = s;
         matched = m;
-        there_is = known_there ms a.fields v numbers at e met.known (rest_none o n e.rest f.rest rest m.rest) own _;
+        there_is = known_there ms a.fields v numbers at e met.known (rest_none o n e.rest f.rest rest m.rest) (older sides) _;
         rest = rest;
       }
 
   number_pair : (j i : Item) (d c : Count) (z : ℤ) (t : Bool) (x y : ℕ) → is_num j ≡ true → is_one d ≡ true → same_item i j ≡ true → same_count o n c d ≡ true
-      → t ≡ true → Holds numbers' y (some_items i j z (if t then elements_of c own else 0) (capacity_of d) x)
+      → t ≡ true → Holds numbers' y (some_items i j z (if t then elements_of c (older sides) else 0) (capacity_of d) x)
       → residue (width (kind_of i)) (get_or numbers x (pos 0)) ≡ residue (width (kind_of j)) (get_or numbers' y (pos 0))
   number_pair (Num l) (Num k) One One z true x y num one same counts there_is held = grind (arith, kinds_same, one_number)
   number_pair _ _ _ _ z _ x y num one same counts there_is held = absurd (cc)
 
   pair_agrees : (e f : Entry) → Met sides e f → Holds numbers' (at' + f.place) (one_field e f.field) → is_steady_in b f.index ≡ true
-      → own e.index ≡ own' f.index
+      → older sides e.index ≡ newer sides f.index
   pair_agrees e f met held is = grind (arith, named_pair, number_pair)
 
   pub agree_from : (i j p : ℕ) (es fs : List Entry) → Linked es fs → is_steady_in b j ≡ true
-      → same_place (position_from p es i) (position_from p fs j) ≡ true → own i ≡ own' j
+      → same_place (position_from p es i) (position_from p fs j) ≡ true → older sides i ≡ newer sides j
   agree_from i j p [] fs linked named h = absurd (cc)
   agree_from i j p (e ∷ es) [] linked named h = absurd linked
   agree_from i j p (e ∷ es) (f ∷ fs) linked named h = elim (at_or_later i j p e f es fs h) [
-    | inl here ↦ ap own (sym here.0) ∙ pair_agrees e f linked.0.0 linked.0.1 (ap (is_steady_in b) here.1 ∙ named) ∙ ap own' here.1
+    | inl here ↦ ap (older sides) (sym here.0) ∙ pair_agrees e f linked.0.0 linked.0.1 (ap (is_steady_in b) here.1 ∙ named) ∙ ap (newer sides) here.1
     | inr later ↦ agree_from i j (suc p) es fs linked.1 named later.1
   ]
 
@@ -183,8 +172,8 @@ module _ (sides : Sides) where
   number_reads false k l caps caps' d x y same is held = absurd (cc)
 
   item_reads : (i j : Item) (caps caps' : List ℕ) (d d' : ℤ) (x y : ℕ) → Pairs two below below' i j → same_constant i j ≡ true
-      → FitsAt (item_cells olds i caps d) numbers x → Holds numbers' y (one_item i j d' x)
-      → Reads numbers numbers' (item_slots ms i caps numbers x) (item_slots ns j caps' numbers' y) y (item_cells news j caps' d') (one_item i j d' x)
+      → FitsAt (item_cells (olds sides) i caps d) numbers x → Holds numbers' y (one_item i j d' x)
+      → Reads numbers numbers' (item_slots ms i caps numbers x) (item_slots ns j caps' numbers' y) y (item_cells (news sides) j caps' d') (one_item i j d' x)
   item_reads (Num k) (Num l) caps caps' d d' x y pair constant fits held = number_reads _ k l caps caps' d' x y pair.same pair.same held
   item_reads (Equal k z) (Equal l u) caps caps' d d' x y pair constant fits held = record {
     carries = record { spells = ([], rw (same_number_is z u constant, kinds_same k l pair.same), refl); rules = λ h. h };
@@ -198,27 +187,27 @@ module _ (sides : Sides) where
   item_reads _ _ caps caps' d d' x y pair constant fits held = absurd (cc)
 
   items_read : (i j : Item) (caps caps' : List ℕ) (d d' : ℤ) (m most most' p p' step step' x y : ℕ) → Pairs two below below' i j → same_constant i j ≡ true
-      → m ≤ most → m ≤ most' → FitsAt (times most (λ _. item_cells olds i caps d) p step) numbers x → Holds numbers' y (some_items i j d' m most' x)
+      → m ≤ most → m ≤ most' → FitsAt (times most (λ _. item_cells (olds sides) i caps d) p step) numbers x → Holds numbers' y (some_items i j d' m most' x)
       → Reads numbers numbers' (times m (item_slots ms i caps numbers) x (old_size i)) (times m (item_slots ns j caps' numbers') y (new_size j)) y
-      (times most' (λ _. item_cells news j caps' d') p' step') (some_items i j d' m most' x)
+      (times most' (λ _. item_cells (news sides) j caps' d') p' step') (some_items i j d' m most' x)
   items_read i j caps caps' d d' zero most zero p p' step step' x y pair constant le le' fits held =
       record { carries = carries_nil; settled = settled_empty [] y [] [] refl }
   items_read i j caps caps' d d' (suc m) most zero p p' step step' x y pair constant le le' fits held = absurd (omega arith)
   items_read i j caps caps' d d' (suc m) zero (suc most') p p' step step' x y pair constant le le' fits held = absurd (omega arith)
   items_read i j caps caps' d d' zero most (suc most') p p' step step' x y pair constant le le' fits held =
-      let first : Settled [] y (item_cells news j caps' d') (fallback j d') = rw (same_defaults news j [] caps' d') (settled_defaults [] y _) in
+      let first : Settled [] y (item_cells (news sides) j caps' d') (fallback j d') = rw (same_defaults (news sides) j [] caps' d') (settled_defaults [] y _) in
       let more =
       items_read i j caps caps' d d' zero most most' p (p' + step') step step' x _ pair constant (omega arith) (omega arith) fits (holds_right _ held) in
-      let size = defaults_size (item_cells news j [] d') ∙ size_same news j [] d' ∙ sym (size_same news j caps' d') in
+      let size = defaults_size (item_cells (news sides) j [] d') ∙ size_same (news sides) j [] d' ∙ sym (size_same (news sides) j caps' d') in
       record { carries = carries_nil; settled = settled_append size first refl more.settled }
   items_read i j caps caps' d d' (suc m) (suc most) (suc most') p p' step step' x y pair constant le le' fits held =
       let sized = item_sized i j d' x pair.low' in
       let first = item_reads i j caps caps' d d' x y pair constant (fits_left _ fits) (holds_left _ held) in
       let more =
       items_read i j caps caps' d d' m most most' (p + step) (p' + step') step step' (x + old_size i) (y + new_size j) pair constant (omega arith) (omega arith)
-      (fits_at (omega (arith, size_same olds i caps d)) (fits_right (item_cells olds i caps d) fits))
+      (fits_at (omega (arith, size_same (olds sides) i caps d)) (fits_right (item_cells (olds sides) i caps d) fits))
       (holds_at (omega arith) (holds_right (one_item i j d' x) held)) in
-      let settled = settled_append (sized ∙ sym (size_same news j caps' d')) first.settled (omega arith) more.settled in
+      let settled = settled_append (sized ∙ sym (size_same (news sides) j caps' d')) first.settled (omega arith) more.settled in
       record { carries = carries_append first.carries more.carries; settled = settled }
 
   module _ (ok : ℕ → Bool) where
@@ -226,19 +215,20 @@ module _ (sides : Sides) where
     pub record Opposite (e f : Entry) : Type 0 where
       pub met : Met sides e f
       pub open met use *
-      pub old : OldGood below own e.field
+      pub old : OldGood below (older sides) e.field
       pub new : NewGood below' ok f.field
-      pub fits : FitsAt (field_cells olds a.fields e.index e.field) numbers (at + e.place)
-      pub agree : Agree o n ok own own'
+      pub fits : FitsAt (field_cells (olds sides) a.fields e.index e.field) numbers (at + e.place)
+      pub agree : Agree o n ok (older sides) (newer sides)
 
-    same_elements : (c d : Count) → Agree o n ok own own' → CountFits own c → CountNamed ok d → same_count o n c d ≡ true → holds_as_much c d ≡ true
-        → elements_of c own ≡ elements_of d own'
+    same_elements : (c d : Count) → Agree o n ok (older sides) (newer sides) → CountFits (older sides) c → CountNamed ok d → same_count o n c d ≡ true
+        → holds_as_much c d ≡ true
+        → elements_of c (older sides) ≡ elements_of d (newer sides)
     same_elements One One agree fits named same room = refl
     same_elements (Fixed p) (Fixed q) agree fits named same room = eqb-true p q same
     same_elements (Counted by most) (Counted by' most') agree fits named same room = omega (arith, agree by by' named same, leb-true most most' room)
     same_elements _ _ agree fits named same room = absurd (cc)
 
-    elements_room : (c d : Count) → same_count o n c d ≡ true → holds_as_much c d ≡ true → elements_of c own ≤ capacity_of d
+    elements_room : (c d : Count) → same_count o n c d ≡ true → holds_as_much c d ≡ true → elements_of c (older sides) ≤ capacity_of d
     elements_room One One same room = omega arith
     elements_room (Fixed p) (Fixed q) same room = omega (arith, eqb-true p q same)
     elements_room (Counted by most) (Counted by' most') same room = omega (arith, leb-true most most' room)
@@ -252,27 +242,29 @@ module _ (sides : Sides) where
 
     -- as many elements as an older field has, if it is there
     abbrev count_if : Bool → Entry → ℕ
-    count_if t e = if t then elements_of e.field.count own else 0
+    count_if t e = if t then elements_of e.field.count (older sides) else 0
 
     abbrev Both : (P : List Slot → List Slot → Type 0) → (e f : Entry) → ℕ → ℕ → Type 0
     Both P e f k l = P (old_slots k e) (new_slots l f)
 
     abbrev there : Entry → Bool
-    there e = is_there e.field.test e.field.since v own no_parent
+    there e = is_there e.field.test e.field.since v (older sides) no_parent
 
     -- a property of slots on both sides, at two fields where no rule fails: of none, of what is covered, and of as many elements
     module _ (P : List Slot → List Slot → Type 0) where
-      pub pair_by : (e f : Entry) → Opposite e f → (CoveredBy two e f → P [] [] × Both P e f (elements_of e.field.count own) (elements_of f.field.count own'))
+      pub pair_by : (e f : Entry) → Opposite e f
+          → (CoveredBy two e f → P [] [] × Both P e f (elements_of e.field.count (older sides)) (elements_of f.field.count (newer sides)))
           → (Matched two e f → (t : Bool) → there e ≡ t → Both P e f (count_if t e) (count_if t e))
-          → P (slots_at ms a.fields v own numbers at e.index e.place e.field) (slots_at ns b.fields w own' numbers' at' f.index f.place f.field)
+          → P (slots_at ms a.fields v (older sides) numbers at e.index e.place e.field) (slots_at ns b.fields w (newer sides) numbers' at' f.index f.place f.field)
       pair_by e f p covers items =
-          let there_f = is_there f.field.test f.field.since w own' no_parent in
+          let there_f = is_there f.field.test f.field.since w (newer sides) no_parent in
           let same : same_rest o n e.rest f.rest ≡ true → there e ≡ there_f = λ h.
-          there_here v e.field.test e.field.since e.rest own no_parent p.known.left ∙ same_there o n ok own own' no_parent no_parent v w p.agree e.rest f.rest
+          there_here v e.field.test e.field.since e.rest (older sides) no_parent p.known.left
+          ∙ same_there o n ok (older sides) (newer sides) no_parent no_parent v w p.agree e.rest f.rest
           (presence_named ok w f.field.test f.field.since f.rest p.new.test p.known'.left) h
-          ∙ sym (there_here w f.field.test f.field.since f.rest own' no_parent p.known'.left) in
-          let xs = old_slots (elements_of e.field.count own) e in
-          let ys = new_slots (elements_of f.field.count own') f in
+          ∙ sym (there_here w f.field.test f.field.since f.rest (newer sides) no_parent p.known'.left) in
+          let xs = old_slots (elements_of e.field.count (older sides)) e in
+          let ys = new_slots (elements_of f.field.count (newer sides)) f in
           elim (decoded two e f p.good) [
             | inl c ↦ when_there P _ _ xs ys (same c.rest) (λ is. (covers c).0) (λ is. (covers c).1)
             | inr m ↦ when_there P _ _ xs ys (same m.rest) (items m false)
@@ -283,12 +275,13 @@ module _ (sides : Sides) where
     ReadsHere e f xs ys = Reads numbers numbers' xs ys (at' + f.place) (cells_at f.index f.field) (one_field e f.field)
 
     covers : (e f : Entry) → Opposite e f → CoveredBy two e f
-        → ReadsHere e f [] [] × Both (ReadsHere e f) e f (elements_of e.field.count own) (elements_of f.field.count own')
+        → ReadsHere e f [] [] × Both (ReadsHere e f) e f (elements_of e.field.count (older sides)) (elements_of f.field.count (newer sides))
     covers e f p c =
         let empty : length (one_field e f.field) ≡ 0 =
-        field_sized e f.index f.field p.new.item ∙ rw (field_size news, (covers_unused e.field.item e.field.count f.field.item c.covers).1) (omega arith) in
+        field_sized e f.index f.field p.new.item
+        ∙ rw (field_size (news sides), (covers_unused e.field.item e.field.count f.field.item c.covers).1) (omega arith) in
         let s =
-        covered_slots ms ns numbers numbers' own own' e.field.item e.field.count f.field.item f.field.count (counted e.index a.fields)
+        covered_slots ms ns numbers numbers' (older sides) (newer sides) e.field.item e.field.count f.field.item f.field.count (counted e.index a.fields)
         (counted f.index b.fields) (at + e.place) (at' + f.place) (old_size e.field.item) (new_size f.field.item) c.covers p.old.single p.new.single in
         let settled : (xs : List Slot) → Settled xs (at' + f.place) (cells_at f.index f.field) (one_field e f.field) = λ xs. settled_empty xs _ _ _ empty in
         (record { carries = carries_nil; settled = settled [] }, record { carries = rw s.1 (carries_filler numbers numbers' _ s.0 s.2); settled = settled _ })
@@ -296,35 +289,36 @@ module _ (sides : Sides) where
     items : (e f : Entry) → Opposite e f → Holds numbers' (at' + f.place) (one_field e f.field) → Matched two e f → (t : Bool) → there e ≡ t
         → Both (ReadsHere e f) e f (count_if t e) (count_if t e)
     items e f p held m t is =
-        let le = if_least t _ _ (elements_fit e.field.count own) in
+        let le = if_least t _ _ (elements_fit e.field.count (older sides)) in
         let le' = if_least t _ _ (elements_room e.field.count f.field.count m.count m.room) in
         let pair : Pairs two below below' e.field.item f.field.item = record { same = m.item; structs = p.good.structs; low = p.old.item; low' = p.new.item } in
         rw is (items_read _ _ _ _ e.field.default f.field.default _ _ _ 0 0 0 0 _ _ pair m.constant le le' p.fits (rw is at held))
 
     pub pair_reads : (e f : Entry) → Opposite e f → Holds numbers' (at' + f.place) (one_field e f.field)
-        → ReadsHere e f (slots_at ms a.fields v own numbers at e.index e.place e.field) (slots_at ns b.fields w own' numbers' at' f.index f.place f.field)
+        → ReadsHere e f (slots_at ms a.fields v (older sides) numbers at e.index e.place e.field) (slots_at ns b.fields w (newer sides) numbers' at' f.index f.place f.field)
     pair_reads e f p held = pair_by (ReadsHere e f) e f p (covers e f p) (items e f p held)
 
     -- all pairs of two descriptions
-    module _ (old : OldFields below own a.fields) (new : NewFields below' ok b.fields) (fits : FitsAt (desc_cells olds a) numbers at)
-        (agree : Agree o n ok own own') where
+    module _ (old : OldFields below (older sides) a.fields) (new : NewFields below' ok b.fields) (fits : FitsAt (desc_cells (olds sides) a) numbers at)
+        (agree : Agree o n ok (older sides) (newer sides)) where
       met_reads : (e f : Entry) → Met sides e f × Holds numbers' (at' + f.place) (one_field e f.field)
-          → ReadsHere e f (slots_at ms a.fields v own numbers at e.index e.place e.field) (slots_at ns b.fields w own' numbers' at' f.index f.place f.field)
+          → ReadsHere e f (slots_at ms a.fields v (older sides) numbers at e.index e.place e.field) (slots_at ns b.fields w (newer sides) numbers' at' f.index f.place f.field)
       met_reads e f h =
           let m = h.0 in
           let old_e = old e.index e.field m.known.field in
           pair_reads e f (record { met = m; old = old_e; new = new f.index f.field m.known'.field; fits = m.known.fits fits; agree = agree }) h.1
 
       pub fields_carry : (es fs : List Entry) → Linked es fs
-          → Carries numbers (entries_slots ms a.fields v own numbers at es) numbers' (entries_slots ns b.fields w own' numbers' at' fs)
+          → Carries numbers (entries_slots ms a.fields v (older sides) numbers at es) numbers' (entries_slots ns b.fields w (newer sides) numbers' at' fs)
       fields_carry [] [] all = carries_nil
       fields_carry (e ∷ es) (f ∷ fs) all = carries_append (met_reads e f all.0).carries (fields_carry es fs all.1)
       fields_carry _ _ all = absurd all
 
-      pub fields_settle : (i p : ℕ) (gs : List Field) (es : List Entry) → FieldsBelow below' gs → Linked es (present_from news b.fields w i p gs)
-          → Settled (slots_from ns b.fields w own' numbers' i (at' + p) gs) (at' + p) (cells_from news b.fields i gs) (all_fields i gs es)
+      pub fields_settle : (i p : ℕ) (gs : List Field) (es : List Entry) → FieldsBelow below' gs → Linked es (present_from (news sides) b.fields w i p gs)
+          → Settled (slots_from ns b.fields w (newer sides) numbers' i (at' + p) gs) (at' + p) (cells_from (news sides) b.fields i gs) (all_fields i gs es)
       fields_settle =
-          by_fields _ (λ i p gs es fs zs. Settled (slots_from ns b.fields w own' numbers' i (at' + p) gs) (at' + p) (cells_from news b.fields i gs) zs)
+          by_fields _ (λ i p gs es fs zs.
+          Settled (slots_from ns b.fields w (newer sides) numbers' i (at' + p) gs) (at' + p) (cells_from (news sides) b.fields i gs) zs)
           (λ i p. settled_empty [] _ [] [] refl)
           (λ i p g gs es fs zs lt more.
           let e : at' + (p + length (cells_at i g)) ≡ (at' + p) + length (cells_at i g) = omega arith in

@@ -1,12 +1,12 @@
 -- What well-formedness gives to the laws on pairs of sets.
-use Rattle.vms_check_laws.proofs.{Facade.ItemBelow, Facade.defaults, Presence.NamedRest, Presence.steady}
 use Rattle.vms_check_laws.proofs.Counts.{IsCounting, Counter, CountKnown, DescGood, StructsGood}
-use Rattle.vms_check_laws.proofs.Facade.{◌≡◌, ℕ, suc, ◌+◌, Bool, true, List, ◌∷◌, length, Option, Some, None, refl, arith, ℤ, nat_lt, slice_get, and_parts}
-use Rattle.vms_check_laws.proofs.Facade.{and_from, slice_get-get_or, [], U8, U16, U32, Item, Num, Equal, Unused, Count, Counted, Own, Parent, Formula, Not, And}
-use Rattle.vms_check_laws.proofs.Facade.{Or, Field, Desc, Sub, Device, Set, counted, names_well, nobody, is_steady, is_steady_in, is_earlier_in, ◌&&◌}
-use Rattle.vms_check_laws.proofs.Facade.{test_names_well, count_names_well, is_counting, defaults_well, counts_well, has_good_count}
+use Rattle.vms_check_laws.proofs.Facade.{ItemBelow, defaults, ◌≡◌, ℕ, suc, ◌+◌, Bool, true, List, ◌∷◌, length, Option, Some, None, refl, arith, ℤ, nat_lt}
+use Rattle.vms_check_laws.proofs.Facade.{slice_get, and_parts, and_from, slice_get-get_or, [], U8, U16, U32, Item, Num, Equal, Unused, Count, Counted, Own}
+use Rattle.vms_check_laws.proofs.Facade.{Parent, Formula, Not, And, Or, Field, Desc, Sub, Device, Set, counted, names_well, nobody, is_steady, is_steady_in}
+use Rattle.vms_check_laws.proofs.Facade.{is_earlier_in, ◌&&◌, test_names_well, count_names_well, is_counting, defaults_well, counts_well, has_good_count}
 use Rattle.vms_check_laws.proofs.Facade.{validation_rules, WellFormed, AllTrue, item_below, Clean, ranges, within, struct_clean, device_parts, sub_clean}
 use Rattle.vms_check_laws.proofs.Premises.{IsSingle, CountNamed, RulesNamed, ItemDefault, DefaultsGood}
+use Rattle.vms_check_laws.proofs.Presence.{NamedRest, steady}
 use Rattle.vms_spec.specs.Sets.{Cell}
 
 both_true : (a b c d : Bool) → (a ≡ true → c ≡ true) → (b ≡ true → d ≡ true) → (a && b) ≡ true → (c && d) ≡ true

@@ -1,18 +1,19 @@
 -- What is known of fields and structures on both sides: present fields paired by position, numbers that fit cells, and premises.
-use Rattle.vms_check_laws.proofs.{Facade.AllZip-long, Positioned.if_is, PairLists.Settled}
-use Rattle.vms_check_laws.proofs.Facade.{◌≡◌, ◌⊎◌, inl, inr, ℕ, Bool, true, List, ◌∷◌, Option, None, and_parts, [], ◌&&◌, zero, suc, ◌+◌, ◌<◌, ◌++◌, length}
-use Rattle.vms_check_laws.proofs.Facade.{get_or, refl, arith, ℤ, pos, ◌≤◌, Some, slice_get, eqb-true, if◌then◌else◌, ◌∙◌, ◌==◌, get_or_from_slice_get}
-use Rattle.vms_check_laws.proofs.Facade.{Item, Desc, counted, in_field, Part, Entry, same_rest, same_count, same_item, same_constant, is_covered, holds_as_much}
+use Rattle.vms_check_laws.proofs.{Positioned.if_is, PairLists.Settled}
+use Rattle.vms_check_laws.proofs.Facade.{AllZip-long, ◌≡◌, ◌⊎◌, inl, inr, ℕ, Bool, true, List, ◌∷◌, Option, None, and_parts, [], ◌&&◌, zero, suc, ◌+◌, ◌<◌}
+use Rattle.vms_check_laws.proofs.Facade.{◌++◌, length, get_or, refl, arith, ℤ, pos, ◌≤◌, Some, slice_get, eqb-true, ◌∙◌, get_or_from_slice_get, Item, Desc}
+use Rattle.vms_check_laws.proofs.Facade.{counted, in_field, Part, Entry, same_rest, same_count, same_item, same_constant, is_covered, holds_as_much}
 use Rattle.vms_check_laws.proofs.Facade.{absent_hold, bound, Comparer, failing_pair, pair_rules, pair_structs, compare_fields, passes, ItemBelow, or_else_none}
 use Rattle.vms_check_laws.proofs.Facade.{names_match, Cell, no_cell, times, defaults, FitsCell, cells_in, Equal, Unused, Count, Counted, Formula, Field}
 use Rattle.vms_check_laws.proofs.Facade.{Meaning, no_meaning, names_well, nobody, is_one, no_comparer, Carrier, no_carrier, Holds, FitsAt, Carries, Aligns}
 use Rattle.vms_check_laws.proofs.Facade.{FieldsBelow, Slot, is_earlier_in, Num, Filler, Fixed, Kind, One, cells_from, elements_of, entry_of, field_cells, here}
-use Rattle.vms_check_laws.proofs.Facade.{is_there, item_slots, kind_of, presence, present_from, residue, same_kind, slots_from, width, zeroed, U8, U16, U32}
-use Rattle.vms_check_laws.proofs.Facade.{U64, I8, I16, I32, I64, Timer, no_field, field_slots, place_of, kind_number, AllByRecursion, AllZip, flat_map}
+use Rattle.vms_check_laws.proofs.Facade.{is_there, item_slots, kind_of, presence, present_from, residue, same_kind, slots_from, width, zeroed, no_field}
+use Rattle.vms_check_laws.proofs.Facade.{field_slots, place_of, AllByRecursion, AllZip, flat_map}
 use Rattle.vms_check_laws.proofs.Presence.{NamedRest, constant_length, numbers_length, presence_there}
 use Rattle.vms_check_laws.proofs.Segments.{fits_at, fits_left, fits_right, one_on, at_first, from_zero}
 use Rattle.vms_spec.specs.Images.{FitCells as AreFit}
-use Rattle.vms_kinds.specs.declared.Kind.TheVariants.{Bool as Truth}
+use Rattle.vms_kinds.specs.contracts.Kind.{the_type as kind_type}
+use denote.Enum.Bare.{same_true}
 
 -- two descriptions at their versions, by the rules of their structures: which parts they are, and where their numbers are among the fields
 pub record Two : Type 0 where
@@ -153,6 +154,22 @@ pub record Sides : Type 0 where
   pub below' : ℕ
   pub table : Table two.ks cs ms ns numbers numbers' below below'
 
+-- the cells of each side's structures, and the numbers of its fields
+module _ (sides : Sides) where
+  open sides use {two, ms, ns, numbers, numbers', at, at'}
+
+  abbrev pub olds : List (List Cell)
+  olds = cells_in ms
+
+  abbrev pub news : List (List Cell)
+  news = cells_in ns
+
+  abbrev pub older : ℕ → ℕ
+  older k = numbers_of olds two.a numbers at k
+
+  abbrev pub newer : ℕ → ℕ
+  newer k = numbers_of news two.b numbers' at' k
+
 -- constants and unused bytes are single
 abbrev pub IsSingle : Item → Count → Type 0
 IsSingle (Equal kind z) count = is_one count ≡ true
@@ -221,18 +238,8 @@ module _ (ms ns : List Meaning) (numbers numbers' : List ℤ) (own own' : ℕ �
 
 -- ---- the present fields of a description: their slots, and what is known of each
 
-unfoldable kind_at : ℕ → Kind
-kind_at k =
-    if k == 0 then U8 else if k == 1 then U16 else if k == 2 then U32 else if k == 3 then U64 else if k == 4 then I8 else if k == 5 then I16
-    else if k == 6 then I32 else if k == 7 then I64 else if k == 8 then Truth else Timer
-
-kind_back : (k : Kind) → kind_at (kind_number k) ≡ k
-unfolding kind_at
-kind_back U8 = refl
-kind_back _ = refl
-
 pub kinds_same : (k l : Kind) → same_kind k l ≡ true → k ≡ l
-kinds_same k l h = cc (kind_back k, eqb-true (kind_number k) (kind_number l) h, kind_back l)
+kinds_same = same_true kind_type tt
 
 -- ---- slots by entries
 

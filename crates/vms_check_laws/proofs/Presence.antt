@@ -1,12 +1,14 @@
 -- A field is there exactly where what its presence at a version leaves of the test holds. The same remaining tests have the same truth
 -- where the numbers that they name are the same. Small facts of two descriptions: what covers, and how long numbers are.
-use Rattle.vms_check_laws.proofs.Facade.{◌≡◌, ℕ, Bool, true, false, Option, Some, None, refl, nat_le, if◌then◌else◌, ◌&&◌, ◌==◌, and_parts, eqb-true}
+use Rattle.vms_check_laws.proofs.Facade.{◌≡◌, ℕ, Bool, true, false, Option, Some, None, refl, nat_le, if◌then◌else◌, ◌&&◌, and_parts, eqb-true}
 use Rattle.vms_check_laws.proofs.Facade.{and_from, zero, suc, ◌+◌, ◌*◌, List, ◌∷◌, ◌++◌, length, get_or, arith, ℤ, pos, length-append, length-replicate, []}
-use Rattle.vms_check_laws.proofs.Facade.{Formula, truth, is_there, Reduced, Known, Open, reduced, left_of, presence, truth_of, reduced_holds, Rel, Eq, Ne, Lt}
-use Rattle.vms_check_laws.proofs.Facade.{Ge, Own, Not, And, Or, names_well, nobody, same_place, same_test, same_rest, same_reduced, rel_number, IfOpen}
+use Rattle.vms_check_laws.proofs.Facade.{Formula, truth, is_there, Reduced, Known, Open, reduced, left_of, presence, truth_of, reduced_holds, Rel}
+use Rattle.vms_check_laws.proofs.Facade.{Own, Not, And, Or, names_well, nobody, same_place, same_test, same_rest, same_reduced, IfOpen}
 use Rattle.vms_check_laws.proofs.Facade.{open_reduced, Kind, Item, Num, Equal, Unused, width, Count, One, Fixed, Field, Number, Constant, times}
 use Rattle.vms_check_laws.proofs.Facade.{zeroed, is_steady, is_num, is_one, has_no_test, length-code, is_covered, Holds, Filler}
-use Rattle.vms_spec.specs.Sets.{Cell}
+use Rattle.vms_check.specs.Comparing.{same_rel}
+use Rattle.vms_spec.specs.{Sets.Cell, contracts.Rel.the_type as rel_type}
+use denote.Enum.Bare.{same_true}
 
 -- presence at a version, and then the remaining test, say whether a field is there
 abbrev pub there : Option (Option Formula) → ℕ → (ℕ → ℕ) → (ℕ → ℕ) → Bool
@@ -22,13 +24,8 @@ pub presence_there : (test : Option Formula) (since v : ℕ) (own parent : ℕ �
 presence_there None since v own parent = grind arith
 presence_there (Some t) since v own parent = grind (arith, left_there, reduced_holds)
 
--- a number's relation
-abbrev pub rel_of : ℕ → Rel
-rel_of k = if k == 0 then Eq else if k == 1 then Ne else if k == 2 then Lt else Ge
-
-rel_back : (r : Rel) → rel_of (rel_number r) ≡ r
-rel_back Eq = refl
-rel_back _ = refl
+rels_same : (r s : Rel) → same_rel r s ≡ true → r ≡ s
+rels_same = same_true rel_type tt
 
 -- numbers that may be named are the same where their positions are
 abbrev pub Agree : (o n : ℕ → Option ℕ) → (ok : ℕ → Bool) → (own own' : ℕ → ℕ) → Type 0
@@ -68,7 +65,7 @@ module _ (ok : ℕ → Bool) where
 
 module _ (o n : ℕ → Option ℕ) (ok : ℕ → Bool) (own own' parent parent' : ℕ → ℕ) (v w : ℕ) (agree : Agree o n ok own own') where
   pub same_truth : (s t : Formula) → names_well ok nobody t ≡ true → same_test o n s t ≡ true → truth s v own parent ≡ truth t w own' parent'
-  same_truth (Cell Own i mask rel value) (Cell Own j mask' rel' value') good h = grind (arith, rel_back, eqb-true)
+  same_truth (Cell Own i mask rel value) (Cell Own j mask' rel' value') good h = grind (arith, rels_same, eqb-true)
   same_truth (Not s) (Not t) good h = rw (same_truth s t good h)
   same_truth (And s s') (And t t') good h =
       let p = and_parts (same_test o n s t) (same_test o n s' t') h in

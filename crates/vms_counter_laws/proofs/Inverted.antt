@@ -146,9 +146,6 @@ pub struct_no_device : (p : Part) → IsStruct p → IsDevice p → ⊥
 struct_no_device (parts.Struct i) s d = d
 struct_no_device _ s d = s
 
-sub_part : (i j : ℕ) (m : Mismatch) → IsWithin (parts.Sub i j) m → (4 < m.rule) × (IsDevice m.in_old.part → ⊥)
-sub_part i j m r = grind (arith, struct_no_device)
-
 module _ (old new : Set) where
   set_tables : StructsWithin (comparers (struct_cells old) (struct_cells new) old.structs new.structs (length new.structs))
   set_tables = tables_within _ _ _ _ _

@@ -1,9 +1,8 @@
 -- Good answers: of members, of lists, and of numbers and texts in their written form.
+use Rattle.vms_descfile.proofs.{Facade.list_file, Facade.natural_file, Facade.integer_file, ObjectLaws.kept, ObjectLaws.listed}
 use Rattle.vms_descfile.proofs.Facade.{◌≡◌, ℕ, suc, ◌+◌, ◌≤◌, List, [], ◌∷◌, map, Bool, true, false, if◌then◌else◌, Option, Some, None, option_map, ℤ, pos}
-use Rattle.vms_descfile.proofs.Facade.{negsuc, refl, ap, ◌∙◌, decimal, int_le, int_lt, ◌&&◌, slice_get, le-leb, Data, number, null, get, of_integer, items_of}
-use Rattle.vms_descfile.proofs.Facade.{Answer, good, bad, under, next, changed, each_from, list_of, member_of, member_or, at, at_or, maybe_at, natural}
-use Rattle.vms_descfile.proofs.Facade.{integer_of, judged, list_file, natural_file, integer_file}
-use Rattle.vms_descfile.proofs.ObjectLaws.{kept, listed}
+use Rattle.vms_descfile.proofs.Facade.{negsuc, refl, ap, decimal, int_le, int_lt, ◌&&◌, slice_get, le-leb, Data, number, get, of_integer, items_of, Answer}
+use Rattle.vms_descfile.proofs.Facade.{good, bad, under, next, changed, each_from, list_of, member_or, at, at_or, maybe_at, natural, integer_of, judged}
 
 pub next_good : {A B : Type 0} (x : Answer A) (a : A) (f : A → Answer B) (r : Answer B) → x ≡ good a → f a ≡ r → next x f ≡ r
 next_good x a f r e h = cc

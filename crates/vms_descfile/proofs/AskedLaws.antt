@@ -88,6 +88,11 @@ module _ (names : Names) where
 
 -- ---- a walk that looks up no names
 
+-- a walk that does has the names of the fields
+pub names_looked_up : (asks asked : Bool) (d : Data) (o : Names) → asked ≡ (asks && asks_names d) → asked ≡ true → o ≡ names_if true d → o ≡ names_if asks d
+names_looked_up true asked d o is true_is same = same
+names_looked_up false asked d o is true_is same = absurd (cc)
+
 pub struct_unasked : (asks : Bool) (d : Data) → (asks && asks_names d) ≡ false → struct_in None d ≡ struct_in (names_if asks d) d
 struct_unasked false d none = refl
 struct_unasked true d none = struct_same (names_if true d) d none

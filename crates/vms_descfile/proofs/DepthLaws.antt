@@ -1,6 +1,6 @@
 -- A test says the same within each bound that is at least its value's number of levels.
-use Rattle.vms_descfile.proofs.Facade.{◌≡◌, ℕ, zero, suc, ◌≤◌, max, List, Option, Some, None, Ordering, Less, Equal, Greater, refl, sym, ap, ap₂, subst, arith}
-use Rattle.vms_descfile.proofs.Facade.{codes, same_Some, nat_cmp, match_ordering, slice_cmp, Data, null, boolean, number, string, array, object, no_items, item}
+use Rattle.vms_descfile.proofs.Facade.{◌≡◌, ℕ, zero, suc, ◌≤◌, max, List, Option, Some, None, Ordering, Equal, refl, sym, ap, ap₂, subst, arith}
+use Rattle.vms_descfile.proofs.Facade.{codes, same_Some, nat_cmp, match_ordering, slice_cmp, Data, array, object, no_items, item}
 use Rattle.vms_descfile.proofs.Facade.{Members, no_members, member, depth, members_depth, get, get_member, Formula, DEEPEST, Form, Answer, good, bad, under}
 use Rattle.vms_descfile.proofs.Facade.{next, changed, member_of, Scope, Pair, key_of, joined, two_of, both, form_of, test_as, test_within, DepthLaw}
 use Rattle.vms_descfile.specs.declared.read.cells.Form.TheVariants as forms

@@ -3,14 +3,14 @@ use Rattle.vms_descfile.proofs.{TestBack.test_back, FieldBack.field_table, Field
 use Rattle.vms_descfile.proofs.AnswerLaws.{next_good, judged_good, at_good, list_good, list_or_good, natural_good}
 use Rattle.vms_descfile.proofs.Facade.{◌≡◌, ℕ, ◌≤◌, List, ◌∷◌, get_or, length, map, Bool, true, false, ◌&&◌, ◌==◌, nat_le, Option, Some, None, refl, sym, ap}
 use Rattle.vms_descfile.proofs.Facade.{◌∙◌, subst, codes, arith, [], slice_get, and_parts, eqb-true, leb-true, false≢true, Data, Members, string, object, put}
-use Rattle.vms_descfile.proofs.Facade.{get, as_str, as_array, items_of, Formula, Field, Desc, Count, One, Fixed, Counted, nodes, is_small_test}
+use Rattle.vms_descfile.proofs.Facade.{◌++◌, is_one_of, get, as_str, items_of, Formula, Field, Desc, Count, Counted, nodes, is_small_test}
 use Rattle.vms_descfile.proofs.Facade.{is_small_optional, is_small_item, is_steady_in, is_earlier_in, names_well, nobody, test_names_well, count_names_well}
-use Rattle.vms_descfile.proofs.Facade.{is_counting, defaults_well, counts_well, counted, has_few, Clean, good, under, changed, list_of, first_of, names_of}
-use Rattle.vms_descfile.proofs.Facade.{names_of_list, text_or_none, member_or, at, at_or, maybe_at, u32_of, text_of, Names, Scope, names_if, number_in, DEEPEST}
+use Rattle.vms_descfile.proofs.Facade.{is_counting, defaults_well, counts_well, counted, has_few, Clean, good, changed, list_of, names_of}
+use Rattle.vms_descfile.proofs.Facade.{text_or_none, member_or, at, at_or, maybe_at, u32_of, text_of, Names, Scope, names_if, number_in, DEEPEST}
 use Rattle.vms_descfile.proofs.Facade.{test_of, field_of, desc_needs, desc_allows, Head, head_of, minimum_or, rest_of, struct_in, struct_of, FitsTest}
 use Rattle.vms_descfile.proofs.Facade.{FitsOptional, FitsDesc, list_file, natural_file, own_names, counter_in, test_file, field_file, desc_members, struct_file}
 use Rattle.vms_descfile.proofs.FirstNames.{Found, all_found, earlier_found}
-use Rattle.vms_descfile.proofs.ObjectLaws.{Table, put_if, members_in, object_of, found, or_none, got, table_fits, kept, listed, unless_if, list_if}
+use Rattle.vms_descfile.proofs.ObjectLaws.{Table, put_if, members_in, object_of, found, found_behind, or_none, got, table_fits, kept, listed, unless_if, list_if}
 use Rattle.vms_descfile.proofs.ShownLaws.{asked, number_shown, test_shown, field_shown, desc_shown}
 use Rattle.std.specs.Option.{option_and_then}
 use Rattle.vms_spec.specs.Rules.{depth}
@@ -79,16 +79,35 @@ names_listed own (f ∷ fs) = cc (field_named own f, names_listed own fs)
 
 -- ---- the members of every description
 
-pub record HasDesc (d : Desc) (o : Data) : Type 0 where
-  pub fields : get (codes "fields") o ≡ Some (list_file (field_file (own_names d.fields)) d.fields)
-  pub minimum : get (codes "minimum") o ≡ kept (d.minimum == d.version) (natural_file d.minimum)
-  pub name : get (codes "name") o ≡ Some (string d.name)
-  pub validate : get (codes "validate") o ≡ listed (test_file (own_names d.fields) []) d.validate
-  pub version : get (codes "version") o ≡ Some (natural_file d.version)
+abbrev pub desc_table : Desc → Table
+desc_table d =
+    (codes "version", Some (natural_file d.version))
+    ∷ (codes "validate", listed (test_file (own_names d.fields) []) d.validate)
+    ∷ (codes "name", Some (string d.name))
+    ∷ (codes "minimum", kept (d.minimum == d.version) (natural_file d.minimum))
+    ∷ (codes "fields", Some (list_file (field_file (own_names d.fields)) d.fields))
+    ∷ []
+
+pub desc_tabled : (d : Desc) → desc_members d ≡ members_in (desc_table d)
+desc_tabled d =
+    let tests = test_file (own_names d.fields) [] in
+    ap (put (codes "version") (natural_file d.version)) (list_if (codes "validate") tests d.validate _
+    ∙ ap (put_if (codes "validate") (listed tests d.validate))
+    (ap (put (codes "name") (string d.name)) (unless_if (d.minimum == d.version) (codes "minimum") (natural_file d.minimum) _)))
+
+-- the object has what the table has, under each key of a description
+abbrev pub HasDesc : Desc → Data → Type 0
+HasDesc d o = (k : List ℕ) → is_one_of (desc_needs ++ desc_allows) k ≡ true → get k o ≡ found k (desc_table d)
+
+-- one more entry, with another key
+pub has_behind : (d : Desc) (j : List ℕ) (e : Option Data) → is_one_of (desc_needs ++ desc_allows) j ≡ false → HasDesc d (object_of ((j, e) ∷ desc_table d))
+has_behind d j e other k known = got k ((j, e) ∷ desc_table d) _ (found_behind (desc_needs ++ desc_allows) k j e (desc_table d) known other)
 
 pub names_asked : (asks : Bool) (d : Desc) (o : Data) → HasDesc d o → names_if asks o ≡ asked asks (own_names d.fields)
 names_asked false d o has = refl
-names_asked true d o has = cc (names_listed (own_names d.fields) d.fields)
+names_asked true d o has =
+    let fields : get (codes "fields") o ≡ Some (list_file (field_file (own_names d.fields)) d.fields) = has (codes "fields") refl in
+    cc (names_listed (own_names d.fields) d.fields)
 
 abbrev minimum_kept : Bool → ℕ → Option ℕ
 minimum_kept true n = None
@@ -111,55 +130,32 @@ module _ (asks : Bool) (n : ℕ) (d : Desc) (rules : List Bool) (c : Clean n d r
   head_back =
       let names = asked asks (own_names d.fields) in
       next_good (at (list_of (field_of names)) (codes "fields") o) (map (field_shown asks) d.fields) _ _
-      (at_good (list_of (field_of names)) (codes "fields") o _ _ has.fields
+      (at_good (list_of (field_of names)) (codes "fields") o _ _ (has (codes "fields") refl)
       (list_good (field_of names) (field_file (own_names d.fields)) (field_shown asks) d.fields (fields_back asks n d rules c found fits)))
       (next_good (maybe_at u32_of (codes "minimum") o) (minimum_kept (d.minimum == d.version) d.minimum) _ _
-      (minimum_back (d.minimum == d.version) o d.minimum has.minimum fits.minimum)
-      (next_good (at text_of (codes "name") o) d.name _ _ (at_good text_of (codes "name") o (string d.name) d.name has.name refl) refl))
+      (minimum_back (d.minimum == d.version) o d.minimum (has (codes "minimum") refl ∙ or_none _) fits.minimum)
+      (next_good (at text_of (codes "name") o) d.name _ _ (at_good text_of (codes "name") o (string d.name) d.name (has (codes "name") refl) refl) refl))
 
   pub rest_back : rest_of (asked asks (own_names d.fields)) (head_shown asks d) o ≡ good (desc_shown asks d)
   rest_back =
       let scope = own_scope asks (own_names d.fields) in
       next_good (at_or [] (list_of (test_of scope)) (codes "validate") o) (map (test_shown asks) d.validate) _ _
-      (list_or_good (test_of scope) (test_file (own_names d.fields) []) (test_shown asks) (codes "validate") o d.validate has.validate
+      (list_or_good (test_of scope) (test_file (own_names d.fields) []) (test_shown asks) (codes "validate") o d.validate (has (codes "validate") refl ∙ or_none _)
       (validate_back asks n d rules c found fits))
       (next_good (at u32_of (codes "version") o) d.version _ _
-      (at_good u32_of (codes "version") o (natural_file d.version) d.version has.version (natural_good 4294967295 d.version fits.version))
+      (at_good u32_of (codes "version") o (natural_file d.version) d.version (has (codes "version") refl) (natural_good 4294967295 d.version fits.version))
       (ap (λ (m : ℕ). good (record { name = d.name; version = d.version; minimum = m; fields = map (field_shown asks) d.fields; validate = map (test_shown asks) d.validate }))
       (minimum_made d.version d.minimum (d.minimum == d.version) refl)))
 
 -- ---- structures
 
-abbrev pub desc_table : Desc → Table
-desc_table d =
-    (codes "version", Some (natural_file d.version))
-    ∷ (codes "validate", listed (test_file (own_names d.fields) []) d.validate)
-    ∷ (codes "name", Some (string d.name))
-    ∷ (codes "minimum", kept (d.minimum == d.version) (natural_file d.minimum))
-    ∷ (codes "fields", Some (list_file (field_file (own_names d.fields)) d.fields))
-    ∷ []
-
-pub desc_tabled : (d : Desc) → desc_members d ≡ members_in (desc_table d)
-desc_tabled d =
-    let tests = test_file (own_names d.fields) [] in
-    ap (put (codes "version") (natural_file d.version)) (list_if (codes "validate") tests d.validate _
-    ∙ ap (put_if (codes "validate") (listed tests d.validate)) (ap (put (codes "name") (string d.name)) (unless_if (d.minimum == d.version) (codes "minimum") (natural_file d.minimum) _)))
-
-pub struct_has : (d : Desc) → HasDesc d (object_of (desc_table d))
-struct_has d = record {
-  fields = got (codes "fields") (desc_table d) _ refl;
-  minimum = got (codes "minimum") (desc_table d) _ (or_none _);
-  name = got (codes "name") (desc_table d) _ refl;
-  validate = got (codes "validate") (desc_table d) _ (or_none _);
-  version = got (codes "version") (desc_table d) _ refl;
-}
-
 pub struct_back : (asks : Bool) (n : ℕ) (d : Desc) (rules : List Bool) → Clean n d rules → has_few d ≡ true → FitsDesc d → struct_of asks (struct_file d) ≡ good (desc_shown asks d)
 struct_back asks n d rules c few fits =
     let o = object_of (desc_table d) in
     let found = all_found asks n d rules c few in
+    let has : HasDesc d o = λ k known. got k (desc_table d) _ refl in
     ap (λ (ms : Members). struct_of asks (object ms)) (desc_tabled d)
     ∙ judged_good (keys_fit desc_needs desc_allows o) (struct_in (names_if asks o) o) (good (desc_shown asks d)) (table_fits desc_needs desc_allows (desc_table d) refl refl)
-    (ap (λ (names : Names). struct_in names o) (names_asked asks d o (struct_has d))
-    ∙ next_good (head_of (asked asks (own_names d.fields)) o) (head_shown asks d) _ _ (head_back asks n d rules c found fits o (struct_has d))
-    (rest_back asks n d rules c found fits o (struct_has d)))
+    (ap (λ (names : Names). struct_in names o) (names_asked asks d o has)
+    ∙ next_good (head_of (asked asks (own_names d.fields)) o) (head_shown asks d) _ _ (head_back asks n d rules c found fits o has)
+    (rest_back asks n d rules c found fits o has))

@@ -3,7 +3,7 @@ use Rattle.vms_descfile.proofs.{Facade.test_file, Facade.front_file, Facade.fiel
 use Rattle.vms_descfile.proofs.AnswerLaws.{next_good, judged_good, at_good, maybe_good, default_good, list_or_good, natural_good, integer_good}
 use Rattle.vms_descfile.proofs.Facade.{◌≡◌, ℕ, ◌≤◌, List, [], ◌∷◌, get_or, map, Bool, true, false, not, ◌&&◌, ◌==◌, if◌then◌else◌, Option, Some, None}
 use Rattle.vms_descfile.proofs.Facade.{option_map, is_some, ℤ, pos, negsuc, int_le, int_lt, IfSome, refl, sym, ap, ◌∙◌, subst, codes, arith, and_parts}
-use Rattle.vms_descfile.proofs.Facade.{and_from, eqb-true, false≢true, ints, Data, Members, string, object, get, as_str, Kind, Item, Count, One, Fixed, Counted}
+use Rattle.vms_descfile.proofs.Facade.{and_from, eqb-true, false≢true, ints, Data, Members, string, object, get, as_str, Kind, Item, Count, One}
 use Rattle.vms_descfile.proofs.Facade.{Formula, Field, in_range, defaults_well, same_number, ranges, Sort, good, given, list_of, fits, at, at_or, maybe_at}
 use Rattle.vms_descfile.proofs.Facade.{u16_of, u32_of, integer_of, text_of, Names, number_in, name_in, test_of, sort_named, sort_of, counts_fit, values_fit}
 use Rattle.vms_descfile.proofs.Facade.{sort_fits, field_needs, field_allows, field_fits, count_as, count_of, item_as, front_of, field_after, field_in, field_of}
@@ -114,15 +114,7 @@ value_keys _ z well = refl
 
 in_64 : (kind : Kind) (z : ℤ) → in_range kind z ≡ true → (int_le (negsuc 9223372036854775807) z && int_lt z (pos 18446744073709551616)) ≡ true
 in_64 kinds.U8 z well = let r = ranges kinds.U8 z well in grind (arith, ints)
-in_64 kinds.U16 z well = let r = ranges kinds.U16 z well in grind (arith, ints)
-in_64 kinds.U32 z well = let r = ranges kinds.U32 z well in grind (arith, ints)
-in_64 kinds.U64 z well = let r = ranges kinds.U64 z well in grind (arith, ints)
-in_64 kinds.I8 z well = let r = ranges kinds.I8 z well in grind (arith, ints)
-in_64 kinds.I16 z well = let r = ranges kinds.I16 z well in grind (arith, ints)
-in_64 kinds.I32 z well = let r = ranges kinds.I32 z well in grind (arith, ints)
-in_64 kinds.I64 z well = let r = ranges kinds.I64 z well in grind (arith, ints)
-in_64 kinds.Bool z well = let r = ranges kinds.Bool z well in grind (arith, ints)
-in_64 kinds.Timer z well = let r = ranges kinds.Timer z well in grind (arith, ints)
+in_64 kind z well = let r = ranges kind z well in grind (arith, ints)
 
 zero_is_0 : (z : ℤ) → is_zero z ≡ true → pos 0 ≡ z
 zero_is_0 (pos n) zero = ap pos (sym (eqb-true n 0 zero))

@@ -1,5 +1,5 @@
 -- What a text says, by what its value says.
-use Rattle.vms_descfile.proofs.Facade.{◌≡◌, ℕ, List, Some, sym, ap, ◌∙◌, Err, Data, Set, Fault, FileFault, Answer, Refuses, parts_of, Shape, parts_said}
+use Rattle.vms_descfile.proofs.Facade.{◌≡◌, ℕ, List, Some, sym, ap, Err, Data, Set, Fault, FileFault, Answer, Refuses, parts_of, Shape, parts_said}
 use Rattle.vms_descfile.proofs.Facade.{value_said, value_in, file_said, Gives, GivesValue, IsFileFault}
 use Rattle.vms_json.specs.declared.fault.Fault.TheVariants as faults
 use Rattle.vms_descfile.specs.declared.file_fault.FileFault.TheVariants as file_faults

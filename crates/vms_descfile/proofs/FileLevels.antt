@@ -50,9 +50,7 @@ flat_integer z = either (int_le (negsuc 9223372036854775807) z && int_lt z (pos 
 
 rel_flat : (r : Rel) → depth (rel_file r) ≤ 0
 rel_flat rels.Eq = omega arith
-rel_flat rels.Ne = omega arith
-rel_flat rels.Lt = omega arith
-rel_flat rels.Ge = omega arith
+rel_flat _ = omega arith
 
 test_nests : (own parent : List (List ℕ)) (t : Formula) → depth (test_file own parent t) ≤ rules.depth t + rules.depth t
 test_nests own parent (AtLeast n) = omega arith

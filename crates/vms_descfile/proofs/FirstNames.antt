@@ -1,5 +1,5 @@
 -- The fields that a test or a count may name are found by their names.
-use Rattle.vms_descfile.proofs.Facade.{◌≡◌, ℕ, zero, suc, ◌+◌, ◌<◌, ◌≤◌, List, ◌∷◌, ◌++◌, length, get_or, take, min, Bool, true, false, not, cond, nat_lt}
+use Rattle.vms_descfile.proofs.Facade.{◌≡◌, ℕ, zero, suc, ◌+◌, ◌≤◌, List, ◌∷◌, ◌++◌, length, get_or, take, min, Bool, true, false, not, cond, nat_lt}
 use Rattle.vms_descfile.proofs.Facade.{nat_le, Option, Some, None, refl, ap, ◌∙◌, arith, [], position, position_or_len, slice_get, bytes_eq, and_parts}
 use Rattle.vms_descfile.proofs.Facade.{or_parts, not-true, leb-true, lt-ltb, length-map, bytes_eq-Decides, slice_get_within, Field, Desc, all_names, are_new}
 use Rattle.vms_descfile.proofs.Facade.{is_one_of, is_steady, is_steady_in, is_earlier_in, has_few, Clean, good, number_in, numbered, own_names}

@@ -47,6 +47,15 @@ or_none (Some d) = refl
 pub got : (k : List ℕ) (table : Table) (o : Option Data) → found k table ≡ o → get k (object_of table) ≡ o
 got k table o is = found_is k table ∙ is
 
+-- a key of some finds what it finds behind an entry with another key
+pub found_behind : (keys : List (List ℕ)) (k j : List ℕ) (o : Option Data) (table : Table) → is_one_of keys k ≡ true → is_one_of keys j ≡ false
+    → found k ((j, o) ∷ table) ≡ found k table
+found_behind keys k j o table known other = by (bytes_eq k j) refl
+  where
+    by : (same : Bool) → bytes_eq k j ≡ same → found k ((j, o) ∷ table) ≡ found k table
+    by true is = let e = (bytes_eq-Decides k j).0 is in absurd (cc)
+    by false is = rw is
+
 pub has_is : (k : List ℕ) (table : Table) (o : Option Data) → found k table ≡ o → has k (object_of table) ≡ is_some o
 has_is k table o is = ap is_some (got k table o is)
 

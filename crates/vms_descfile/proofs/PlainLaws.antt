@@ -1,5 +1,5 @@
 -- Fields with a kind of number, a name and at most former names, and the kinds that words name.
-use Rattle.vms_descfile.proofs.Facade.{◌≡◌, ℕ, List, [], Option, Some, None, IfSome, option_and_then, true, pos, refl, sym, ap, ◌∙◌, codes, Data, object}
+use Rattle.vms_descfile.proofs.Facade.{◌≡◌, ℕ, List, [], Option, Some, None, IfSome, option_and_then, true, pos, refl, ap, ◌∙◌, codes, Data, object}
 use Rattle.vms_descfile.proofs.Facade.{as_str, Answer, good, bad, given, next, under, judged, Names, Kind, One, TellsKind, kind_word, Sort, Number, Front}
 use Rattle.vms_descfile.proofs.Facade.{IsPlain, field_after, field_fits, field_in, plain_field, plain_members, sort_fits, sort_named, sort_of}
 use Rattle.vms_kinds.specs.declared.Kind.TheVariants as kinds

@@ -1,7 +1,7 @@
 -- Subsections, devices and sets can be read back from their files.
 use Rattle.vms_descfile.proofs.{Facade.set_file, FirstNames.Found, FirstNames.all_found, TestBack.test_back}
 use Rattle.vms_descfile.proofs.AnswerLaws.{next_good, judged_good, at_good, list_good, list_or_good, natural_good}
-use Rattle.vms_descfile.proofs.DescBack.{HasDesc, desc_table, desc_tabled, names_asked, head_shown, head_back, rest_back, struct_back}
+use Rattle.vms_descfile.proofs.DescBack.{HasDesc, has_behind, desc_table, desc_tabled, names_asked, head_shown, head_back, rest_back, struct_back}
 use Rattle.vms_descfile.proofs.Facade.{◌≡◌, ℕ, List, [], ◌∷◌, get_or, length, map, Bool, true, false, nat_le, Some, refl, ap, ◌∙◌, codes, arith, slice_get}
 use Rattle.vms_descfile.proofs.Facade.{and_parts, leb-true, Members, string, object, put, Formula, Desc, Sub, Device, Set, nodes, is_small_test, is_steady_in}
 use Rattle.vms_descfile.proofs.Facade.{names_well, WellFormed, has_few, struct_depths, struct_rules, sub_rules, device_rules, Clean, struct_clean, device_parts}
@@ -17,15 +17,6 @@ use Rattle.vms_json.specs.Keys.{fits as keys_fit}
 
 abbrev sub_table : List (List ℕ) → Sub → Table
 sub_table parent s = (codes "needed", Some (test_file (own_names s.desc.fields) parent s.needed)) ∷ desc_table s.desc
-
-sub_has : (parent : List (List ℕ)) (s : Sub) → HasDesc s.desc (object_of (sub_table parent s))
-sub_has parent s = record {
-  fields = got (codes "fields") (sub_table parent s) _ refl;
-  minimum = got (codes "minimum") (sub_table parent s) _ (or_none _);
-  name = got (codes "name") (sub_table parent s) _ refl;
-  validate = got (codes "validate") (sub_table parent s) _ (or_none _);
-  version = got (codes "version") (sub_table parent s) _ refl;
-}
 
 abbrev sub_scope : Bool → List (List ℕ) → List (List ℕ) → Scope
 sub_scope asks own parent = record { own = asked asks own; parent = Some (asked asks parent) }
@@ -49,29 +40,21 @@ sub_back asks n j d s found_above c fits =
     let rules = sub_rules d j s in
     let few = and_parts (has_few s.desc) (is_small_test s.needed) c.own.1.1.1.1.1.1.0 in
     let found = all_found asks n s.desc rules c few.0 in
+    let has : HasDesc s.desc o = has_behind s.desc (codes "needed") _ refl in
     ap (λ (ms : Members). sub_of asks (asked asks parent) (object (put (codes "needed") (test_file own parent s.needed) ms))) (desc_tabled s.desc)
     ∙ judged_good (keys_fit (codes "needed" ∷ desc_needs) desc_allows o) _ (good (sub_shown asks s))
     (table_fits (codes "needed" ∷ desc_needs) desc_allows (sub_table parent s) refl refl)
-    (ap (λ (names : Names). sub_in (record { own = names; parent = Some (asked asks parent) }) o) (names_asked asks s.desc o (sub_has parent s))
-    ∙ next_good (head_of (asked asks own) o) (head_shown asks s.desc) _ _ (head_back asks n s.desc rules c found fits.desc o (sub_has parent s))
+    (ap (λ (names : Names). sub_in (record { own = names; parent = Some (asked asks parent) }) o) (names_asked asks s.desc o has)
+    ∙ next_good (head_of (asked asks own) o) (head_shown asks s.desc) _ _ (head_back asks n s.desc rules c found fits.desc o has)
     (next_good (at (test_of scope) (codes "needed") o) (test_shown asks s.needed) _ _
     (at_good (test_of scope) (codes "needed") o _ _ (got (codes "needed") (sub_table parent s) _ refl)
     (needed_back asks s.desc d.desc s.needed found found_above few.1 fits.needed c.own.1.1.1.0))
-    (ap (changed (λ desc. record { desc = desc; needed = test_shown asks s.needed })) (rest_back asks n s.desc rules c found fits.desc o (sub_has parent s)))))
+    (ap (changed (λ desc. record { desc = desc; needed = test_shown asks s.needed })) (rest_back asks n s.desc rules c found fits.desc o has))))
 
 -- ---- devices
 
 abbrev whole_table : Device → Table
 whole_table d = (codes "subsections", listed (sub_file (own_names d.desc.fields)) d.subs) ∷ desc_table d.desc
-
-whole_has : (d : Device) → HasDesc d.desc (object_of (whole_table d))
-whole_has d = record {
-  fields = got (codes "fields") (whole_table d) _ refl;
-  minimum = got (codes "minimum") (whole_table d) _ (or_none _);
-  name = got (codes "name") (whole_table d) _ refl;
-  validate = got (codes "validate") (whole_table d) _ (or_none _);
-  version = got (codes "version") (whole_table d) _ refl;
-}
 
 abbrev whole_shown : Bool → Device → Whole
 whole_shown asks d = record { desc = desc_shown asks d.desc; subs = map (sub_shown asks) d.subs }
@@ -84,17 +67,18 @@ module _ (asks : Bool) (n : ℕ) (d : Device) (rules : List Bool) (c : Clean n d
       let o = object_of (whole_table d) in
       let found = all_found asks n d.desc rules c few in
       let subs = sub_file own in
+      let has : HasDesc d.desc o = has_behind d.desc (codes "subsections") _ refl in
       let tabled : whole_file d ≡ o =
       ap object (list_if (codes "subsections") subs d.subs (desc_members d.desc) ∙ ap (put_if (codes "subsections") (listed subs d.subs)) (desc_tabled d.desc)) in
       ap (whole_of asks) tabled
       ∙ judged_good (keys_fit desc_needs (codes "subsections" ∷ desc_allows) o) _ (good (whole_shown asks d))
       (table_fits desc_needs (codes "subsections" ∷ desc_allows) (whole_table d) refl refl)
-      (ap (λ (names : Names). whole_in asks names o) (names_asked asks d.desc o (whole_has d))
-      ∙ next_good (head_of (asked asks own) o) (head_shown asks d.desc) _ _ (head_back asks n d.desc rules c found fits.desc o (whole_has d))
+      (ap (λ (names : Names). whole_in asks names o) (names_asked asks d.desc o has)
+      ∙ next_good (head_of (asked asks own) o) (head_shown asks d.desc) _ _ (head_back asks n d.desc rules c found fits.desc o has)
       (next_good (at_or [] (list_of (sub_of asks (asked asks own))) (codes "subsections") o) (map (sub_shown asks) d.subs) _ _
       (list_or_good (sub_of asks (asked asks own)) subs (sub_shown asks) (codes "subsections") o d.subs (got (codes "subsections") (whole_table d) _ (or_none _))
       (λ j s there. sub_back asks n j d s found (subs_clean j s there) (fits.subs j s there)))
-      (ap (changed (λ desc. record { desc = desc; subs = map (sub_shown asks) d.subs })) (rest_back asks n d.desc rules c found fits.desc o (whole_has d)))))
+      (ap (changed (λ desc. record { desc = desc; subs = map (sub_shown asks) d.subs })) (rest_back asks n d.desc rules c found fits.desc o has))))
 
   device_back : FitsDevice d → device_of asks (device_file d) ≡ good (device_shown asks d)
   device_back fits =

@@ -55,11 +55,7 @@ module _ (asks : Bool) (own parent : List (List ℕ)) (may may_parent : ℕ → 
   pub test_back : (n : ℕ) (t : Formula) → depth t ≤ n → FitsTest t → names_well may may_parent t ≡ true
       → test_within n scope (test_file own parent t) ≡ good (test_shown asks t)
   test_back zero (AtLeast m) deep fits well = absurd (omega arith)
-  test_back zero (Below m) deep fits well = absurd (omega arith)
-  test_back zero (Cell whose k mask rel value) deep fits well = absurd (omega arith)
-  test_back zero (Not t) deep fits well = absurd (omega arith)
-  test_back zero (And s t) deep fits well = absurd (omega arith)
-  test_back zero (Or s t) deep fits well = absurd (omega arith)
+  test_back zero _ deep fits well = absurd (omega arith)
   test_back (suc n) (AtLeast m) deep fits well = ap (λ x. changed AtLeast (under (codes "at_least") x)) (u32_good m fits)
   test_back (suc n) (Below m) deep fits well = ap (λ x. changed Below (under (codes "below") x)) (u32_good m fits)
   test_back (suc n) (Cell Own k mask rel value) deep fits well =

@@ -1,6 +1,6 @@
 -- Faults inside tests, and a test by its form.
-use Rattle.vms_descfile.proofs.Facade.{◌≡◌, ℕ, zero, suc, ◌-◌, ◌<◌, List, ap, sym, subst, ◌∙◌, arith, Result, unary_clauses, Data, formula, Test, Form, Fault}
-use Rattle.vms_descfile.proofs.Facade.{Answer, bad, under, next, changed, Refuses, Answers, IsUnder, Scope, test_within, test_as, form_of}
+use Rattle.vms_descfile.proofs.Facade.{◌≡◌, ℕ, zero, suc, ◌-◌, ◌<◌, ap, subst, arith, Result, unary_clauses, Data, formula, Test, Form, Fault}
+use Rattle.vms_descfile.proofs.Facade.{Answer, next, Refuses, Answers, Scope, test_within, test_as, form_of}
 use Rattle.vms_json.specs.declared.fault.Fault.TheVariants as faults
 
 -- a test that may have parts is read by its form
@@ -10,15 +10,6 @@ by_form zero scope d form r more is said = absurd (omega arith)
 by_form (suc n) scope d form r more is said =
     subst (λ (f : Form). Answers formula (test_as f (test_within n scope) scope d) r) is (simp unary_clauses at said)
 
-pub refused_under : {A : Type 0} (key : List ℕ) (x : Answer A) (fault result : Fault) → Refuses x fault → IsUnder key fault result → Refuses (under key x) result
-refused_under key x (faults.Shape path) (faults.Shape p) said is = cc
-refused_under key x faults.NoMemory (faults.Shape p) said is = absurd is
-refused_under key x _ faults.NoMemory said is = tt
-
 pub refused_next : {A B : Type 0} (x : Answer A) (f : A → Answer B) (fault : Fault) → Refuses x fault → Refuses (next x f) fault
 refused_next x f (faults.Shape path) said = ap (λ a. next a f) said
 refused_next x f faults.NoMemory said = tt
-
-pub refused_changed : {A B : Type 0} (f : A → B) (x : Answer A) (fault : Fault) → Refuses x fault → Refuses (changed f x) fault
-refused_changed f x (faults.Shape path) said = ap (changed f) said
-refused_changed f x faults.NoMemory said = tt

@@ -54,14 +54,12 @@ due_lowered (in_list n done ∷ fs) t ts enough going = item_due n done fs (t �
 due_lowered (in_object n found k ∷ fs) t ts enough going = refl
 
 rows_lowered : (fs : List Frame) (rs : List Row) (starts : List ℕ) → IsLaid fs rs starts → IsLaid (lowered fs) rs starts
-rows_lowered [] rs starts laid = laid
 rows_lowered (in_list n done ∷ fs) rs starts laid = laid
-rows_lowered (in_object n found k ∷ fs) rs starts laid = laid
+rows_lowered _ rs starts laid = laid
 
 inner_lowered : (fs : List Frame) → is_in_list fs ≡ is_in_list (lowered fs)
-inner_lowered [] = refl
 inner_lowered (in_list n done ∷ fs) = refl
-inner_lowered (in_object n found k ∷ fs) = refl
+inner_lowered _ = refl
 
 enough_lowered : (fs : List Frame) (m : ℕ) → AreEnough fs (suc m) → AreEnough (lowered fs) m
 enough_lowered [] m are = tt

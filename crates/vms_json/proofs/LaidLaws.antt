@@ -141,10 +141,8 @@ has_put q k d ms true e = ap is_some (put_found true q k d ms e) ∙ sym (or-tru
 has_put q k d ms false e = ap is_some (put_found false q k d ms e) ∙ sym (or-false (is_some (get_member q ms)))
 
 both_or : (x y a b : Bool) → ((x || a) || (y || b)) ≡ ((x || y) || (a || b))
-both_or true y a b = refl
 both_or false true true b = refl
-both_or false true false b = refl
-both_or false false a b = refl
+both_or _ _ _ b = refl
 
 -- one of two keys
 pub one_put : (q r k : List ℕ) (d : Data) (ms : Members) (b : Bool) → b ≡ (bytes_eq k q || bytes_eq k r) → has_one q r (put k d ms) ≡ (has_one q r ms || b)

@@ -253,9 +253,8 @@ unless_came k j s (Some w) v place e = by_tests (nat_lt s.desc.version v) (nat_l
   where
     by_tests : (a b : Bool)
         → Ok j ≡ opened_at place (opened_unless (Some k) j (if a then Some reasons.TooNew else (if b then Some reasons.TooOld else Some reasons.RepeatedSubsection))) → Some w ≡ None
-    by_tests true b e = cc
     by_tests false true e = cc
-    by_tests false false e = cc
+    by_tests _ _ e = cc
 
 pub sub_new : (k : ℕ) (d : Device) (came : List (Option ℕ)) (name : List ℕ) (v j place : ℕ) → length came ≡ length d.subs → Ok j ≡ opened_at place (sub_opened k d came name v)
     → (j < length d.subs) × (slice_get came j ≡ Some None)

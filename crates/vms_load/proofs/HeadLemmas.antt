@@ -1,10 +1,9 @@
 -- What heads open, as the judge has it.
 use Rattle.vms_load.proofs.Facade.{◌≡◌, ℕ, ◌<◌, List, length, get_or, Option, Some, None, Bool, true, false, if◌then◌else◌, Ok, refl, sym, ap, ◌∙◌, arith}
-use Rattle.vms_load.proofs.Facade.{Result, Err, not, nat_lt, slice_get, slice_get-get_or, slice_get_within, bytes_eq, Reason, position, at_option, Device, Sub}
-use Rattle.vms_load.proofs.Facade.{Set, find_device, find_sub, index, did_come, found_inside, device_at, sub_at, section_opened, device_opened, opened_unless}
-use Rattle.vms_load.proofs.Facade.{reason_against, reason_against_sub, sub_opened, sub_opened_at, opened_at, unfit, Unfit, Piece, SubHead, device_named}
-use Rattle.vms_load.proofs.Facade.{subs_of, found_is, first_row, is_none, test_some, asking, Known, ask, by_row, State, open_at, known_at, after, by_state}
-use Rattle.vms_load.proofs.Facade.{Verdict, Goes, Faulty}
+use Rattle.vms_load.proofs.Facade.{Result, Err, not, nat_lt, slice_get, slice_get-get_or, slice_get_within, Reason, at_option, Device, Sub, Set, find_device}
+use Rattle.vms_load.proofs.Facade.{find_sub, index, did_come, found_inside, device_at, sub_at, section_opened, device_opened, opened_unless, reason_against}
+use Rattle.vms_load.proofs.Facade.{reason_against_sub, sub_opened, sub_opened_at, opened_at, unfit, Unfit, Piece, SubHead, device_named, found_is, first_row}
+use Rattle.vms_load.proofs.Facade.{is_none, test_some, asking, Known, ask, by_row, State, open_at, known_at, after, by_state, Verdict, Goes, Faulty}
 use Rattle.vms_spec.specs.Units.{Head}
 use Rattle.vms_bodies.proofs.SubHeads.{sub_is as sub_found}
 use Rattle.vms_stream.specs.State.{image_at}
@@ -92,9 +91,8 @@ known_head k d false v = by (nat_lt d.desc.version v) (nat_lt v d.desc.minimum)
   where
     by : (a b : Bool) → (if a then Some (Some k, reasons.TooNew) else if b then Some (Some k, reasons.TooOld) else None)
         ≡ unfit_for (opened_unless (Some k) k (if a then Some reasons.TooNew else if b then Some reasons.TooOld else None))
-    by true b = refl
     by false true = refl
-    by false false = refl
+    by _ _ = refl
 
 head_opened : (set : Set) (names : List (List ℕ)) (k : Known) (id : ℕ) (name : List ℕ) (instance v : ℕ) → length k.came ≡ length set.devices
     → first_row (asking set names k (Head id name instance v)) ≡ unfit_for (section_opened set k.came name instance v)
@@ -125,21 +123,13 @@ known_rows k j s came v = by (nat_lt s.desc.version v) (nat_lt v s.desc.minimum)
     by : (a b : Bool) (came : Option ℕ)
         → (if a then Some (Some k, reasons.TooNew) else if b then Some (Some k, reasons.TooOld) else if not (is_none came) then Some (Some k, reasons.RepeatedSubsection) else None)
         ≡ unfit_for (opened_unless (Some k) j (if a then Some reasons.TooNew else if b then Some reasons.TooOld else if did_come came then Some reasons.RepeatedSubsection else None))
-    by true b came = refl
-    by false true came = refl
     by false false None = refl
-    by false false (Some n) = refl
+    by _ _ _ = refl
 
 sub_is_opened : (set : Set) (names : List (List ℕ)) (y : Known) (k : ℕ) (d : Device) (name : List ℕ) (v : ℕ) → y.section ≡ Some k → slice_get set.devices k ≡ Some d → length y.image.came ≡ length d.subs
     → first_row (asking set names y (SubHead name v)) ≡ unfit_for (sub_opened k d y.image.came name v)
 sub_is_opened set names y k d name v section here long = cc (by (find_sub 0 d.subs name) refl)
   where
-    sub_by : Option Device → Option ℕ
-    sub_by o = position (λ (s : Sub). bytes_eq s.desc.name name) 0 (subs_of o)
-
-    of : Option ℕ → Option ℕ → List Sub → Option (Option ℕ × Reason)
-    of section o subs = sub_rows section o (at_option subs o) (at_option y.image.came o) v
-
     by : (o : Option ℕ) → find_sub 0 d.subs name ≡ o → sub_rows (Some k) o (at_option d.subs o) (at_option y.image.came o) v ≡ unfit_for (sub_opened_at k v o (slice_get d.subs (index o)) (slice_get y.image.came (index o)))
     by None e = refl
     by (Some j) e =

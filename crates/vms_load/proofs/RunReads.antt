@@ -155,9 +155,10 @@ abbrev pub filled : Typed → ℕ → Kind → ℕ → List ℕ → Typed
 filled image first kind count bytes = record image { numbers = put_from image.numbers first (values_of kind count bytes) }
 
 module _ (old new : Intake) (image : Typed) (first count place : ℕ) (kind : Kind) (any : kind ≡ Bool → ⊥) where
-  pub took_run : (bytes : List ℕ) → Takes old new bytes → length bytes ≡ count * width kind
-      → Took (run_of first count kind) (told image place old) (told (filled image first kind count bytes) (place + count * width kind) new)
-  took_run bytes takes long = record {
+  pub took_run : (after : Typed) (to : ℕ) (bytes : List ℕ) → after ≡ filled image first kind count bytes → to ≡ place + count * width kind
+      → Takes old new bytes → length bytes ≡ count * width kind
+      → Took (run_of first count kind) (told image place old) (told after to new)
+  took_run after to bytes is there takes long = rw (is, there) (record {
     reads = record {
       bytes = bytes;
       takes = takes;
@@ -169,7 +170,7 @@ module _ (old new : Intake) (image : Typed) (first count place : ℕ) (kind : Ki
     };
     kept = refl;
     keeps = run_keeps kind count first image.numbers (values_of kind count bytes) (omega (arith, values_long kind count bytes));
-  }
+  })
 
   pub failed_run : (n to : ℕ) → Breaks old new n → n ≤ count * width kind → Failed (run_of first count kind) (told image place old) faults.ReadFault (told image to new)
   failed_run n to breaks le = record {
@@ -200,8 +201,9 @@ module _ (old new : Intake) (image : Typed) (first count place : ℕ) (kind : Ki
           sym (cut_numbers kind any count whole first place image.numbers bytes last long cut lt),
         )
 
-    pub cut_run : Failed (run_of first count kind) (told image place old) (faults.Refused (place + whole * width kind) reasons.Truncated) stand
-    cut_run = record {
+    pub cut_run : (after : Typed) (to at : ℕ) → after ≡ filled image first kind whole bytes → to ≡ place + whole * width kind → at ≡ place + whole * width kind
+        → Failed (run_of first count kind) (told image place old) (faults.Refused at reasons.Truncated) (told after to new)
+    cut_run after to at is there cause = rw (is, there, cause) (record {
       reads = record {
         bytes = bytes ++ last;
         takes = takes;
@@ -211,7 +213,7 @@ module _ (old new : Intake) (image : Typed) (first count place : ℕ) (kind : Ki
       };
       kept = refl;
       keeps = run_keeps kind count first image.numbers (values_of kind whole bytes) (omega (arith, values_long kind whole bytes));
-    }
+    })
 
 -- ---- how the bytes that came are parted
 

@@ -10,6 +10,7 @@ use Rattle.vms_load.proofs.Facade.{part_base, bytes_of, subs_due, HasSpot, table
 use Rattle.vms_load.proofs.Facade.{is_small_optional, Item, Num, Equal, Unused, Struct, MOST_UNUSED, first_long, width_small, item_bytes, fields_bytes}
 use Rattle.vms_load.proofs.Facade.{desc_bytes, struct_bytes, section_bytes, sections_due, subs_bytes, devices_most, FOOT_LENGTH, LONGEST_HEAD, LONGEST_SUB_HEAD}
 use Rattle.vms_spec.proofs.Tables.{two_more}
+use Rattle.std.specs.List.{AllByRecursion}
 
 pub well_of : (set : Set) → is_well_formed set ≡ true → WellFormed set
 well_of set h = none_is (first_fault set) h
@@ -43,9 +44,9 @@ module _ (set : Set) (well : is_well_formed set ≡ true) (k : ℕ) (lt : k < le
 of_kinds : (cells : List Cell) (slots : List Slot) → AreCells cells slots → AreOfKinds (map (λ c. c.kind) cells) slots
 of_kinds cells [] are = tt
 of_kinds cells (Number c kind caps ∷ slots) are = (get_or-map (λ c. c.kind) cells c no_cell U8 are.0.within ∙ are.0.kind, of_kinds cells slots are.1)
-of_kinds cells (Constant kind z ∷ slots) are = of_kinds cells slots are
-of_kinds cells (Filler n ∷ slots) are = of_kinds cells slots are
-of_kinds cells (Rule b ∷ slots) are = of_kinds cells slots are
+of_kinds cells (Constant kind z ∷ slots) are = (tt, of_kinds cells slots are)
+of_kinds cells (Filler n ∷ slots) are = (tt, of_kinds cells slots are)
+of_kinds cells (Rule b ∷ slots) are = (tt, of_kinds cells slots are)
 
 desc_kinds : (set : Set) (k : ℕ) (sub : Option ℕ) → IsIn (device_at set k) sub → (v : ℕ) (n : List ℤ)
     → AreOfKinds (kinds_at set k) (desc_slots (table set) (part_desc (device_at set k) sub) v n (part_base set (device_at set k) sub))
@@ -63,24 +64,13 @@ part_kinds set k sub h spot part base n =
     ∙ ap (λ b. desc_slots (table set) (part_desc (device_at set k) sub) v n b) (base ∙ ap (first_cell set) part ∙ base_is set k sub) in
     subst (AreOfKinds (kinds_at set k)) (sym is) (desc_kinds set k sub h v n)
 
--- the next of these steps is of its cell's kind
-abbrev AllOfKinds : List Kind → List WalkStep → Type 0
-AllOfKinds kinds [] = Unit {0}
-AllOfKinds kinds (x ∷ xs) = IsOfKind kinds x × AllOfKinds kinds xs
-
-all_of_kinds : (kinds : List Kind) (xs : List Slot) → AreOfKinds kinds xs → AllOfKinds kinds (steps_of xs)
-all_of_kinds kinds [] h = tt
-all_of_kinds kinds (Number c kind caps ∷ xs) h = (h.0, all_of_kinds kinds xs h.1)
-all_of_kinds kinds (Constant kind z ∷ xs) h = (tt, all_of_kinds kinds xs h)
-all_of_kinds kinds (Filler n ∷ xs) h = (tt, all_of_kinds kinds xs h)
-all_of_kinds kinds (Rule b ∷ xs) h = (tt, all_of_kinds kinds xs h)
-
-one_of_kinds : (kinds : List Kind) (xs rest : List WalkStep) (x : WalkStep) → AllOfKinds kinds (xs ++ (x ∷ rest)) → IsOfKind kinds x
+one_of_kinds : (kinds : List Kind) (xs rest : List WalkStep) (x : WalkStep) → AllByRecursion (IsOfKind kinds) (xs ++ (x ∷ rest)) → IsOfKind kinds x
 one_of_kinds kinds [] rest x h = h.0
 one_of_kinds kinds (y ∷ xs) rest x h = one_of_kinds kinds xs rest x h.1
 
+-- the next of these steps is of its cell's kind
 pub step_kind : (kinds : List Kind) (slots : List Slot) (xs rest : List WalkStep) (x : WalkStep) → AreOfKinds kinds slots → steps_of slots ≡ xs ++ (x ∷ rest) → IsOfKind kinds x
-step_kind kinds slots xs rest x h e = one_of_kinds kinds xs rest x (rw e at (all_of_kinds kinds slots h))
+step_kind kinds slots xs rest x h e = one_of_kinds kinds xs rest x (rw e at h)
 
 pub few_subs : (set : Set) → is_well_formed set ≡ true → (k : ℕ) → k < length set.devices → length (device_at set k).subs ≤ 32
 few_subs set h k lt =

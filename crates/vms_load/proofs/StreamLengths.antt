@@ -1,6 +1,6 @@
 -- How many bytes the steps of a part and the streams of a set may have.
 use Rattle.vms_load.proofs.Facade.{◌≡◌, ℕ, zero, suc, ◌+◌, ◌*◌, ◌≤◌, List, [], ◌∷◌, ◌++◌, length, get_or, ℤ, sym, ◌∙◌, arith, Bool, true, false}
-use Rattle.vms_load.proofs.Facade.{if◌then◌else◌, Option, Some, None, length-append, mul-le-mul_right, length-replicate, Item, Num, Equal, Unused, Struct}
+use Rattle.vms_load.proofs.Facade.{if◌then◌else◌, Option, Some, None, length-append, mul-le-mul_right, length-replicate, Item, Struct}
 use Rattle.vms_load.proofs.Facade.{Field, Desc, Set, Sub, Device, is_there, Slot, Rule, Meaning, no_meaning, no_desc, item_slots, item_size, times, field_slots}
 use Rattle.vms_load.proofs.Facade.{slots_from, desc_slots, field_cells, numbers_of, elements_of, capacity_of, counted, all_hold, no_parent, first, meaning}
 use Rattle.vms_load.proofs.Facade.{meanings, Number, Constant, Filler, desc_cells, struct_cells, elements_fit, first_long, desc_at, PartAt, steps_of, cells_in}
@@ -25,10 +25,8 @@ record Bounds (ms : List Meaning) (bytes : List ℕ) : Type 0 where
 
 module _ (ms : List Meaning) (bytes : List ℕ) (bounds : Bounds ms bytes) where
   item_bound : (item : Item) (caps : List ℕ) (n : List ℤ) (at : ℕ) → long (item_slots ms item caps n at) ≤ item_bytes bytes item
-  item_bound (Num kind) caps n at = omega arith
-  item_bound (Equal kind z) caps n at = omega arith
-  item_bound (Unused k) caps n at = omega arith
   item_bound (Struct j) caps n at = bounds.each j n at
+  item_bound _ caps n at = omega arith
 
   items_bound : (item : Item) (caps : List ℕ) (n : List ℤ) (k at step : ℕ) → long (times k (item_slots ms item caps n) at step) ≤ k * item_bytes bytes item
   items_bound item caps n zero at step = omega arith

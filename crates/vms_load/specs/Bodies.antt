@@ -1,5 +1,6 @@
 -- What the calls that read fields return.
-use Rattle.std.specs.Prelude.{◌≡◌, ℕ, ◌+◌, ◌≤◌, List, [], ◌∷◌, get_or, drop, Option, Some, ℤ, Result, Ok, Err, IfSome, OnOk}
+use Rattle.std.specs.Prelude.{◌≡◌, ℕ, ◌+◌, ◌≤◌, List, get_or, drop, Option, Some, ℤ, Result, Ok, Err, IfSome, OnOk}
+use Rattle.std.specs.List.{AllByRecursion}
 use Rattle.vms_io.specs.Told.{Intake}
 use Rattle.vms_io.specs.Reading.{Reads}
 use Rattle.vms_kinds.specs.declared.Kind.{Kind}
@@ -7,9 +8,9 @@ use Rattle.vms_kinds.specs.declared.Kind.TheVariants.{U8}
 use Rattle.vms_image.specs.Typed.{Typed}
 use Rattle.vms_walk.specs.declared.step.WalkStep.{WalkStep}
 use Rattle.vms_walk.specs.declared.step.WalkStep.TheVariants as steps
-use Rattle.vms_walk.specs.Inside.{IsInside}
+use Rattle.vms_walk.specs.{Inside.IsInside, Steps.steps_of}
 use Rattle.vms_kinds.specs.Codes.{width}
-use Rattle.vms_spec.specs.Layout.{Slot, Number as NumberSlot, Constant as ConstantSlot, Filler as FillerSlot, Rule as RuleSlot}
+use Rattle.vms_spec.specs.Layout.{Slot, Number as NumberSlot, Constant as ConstantSlot}
 use Rattle.vms_spec.specs.Taking.{Taken, Progress}
 use Rattle.vms_spec.specs.Units.{Number, Constant}
 use Rattle.vms_stream.specs.Dues.{Field}
@@ -34,11 +35,7 @@ pub record FitsStep (image : Typed) (step : WalkStep) : Type 0 where
 
 -- `AreOfKinds kinds slots`: each number of the slots has the kind of its cell.
 abbrev pub AreOfKinds : List Kind → List Slot → Type 0
-AreOfKinds kinds [] = Unit {0}
-AreOfKinds kinds (NumberSlot c kind capacities ∷ xs) = (get_or kinds c U8 ≡ kind) × AreOfKinds kinds xs
-AreOfKinds kinds (ConstantSlot kind z ∷ xs) = AreOfKinds kinds xs
-AreOfKinds kinds (FillerSlot n ∷ xs) = AreOfKinds kinds xs
-AreOfKinds kinds (RuleSlot b ∷ xs) = AreOfKinds kinds xs
+AreOfKinds kinds slots = AllByRecursion (IsOfKind kinds) (steps_of slots)
 
 -- `ReadsCapped kind capacities at old left result`: the call reads a number of `kind` that is at most each of
 -- `capacities`.

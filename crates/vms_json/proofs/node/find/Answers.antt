@@ -8,13 +8,9 @@ loop-name-init c = (no_members, refl, refl)
 pub loop-name-preserved-then-is_key : goal.loop-name-preserved-then-is_key
 loop-name-preserved-then-is_key c =
     let l = c.loop-name.invariant in
-    let k = c.in-Some.name.now in
-    let d = view c.in-Some.value in
-    (put k d l.0, l.1 ∙ c.in-Some.ensures.value l.0, put_found true c.args.key.now k d l.0 (sym c.is_key.ensures ∙ c.if-is_key.true))
+    (put c.in-Some.name.now (view c.in-Some.value) l.0, l.1 ∙ c.in-Some.ensures.value l.0, put_found true c.args.key.now _ _ l.0 (sym c.is_key.ensures ∙ c.if-is_key.true))
 
 pub loop-name-preserved : goal.loop-name-preserved
 loop-name-preserved c =
     let l = c.loop-name.invariant in
-    let k = c.in-Some.name.now in
-    let d = view c.in-Some.value in
-    (put k d l.0, l.1 ∙ c.in-Some.ensures.value l.0, put_found false c.args.key.now k d l.0 (sym c.is_key.ensures ∙ c.if-is_key.false) ∙ l.2)
+    (put c.in-Some.name.now (view c.in-Some.value) l.0, l.1 ∙ c.in-Some.ensures.value l.0, put_found false c.args.key.now _ _ l.0 (sym c.is_key.ensures ∙ c.if-is_key.false) ∙ l.2)

@@ -1,5 +1,5 @@
-use Rattle.vms_load.proofs.Facade.{rules, ◌≡◌, ◌<◌, sym, ap, ◌∙◌, arith, length, get_or, Option, Some, None, ℕ, List, map, length-map, find_sub, sub_of}
-use Rattle.vms_load.proofs.Facade.{device_of, get_map_at, sub_at, reason_against_sub}
+use Rattle.vms_load.proofs.Facade.{rules, ◌≡◌, ◌<◌, sym, ap, ◌∙◌, arith, length, Option, Some, None, ℕ, List, map, length-map, find_sub, sub_of}
+use Rattle.vms_load.proofs.Facade.{device_of, get_map_at, sub_at, reason_against_sub, sub_opened, opened_unless, Reason}
 use Rattle.vms_parts.specs.declared.types.Sub.{Sub as CodeSub}
 use Rattle.vms_load.proofs.HeadLemmas.{unknown_sub, opens_sub, sub_below}
 use Rattle.vms_load.proofs.heads.open_sub.Goals.{After-against_sub, In-Some}
@@ -17,16 +17,18 @@ found : (c : goal.In-Some) → find_sub 0 (map sub_of c.args.device.now.subs) c.
 found c =
     found_sub c.args.device.now.subs c.as_slice.result.now c.deref.result.now c.args.name.now.items c.find_sub.result c.in-Some.sub c.as_slice.ensures c.deref.ensures.0 c.find_sub.ensures c.in-Some.is
 
--- it is opened or refused by what it is
-judged : (c : goal.After-against_sub) → find_sub 0 (map sub_of c.args.device.now.subs) c.args.name.now.items ≡ Some c.in-Some.sub → (let d = device_of c.args.device.now in let j = c.in-Some.sub in
-    c.against_sub.result ≡ reason_against_sub (sub_at d j) (get_or c.args.image.now.came j None) c.args.version)
-judged c it =
+-- it is opened, or refused for the reason against it
+judged : (c : goal.After-against_sub) → find_sub 0 (map sub_of c.args.device.now.subs) c.args.name.now.items ≡ Some c.in-Some.sub
+    → (k : ℕ) (why : Option Reason) → c.against_sub.result ≡ why
+    → opened_unless (Some k) c.in-Some.sub why ≡ sub_opened k (device_of c.args.device.now) c.args.image.now.came c.args.name.now.items c.args.version
+judged c it k why is =
+    let d = device_of c.args.device.now in
     let subs = c.args.device.now.subs in
     let j = c.in-Some.sub in
     let below = below_subs subs c.args.name.now.items j it in
     let here = get_map_at sub_of subs j c.index-as_slice-sub.result _ below (rw c.as_slice-2.ensures at c.index-as_slice-sub.is) in
-    c.against_sub.ensures ∙ ap (λ s. reason_against_sub s c.came.result c.args.version) (sym here)
-    ∙ ap (λ o. reason_against_sub (sub_at (device_of c.args.device.now) j) o c.args.version) c.came.ensures
+    opens_sub k d c.args.image.now.came c.args.name.now.items c.args.version j why c.requires.long it
+    (sym is ∙ c.against_sub.ensures ∙ ap (λ s. reason_against_sub s c.came.result c.args.version) (sym here) ∙ ap (λ o. reason_against_sub (sub_at d j) o c.args.version) c.came.ensures)
 
 pub bounds-as_slice-sub : goal.bounds-as_slice-sub
 bounds-as_slice-sub c =
@@ -41,22 +43,12 @@ came-requires c =
 pub returns-in-None-against_sub : goal.returns-in-None-against_sub
 returns-in-None-against_sub c =
     let h = goal.at.returns-in-None-against_sub c in
-    record {
-      short = search rules;
-      opened = λ k.
-          opens_sub k (device_of c.args.device.now) c.args.image.now.came c.args.name.now.items c.args.version c.in-Some.sub None c.requires.long (found h.In-Some)
-          (sym c.in-None-against_sub.is ∙ judged h.After-against_sub (found h.In-Some));
-    }
+    record { short = search rules; opened = λ k. judged h.After-against_sub (found h.In-Some) k None c.in-None-against_sub.is }
 
 pub returns-in-Some-against_sub : goal.returns-in-Some-against_sub
 returns-in-Some-against_sub c =
     let h = goal.at.returns-in-Some-against_sub c in
-    record {
-      short = search rules;
-      opened = λ k.
-          opens_sub k (device_of c.args.device.now) c.args.image.now.came c.args.name.now.items c.args.version c.in-Some.sub (Some c.in-Some-against_sub.reason) c.requires.long (found h.In-Some)
-          (sym c.in-Some-against_sub.is ∙ judged h.After-against_sub (found h.In-Some));
-    }
+    record { short = search rules; opened = λ k. judged h.After-against_sub (found h.In-Some) k _ c.in-Some-against_sub.is }
 
 pub returns-in-None : goal.returns-in-None
 returns-in-None c =

@@ -1,4 +1,4 @@
-use Rattle.vms_descfile.proofs.Facade.{◌≡◌, ◌-◌, [], refl, sym, subst, ap, ◌∙◌, arith, codes, Err, view, Not, formula, Answers, good, bad, next, changed, under}
+use Rattle.vms_descfile.proofs.Facade.{◌≡◌, ◌-◌, [], refl, sym, subst, ap, arith, codes, Err, view, Not, formula, Answers, good, bad, next, changed, under}
 use Rattle.vms_descfile.proofs.Facade.{Refuses, at, member_of, scope_seen, form_of, test_within, own_cell, two_of, key_of, joined, both, pair_seen}
 use Rattle.vms_descfile.specs.declared.read.cells.Form.TheVariants as forms
 use Rattle.vms_descfile.specs.declared.read.cells.Leaf.TheVariants as leaves
@@ -45,10 +45,7 @@ returns-in-Ok t c =
 
 pub returns-in-Err : goal.returns-in-Err
 returns-in-Err t c =
-    let scope = scope_seen c.args.scope in
     let d = view c.args.value.now in
     let join = c.in-Two.join in
-    let inner = test_within (c.args.depth - 1) scope in
-    by_form c.args.depth scope d (forms.Two join) (Err c.in-Err.fault) (omega arith) c.in-Two.ensures
-    (refused_next (at two_of (key_of join) d) (λ p. under (key_of join) (both (joined join) (inner p.first) (inner p.second))) c.in-Err.fault
-    (subst (λ k. Refuses (at two_of k d) c.in-Err.fault) c.key.ensures c.in-Err.ensures))
+    by_form c.args.depth (scope_seen c.args.scope) d (forms.Two join) (Err c.in-Err.fault) (omega arith) c.in-Two.ensures
+    (refused_next (at two_of (key_of join) d) _ c.in-Err.fault (subst (λ k. Refuses (at two_of k d) c.in-Err.fault) c.key.ensures c.in-Err.ensures))
