@@ -46,20 +46,14 @@ impl<T: Drop> From<AllocFailed<T>> for Unread {
 pub(crate) fn text_of<'a>(value: &Node<'_, 'a>) -> Result<&'a str, Unread>
     ensures { ReadsAs (λ t. t.now) (as_str (view value.now)) result }
 {
-    match value.as_str() {
-        Some(text) => Ok(text),
-        None => Err(Unread::Shape),
-    }
+    value.as_str().ok_or(Unread::Shape)
 }
 
 /// Returns the text under `key`.
 pub(crate) fn text_at<'a>(value: &Node<'_, 'a>, key: &str) -> Result<&'a str, Unread>
     ensures { ReadsAs (λ t. t.now) (text_at key.now (view value.now)) result }
 {
-    match value.get(key).and_then(Node::as_str) {
-        Some(text) => Ok(text),
-        None => Err(Unread::Shape),
-    }
+    value.get(key).and_then(Node::as_str).ok_or(Unread::Shape)
 }
 
 /// Returns `text`, if it is a path or name of 1 to `most` bytes.
@@ -85,20 +79,14 @@ pub(crate) fn path_at<'a>(value: &Node<'_, 'a>, key: &str, most: usize) -> Resul
 pub(crate) fn natural_of(value: &Node) -> Result<u64, Unread>
     ensures { ReadsAs (λ n. n) (natural_of (view value.now)) result }
 {
-    match value.as_u64() {
-        Some(number) => Ok(number),
-        None => Err(Unread::Shape),
-    }
+    value.as_u64().ok_or(Unread::Shape)
 }
 
 /// Returns the number without a sign under `key`.
 pub(crate) fn natural_at(value: &Node, key: &str) -> Result<u64, Unread>
     ensures { ReadsAs (λ n. n) (natural_at key.now (view value.now)) result }
 {
-    match value.get(key).and_then(Node::as_u64) {
-        Some(number) => Ok(number),
-        None => Err(Unread::Shape),
-    }
+    value.get(key).and_then(Node::as_u64).ok_or(Unread::Shape)
 }
 
 /// Returns the number of four bytes under `key`.
@@ -117,30 +105,22 @@ pub(crate) fn four_at(value: &Node, key: &str) -> Result<u32, Unread>
 pub(crate) fn whole_at(value: &Node, key: &str) -> Result<i128, Unread>
     ensures { ReadsAs (λ z. z) (whole_at key.now (view value.now)) result }
 {
-    match value.get(key).and_then(Node::as_number).and_then(whole_of) {
-        Some(number) => Ok(number),
-        None => Err(Unread::Shape),
-    }
+    let number = value.get(key).and_then(Node::as_number);
+    number.and_then(whole_of).ok_or(Unread::Shape)
 }
 
 /// Returns whether the flag under `key` is set.
 pub(crate) fn flag_at(value: &Node, key: &str) -> Result<bool, Unread>
     ensures { ReadsAs (λ b. b) (flag_at key.now (view value.now)) result }
 {
-    match value.get(key).and_then(Node::as_bool) {
-        Some(flag) => Ok(flag),
-        None => Err(Unread::Shape),
-    }
+    value.get(key).and_then(Node::as_bool).ok_or(Unread::Shape)
 }
 
 /// Returns the items of the list under `key`.
 pub(crate) fn list_at<'t, 'a>(value: &Node<'t, 'a>, key: &str) -> Result<Items<'t, 'a>, Unread>
     ensures { ReadsAs (λ v. items_left v) (list_at key.now (view value.now)) result }
 {
-    match value.get(key).and_then(Node::as_list) {
-        Some(items) => Ok(items),
-        None => Err(Unread::Shape),
-    }
+    value.get(key).and_then(Node::as_list).ok_or(Unread::Shape)
 }
 
 // Returns a whole number: one without a sign, or one below 0.
