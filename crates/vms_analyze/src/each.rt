@@ -2,10 +2,10 @@
 ghost use Rattle.std.specs.Prelude.{map, Option};
 ghost use Rattle.serde_json.specs.Data.{Data};
 ghost use Rattle.vms_json.specs.Nodes.{items_left, view};
-ghost use Rattle.vms_analyze.specs.Read.{each};
+ghost use Rattle.vms_analyze.specs.Read.{each, list_at, next};
 ghost use Rattle.vms_analyze.specs.Typed.{ReadsAs};
 
-use crate::members::Unread;
+use crate::members::{Unread, list_at};
 use std::alloc::Global;
 use vms_json::{Items, Node};
 
@@ -29,16 +29,25 @@ pub(crate) trait Reads<'a>: Drop {
         ensures { ReadsAs means (says (view value.now)) result };
 }
 
-/// Returns what all items say.
+/// Returns what all items of the list under `key` say.
 ///
 /// # Errors
 ///
-/// - [`Unread::Shape`]: an item has another shape.
+/// - [`Unread::Shape`]: there is no list, or an item has another shape.
 /// - [`Unread::NoMemory`]: out of memory.
-pub(crate) fn each<'a, T: Reads<'a>>(
+pub(crate) fn each_at<'a, T: Reads<'a>>(
     alloc: Global,
-    mut items: Items<'_, 'a>,
+    value: &Node<'_, 'a>,
+    key: &str,
 ) -> Result<Vec<T>, Unread>
+    ensures { let said = next (list_at key.now (view value.now)) (each T.says) in
+        ReadsAs (λ v. map T.means v.items) said result }
+{
+    each(alloc, list_at(value, key)?)
+}
+
+// Returns what all items say.
+fn each<'a, T: Reads<'a>>(alloc: Global, mut items: Items<'_, 'a>) -> Result<Vec<T>, Unread>
     ensures { ReadsAs (λ v. map T.means v.items) (each T.says (items_left items.entry)) result }
 {
     let mut list = Vec::with_capacity(alloc, items.count())?;

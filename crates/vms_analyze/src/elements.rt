@@ -3,13 +3,13 @@ ghost use Rattle.std.specs.Prelude.{◌≡◌, ◌||◌, ◌==◌, map, Some, If
 ghost use Rattle.std.specs.List.{list_all};
 ghost use Rattle.vms_json.specs.Nodes.{view};
 ghost use Rattle.vms_analyze.specs.Told.{Told, is_kept};
-ghost use Rattle.vms_analyze.specs.Read.{element_in, elements_in, kept_in, sent_as, sent_in, unprinted};
+ghost use Rattle.vms_analyze.specs.Read.{element_in, kept_in, sent_as, sent_in, unprinted};
 ghost use Rattle.vms_words.specs.Words.{kind_named};
 ghost use Rattle.vms_analyze.specs.Typed.{ReadsAs, in_order_said, in_order_seen, told_of};
 
-use crate::each::{Reads, each};
+use crate::each::Reads;
 use crate::members::{
-    Unread, list_at, natural_at, natural_of, path_at, path_of, text_at, text_of, whole_at,
+    Unread, natural_at, natural_of, path_at, path_of, text_at, text_of, whole_at,
 };
 use crate::told::Element;
 use std::alloc::Global;
@@ -19,21 +19,6 @@ use vms_words::kind_named;
 
 /// The most bytes of a path.
 const LONGEST_PATH: usize = 300;
-
-/// Returns the elements of a device or a subsection.
-///
-/// # Errors
-///
-/// - [`Unread::Shape`]: the value has another shape.
-/// - [`Unread::NoMemory`]: out of memory.
-pub(crate) fn elements_in<'a>(
-    alloc: Global,
-    value: &Node<'_, 'a>,
-) -> Result<Vec<Element<'a>>, Unread>
-    ensures { ReadsAs (λ v. map told_of v.items) (elements_in (view value.now)) result }
-{
-    each(alloc, list_at(value, "fields")?)
-}
 
 impl<'a> Reads<'a> for Element<'a> {
     ghost Meaning = { Told };
