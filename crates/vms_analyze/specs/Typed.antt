@@ -1,6 +1,5 @@
 -- What the code's devices say, and what the code returns for a value.
 use Rattle.std.specs.Prelude.{◌≡◌, List, [], ◌∷◌, map, Option, Some, None, Result, Ok, Err, codes}
-use Rattle.std.specs.List.{flat_map}
 use Rattle.serde_json.specs.Data.{Data, object, member, no_members}
 use Rattle.serde_json.specs.Find.{as_str}
 use Rattle.vms_json.specs.Nodes.{view}
@@ -64,18 +63,6 @@ wants_of_sub s = sub_wants (sub_of s)
 -- What a device requires.
 abbrev pub wants_of_device : Device → List Want
 wants_of_device d = device_wants (device_of d)
-
--- What elements require.
-abbrev pub element_wants : List Element → List Want
-element_wants es = flat_map want_of es
-
--- What subsections require.
-abbrev pub subs_wants : List Sub → List Want
-subs_wants ss = flat_map wants_of_sub ss
-
--- What devices require.
-abbrev pub devices_wants : List Device → List Want
-devices_wants ds = flat_map wants_of_device ds
 
 -- ---- what is read of a value
 
