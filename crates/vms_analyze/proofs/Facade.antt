@@ -46,7 +46,7 @@ pub use Rattle.vms_elements.specs.Lines.{device_lines, devices_lines, machine_li
 pub use Rattle.vms_elements.specs.Parts.{elements_in, is_number, slot_of, slots_of}
 pub use Rattle.vms_elements.specs.Reading.{AreAtVersions, AreFine, AreShaped, IsMachineOf, IsShaped}
 pub use Rattle.vms_analyze.specs.{declared.elements.TheConstants.LONGEST_PATH, declared.fault.AnalyzeFault.AnalyzeFault, declared.input.NoInput.NoInput}
-pub use Rattle.vms_analyze.specs.{declared.members.Unread.Unread, declared.told.Element.Element, declared.walk.Stop.Stop, declared.walk.Walk.Walk}
+pub use Rattle.vms_analyze.specs.{declared.stop.Stop.Stop, declared.told.Element.Element, declared.walk.Walk.Walk}
 pub use Rattle.vms_analyze.specs.Calls.{IsListed, IsTooMuch, ListsAs, ListsTaken, ShowsAs}
 pub use Rattle.vms_analyze.specs.Inputs.{Appended, HasMore, IsWhole, TakesInput, TakesPiece}
 pub use Rattle.vms_analyze.specs.Laws.{HasListing, LongestLaw, OneLaw, ReadBackLaw, ShownLaw, TotalLaw}

@@ -10,7 +10,7 @@ use Rattle.vms_analyze.proofs.Facade.{configuration, section_head, is_machine, m
 use Rattle.vms_analyze.proofs.Following.{Takes, one_follows, takes_line, takes_number, behind_both, takes_head}
 use Rattle.vms_analyze.proofs.Streams.{takes_machine, no_machine}
 use Rattle.vms_analyze.specs.declared.told.Device.{Device}
-use Rattle.vms_analyze.specs.declared.walk.Stop.TheVariants as stops
+use Rattle.vms_analyze.specs.declared.stop.Stop.TheVariants as stops
 
 -- ---- One step of a walk, by what is taken.
 

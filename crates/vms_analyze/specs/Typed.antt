@@ -13,8 +13,8 @@ use Rattle.vms_analyze.specs.declared.told.Element.{Element}
 use Rattle.vms_analyze.specs.declared.told.Element.TheVariants as typed
 use Rattle.vms_analyze.specs.declared.told.Sub.{Sub}
 use Rattle.vms_analyze.specs.declared.told.Device.{Device}
-use Rattle.vms_analyze.specs.declared.members.Unread.{Unread}
-use Rattle.vms_analyze.specs.declared.members.Unread.TheVariants as unread
+use Rattle.vms_analyze.specs.declared.stop.Stop.{Stop}
+use Rattle.vms_analyze.specs.declared.stop.Stop.TheVariants as stops
 
 -- What an element says.
 abbrev pub told_of : Element → Told
@@ -68,7 +68,7 @@ wants_of_device d = device_wants (device_of d)
 
 -- This is read, where `m` says what the code's value means; or nothing, if the shape is another. Memory may
 -- run out in any case.
-abbrev pub ReadsAs : {A T : Type 0} → (T → A) → Option A → Result T Unread → Type 0
+abbrev pub ReadsAs : {A T : Type 0} → (T → A) → Option A → Result T Stop → Type 0
 ReadsAs m said (Ok t) = said ≡ Some (m t)
-ReadsAs m said (Err unread.Shape) = said ≡ None
-ReadsAs m said (Err unread.NoMemory) = Unit {0}
+ReadsAs m said (Err stops.Differs) = said ≡ None
+ReadsAs m said (Err stops.NoMemory) = Unit {0}

@@ -7,7 +7,8 @@ ghost use Rattle.vms_analyze.specs.Typed.{ReadsAs, device_of, sub_of};
 
 use crate::each::{Reads, each_at};
 use crate::elements::are_kept;
-use crate::members::{Unread, flag_at, four_at, path_at};
+use crate::members::{flag_at, four_at, path_at};
+use crate::stop::Stop;
 use crate::told::{Device, Sub};
 use std::alloc::Global;
 use vms_json::{Node, fits};
@@ -17,15 +18,15 @@ use vms_spec::LONGEST_NAME;
 ///
 /// # Errors
 ///
-/// - [`Unread::Shape`]: the value has another shape.
-/// - [`Unread::NoMemory`]: out of memory.
-pub(crate) fn devices_in<'a>(alloc: Global, value: &Node<'_, 'a>) -> Result<Vec<Device<'a>>, Unread>
+/// - [`Stop::Differs`]: the value has another shape.
+/// - [`Stop::NoMemory`]: out of memory.
+pub(crate) fn devices_in<'a>(alloc: Global, value: &Node<'_, 'a>) -> Result<Vec<Device<'a>>, Stop>
     ensures { ReadsAs (λ v. map device_of v.items) (devices_in (view value.now)) result }
 {
     if fits(value, &["devices"], &[]) {
         each_at(alloc, value, "devices")
     } else {
-        Err(Unread::Shape)
+        Err(Stop::Differs)
     }
 }
 
@@ -36,13 +37,13 @@ impl<'a> Reads<'a> for Device<'a> {
 
     ghost says = { device_in };
 
-    fn read(alloc: Global, value: &Node<'_, 'a>) -> Result<Self, Unread> {
+    fn read(alloc: Global, value: &Node<'_, 'a>) -> Result<Self, Stop> {
         if !fits(
             value,
             &["fields", "instance_id", "name", "subsections", "version"],
             &[],
         ) {
-            return Err(Unread::Shape);
+            return Err(Stop::Differs);
         }
         let name = path_at(value, "name", LONGEST_NAME)?;
         let instance = four_at(value, "instance_id")?;
@@ -66,9 +67,9 @@ impl<'a> Reads<'a> for Sub<'a> {
 
     ghost says = { sub_in };
 
-    fn read(alloc: Global, value: &Node<'_, 'a>) -> Result<Self, Unread> {
+    fn read(alloc: Global, value: &Node<'_, 'a>) -> Result<Self, Stop> {
         if !fits(value, &["fields", "name", "sent", "version"], &[]) {
-            return Err(Unread::Shape);
+            return Err(Stop::Differs);
         }
         let name = path_at(value, "name", LONGEST_NAME)?;
         let sent = flag_at(value, "sent")?;
@@ -82,7 +83,7 @@ impl<'a> Reads<'a> for Sub<'a> {
                 elements,
             })
         } else {
-            Err(Unread::Shape)
+            Err(Stop::Differs)
         }
     }
 }

@@ -5,9 +5,10 @@ ghost use Rattle.vms_spec.specs.Lookup.{number_at};
 ghost use Rattle.vms_spec.specs.Spelling.{begins_with};
 ghost use Rattle.vms_analyze.specs.Wanted.{Foot as TheFoot, Head, Machine, section_line};
 ghost use Rattle.vms_analyze.specs.Walking.{HasNoMachine, IsInside, IsMachineName, Prints, Walks, left};
-ghost use Rattle.vms_analyze.specs.declared.walk.Stop.TheVariants as stops;
+ghost use Rattle.vms_analyze.specs.declared.stop.Stop.TheVariants as stops;
 
-use crate::walk::{Stop, Walk};
+use crate::stop::Stop;
+use crate::walk::Walk;
 use byteorder::{BigEndian, ByteOrder};
 use itoa::Buffer;
 use vms_marks::{CONFIGURATION_FRONT, Foot, Mark};

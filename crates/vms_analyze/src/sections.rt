@@ -8,10 +8,11 @@ ghost use Rattle.vms_analyze.specs.Wanted.{Bytes, Line, kept_line, sent_line, fo
 ghost use Rattle.vms_analyze.specs.Typed.{device_of, sub_of, wants_of_device, wants_of_sub};
 ghost use Rattle.vms_analyze.specs.Listing.{listing_of};
 ghost use Rattle.vms_analyze.specs.Walking.{AtStart, Goes, IsInside, Prints, Shows, Walks};
-ghost use Rattle.vms_analyze.specs.declared.walk.Stop.TheVariants as stops;
+ghost use Rattle.vms_analyze.specs.declared.stop.Stop.TheVariants as stops;
 
+use crate::stop::Stop;
 use crate::told::{Device, Sub};
-use crate::walk::{Sought, Stop, Walk};
+use crate::walk::{Sought, Walk};
 use itoa::Buffer;
 use vms_marks::Mark;
 use vms_write::sub_head;

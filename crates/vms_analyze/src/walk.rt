@@ -3,12 +3,12 @@ ghost use Rattle.std.specs.Prelude.{◌≡◌, ◌∷◌, [], Bool, List, true, 
 ghost use Rattle.std.specs.List.{flat_map, list_all};
 ghost use Rattle.vms_analyze.specs.Wanted.{Want, Bytes, Any, Number, Line, number_line};
 ghost use Rattle.vms_analyze.specs.Typed.{want_of};
-ghost use Rattle.vms_analyze.specs.declared.walk.Stop.TheVariants as stops;
+ghost use Rattle.vms_analyze.specs.declared.stop.Stop.TheVariants as stops;
 ghost use Rattle.vms_analyze.specs.Walking.{IsInside, Goes, Prints, Walks};
 
+use crate::stop::Stop;
 use crate::told::Element;
 use itoa::Buffer;
-use std::alloc::AllocError;
 use vms_kinds::Kind;
 
 /// A stream, the offset up to which it is as required, the id of the open section, and the lines
@@ -19,25 +19,6 @@ pub(crate) struct Walk<'a> {
     pub(crate) place: usize,
     pub(crate) id: u32,
     pub(crate) text: Vec<u8>,
-}
-
-/// Why a walk ends early.
-#[derive(Clone, Copy, Drop)]
-pub(crate) enum Stop {
-    /// What is at the offset isn't as required.
-    Differs,
-    /// Out of memory.
-    NoMemory,
-}
-
-impl From<AllocError> for Stop {
-    ghost use Rattle.vms_analyze.specs.declared.walk.Stop.TheVariants.{NoMemory};
-
-    ghost from_gives = { λ _ e. e ≡ NoMemory };
-
-    fn from(_: AllocError) -> Self {
-        Stop::NoMemory
-    }
 }
 
 /// What is sought in a stream.
