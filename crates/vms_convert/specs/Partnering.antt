@@ -170,17 +170,6 @@ module _ (sets : Sets) where
     pub few : item_size (struct_cells (described sets.old.now)) a ≤ MOST_ITEMS
     pub room : at + item_size (struct_cells (described sets.new.now)) b ≤ MOST_ITEMS
 
-  -- The structures are in their sets, and their cells are within the limit.
-  pub record CanPairStructs (i j at : ℕ) : Type 0 where
-    pub old : i < length (described sets.old.now).structs
-    pub new : j < length (described sets.new.now).structs
-    pub few : length (get_or (struct_cells (described sets.old.now)) i []) ≤ MOST_ITEMS
-    pub room : at + length (get_or (struct_cells (described sets.new.now)) j []) ≤ MOST_ITEMS
-
   -- The partners of an item's cells.
   abbrev pub items_in : Item → Item → ℕ → List (Option ℕ)
   items_in a b at = item_on (described sets.old.now) (described sets.new.now) a b at
-
-  -- The partners of a structure's cells.
-  abbrev pub structs_in : ℕ → ℕ → ℕ → List (Option ℕ)
-  structs_in i j at = struct_on (described sets.old.now) (described sets.new.now) i j at

@@ -4,9 +4,9 @@ ghost use Rattle.vms_desc.specs.Described.{described, device_at};
 ghost use Rattle.vms_check.specs.Comparing.{same_kind};
 ghost use Rattle.vms_check.specs.Partners.{device_partners};
 ghost use Rattle.vms_convert.specs.Partnering.{AreArrays, HasRoom, IsBehind, IsNextStart, PairsElement, PairsField};
-ghost use Rattle.vms_convert.specs.Partnering.{AtField, AtStart, CanPair, CanPairElement, CanPairField, CanPairItems, CanPairStructs};
+ghost use Rattle.vms_convert.specs.Partnering.{AtField, AtStart, CanPair, CanPairElement, CanPairField, CanPairItems};
 ghost use Rattle.vms_convert.specs.Partnering.{CanPairSub, HasField, HaveFields};
-ghost use Rattle.vms_convert.specs.Partnering.{arrays_on, elements_left, elements_on, items_in, partners_on, structs_in, sub_on};
+ghost use Rattle.vms_convert.specs.Partnering.{arrays_on, elements_left, elements_on, items_in, partners_on, sub_on};
 
 use std::alloc::{AllocError, Global};
 use vms_check::{Side, at_own_version, fields_of, is_present, same_kind};
@@ -262,7 +262,7 @@ fn pair_element(
     }
 }
 
-// Pairs one element with another, whose first cell is `cell`.
+// Pairs one element with another, whose first cell is `cell`: structures each at its own version.
 #[cycle(pairing)]
 fn pair_items(
     sets: Sets,
@@ -277,7 +277,11 @@ fn pair_items(
 {
     match (one, other) {
         (Item::Num(one), Item::Num(other)) => put_pair(one, other, cell, partners),
-        (Item::Struct(one), Item::Struct(other)) => pair_structs(sets, one, other, cell, partners),
+        (Item::Struct(in_old), Item::Struct(in_new)) => {
+            let older = at_own_version(sets.old, Part::Struct(in_old));
+            let newer = at_own_version(sets.new, Part::Struct(in_new));
+            pair_descs(older, newer, cell, partners)
+        }
         _ => put_unpaired(sets.old.item_cells(one), partners),
     }
 }
@@ -299,27 +303,6 @@ fn put_pair(
     };
     partners.push(partner)?;
     Ok(())
-}
-
-// Pairs two structures, each at its own version.
-#[cycle(pairing)]
-fn pair_structs(
-    sets: Sets,
-    in_old: u32,
-    in_new: u32,
-    cell: u32,
-    partners: &mut Vec<Option<u32>>,
-) -> Result<(), AllocError>
-    requires { CanPairStructs sets in_old in_new cell }
-    ensures { let pairs = structs_in sets.entry in_old in_new cell in
-        OnOk result (partners.new.items ≡ partners.old.items ++ pairs) }
-{
-    pair_descs(
-        at_own_version(sets.old, Part::Struct(in_old)),
-        at_own_version(sets.new, Part::Struct(in_new)),
-        cell,
-        partners,
-    )
 }
 
 // Appends `cells` cells without a partner.

@@ -1,5 +1,5 @@
 use Rattle.vms_convert.proofs.Facade.{ℕ, ◌+◌, ◌*◌, ◌<◌, ◌≤◌, List, ◌++◌, length, Option, refl, sym, ap, ◌∙◌, arith, rules, not-false, on_ok_weaker, ◌≡◌, subst}
-use Rattle.vms_convert.proofs.Facade.{false, get_or, no_field, HasFew, field_of, struct_on, described, found_field, reach, is_absent, desc_on, partners_on}
+use Rattle.vms_convert.proofs.Facade.{false, get_or, no_field, HasFew, field_of, item_on, ltb-true, described, found_field, reach, is_absent, desc_on, partners_on}
 use Rattle.vms_convert.proofs.PartnerLaws.{depth, structs_paired}
 use Rattle.vms_convert.proofs.PartnerSteps.{absent_pairs, all_paired, alone_pairs, arrays_are, arrays_room, both_pair, element_alone_pairs, element_pairs}
 use Rattle.vms_convert.proofs.PartnerSteps.{elements_all, few_next, few_struct, field_depth, room_struct}
@@ -62,7 +62,7 @@ pair_field-pair_arrays-requires t c =
     let inside : found.field < length (desc_on r).fields = omega arith in
     let low : depth c.arrays_of-arrays.result.one.item ≤ reach (described s.set.now) s.part =
     rw c.arrays_of-arrays.ensures (field_depth s c.args.number c.requires.old c.requires.field) in
-    let less : 6 * depth c.arrays_of-arrays.result.one.item + 3 < 6 * reach (described s.set.now) s.part + 4 = omega arith in (
+    let less : 5 * depth c.arrays_of-arrays.result.one.item + 2 < 5 * reach (described s.set.now) s.part + 3 = omega arith in (
       search rules,
       (
         rw c.arrays_of-arrays.ensures (arrays_are s r c.args.number found.field c.requires.old c.requires.new c.requires.field inside c.requires.few),
@@ -86,26 +86,34 @@ pair_field-returns-in_ok-put_unpaired-2 t c =
     c.next_start-found.result c.next_start-found.ensures (omega arith) there (rw c.field_cells.ensures at c.in_ok-put_unpaired.ensures)
 
 -- structures
-pub pair_structs-pair_descs-requires : goal.pair_structs-pair_descs-requires
-pair_structs-pair_descs-requires t c =
-    let less : 6 * reach (described c.at_own_version.result.set.now) c.at_own_version.result.part + 5 < 6 * c.args.in_old + 6 =
-    rw c.at_own_version.ensures (omega arith) in (
+pub pair_items-pair_descs-requires : goal.pair_items-pair_descs-requires
+pair_items-pair_descs-requires t c =
+    let m = c.in-Struct-Struct in
+    let sets = c.args.sets in
+    let older = c.at_own_version-older.ensures in
+    let newer = c.at_own_version-newer.ensures in
+    let old = ltb-true m.in_old (length (described sets.old.now).structs) (rw m.is-0 at c.requires.one) in
+    let new = ltb-true m.in_new (length (described sets.new.now).structs) (rw m.is-1 at c.requires.other) in
+    let less : 5 * reach (described c.at_own_version-older.result.set.now) c.at_own_version-older.result.part + 4 < 5 * depth c.args.one =
+    rw (older, m.is-0) (omega arith) in (
       search rules,
       record {
-        old = rw c.at_own_version.ensures c.requires.old;
-        new = rw c.at_own_version-2.ensures c.requires.new;
-        few = subst (λ x. HasFew x 0) (sym c.at_own_version.ensures) (few_struct c.args.sets.old c.args.in_old c.requires.few);
-        room = rw c.at_own_version-2.ensures (room_struct c.args.sets.new c.args.in_new c.args.cell c.requires.room);
+        old = rw older old;
+        new = rw newer new;
+        few = subst (λ x. HasFew x 0) (sym older) (few_struct sets.old m.in_old (rw m.is-0 at c.requires.few));
+        room = rw newer (room_struct sets.new m.in_new c.args.cell (rw m.is-1 at c.requires.room));
       },
     )
 
-pub pair_structs-returns : goal.pair_structs-returns
-pair_structs-returns t c =
+pub pair_items-returns-in-Struct-Struct : goal.pair_items-returns-in-Struct-Struct
+pair_items-returns-in-Struct-Struct t c =
+    let m = c.in-Struct-Struct in
     let old = c.args.sets.old in
     let new = c.args.sets.new in
     let at = c.args.cell in
-    let is = structs_paired (described old.now) (described new.now) old.now.well_formed c.args.in_old c.args.in_new _ _ at c.requires.old refl refl in
-    let pairs : partners_on c.at_own_version.result c.at_own_version-2.result at
-    ≡ struct_on (described old.now) (described new.now) c.args.in_old c.args.in_new at =
-    rw (c.at_own_version.ensures, c.at_own_version-2.ensures, is) in
+    let lt = ltb-true m.in_old (length (described old.now).structs) (rw m.is-0 at c.requires.one) in
+    let is = structs_paired (described old.now) (described new.now) old.now.well_formed m.in_old m.in_new _ _ at lt refl refl in
+    let pairs : partners_on c.at_own_version-older.result c.at_own_version-newer.result at
+    ≡ item_on (described old.now) (described new.now) c.args.one c.args.other at =
+    rw (c.at_own_version-older.ensures, c.at_own_version-newer.ensures, m.is-0, m.is-1, is) in
     on_ok_weaker c.pair_descs.result (λ e. e ∙ ap (λ (l : List (Option ℕ)). c.args.partners.now.items ++ l) pairs) c.pair_descs.ensures
