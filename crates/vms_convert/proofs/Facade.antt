@@ -55,7 +55,7 @@ pub use Rattle.vms_convert.specs.{Giving.AreTargets, Giving.give_partner, Giving
 pub use Rattle.vms_convert.specs.{Returning.FirstDifference, Returning.IsReturned, Rooms.AreFresh, Rooms.AreRoutes, Rooms.IsRoute, Takes.put_keeps}
 pub use Rattle.vms_convert.specs.{Takes.takes_keeps, declared.fault.Loss.Loss, declared.pairing.Arrays.Arrays, declared.pairing.Elements.Elements}
 pub use Rattle.vms_convert.specs.{declared.pairing.Start.Start, declared.returns.LostCell.LostCell, declared.room.Route.Route}
-pub use Rattle.vms_convert.specs.Bringing.{ArePut, ArePutAt, SettlesBy, SettlesSub, own_part, part_of, part_slots, sub_part, sub_slots_at}
+pub use Rattle.vms_convert.specs.Bringing.{ArePut, ArePutAt, own_part, part_of, part_slots, sub_part, sub_slots_at}
 pub use Rattle.vms_convert.specs.Calls.{ConvertsKept, IsStreamFor, PutsStream}
 pub use Rattle.vms_convert.specs.Converted.{AreBack, IsConverted, IsPairAt, recast_each}
 pub use Rattle.vms_convert.specs.Laws.{AnswerLaw, AreRecastOf, BackLaw, ComesBackLaw, Converts, MayBeWritten, OneBackLaw, OneLostLaw, RecastOfLaw}
