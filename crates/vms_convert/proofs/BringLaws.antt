@@ -1,9 +1,9 @@
 -- The parts of a device, as the code walks over them by number.
-use Rattle.vms_convert.proofs.{Facade.changed_append, Facade.step_of, TakeLaws.first_slots, TakeLaws.first_next, TakeLaws.one_slots}
-use Rattle.vms_convert.proofs.Facade.{add-one, ◌≡◌, ℕ, ◌+◌, ◌<◌, ◌≤◌, Bool, true, false, List, length, Option, Some, None, ℤ, refl, sym, ap, ◌∙◌, arith, get_or}
+use Rattle.vms_convert.proofs.Facade.{changed_append, step_of, add-one, ◌≡◌, ℕ, ◌+◌, ◌<◌, ◌≤◌, true, List, length, Option, Some, None, ℤ, refl, arith, get_or}
 use Rattle.vms_convert.proofs.Facade.{append-nil, slice_get-get_or, slice_get, take_all, map-append, Sub, Device, Set, device_cells, own_slots, Image}
-use Rattle.vms_convert.proofs.Facade.{image_slots, needed_at, device_at, is_well_formed, sub_at, few_cells, own_inside_device, sub_inside, Typed, HasSpot}
-use Rattle.vms_convert.proofs.Facade.{spot_slots, steps_of, part_of, own_part, part_slots, sub_slots_at, changed, part_place, give_step}
+use Rattle.vms_convert.proofs.Facade.{image_slots, device_at, is_well_formed, sub_at, few_cells, own_inside_device, sub_inside, HasSpot, spot_slots, steps_of}
+use Rattle.vms_convert.proofs.Facade.{part_of, own_part, part_slots, sub_slots_at, changed, part_place, give_step}
+use Rattle.vms_convert.proofs.TakeLaws.{first_slots, first_next, one_slots}
 use Rattle.vms_spec.specs.declared.Part.TheVariants as parts
 
 module _ (set : Set) (i : ℕ) (lt : i < length set.devices) where

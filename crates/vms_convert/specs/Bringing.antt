@@ -1,15 +1,14 @@
 -- The parts of a device, as they are walked over, and their slots.
-use Rattle.std.specs.Prelude.{◌≡◌, ℕ, ◌+◌, ◌<◌, ◌≤◌, Bool, true, false, List, [], length, get_or, slice_set, Some, None, Option, ℤ, pos}
+use Rattle.std.specs.Prelude.{◌≡◌, ℕ, ◌+◌, ◌<◌, ◌≤◌, List, [], length, get_or, Some, None, Option, ℤ, pos}
 use Rattle.vms_spec.specs.declared.Part.{Part}
 use Rattle.vms_spec.specs.declared.Part.TheVariants as parts
 use Rattle.vms_spec.specs.Sets.{Set}
 use Rattle.vms_spec.specs.Layout.{Slot, no_cell, device_cells}
 use Rattle.vms_spec.specs.Images.{Image, sub_slots}
 use Rattle.vms_spec.specs.Places.{own_cell_count}
-use Rattle.vms_desc.specs.Asks.{first_cell, needed_at}
+use Rattle.vms_desc.specs.Asks.{first_cell}
 use Rattle.vms_desc.specs.Described.{device_at}
 use Rattle.vms_desc.specs.Parts.{desc_at, sub_at}
-use Rattle.vms_image.specs.Typed.{Typed}
 use Rattle.vms_walk.specs.declared.fields.PartAt.{PartAt}
 
 -- A part at the version of its set.

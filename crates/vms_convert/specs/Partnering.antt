@@ -1,5 +1,5 @@
 -- What pairing needs of a description on each side, and what is left to pair from a field on.
-use Rattle.std.specs.Prelude.{◌≡◌, ℕ, ◌+◌, ◌-◌, ◌*◌, ◌<◌, ◌≤◌, true, false, List, [], ◌++◌, length, get_or, drop, Option}
+use Rattle.std.specs.Prelude.{◌≡◌, ℕ, ◌+◌, ◌-◌, ◌*◌, ◌<◌, ◌≤◌, true, false, List, ◌++◌, length, get_or, drop, Option}
 use Rattle.vms_kinds.specs.declared.Item.{Item}
 use Rattle.vms_spec.specs.Layout.{capacity_of, desc_cells, item_size, no_field, struct_cells, cells_from, field_cells}
 use Rattle.vms_spec.specs.Rules.{uses_below}

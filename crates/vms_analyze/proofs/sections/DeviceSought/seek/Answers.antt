@@ -1,5 +1,4 @@
-use Rattle.vms_analyze.proofs.{Facade.LONGEST_NAME, Parts.device_parts}
-use Rattle.vms_analyze.proofs.Facade.{device_of, is_good_sub, list_all-map, sub_of}
+use Rattle.vms_analyze.proofs.{Facade.LONGEST_NAME, Facade.device_of, Facade.is_good_sub, Facade.list_all-map, Facade.sub_of, Parts.device_parts}
 use Rattle.vms_analyze.proofs.Walks.{all_good, path_short, head_stops, elements_stop, subs_stop, device_walks}
 use Rattle.vms_analyze.proofs.sections.DeviceSought.seek.Goals as goal
 

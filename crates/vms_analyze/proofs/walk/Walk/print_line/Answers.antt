@@ -1,5 +1,4 @@
-use Rattle.vms_analyze.proofs.Facade.{append_assoc}
-use Rattle.vms_analyze.proofs.Walks.{more_of}
+use Rattle.vms_analyze.proofs.{Facade.append_assoc, Walks.more_of}
 use Rattle.vms_analyze.proofs.walk.Walk.print_line.Goals as goal
 
 pub loop-piece-preserved : goal.loop-piece-preserved

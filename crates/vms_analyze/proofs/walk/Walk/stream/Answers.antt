@@ -1,5 +1,4 @@
-use Rattle.vms_analyze.proofs.Facade.{device_of, is_good_device, list_all-map}
-use Rattle.vms_analyze.proofs.Walks.{start_stops, devices_stop, stream_walks}
+use Rattle.vms_analyze.proofs.{Facade.device_of, Facade.is_good_device, Facade.list_all-map, Walks.start_stops, Walks.devices_stop, Walks.stream_walks}
 use Rattle.vms_analyze.proofs.walk.Walk.stream.Goals as goal
 
 pub each-requires-clause-good : goal.each-requires-clause-good
