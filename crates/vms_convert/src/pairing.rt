@@ -1,7 +1,6 @@
 // The pairs of cells of an older and a newer device.
-ghost use Rattle.std.specs.Prelude.{◌≡◌, ◌++◌, ◌<◌, length, replicate, IfOk, None, OnOk, [], ◌∷◌, Some, if◌then◌else◌};
+ghost use Rattle.std.specs.Prelude.{◌≡◌, ◌++◌, ◌<◌, length, replicate, IfOk, None, OnOk};
 ghost use Rattle.vms_desc.specs.Described.{described, device_at};
-ghost use Rattle.vms_check.specs.Comparing.{same_kind};
 ghost use Rattle.vms_check.specs.Partners.{device_partners};
 ghost use Rattle.vms_convert.specs.Partnering.{AreArrays, HasRoom, IsBehind, IsNextStart, PairsElement, PairsField};
 ghost use Rattle.vms_convert.specs.Partnering.{AtField, AtStart, CanPair, CanPairElement, CanPairField, CanPairItems};
@@ -12,7 +11,7 @@ use std::alloc::{AllocError, Global};
 use vms_check::{Side, at_own_version, fields_of, is_present, same_kind};
 use vms_desc::{DescSet, Part, find_sub};
 use vms_io::NoMemory;
-use vms_kinds::{Item, Kind};
+use vms_kinds::Item;
 use vms_parts::capacity;
 
 // A field of a description and its first cell.
@@ -262,7 +261,8 @@ fn pair_element(
     }
 }
 
-// Pairs one element with another, whose first cell is `cell`: structures each at its own version.
+// Pairs one element with another, whose first cell is `cell`: numbers if they are of one kind, and
+// structures each at its own version.
 #[cycle(pairing)]
 fn pair_items(
     sets: Sets,
@@ -276,7 +276,10 @@ fn pair_items(
         OnOk result (partners.new.items ≡ partners.old.items ++ pairs) }
 {
     match (one, other) {
-        (Item::Num(one), Item::Num(other)) => put_pair(one, other, cell, partners),
+        (Item::Num(one), Item::Num(other)) => {
+            partners.push(same_kind(one, other).then_some(cell))?;
+            Ok(())
+        }
         (Item::Struct(in_old), Item::Struct(in_new)) => {
             let older = at_own_version(sets.old, Part::Struct(in_old));
             let newer = at_own_version(sets.new, Part::Struct(in_new));
@@ -284,25 +287,6 @@ fn pair_items(
         }
         _ => put_unpaired(sets.old.item_cells(one), partners),
     }
-}
-
-// Pairs two numbers, if they are of one kind.
-fn put_pair(
-    one: Kind,
-    other: Kind,
-    cell: u32,
-    partners: &mut Vec<Option<u32>>,
-) -> Result<(), AllocError>
-    ensures { let partner = if same_kind one other then Some cell else None in
-        OnOk result (partners.new.items ≡ partners.old.items ++ partner ∷ []) }
-{
-    let partner = if same_kind(one, other) {
-        Some(cell)
-    } else {
-        None
-    };
-    partners.push(partner)?;
-    Ok(())
 }
 
 // Appends `cells` cells without a partner.
