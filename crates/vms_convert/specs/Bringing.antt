@@ -28,14 +28,6 @@ ArePutAt set i j before now =
     let part = parts.Sub i j in
     ArePut set i (first_cell set part) (first_cell set part + own_cell_count set (desc_at set part)) before now
 
--- The device's own fields at a version.
-abbrev pub own_part : ℕ → ℕ → PartAt
-own_part i v = record { part = parts.Device i; version = v; base = 0 }
-
--- Subsection j of device i at a version.
-abbrev pub sub_part : Set → ℕ → ℕ → ℕ → PartAt
-sub_part set i j v = record { part = parts.Sub i j; version = v; base = first_cell set (parts.Sub i j) }
-
 -- The slots of subsection j of device i, if it is present.
 abbrev pub sub_slots_at : Set → ℕ → ℕ → Option ℕ → List ℤ → List Slot
 sub_slots_at set i j None numbers = []

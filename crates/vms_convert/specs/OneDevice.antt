@@ -21,11 +21,6 @@ module _ (set : DescSet) where
   abbrev pub HasDevice : ℕ → Type 0
   HasDevice i = i < length (described set).devices
 
-  -- Subsection j is one of device i.
-  pub record HasSub (i j : ℕ) : Type 0 where
-    pub device : HasDevice i
-    pub sub : j < length (device_at (described set) i).subs
-
   -- The cell is one of device i.
   pub record HasCell (i c : ℕ) : Type 0 where
     pub device : HasDevice i
