@@ -7,9 +7,6 @@ use Rattle.vms_convert.proofs.TakeLaws.{first_slots, first_next, one_slots}
 use Rattle.vms_spec.specs.declared.Part.TheVariants as parts
 
 module _ (set : Set) (i : ℕ) (lt : i < length set.devices) where
-  abbrev d : Device
-  d = device_at set i
-
   pub there : slice_get set.devices i ≡ Some (device_at set i)
   there = slice_get-get_or set.devices i _ lt
 

@@ -95,10 +95,6 @@ abbrev pub put_value : List ℤ → List ℕ → Option ℕ → ℤ → ℤ
 put_value source caps (Some k) old = let z = get_or source k (pos 0) in if exceeds caps z then old else z
 put_value source caps None old = old
 
-value_twice : (source : List ℤ) (caps : List ℕ) (o : Option ℕ) (old : ℤ) → put_value source caps o (put_value source caps o old) ≡ put_value source caps o old
-value_twice source caps None old = refl
-value_twice source caps (Some k) old = grind arith
-
 put_long : (source : List ℤ) (cell : ℕ) (most o : Option ℕ) (now : List ℤ) → length (put_partner source cell most o now) ≡ length now
 put_long source cell most None now = refl
 put_long source cell most (Some k) now = grind (arith, length-set)
@@ -125,10 +121,6 @@ module _ (all : List Cell) (partners : List (Option ℕ)) (source : List ℤ) wh
 
   abbrev put : ℕ → List ℕ → List ℤ → List ℤ
   put d caps now = put_partner source d (least_of caps) (get_or partners d None) now
-
-  again : (c : ℕ) (b : Bool) (old : ℤ) → taken_if c b (value c old) ≡ value c old
-  again c true old = grind (arith, value_twice)
-  again c false old = refl
 
   pub put_at : (slots : List Slot) (now : List ℤ) (c : ℕ) → AreCells all slots → length now ≡ length all → c < length all
       → get_or (after slots now) c (pos 0) ≡ taken_if c (has_cell slots c) (get_or now c (pos 0))
