@@ -1,4 +1,3 @@
-use Rattle.vms_values.proofs.{name.+name.Given.Over, name.+name.Goals.print_element-After-item_cells-size, name.+name.Goals.print_name-After-field_cells-size}
 use Rattle.vms_values.proofs.Facade.{rules, arith, ◌≡◌, ◌+◌, ◌*◌, ◌-◌, ◌%◌, ◌<◌, ◌≤◌, true, [], ◌++◌, ℕ, length, get_or, codes, append_assoc, refl, sym, ap}
 use Rattle.vms_values.proofs.Facade.{◌∙◌, subst, ltb-true, mod-lt, MOST_ITEMS, Field, capacity_of, field_of, field_at, described, desc_at, found_field}
 use Rattle.vms_values.proofs.Facade.{here_fields, size_in, size_code, width_code, struct_size, item_rank, part_rank, one_fits, uses_below, path_text}

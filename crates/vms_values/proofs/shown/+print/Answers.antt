@@ -1,4 +1,4 @@
-use Rattle.vms_values.proofs.{Facade.leaves_none, shown.+print.Given.Over}
+use Rattle.vms_values.proofs.{Facade.leaves_none}
 use Rattle.vms_values.proofs.Facade.{LONGEST_PATH, INDEX_ROOM, PART_ROOM, rules, arith, ◌≡◌, ◌+◌, ◌*◌, ◌-◌, ◌<◌, ◌≤◌, ◌++◌, ℕ, length, length-append, codes}
 use Rattle.vms_values.proofs.Facade.{sym, ap, ◌∙◌, err_from_is_err_and, ltb-true, decimal, printers, element_lines, item_lines, field_of, described, desc_at}
 use Rattle.vms_values.proofs.Facade.{size_in, size_code, start_code, struct_size, room_at, run_lines, below, wrote_as, leaves_all, leaves_rest, leaves_stop}
