@@ -2,7 +2,7 @@
 use Rattle.std.proofs.Common.{◌≡◌, ℕ, List, Option, [], ◌∷◌, ◌++◌, ℤ, refl, sym, ap, ◌∙◌}
 use Rattle.vms_image.specs.Typed.{Typed}
 use Rattle.vms_walk.specs.declared.step.WalkStep.{WalkStep}
-use Rattle.vms_walk.specs.declared.step.WalkStep.TheVariants.{Number, Constant, Filler, Rule}
+use Rattle.vms_walk.specs.declared.step.WalkStep.TheVariants.{Number}
 
 -- What one step makes of the numbers.
 abbrev pub Change : Type 0
@@ -12,9 +12,7 @@ Change = WalkStep → List ℤ → List ℤ
 -- nothing.
 abbrev pub at_cell : (ℕ → Option ℕ → List ℤ → List ℤ) → Change
 at_cell f (Number cell kind most) now = f cell most now
-at_cell f (Constant kind value) now = now
-at_cell f (Filler bytes) now = now
-at_cell f (Rule holds) now = now
+at_cell f step now = now
 
 -- What a list of steps makes of the numbers.
 abbrev pub changed : Change → List WalkStep → List ℤ → List ℤ
