@@ -43,9 +43,6 @@ machine_long id rest name u e =
     omega (arith, leb-true (length name) LONGEST_NAME (and_parts (nat_le (length name) LONGEST_NAME) (list_all is_name_byte name) p.1).0, only_long _ _ u e)
 
 taken_long : (w : Want) (id : ℕ) (rest : List ℕ) (u : Took) → taken w id rest ≡ Some u → u.long ≤ most_of w
-taken_long (Bytes bytes) id rest u e = omega (arith, only_long _ _ u e)
-taken_long (Any n) id rest u e = omega (arith, only_long _ _ u e)
-taken_long (Number path kind) id rest u e = omega (arith, only_long _ _ u e)
 taken_long Machine id rest u e = go (get_or rest 0 0 == 7) e
   where
     go : (b : Bool) → (if b then take_machine id rest (bytes_at (number_at 4 1 rest) 5 rest) else Some (took 0 id [])) ≡ Some u → u.long ≤ 260
@@ -53,8 +50,8 @@ taken_long Machine id rest u e = go (get_or rest 0 0 == 7) e
     go false e = omega (arith, only_long true (took 0 id []) u e)
 taken_long (Head name instance version) id rest u e =
     omega (arith, only_long _ _ u e, length-append (name ++ be32 instance) (be32 version), length-append name (be32 instance))
-taken_long Foot id rest u e = omega (arith, only_long _ _ u e)
 taken_long (Line line) id rest u e = omega (arith, only_long true (took 0 id (line ∷ [])) u e)
+taken_long _ id rest u e = omega (arith, only_long _ _ u e)
 
 abbrev IsBound : List Want → Type 0
 IsBound ws = (id place : ℕ) (rest : List ℕ) (lines : List (List ℕ)) → found ws id place rest ≡ Lines lines → length rest ≤ total ws
