@@ -1,8 +1,8 @@
 -- Parts with the same elements by two lists of numbers.
-use Rattle.vms_selfdesc.proofs.{Facade.sub_tree, OfElements.cells_are, OfElements.of_desc}
-use Rattle.vms_selfdesc.proofs.Facade.{AllByRecursion, ◌≡◌, ℕ, suc, ◌+◌, Bool, true, List, [], ◌∷◌, ◌++◌, length, ℤ, refl, sym, ap, ap₂, ◌∙◌, Option, Item}
-use Rattle.vms_selfdesc.proofs.Facade.{Struct, Field, Desc, Set, field_cells, struct_cells, counted, numbers_of, Shape, Element, shapes, cells_in}
+use Rattle.vms_selfdesc.proofs.Facade.{sub_tree, AllByRecursion, ◌≡◌, ℕ, suc, ◌+◌, Bool, true, List, [], ◌∷◌, ◌++◌, length, ℤ, refl, sym, ap, ap₂, ◌∙◌, Option}
+use Rattle.vms_selfdesc.proofs.Facade.{Item, Struct, Field, Desc, Set, field_cells, struct_cells, counted, numbers_of, Shape, Element, shapes, cells_in}
 use Rattle.vms_selfdesc.proofs.Facade.{item_elements, field_elements, elements_from, entries_of, part_entries, Sub, Entry, is_some, object, sub_members}
+use Rattle.vms_selfdesc.proofs.OfElements.{cells_are, of_desc}
 use Rattle.vms_selfdesc.specs.Alike.{IsFieldAlike, is_plain}
 
 -- field by field
