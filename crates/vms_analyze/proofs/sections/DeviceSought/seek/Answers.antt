@@ -13,18 +13,18 @@ each-2-requires-clause-good c =
     rw c.deref-2.ensures.value (cc (list_all-map is_good_sub sub_of c.args.self.now.subs.items, (device_parts (device_of c.args.self.now) c.requires.good).subs))
 
 pub returns-in-Err : goal.returns-in-Err
-returns-in-Err c = head_stops c.args.self.now c.args.walk.now c.head.new.walk c.in-Err.stop c.in-Err.ensures
+returns-in-Err c = head_stops c.args.self.now c.args.walk.now c.head.new.self c.in-Err.stop c.in-Err.ensures
 
 pub returns-in-Err-each : goal.returns-in-Err-each
 returns-in-Err-each c =
-    elements_stop c.args.self.now c.each.new.walk c.in-Err-each.stop c.in_default.ensures (rw c.deref.ensures.value at c.in-Err-each.ensures)
+    elements_stop c.args.self.now c.each.new.self c.in-Err-each.stop c.in_default.ensures (rw c.deref.ensures.value at c.in-Err-each.ensures)
 
 pub returns-in-Err-each-2 : goal.returns-in-Err-each-2
 returns-in-Err-each-2 c =
-    subs_stop c.args.self.now c.each-2.new.walk c.in-Err-each-2.stop c.in_default.ensures (rw c.deref.ensures.value at c.in_default-each.ensures)
+    subs_stop c.args.self.now c.each-2.new.self c.in-Err-each-2.stop c.in_default.ensures (rw c.deref.ensures.value at c.in_default-each.ensures)
     (rw c.deref-2.ensures.value at c.in-Err-each-2.ensures)
 
 pub returns : goal.returns
 returns c =
-    device_walks c.args.self.now c.foot.new.walk c.foot.result c.in_default.ensures (rw c.deref.ensures.value at c.in_default-each.ensures)
+    device_walks c.args.self.now c.foot.new.self c.foot.result c.in_default.ensures (rw c.deref.ensures.value at c.in_default-each.ensures)
     (rw c.deref-2.ensures.value at c.in_default-each-2.ensures) c.foot.ensures

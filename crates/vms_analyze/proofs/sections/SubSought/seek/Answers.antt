@@ -7,4 +7,4 @@ each-requires-clause-good c = all_good c.deref.result.now
 pub returns : goal.returns
 returns c =
     rw (← elements_are c.args.self.now.elements.items)
-    (walks_then _ c.each.new.walk c.each.result c.in_default.ensures (rw c.deref.ensures.value at c.each.ensures))
+    (walks_then _ c.each.new.self c.each.result c.in_default.ensures (rw c.deref.ensures.value at c.each.ensures))
