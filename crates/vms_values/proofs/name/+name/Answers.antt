@@ -4,6 +4,7 @@ use Rattle.vms_values.proofs.Facade.{here_fields, size_in, size_code, width_code
 use Rattle.vms_values.proofs.Facade.{part_names, item_names, wrote_as, field_name, List, append-nil, element_text}
 use Rattle.vms_values.proofs.Naming.{NextNames, next_names, all_names, names_from, part_long, struct_name, positive, element_is, nothing_after}
 use Rattle.vms_spec.specs.declared.Part.TheVariants as parts
+use Rattle.vms_values.proofs.name.+name.Given.{Over}
 use Rattle.vms_values.proofs.name.+name.Goals as goal
 
 -- the element has cells, and the cell is one of its

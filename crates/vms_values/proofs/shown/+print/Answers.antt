@@ -1,9 +1,9 @@
-use Rattle.vms_values.proofs.{Facade.leaves_none}
-use Rattle.vms_values.proofs.Facade.{LONGEST_PATH, INDEX_ROOM, PART_ROOM, rules, arith, ◌≡◌, ◌+◌, ◌*◌, ◌-◌, ◌<◌, ◌≤◌, ◌++◌, ℕ, length, length-append, codes}
-use Rattle.vms_values.proofs.Facade.{sym, ap, ◌∙◌, err_from_is_err_and, ltb-true, decimal, printers, element_lines, item_lines, field_of, described, desc_at}
-use Rattle.vms_values.proofs.Facade.{size_in, size_code, start_code, struct_size, room_at, run_lines, below, wrote_as, leaves_all, leaves_rest, leaves_stop}
-use Rattle.vms_values.proofs.Printers.{stays_is, stays_then, stays_element, cut_is, field_short, struct_lines, FoundRun, array_run, elements_left, no_elements}
-use Rattle.vms_values.proofs.Printers.{fields_left, fields_whole, no_fields, found_run, stays}
+use Rattle.vms_values.proofs.{Facade.LONGEST_PATH, Printers.stays_is, Printers.stays_then, Printers.stays_element, Printers.cut_is, Printers.field_short}
+use Rattle.vms_values.proofs.Facade.{INDEX_ROOM, PART_ROOM, rules, arith, ◌≡◌, ◌+◌, ◌*◌, ◌-◌, ◌<◌, ◌≤◌, ◌++◌, ℕ, length, length-append, codes, sym, ap, ◌∙◌}
+use Rattle.vms_values.proofs.Facade.{err_from_is_err_and, ltb-true, decimal, printers, element_lines, item_lines, field_of, described, desc_at, size_in}
+use Rattle.vms_values.proofs.Facade.{size_code, start_code, struct_size, room_at, run_lines, below, wrote_as, leaves_all, leaves_rest, leaves_stop, leaves_none}
+use Rattle.vms_values.proofs.Printers.{struct_lines, FoundRun, array_run, elements_left, no_elements, fields_left, fields_whole, no_fields, found_run, stays}
+use Rattle.vms_values.proofs.shown.+print.Given.{Over}
 use Rattle.vms_values.proofs.shown.+print.Goals.{print_elements-After-print_item-arg-in-loop-index-1, print_part-After-print_field-arg-in-loop-field-1}
 use Rattle.vms_values.proofs.shown.+print.Goals as goal
 
