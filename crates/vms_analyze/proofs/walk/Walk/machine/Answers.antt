@@ -1,4 +1,4 @@
-use Rattle.vms_analyze.proofs.Facade.{◌≡◌, ◌+◌, length, true, refl, sym, ap, ◌∙◌, begins_with, configuration, left, Walk}
+use Rattle.vms_analyze.proofs.Facade.{append-nil, ◌≡◌, ◌+◌, length, true, refl, sym, ap, ◌∙◌, begins_with, configuration, left, Walk}
 use Rattle.vms_analyze.proofs.Walks.{machine_goes, machine_passes, prints_walk}
 use Rattle.vms_analyze.proofs.walk.Walk.machine.Goals as goal
 
@@ -16,4 +16,4 @@ returns c =
     prints_walk c.print_line.result
     (machine_goes walk mid c.print_line.new.self name c.in-Some.ensures.good begins refl c.requires
     (rw (c.len.ensures.value ∙ ap length items)) refl refl)
-    c.print_line.ensures.ok c.print_line.ensures.err
+    (rw (append-nil name) at c.print_line.ensures.ok) c.print_line.ensures.err
