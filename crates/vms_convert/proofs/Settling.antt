@@ -76,7 +76,8 @@ module _ (set : Set) (well : WellFormed set) (k : ℕ) (lt : k < length set.devi
       (record { same = λ c low lt. h.left j s c (omega arith) (record { is = e; low = low; high = lt }) })
 
   -- it is needed, so nothing changes
-  pub settled_needed : (now : List ℤ) (j : ℕ) → j < length d.subs → SettledTo set d j before now → needed_at set k j now ≡ true → SettledTo set d (j + 1) before now
+  pub settled_needed : (now : List ℤ) (j : ℕ) → j < length d.subs → SettledTo set d j before now → needed_at set k j now ≡ true
+      → SettledTo set d (j + 1) before now
   settled_needed now j less h n =
       let e : slice_get d.subs j ≡ Some (sub_at d j) = slice_get-get_or d.subs j _ less in
       record {

@@ -2,11 +2,14 @@
 -- subsection and device, and fewer for the items of a part without structures.
 use Rattle.vms_selfdesc.proofs.{Facade.described_text, Plain.quoted_long, Plain.IsShort, Soundness.part_sound, Soundness.fields_flat}
 use Rattle.vms_selfdesc.proofs.EntryLong.{member_long, number_short}
-use Rattle.vms_selfdesc.proofs.Facade.{get_or, ◌≡◌, ℕ, suc, ◌+◌, ◌*◌, ◌<◌, ◌≤◌, List, [], ◌∷◌, length, length-append, map, ℤ, Bool, true, false, arith, Option}
+use Rattle.vms_selfdesc.proofs.Facade.{get_or, ◌≡◌, ℕ, suc, ◌+◌, ◌*◌, ◌<◌, ◌≤◌, List, [], ◌∷◌, length, length-append, map, ℤ, Bool, true, false, arith}
+use Rattle.vms_selfdesc.proofs.Facade.{Option}
 use Rattle.vms_selfdesc.proofs.Facade.{is_some, codes, mul-le-mul_left, mul-le-mul_right, AtLeast, no_desc, escape_byte, Data}
-use Rattle.vms_selfdesc.proofs.Facade.{Members, no_members, member, object, array, quoted, members_text, boolean, items_of, compact_text, items_text, MOST_ITEMS, Field, Desc, Sub, Device}
+use Rattle.vms_selfdesc.proofs.Facade.{Members, no_members, member, object, array, quoted, members_text, boolean, items_of, compact_text, items_text}
+use Rattle.vms_selfdesc.proofs.Facade.{MOST_ITEMS, Field, Desc, Sub, Device}
 use Rattle.vms_selfdesc.proofs.Facade.{Set, desc_cells, struct_cells, Image, own_cells, items_in, struct_items, subs_items, devices_items, struct_depths}
-use Rattle.vms_selfdesc.proofs.Facade.{deepest, is_well_formed, shapes, Entry, part_entries, entry_tree, sub_members, sub_trees, device_members, device_trees}
+use Rattle.vms_selfdesc.proofs.Facade.{deepest, is_well_formed, shapes, Entry, part_entries, entry_tree, sub_members, sub_trees, device_members}
+use Rattle.vms_selfdesc.proofs.Facade.{device_trees}
 use Rattle.vms_selfdesc.proofs.Fits.{AreLong, longer, AreSound, FitTables, tables_fit, entries_few, entries_long}
 use Rattle.vms_spec.specs.declared.Part.TheVariants as parts
 

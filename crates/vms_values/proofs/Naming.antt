@@ -1,16 +1,21 @@
 -- Names from cells: a part's fields one after the other, one element, and the subsections of a device.
-use Rattle.vms_values.proofs.Facade.{lt_of_mul-lt-mul_right, ◌≡◌, ℕ, zero, suc, ◌+◌, ◌*◌, ◌<◌, List, [], ◌∷◌, ◌++◌, length, get_or, map, drop, ℤ, pos, refl}
+use Rattle.vms_values.proofs.Facade.{lt_of_mul-lt-mul_right, ◌≡◌, ℕ, zero, suc, ◌+◌, ◌*◌, ◌<◌, List, [], ◌∷◌, ◌++◌, length, get_or, map, drop, ℤ, pos}
+use Rattle.vms_values.proofs.Facade.{refl}
 use Rattle.vms_values.proofs.Facade.{sym, ap, ◌∙◌, subst, arith, append_assoc, append-nil, true, ◌-◌, ◌≤◌, ◌/◌, ◌%◌, length-append, codes, None, flat_map}
 use Rattle.vms_values.proofs.Facade.{length-map, get_or_append_left, get_or-map, drop_more, ltb-true, get_or-append_right, div-add-mod', mod-lt, Item}
 use Rattle.vms_values.proofs.Facade.{Num, Struct, Set, Field, Device, Sub, AtLeast, Desc, own_cells, default_image, Cell, no_desc, item_size, field_cells}
 use Rattle.vms_values.proofs.Facade.{desc_cells, struct_cells, capacity_of, counted, first, numbers_of, no_parent, device_cells, field_size, field_at}
 use Rattle.vms_values.proofs.Facade.{device_at, is_well_formed, sub_at, HasPart, desc_at, size_in, cells_table, struct_size, reach, field_clean}
-use Rattle.vms_values.proofs.Facade.{Part, uses_below, own_cell_count, item_rank, part_rank, reach_whole, uses_more, rank_below, fields_at, Shape, no_shape}
+use Rattle.vms_values.proofs.Facade.{Part, uses_below, own_cell_count, item_rank, part_rank, reach_whole, uses_more, rank_below, fields_at, Shape}
+use Rattle.vms_values.proofs.Facade.{no_shape}
 use Rattle.vms_values.proofs.Facade.{shape, shapes, dotted, item_elements, stand_of, field_elements, elements_from, desc_elements, names_of, absent}
-use Rattle.vms_values.proofs.Facade.{elements_in, subs_elements, cell_name, first_at, shapes_cells, AreWalked, are_walked, is_dotted, names_append, names_long}
+use Rattle.vms_values.proofs.Facade.{elements_in, subs_elements, cell_name, first_at, shapes_cells, AreWalked, are_walked, is_dotted, names_append}
+use Rattle.vms_values.proofs.Facade.{names_long}
 use Rattle.vms_values.proofs.Facade.{names_map, item_walks, field_walks, fields_walk, desc_walks, desc_names_are, walks, array_name, names_absent, usable}
-use Rattle.vms_values.proofs.Facade.{element_text, part_names, item_names, field_name, IsInPart, sub_inside, own_inside_device, few_cells, map-append, slice_get-get_or}
-use Rattle.vms_values.proofs.Facade.{get_or-drop, Kind, U8, item_cells, cells_from, times, size_same, cells_of_sub, first_cell, kinds_at, table, cells_in as table_cells}
+use Rattle.vms_values.proofs.Facade.{element_text, part_names, item_names, field_name, IsInPart, sub_inside, own_inside_device, few_cells, map-append}
+use Rattle.vms_values.proofs.Facade.{slice_get-get_or}
+use Rattle.vms_values.proofs.Facade.{get_or-drop, Kind, U8, item_cells, cells_from, times, size_same, cells_of_sub, first_cell, kinds_at, table}
+use Rattle.vms_values.proofs.Facade.{cells_in as table_cells}
 use Rattle.vms_values.proofs.Facade.{all_below, struct_cells_at, struct_clean, AreKinds, ElementKinds, part_cells, drop_on}
 use Rattle.vms_elements.specs.Elements.{cells_in}
 use Rattle.vms_spec.specs.declared.Part.TheVariants as parts

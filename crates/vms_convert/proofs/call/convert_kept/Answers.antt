@@ -72,4 +72,5 @@ returns g c =
     let m = c.in_ok-machine.machine in
     let Full = Puts (outlet g.K.Sink c.args.sink.now) (outlet g.K.Sink c.write_back.new.sink) in
     let puts : Full (stream_of to (at_option to.machines m) (map state_of c.deref.result.now)) = rw (← same g p.After-deref-2) c.in_ok-write_back.ensures in
-    rw c.requires.newest at (puts_kept to new (name_of new c.args.machine) (has c.args.loader.now) _ (backs g p.After-deref) m c.in_ok-machine.ensures Full puts)
+    rw c.requires.newest at
+    (puts_kept to new (name_of new c.args.machine) (has c.args.loader.now) _ (backs g p.After-deref) m c.in_ok-machine.ensures Full puts)

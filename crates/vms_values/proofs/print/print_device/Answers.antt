@@ -41,8 +41,9 @@ loop-sub-init g c =
     leaves_all _ _ _ (first_sub (described c.args.shown.set.now) c.args.device image.numbers image.came)
 
 -- the next subsection is one of the device's, and the image says whether it came
-inside : (g : Over) (c : goal.In-loop-sub g) → (c.loop-sub.sub < length (device_at (described c.args.shown.set.now) c.args.device).subs) × (c.loop-sub.sub < length (state_of c.args.shown.image.now).came)
-inside g c = ((omega arith), omega arith)
+inside : (g : Over) (c : goal.In-loop-sub g)
+    → (c.loop-sub.sub < length (device_at (described c.args.shown.set.now) c.args.device).subs) × (c.loop-sub.sub < length (state_of c.args.shown.image.now).came)
+inside g c = (omega arith, omega arith)
 
 pub returns-in_err-print_sub : goal.returns-in_err-print_sub
 returns-in_err-print_sub g c =
@@ -59,7 +60,8 @@ pub loop-sub-preserved : goal.loop-sub-preserved
 loop-sub-preserved g c =
     let image = state_of c.args.shown.image.now in
     let i = inside g (goal.at.loop-sub-preserved g c).In-loop-sub in
-    leaves_rest _ (subs_left (described c.args.shown.set.now) c.args.device image.numbers image.came c.loop-sub.sub i.0 i.1) c.loop-sub.invariant c.in_ok-print_sub.ensures
+    leaves_rest _ (subs_left (described c.args.shown.set.now) c.args.device image.numbers image.came c.loop-sub.sub i.0 i.1) c.loop-sub.invariant
+    c.in_ok-print_sub.ensures
 
 pub returns : goal.returns
 returns g c =

@@ -10,7 +10,8 @@ each-requires-clause-good c = all_good c.deref.result.now
 
 pub each-2-requires-clause-good : goal.each-2-requires-clause-good
 each-2-requires-clause-good c =
-    rw c.deref-2.ensures.value (cc (list_all-map is_good_sub sub_of c.args.self.now.subs.items, (device_parts (device_of c.args.self.now) c.requires.good).subs))
+    let good = (device_parts (device_of c.args.self.now) c.requires.good).subs in
+    rw c.deref-2.ensures.value (cc (list_all-map is_good_sub sub_of c.args.self.now.subs.items, good))
 
 pub returns-in-Err : goal.returns-in-Err
 returns-in-Err c = head_stops c.args.self.now c.args.walk.now c.head.new.self c.in-Err.stop c.in-Err.ensures
