@@ -104,12 +104,11 @@ module _ (set : Set) where
 
   subs_long : (n : List ℤ) (at : ℕ) (subs : List Sub) (came : List (Option ℕ)) → AreGoodSubs set subs
       → total (flat_map sub_wants (told_subs set n at subs came)) ≤ MOST_UNUSED * subs_items sizes subs + 300 * length subs
-  subs_long n at [] came h = omega arith
-  subs_long n at (s ∷ subs) [] h = omega arith
   subs_long n at (s ∷ subs) (c ∷ came) h =
       let next = at + length (desc_cells (struct_cells set) s.desc) in
       let later = subs_long n next subs came h.1 in
       omega (arith, sub_long s h.0 c n at, total_append (sub_wants (told_sub_of set n at s c)) (flat_map sub_wants (told_subs set n next subs came)))
+  subs_long n at _ _ h = omega arith
 
   device_long : (d : Device) (image : Image) → IsGoodDevice set d
       → total (device_wants (told_device_of set d image)) ≤ MOST_UNUSED * (items_in sizes d.desc.fields + subs_items sizes d.subs) + 10000
@@ -122,11 +121,10 @@ module _ (set : Set) where
 
   pub devices_long : (devices : List Device) (images : List Image) → AreGoodDevices set devices
       → total (flat_map device_wants (told_devices set devices images)) ≤ MOST_UNUSED * devices_items sizes devices + 10000 * length devices
-  devices_long [] images h = omega arith
-  devices_long (d ∷ devices) [] h = omega arith
   devices_long (d ∷ devices) (image ∷ images) h =
       let later = devices_long devices images h.1 in
       omega (arith, device_long d image h.0, total_append (device_wants (told_device_of set d image)) (flat_map device_wants (told_devices set devices images)))
+  devices_long _ _ h = omega arith
 
 -- ---- what is written
 

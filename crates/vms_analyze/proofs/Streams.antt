@@ -25,7 +25,6 @@ use Rattle.vms_spec.specs.declared.Part.TheVariants as parts
 abbrev pub IsSaidAs : Bool → What → Bool → Bool → ℤ → Type 0
 IsSaidAs sent (Number cell) counted present z =
     ((sent && present) ≡ true → (counted ≡ true) × InRange cell.kind z) × (counted ≡ true → (sent && present) ≡ false → z ≡ cell.default)
-IsSaidAs sent (Constant kind y) counted present z = Unit {0}
 IsSaidAs sent _ counted present z = Unit {0}
 
 abbrev pub IsSaid : Bool → List ℤ → Element → Type 0
