@@ -87,17 +87,19 @@ line_goes line old new inside p = record {
 
 -- ---- A walk over what is required, one thing after the other.
 
-module _ {X : Type 0} (one : X → List Want) where
-  pub more_of : (xs : List X) (i : ℕ) (d : X) → i < length xs → flat_map one (take (i + 1) xs) ≡ flat_map one (take i xs) ++ one (get_or xs i d)
-  more_of xs i d lt = cc (take_more xs i d lt, flat_map-append one (take i xs) (get_or xs i d ∷ []), append-nil (one (get_or xs i d)))
+-- one more of a list
+pub more_of : {X Y : Type 0} (one : X → List Y) (xs : List X) (i : ℕ) (d : X) → i < length xs
+    → flat_map one (take (i + 1) xs) ≡ flat_map one (take i xs) ++ one (get_or xs i d)
+more_of one xs i d lt = cc (take_more xs i d lt, flat_map-append one (take i xs) (get_or xs i d ∷ []), append-nil (one (get_or xs i d)))
 
+module _ {X : Type 0} (one : X → List Want) where
   pub one_stops : (xs : List X) (i : ℕ) (d : X) (a b c : Walk) (stop : Stop) → i < length xs → Goes (flat_map one (take i xs)) a b
       → WhyStopped (one (get_or xs i d)) b c stop → WhyStopped (flat_map one xs) a c stop
   one_stops xs i d a b c stops.Differs lt g s =
       let front = flat_map one (take (i + 1) xs) in
       let whole : front ++ flat_map one (drop (i + 1) xs) ≡ flat_map one xs =
       cc (flat_map-append one (take (i + 1) xs) (drop (i + 1) xs), take-append-drop (i + 1) xs) in
-      rw whole at (stops_before front (flat_map one (drop (i + 1) xs)) a c (rw (more_of xs i d lt) (stops_then g s)))
+      rw whole at (stops_before front (flat_map one (drop (i + 1) xs)) a c (rw (more_of one xs i d lt) (stops_then g s)))
   one_stops xs i d a b c stops.NoMemory lt g s = tt
 
 -- one after the other, whatever the stop
