@@ -43,9 +43,9 @@ AreValues set machine images v = (map state_of v.images.items ≡ images) × (ma
 
 -- The values, or the bad line. Memory may run out in any case.
 abbrev pub ReadsBy : Set → ValuesRead → Result Given LineFault → Type 0
+ReadsBy set read (Err faults.NoMemory) = Unit {0}
 ReadsBy set (Values machine images) (Ok v) = AreValues set machine images v
 ReadsBy set (Bad line reason) (Err (faults.Bad l r)) = (l ≡ line) × (r ≡ reason)
-ReadsBy set read (Err faults.NoMemory) = Unit {0}
 ReadsBy set read result = ⊥
 
 -- The same, for every text.

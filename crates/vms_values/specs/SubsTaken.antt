@@ -57,8 +57,8 @@ SubReached read j old new result = ⊥
 
 -- All are read, with their line numbers, or one is refused. Memory may run out in any case.
 abbrev pub SubsReached : Result ReadSubs BadLine → Taken → Taken → List ℕ → Result (Unit {0}) LineFault → Type 0
+SubsReached read old new lines (Err faults.NoMemory) = Unit {0}
 SubsReached (Ok r) old new lines (Ok u) =
     (r.place ≡ place_of new) × (r.came ≡ new.image.came) × (r.lines ≡ lines) × IsAlike old.image new.image
 SubsReached (Err b) old new lines (Err (faults.Bad line reason)) = IsBad b (faults.Bad line reason)
-SubsReached read old new lines (Err faults.NoMemory) = Unit {0}
 SubsReached read old new lines result = ⊥

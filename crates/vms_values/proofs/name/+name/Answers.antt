@@ -1,10 +1,11 @@
-use Rattle.vms_values.proofs.Facade.{rules, arith, ◌≡◌, ◌+◌, ◌*◌, ◌-◌, ◌%◌, ◌<◌, ◌≤◌, true, [], ◌++◌, ℕ, length, get_or, codes, append_assoc, refl, sym, ap}
+use Rattle.vms_values.proofs.Facade.{rules, arith, ◌≡◌, ◌+◌, ◌*◌, ◌-◌, ◌/◌, ◌%◌, ◌<◌, ◌≤◌, true, [], ◌++◌, ℕ, length, get_or, codes, append_assoc, refl, sym, ap}
 use Rattle.vms_values.proofs.Facade.{◌∙◌, subst, ltb-true, mod-lt, MOST_ITEMS, Field, capacity_of, field_of, field_at, described, desc_at, found_field}
 use Rattle.vms_values.proofs.Facade.{here_fields, size_in, size_code, width_code, struct_size, item_rank, part_rank, one_fits, uses_below, path_text}
 use Rattle.vms_values.proofs.Facade.{part_names, item_names, wrote_as, field_name, List, append-nil, element_text}
 use Rattle.vms_values.proofs.Naming.{NextNames, next_names, all_names, names_from, part_long, struct_name, positive, element_is, nothing_after}
 use Rattle.vms_spec.specs.declared.Part.TheVariants as parts
 use Rattle.vms_values.proofs.name.+name.Given.{Over}
+use Rattle.vms_values.proofs.name.+name.Goals.{print_element-After-item_cells-size, print_name-After-field_cells-size}
 use Rattle.vms_values.proofs.name.+name.Goals as goal
 
 -- the element has cells, and the cell is one of its

@@ -3,7 +3,7 @@ use Rattle.vms_values.proofs.Facade.{◌≡◌, ◌<◌, [], length, drop, ap, a
 use Rattle.vms_values.proofs.Facade.{own_cells, printers, desc_lines, sub_lines, described, device_at, device_of, first_cell, state_of, section_text}
 use Rattle.vms_values.proofs.Facade.{leaves_all, leaves_none, leaves_rest, leaves_stop}
 use Rattle.vms_values.proofs.Printers.{own_spot, device_is, first_sub, no_subs, subs_left}
-use Rattle.vms_values.proofs.print.print_device.{Given.Over, Goals.After-device}
+use Rattle.vms_values.proofs.print.print_device.{Given.Over, Goals.After-device, Goals.In-loop-sub}
 use Rattle.vms_values.proofs.print.print_device.Goals as goal
 
 line_is : (g : Over) (c : goal.After-device g)
