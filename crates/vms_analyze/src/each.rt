@@ -2,10 +2,11 @@
 ghost use Rattle.std.specs.Prelude.{map, Option};
 ghost use Rattle.serde_json.specs.Data.{Data};
 ghost use Rattle.vms_json.specs.Nodes.{items_left, view};
-ghost use Rattle.vms_analyze.specs.Read.{each};
+ghost use Rattle.vms_analyze.specs.Read.{each, list_at, next};
 ghost use Rattle.vms_analyze.specs.Typed.{ReadsAs};
 
-use crate::members::Unread;
+use crate::members::list_at;
+use crate::stop::Stop;
 use std::alloc::Global;
 use vms_json::{Items, Node};
 
@@ -23,29 +24,38 @@ pub(crate) trait Reads<'a>: Drop {
     ///
     /// # Errors
     ///
-    /// - [`Unread::Shape`]: the value has another shape.
-    /// - [`Unread::NoMemory`]: out of memory.
-    fn read(alloc: Global, value: &Node<'_, 'a>) -> Result<Self, Unread>
+    /// - [`Stop::Differs`]: the value has another shape.
+    /// - [`Stop::NoMemory`]: out of memory.
+    fn read(alloc: Global, value: &Node<'_, 'a>) -> Result<Self, Stop>
         ensures { ReadsAs means (says (view value.now)) result };
 }
 
-/// Returns what all items say.
+/// Returns what all items of the list under `key` say.
 ///
 /// # Errors
 ///
-/// - [`Unread::Shape`]: an item has another shape.
-/// - [`Unread::NoMemory`]: out of memory.
-pub(crate) fn each<'a, T: Reads<'a>>(
+/// - [`Stop::Differs`]: there is no list, or an item has another shape.
+/// - [`Stop::NoMemory`]: out of memory.
+pub(crate) fn each_at<'a, T: Reads<'a>>(
     alloc: Global,
-    mut items: Items<'_, 'a>,
-) -> Result<Vec<T>, Unread>
+    value: &Node<'_, 'a>,
+    key: &str,
+) -> Result<Vec<T>, Stop>
+    ensures { let said = next (list_at key.now (view value.now)) (each T.says) in
+        ReadsAs (λ v. map T.means v.items) said result }
+{
+    each(alloc, list_at(value, key)?)
+}
+
+// Returns what all items say.
+fn each<'a, T: Reads<'a>>(alloc: Global, mut items: Items<'_, 'a>) -> Result<Vec<T>, Stop>
     ensures { ReadsAs (λ v. map T.means v.items) (each T.says (items_left items.entry)) result }
 {
     let mut list = Vec::with_capacity(alloc, items.count())?;
     while let Some(item) = items.next() {
         match T::read(alloc, &item) {
             Ok(one) => list.push(one)?,
-            Err(unread) => return Err(unread),
+            Err(stop) => return Err(stop),
         }
     }
     Ok(list)

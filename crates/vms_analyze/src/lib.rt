@@ -14,6 +14,7 @@ mod list;
 mod members;
 mod place;
 mod sections;
+mod stop;
 mod told;
 mod walk;
 

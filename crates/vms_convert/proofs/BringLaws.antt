@@ -1,15 +1,12 @@
 -- The parts of a device, as the code walks over them by number.
-use Rattle.vms_convert.proofs.{Facade.changed_append, Facade.step_of, TakeLaws.first_slots, TakeLaws.first_next, TakeLaws.one_slots}
-use Rattle.vms_convert.proofs.Facade.{add-one, ◌≡◌, ℕ, ◌+◌, ◌<◌, ◌≤◌, Bool, true, false, List, length, Option, Some, None, ℤ, refl, sym, ap, ◌∙◌, arith, get_or}
+use Rattle.vms_convert.proofs.Facade.{changed_append, step_of, add-one, ◌≡◌, ℕ, ◌+◌, ◌<◌, ◌≤◌, true, List, length, Option, Some, None, ℤ, refl, arith, get_or}
 use Rattle.vms_convert.proofs.Facade.{append-nil, slice_get-get_or, slice_get, take_all, map-append, Sub, Device, Set, device_cells, own_slots, Image}
-use Rattle.vms_convert.proofs.Facade.{image_slots, needed_at, device_at, is_well_formed, sub_at, few_cells, own_inside_device, sub_inside, Typed, HasSpot}
-use Rattle.vms_convert.proofs.Facade.{spot_slots, steps_of, SettlesBy, SettlesSub, part_of, own_part, part_slots, sub_slots_at, changed, part_place, give_step}
+use Rattle.vms_convert.proofs.Facade.{image_slots, device_at, is_well_formed, sub_at, few_cells, own_inside_device, sub_inside, HasSpot, spot_slots, steps_of}
+use Rattle.vms_convert.proofs.Facade.{part_of, part_slots, sub_slots_at, changed, part_place, give_step}
+use Rattle.vms_convert.proofs.TakeLaws.{first_slots, first_next, one_slots}
 use Rattle.vms_spec.specs.declared.Part.TheVariants as parts
 
 module _ (set : Set) (i : ℕ) (lt : i < length set.devices) where
-  abbrev d : Device
-  d = device_at set i
-
   pub there : slice_get set.devices i ≡ Some (device_at set i)
   there = slice_get-get_or set.devices i _ lt
 
@@ -28,12 +25,6 @@ module _ (set : Set) (i : ℕ) (lt : i < length set.devices) where
       room = omega (arith, sub_inside set i j less);
     }
 
-  pub settle_rest : (a b : Typed) (j : ℕ) → SettlesSub set i j a b → b ≡ record a { numbers = b.numbers }
-  settle_rest a b j s = go (needed_at set i j a.numbers) s where
-    go : (t : Bool) → SettlesBy t set i j a b → b ≡ record a { numbers = b.numbers }
-    go true s = s ∙ ap (λ (x : Typed). record a { numbers = x.numbers }) (sym s)
-    go false s = s.1
-
 -- ---- What is given, part by part.
 
 module _ (set : Set) (i : ℕ) (lt : i < length set.devices) (image : Image) (long : length image.came ≡ length (device_at set i).subs)
@@ -47,8 +38,8 @@ module _ (set : Set) (i : ℕ) (lt : i < length set.devices) (image : Image) (lo
   abbrev pub gives_to : ℕ → List ℤ → List ℤ
   gives_to j before = changed (give_step partners image.numbers) (steps_of (first_slots set (device_at set i) image.came j image.numbers)) before
 
-  pub gave_own : (before : List ℤ) → changed (give_step partners n) (steps_of (spot_slots set (own_part i image.version) n)) before ≡ gives_to 0 before
-  gave_own before = rw (version, append-nil (own_slots set dev dev.desc.version n))
+  pub gave_own : (before : List ℤ) → changed (give_step partners n) (steps_of (spot_slots set (part_of set (parts.Device i)) n)) before ≡ gives_to 0 before
+  gave_own before = rw (append-nil (own_slots set dev dev.desc.version n))
 
   one_is : (j : ℕ) (o : Option ℕ) → one_slots set (sub_at dev j) o n (part_place set dev j) ≡ sub_slots_at set i j o n
   one_is j None = refl

@@ -1,10 +1,10 @@
 -- The names of other crates, and of this crate's `specs`, that the proofs use.
-pub use Rattle.std.proofs.{Math.ListN.get_or-map, Math.Seq.get_or-append_seam, lemmas.Bool.ltb-true, lemmas.Bool.ne_eqb, lemmas.Bool.not-false}
-pub use Rattle.std.proofs.{lemmas.Bool.or_parts, lemmas.Int.to_z-of_z, lemmas.Result.err_from_is_err_and, lemmas.Result.on_ok_weaker}
+pub use Rattle.std.proofs.{Math.ListN.get_or-map, Math.Seq.get_or-append_seam, lemmas.Bool.false_from_ne_true, lemmas.Bool.leb-true, lemmas.Bool.ltb-false}
+pub use Rattle.std.proofs.{lemmas.Int.to_z-of_z, lemmas.Result.err_from_is_err_and, lemmas.Result.on_ok_weaker}
 pub use Rattle.std.proofs.Common.{Bool, Err, IfSome, List, None, Ok, Option, Result, Some, [], add-one, ap, append_assoc, arith, codes, drop, false, get_or}
 pub use Rattle.std.proofs.Common.{if◌then◌else◌, inl, inr, length, length-append, length-set, map, nat_lt, negsuc, not, pos, refl, replicate, rules, slice_set}
 pub use Rattle.std.proofs.Common.{subst, suc, sym, take, true, zero, ℕ, ℤ, ◌*◌, ◌++◌, ◌+◌, ◌-◌, ◌<◌, ◌==◌, ◌∙◌, ◌∷◌, ◌≡◌, ◌≤◌, ◌⊎◌}
-pub use Rattle.std.proofs.lemmas.Bool.{OnFalse_at, OnFalse_from, OnTrue_at, OnTrue_from, and_parts, cases_lt, eq-eqb, false_from_ne_true, leb-true, ltb-false}
+pub use Rattle.std.proofs.lemmas.Bool.{ltb-true, ne_eqb, not-false, or_parts, OnFalse_at, OnFalse_from, OnTrue_at, OnTrue_from, and_parts, cases_lt, eq-eqb}
 pub use Rattle.std.proofs.lemmas.List.{append-nil, drop_all, drop_more, ext_get_or, get_or-set_other, get_or-set_same, get_or_append_left, get_or_default}
 pub use Rattle.std.proofs.lemmas.List.{length-map, map-append, replicate-append-replicate, take_all, take_more_set, with_items_is}
 pub use Rattle.std.proofs.lemmas.Option.{get_or_from_slice_get, slice_get-get_or, slice_get_within}
@@ -14,10 +14,10 @@ pub use Rattle.vms_kinds.specs.declared.Item.TheVariants.{Num, Struct, Unused}
 pub use Rattle.vms_spec.proofs.{Faultless.answers_none, NumberLaws.within_all, Sizes.field_size, Tables.first_at, Tables.one_more}
 pub use Rattle.vms_spec.proofs.Prefixes.{FieldsBelow, ItemBelow, all_below}
 pub use Rattle.vms_spec.proofs.WellFormedLaws.{device_found, device_parts, earlier, sub_clean, well_good}
-pub use Rattle.vms_spec.specs.{Good.IsFit, Good.IsGood, Heads.FitsHeads, Images.sub_slots, Lists.at_option, Numbers.exceeds, Places.own_cell_count}
+pub use Rattle.vms_spec.specs.{Good.IsFit, Good.IsGood, Heads.FitsHeads, Images.sub_place, Lists.at_option, Numbers.exceeds, Places.own_cell_count}
 pub use Rattle.vms_spec.specs.{Tests.is_there, Tests.truth, declared.Count.TheVariants.Counted, declared.Count.TheVariants.One, declared.Part.Part}
 pub use Rattle.vms_spec.specs.{declared.TheConstants.MOST_ITEMS, declared.Whose.TheVariants.Own, declared.Whose.TheVariants.Parent}
-pub use Rattle.vms_spec.specs.Images.{FitsCell, Image, IsNormal, RulesHold, came_slots, default_image, has_cell, image_slots, own_cells, own_slots, sub_place}
+pub use Rattle.vms_spec.specs.Images.{sub_slots, FitsCell, Image, IsNormal, RulesHold, came_slots, default_image, has_cell, image_slots, own_cells, own_slots}
 pub use Rattle.vms_spec.specs.Layout.{Cell, Meaning, Number, Rule, Slot, capacity_of, cells_from, counted, desc_cells, desc_slots, device_cells, elements_of}
 pub use Rattle.vms_spec.specs.Layout.{field_cells, field_slots, item_size, item_slots, meaning, meanings, no_cell, no_desc, no_field, no_meaning, no_parent}
 pub use Rattle.vms_spec.specs.Layout.{numbers_of, place_of, slots_from, struct_cells, times}
@@ -50,13 +50,13 @@ pub use Rattle.vms_check_laws.proofs.{GoesDevices.carried_stands, GoesFields.str
 pub use Rattle.vms_check_laws.proofs.Streaming.{all_in, back, found_device, found_some, pair, upgrade_stands}
 pub use Rattle.vms_check_laws.proofs.SubParts.{one_number, one_part, own_or_sub}
 pub use Rattle.vms_check_laws.specs.{Carried.IsAtVersions, Carried.IsCarried, Pairing.AreOfKinds, Pairing.ArePartners, SubCells.IsCellOf}
-pub use Rattle.vms_convert.specs.{Back.AreSettled, Back.AreTaken, Back.IsBack, Back.taken, Back.whole, Changes.Changes, Changes.changed, Changes.changed_append}
-pub use Rattle.vms_convert.specs.{Giving.AreTargets, Giving.give_partner, Giving.give_step, Putting.AreSources, Putting.put_partner, Putting.put_step}
-pub use Rattle.vms_convert.specs.{Returning.FirstDifference, Returning.IsReturned, Rooms.AreFresh, Rooms.AreRoutes, Rooms.IsRoute, Takes.put_keeps}
-pub use Rattle.vms_convert.specs.{Takes.takes_keeps, declared.fault.Loss.Loss, declared.pairing.Arrays.Arrays, declared.pairing.Elements.Elements}
-pub use Rattle.vms_convert.specs.{declared.pairing.Start.Start, declared.returns.LostCell.LostCell, declared.room.Route.Route}
-pub use Rattle.vms_convert.specs.Bringing.{ArePut, ArePutAt, SettlesBy, SettlesSub, own_part, part_of, part_slots, sub_part, sub_slots_at}
-pub use Rattle.vms_convert.specs.Calls.{ConvertsKept, IsStreamFor, PutsStream}
+pub use Rattle.vms_convert.specs.{Changes.Changes, Changes.changed, Changes.changed_append, Giving.AreTargets, Giving.give_partner, Giving.give_step}
+pub use Rattle.vms_convert.specs.{Putting.AreSources, Putting.put_partner, Putting.put_step, Returning.FirstDifference, Returning.IsReturned, Rooms.AreFresh}
+pub use Rattle.vms_convert.specs.{Rooms.AreRoutes, Rooms.IsRoute, Takes.put_keeps, Takes.takes_keeps, declared.fault.Loss.Loss, declared.pairing.Arrays.Arrays}
+pub use Rattle.vms_convert.specs.{declared.pairing.Elements.Elements, declared.pairing.Start.Start, declared.returns.LostCell.LostCell}
+pub use Rattle.vms_convert.specs.{declared.room.Route.Route, Calls.ConvertsKept, Calls.IsStreamFor, Calls.PutsStream}
+pub use Rattle.vms_convert.specs.Back.{AreSettled, AreTaken, IsBack, taken, whole}
+pub use Rattle.vms_convert.specs.Bringing.{ArePut, ArePutAt, part_of, part_slots, sub_slots_at}
 pub use Rattle.vms_convert.specs.Converted.{AreBack, IsConverted, IsPairAt, recast_each}
 pub use Rattle.vms_convert.specs.Laws.{AnswerLaw, AreRecastOf, BackLaw, ComesBackLaw, Converts, MayBeWritten, OneBackLaw, OneLostLaw, RecastOfLaw}
 pub use Rattle.vms_convert.specs.Losing.{AreWritable, FirstInvalid, Judges, KeepsMachine, KeepsName, first_cell_at, first_of, stream_of}
@@ -65,9 +65,9 @@ pub use Rattle.vms_convert.specs.Partnering.{AreArrays, HasFew, HasRoom, IsBehin
 pub use Rattle.vms_convert.specs.Partnering.{elements_left, entries_at, item_on, partners_left, partners_on, struct_on, sub_on, table}
 pub use Rattle.vms_convert.specs.Recast.{is_port, is_ring, recast, wants, wants_arrays}
 pub use Rattle.vms_convert.specs.Returns.{ArePaired, AreReturned, AreReturnedTo, IsFirstLost, IsLostCell, IsRecastFor, carried_of}
-pub use Rattle.vms_desc.proofs.{Clean.few_fields, Clean.few_subs, Clean.field_clean, Clean.reach, Clean.struct_clean, Ranks.reach_whole, Ranks.uses_more}
+pub use Rattle.vms_desc.proofs.{Ranks.reach_whole, Ranks.uses_more, Bounds.few_machines, Bounds.fit_of, Bounds.good_of, Bounds.none_is}
 pub use Rattle.vms_desc.proofs.AskLaws.{device_is, few_cells, found_field, own_inside_device, sub_inside, sub_within}
-pub use Rattle.vms_desc.proofs.Bounds.{few_machines, fit_of, good_of, none_is}
+pub use Rattle.vms_desc.proofs.Clean.{few_fields, few_subs, field_clean, reach, struct_clean}
 pub use Rattle.vms_desc.specs.{Asks.needed_at, Described.described, Described.device_at, Formed.is_well_formed, Formed.newest_set, Names.IsNameAt}
 pub use Rattle.vms_desc.specs.{Parts.HasPart, Parts.desc_at, Parts.sub_at, Spots.kinds_at, declared.set.DescSet.DescSet}
 pub use Rattle.vms_image.proofs.States.{at_state, image_at}

@@ -1,7 +1,7 @@
 -- Pairing step by step, as the code has it.
 use Rattle.vms_convert.proofs.Facade.{append_assoc, ◌≡◌, ℕ, ◌+◌, ◌-◌, ◌*◌, ◌<◌, ◌≤◌, List, [], ◌∷◌, ◌++◌, length, get_or, replicate, true, false, Option, Some}
 use Rattle.vms_convert.proofs.Facade.{None, ap, arith, append-nil, drop_all, Bor, flat_map, slice_get-get_or, Cell, no_desc, no_field, capacity_of, item_size}
-use Rattle.vms_convert.proofs.Facade.{desc_cells, field_cells, struct_cells, find_sub, Field, Sub, Set, DescSet, few_cells, own_inside_device, sub_inside}
+use Rattle.vms_convert.proofs.Facade.{desc_cells, struct_cells, find_sub, Field, Sub, Set, DescSet, few_cells, own_inside_device, sub_inside}
 use Rattle.vms_convert.proofs.Facade.{struct_is, MOST_ITEMS, field_size, in_u32, Part, uses_below, described, device_at, well_of, is_well_formed, HasPart}
 use Rattle.vms_convert.proofs.Facade.{desc_at, sub_at, reach, field_clean, reach_whole, uses_more, Entry, is_absent, device_partners, named_partners, array_on}
 use Rattle.vms_convert.proofs.Facade.{item_on, AreArrays, HasRoom, PairsElement, arrays_on, elements_left, HasFew, IsStart, IsNextStart, IsBehind, PairsField}
@@ -22,9 +22,6 @@ module _ (s : Side) where
 
   abbrev all : List Field
   all = (desc_on s).fields
-
-  abbrev cells_at : ℕ → ℕ
-  cells_at k = length (field_cells cs all k (get_or all k no_field))
 
   abbrev field_at : ℕ → Field
   field_at k = get_or all k no_field

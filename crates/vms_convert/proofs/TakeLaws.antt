@@ -16,10 +16,9 @@ use Rattle.vms_spec.specs.declared.Part.TheVariants as parts
 -- one more of the first
 pub put_front : (xs ys : List ℤ) (c : ℕ) → c < length xs → length xs ≡ length ys
     → slice_set (take c xs ++ drop c ys) c (get_or xs c (pos 0)) ≡ take (suc c) xs ++ drop (suc c) ys
-put_front [] ys c lt long = absurd (omega arith)
-put_front (x ∷ xs) [] c lt long = absurd (omega arith)
 put_front (x ∷ xs) (y ∷ ys) zero lt long = refl
 put_front (x ∷ xs) (y ∷ ys) (suc c) lt long = rw (put_front xs ys c (omega arith) (omega arith))
+put_front _ _ c lt long = absurd (omega arith)
 
 -- ---- The slots of a device's own fields and of its first subsections, in the order in which walks visit them.
 
@@ -65,10 +64,6 @@ module _ (set : Set) (structs : AreSound set.structs) (d : Device) where
   came_same : (n m : List ℤ) (from : ℕ) (subs : List Sub) (came : List (Option ℕ)) (j : ℕ) → ((i : ℕ) (s : Sub) → slice_get subs i ≡ Some s → IsSound s.desc)
       → SameIn from (sub_place set from subs j) n m
       → came_slots set d m from (take j subs) (take j came) ≡ came_slots set d n from (take j subs) (take j came)
-  came_same n m from [] came zero sound s = refl
-  came_same n m from [] came (suc j) sound s = refl
-  came_same n m from (t ∷ subs) came zero sound s = refl
-  came_same n m from (t ∷ subs) [] (suc j) sound s = refl
   came_same n m from (t ∷ subs) (None ∷ came) (suc j) sound s =
       came_same n m (from + sub_size set t) subs came j (λ i u e. sound (suc i) u e) (record { same = λ c low lt. s.same c (omega arith) lt })
   came_same n m from (t ∷ subs) (Some v ∷ came) (suc j) sound s =
@@ -78,6 +73,7 @@ module _ (set : Set) (structs : AreSound set.structs) (d : Device) where
         its_same set t.desc v from structs (sound 0 t refl) n m (record { same = λ c low lt. s.same c low (omega arith) }),
         came_same n m next subs came j (λ i u e. sound (suc i) u e) (record { same = λ c low lt. s.same c (omega arith) lt }),
       )
+  came_same n m from _ _ _ sound s = refl
 
   pub first_same : IsSound d.desc → ((i : ℕ) (s : Sub) → slice_get d.subs i ≡ Some s → IsSound s.desc) → (n m : List ℤ) (came : List (Option ℕ)) (j : ℕ)
       → SameBelow (part_place set d j) n m → first_slots set d came j m ≡ first_slots set d came j n
@@ -94,10 +90,6 @@ module _ (set : Set) (structs : AreSound set.structs) (d : Device) where
 abbrev pub put_value : List ℤ → List ℕ → Option ℕ → ℤ → ℤ
 put_value source caps (Some k) old = let z = get_or source k (pos 0) in if exceeds caps z then old else z
 put_value source caps None old = old
-
-value_twice : (source : List ℤ) (caps : List ℕ) (o : Option ℕ) (old : ℤ) → put_value source caps o (put_value source caps o old) ≡ put_value source caps o old
-value_twice source caps None old = refl
-value_twice source caps (Some k) old = grind arith
 
 put_long : (source : List ℤ) (cell : ℕ) (most o : Option ℕ) (now : List ℤ) → length (put_partner source cell most o now) ≡ length now
 put_long source cell most None now = refl
@@ -125,10 +117,6 @@ module _ (all : List Cell) (partners : List (Option ℕ)) (source : List ℤ) wh
 
   abbrev put : ℕ → List ℕ → List ℤ → List ℤ
   put d caps now = put_partner source d (least_of caps) (get_or partners d None) now
-
-  again : (c : ℕ) (b : Bool) (old : ℤ) → taken_if c b (value c old) ≡ value c old
-  again c true old = grind (arith, value_twice)
-  again c false old = refl
 
   pub put_at : (slots : List Slot) (now : List ℤ) (c : ℕ) → AreCells all slots → length now ≡ length all → c < length all
       → get_or (after slots now) c (pos 0) ≡ taken_if c (has_cell slots c) (get_or now c (pos 0))

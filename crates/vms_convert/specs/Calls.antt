@@ -43,10 +43,7 @@ module _ (to new : Set) where
   ConvertsKept machine images empty full (Ok u) = PutsStream machine images (Puts empty full)
   ConvertsKept machine images empty full (Err faults.WriteFault) = PutsStream machine images (Stops empty full)
   ConvertsKept machine images empty full (Err (faults.WouldLose section cell)) = LosesFirst machine images section cell × (full ≡ empty)
-  ConvertsKept machine images empty full (Err faults.NoMemory) = ⊥
-  ConvertsKept machine images empty full (Err faults.ReadFault) = ⊥
-  ConvertsKept machine images empty full (Err (faults.NotCompatible m)) = ⊥
-  ConvertsKept machine images empty full (Err (faults.Refused r)) = ⊥
+  ConvertsKept machine images empty full (Err fault) = ⊥
 
   -- A stream of the newer set was read, and its machine and images are converted.
   pub record TakesFirst (before after : Intake) (empty full : Outlet) (result : Result Unit ConvertFault) : Type 0 where
@@ -70,8 +67,7 @@ module _ (to new : Set) where
   ConvertsInto before after empty full (Err faults.WriteFault) = TakesFirst before after empty full (Err faults.WriteFault)
   ConvertsInto before after empty full (Err (faults.Refused r)) = RefusesFirst before after empty full (loads.Refused r)
   ConvertsInto before after empty full (Err faults.ReadFault) = RefusesFirst before after empty full loads.ReadFault
-  ConvertsInto before after empty full (Err faults.NoMemory) = ⊥
-  ConvertsInto before after empty full (Err (faults.NotCompatible m)) = ⊥
+  ConvertsInto before after empty full (Err fault) = ⊥
 
   -- What a call of `convert` guarantees: its result, what has been read, and what has been written.
   abbrev pub Converts : Intake → Intake → Outlet → Outlet → Result Unit ConvertFault → Type 0

@@ -1,11 +1,18 @@
 -- Steps that change numbers of an image and leave everything else unchanged.
-use Rattle.std.proofs.Common.{◌≡◌, List, [], ◌∷◌, ◌++◌, ℤ, refl, sym, ap, ◌∙◌}
+use Rattle.std.proofs.Common.{◌≡◌, ℕ, List, Option, [], ◌∷◌, ◌++◌, ℤ, refl, sym, ap, ◌∙◌}
 use Rattle.vms_image.specs.Typed.{Typed}
 use Rattle.vms_walk.specs.declared.step.WalkStep.{WalkStep}
+use Rattle.vms_walk.specs.declared.step.WalkStep.TheVariants.{Number}
 
 -- What one step makes of the numbers.
 abbrev pub Change : Type 0
 Change = WalkStep → List ℤ → List ℤ
+
+-- What a step makes of the numbers if it is at a cell: `f` of the cell and of the most that its number counts. Other steps change
+-- nothing.
+abbrev pub at_cell : (ℕ → Option ℕ → List ℤ → List ℤ) → Change
+at_cell f (Number cell kind most) now = f cell most now
+at_cell f step now = now
 
 -- What a list of steps makes of the numbers.
 abbrev pub changed : Change → List WalkStep → List ℤ → List ℤ

@@ -14,9 +14,8 @@ use Rattle.vms_convert.specs.Recast.{recast}
 
 -- The recast numbers of each device, in the newer set's order.
 abbrev pub recast_each : Set → List Device → List (List ℤ) → List (List ℤ)
-recast_each to [] lists = []
-recast_each to (e ∷ devices) [] = []
 recast_each to (e ∷ devices) (numbers ∷ lists) = recast to e numbers ∷ recast_each to devices lists
+recast_each to devices lists = []
 
 -- Device i of the older set, and device k of the newer set with the same name and instance.
 pub record IsPairAt (to new : Set) (i k : ℕ) (d e : Device) : Type 0 where

@@ -5,8 +5,7 @@ use Rattle.vms_kinds.specs.declared.Kind.{Kind}
 use Rattle.vms_kinds.specs.declared.Kind.TheVariants.{U8}
 use Rattle.vms_kinds.specs.Codes.{InRange}
 use Rattle.vms_image.specs.Typed.{Typed}
-use Rattle.vms_walk.specs.declared.step.WalkStep.TheVariants.{Number, Constant, Filler, Rule}
-use Rattle.vms_convert.specs.Changes.{Change}
+use Rattle.vms_convert.specs.Changes.{Change, at_cell}
 
 -- The numbers after `z` is copied to the partner, if there is one.
 abbrev pub give_partner : ℤ → Option ℕ → List ℤ → List ℤ
@@ -15,10 +14,7 @@ give_partner z None now = now
 
 -- The numbers after one step; `numbers` are those of the cells.
 abbrev pub give_step : List (Option ℕ) → List ℤ → Change
-give_step partners numbers (Number cell kind most) now = give_partner (get_or numbers cell (pos 0)) (get_or partners cell None) now
-give_step partners numbers (Constant kind value) now = now
-give_step partners numbers (Filler bytes) now = now
-give_step partners numbers (Rule holds) now = now
+give_step partners numbers = at_cell (λ cell most. give_partner (get_or numbers cell (pos 0)) (get_or partners cell None))
 
 -- Each cell's partner is a cell of the target and of the kind of the cell's number.
 pub record AreTargets (kinds : List Kind) (numbers : List ℤ) (partners : List (Option ℕ)) : Type 0 where

@@ -1,5 +1,5 @@
 -- What pairing needs of a description on each side, and what is left to pair from a field on.
-use Rattle.std.specs.Prelude.{◌≡◌, ℕ, ◌+◌, ◌-◌, ◌*◌, ◌<◌, ◌≤◌, true, false, List, [], ◌++◌, length, get_or, drop, Option}
+use Rattle.std.specs.Prelude.{◌≡◌, ℕ, ◌+◌, ◌-◌, ◌*◌, ◌<◌, ◌≤◌, true, false, List, ◌++◌, length, get_or, drop, Option}
 use Rattle.vms_kinds.specs.declared.Item.{Item}
 use Rattle.vms_spec.specs.Layout.{capacity_of, desc_cells, item_size, no_field, struct_cells, cells_from, field_cells}
 use Rattle.vms_spec.specs.Rules.{uses_below}
@@ -156,15 +156,6 @@ module _ (s t : Side) where
     pub few : HasFew s k
     pub start : IsStart t a
 
-  -- The same, where field k is present, and the start is at a present field or the end.
-  pub record CanPairPresent (k : ℕ) (a : Start) : Type 0 where
-    pub old : IsSide s
-    pub new : IsSide t
-    pub field : k < length (desc_on s).fields
-    pub there : is_absent s.version (get_or (desc_on s).fields k no_field) ≡ false
-    pub few : HasFew s k
-    pub found : IsNextStart t a a
-
 -- Element i is one of the older ones, and the newer cells from it on are within the limit.
 pub record CanPairElement (a : Arrays) (i at : ℕ) : Type 0 where
   pub arrays : AreArrays a
@@ -179,17 +170,6 @@ module _ (sets : Sets) where
     pub few : item_size (struct_cells (described sets.old.now)) a ≤ MOST_ITEMS
     pub room : at + item_size (struct_cells (described sets.new.now)) b ≤ MOST_ITEMS
 
-  -- The structures are in their sets, and their cells are within the limit.
-  pub record CanPairStructs (i j at : ℕ) : Type 0 where
-    pub old : i < length (described sets.old.now).structs
-    pub new : j < length (described sets.new.now).structs
-    pub few : length (get_or (struct_cells (described sets.old.now)) i []) ≤ MOST_ITEMS
-    pub room : at + length (get_or (struct_cells (described sets.new.now)) j []) ≤ MOST_ITEMS
-
   -- The partners of an item's cells.
   abbrev pub items_in : Item → Item → ℕ → List (Option ℕ)
   items_in a b at = item_on (described sets.old.now) (described sets.new.now) a b at
-
-  -- The partners of a structure's cells.
-  abbrev pub structs_in : ℕ → ℕ → ℕ → List (Option ℕ)
-  structs_in i j at = struct_on (described sets.old.now) (described sets.new.now) i j at

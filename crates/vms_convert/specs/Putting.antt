@@ -6,8 +6,7 @@ use Rattle.vms_kinds.specs.Codes.{InRange}
 use Rattle.vms_spec.specs.Numbers.{exceeds}
 use Rattle.vms_image.specs.Typed.{Typed}
 use Rattle.vms_walk.specs.Steps.{capacities_of}
-use Rattle.vms_walk.specs.declared.step.WalkStep.TheVariants.{Number, Constant, Filler, Rule}
-use Rattle.vms_convert.specs.Changes.{Change}
+use Rattle.vms_convert.specs.Changes.{Change, at_cell}
 
 -- The numbers after one cell took its partner's number. A number above the cell's capacity isn't taken.
 abbrev pub put_partner : List ℤ → ℕ → Option ℕ → Option ℕ → List ℤ → List ℤ
@@ -17,10 +16,7 @@ put_partner source cell most None now = now
 
 -- The numbers after one step.
 abbrev pub put_step : List (Option ℕ) → List ℤ → Change
-put_step partners source (Number cell kind most) now = put_partner source cell most (get_or partners cell None) now
-put_step partners source (Constant kind value) now = now
-put_step partners source (Filler bytes) now = now
-put_step partners source (Rule holds) now = now
+put_step partners source = at_cell (λ cell most. put_partner source cell most (get_or partners cell None))
 
 -- Each cell's partner is a cell of the source and of the cell's kind.
 pub record AreSources (kinds : List Kind) (source : List ℤ) (partners : List (Option ℕ)) : Type 0 where

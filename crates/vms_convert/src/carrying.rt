@@ -1,10 +1,9 @@
 // The numbers of a newer device that the older set's image gives back.
 ghost use Rattle.std.specs.Prelude.{◌≡◌, length};
-ghost use Rattle.vms_desc.specs.Described.{described};
-ghost use Rattle.vms_convert.specs.Bringing.{own_part, sub_part};
-ghost use Rattle.vms_convert.specs.OneDevice.{CanGive, CanGiveSub, GivesAll, GivesSub, HasDevice, HasSub};
+ghost use Rattle.vms_convert.specs.OneDevice.{CanGive, CanGiveSub, GivesAll, GivesSub};
 ghost use Rattle.vms_convert.specs.Returning.{FirstDifference};
 
+use crate::back::whole_part;
 use crate::giving::{Gift, give_part};
 use vms_desc::{DescSet, Part};
 use vms_image::Image;
@@ -16,7 +15,7 @@ pub(crate) fn give_all(set: &DescSet, device: u32, gift: Gift, target: &mut Imag
     requires { CanGive set.now device gift target.old }
     ensures { GivesAll set.now device gift.entry target.old target.new }
 {
-    give_part(set, own_part(set, device, gift.image), gift, target);
+    give_part(set, whole_part(set, Part::Device(device)), gift, target);
     for sub in 0..set.sub_count(device) {
         give_sub(set, device, sub, gift, target);
     }
@@ -28,32 +27,13 @@ fn give_sub(set: &DescSet, device: u32, sub: u32, gift: Gift, target: &mut Image
     ensures { GivesSub set.now device sub gift.entry target.old target.new }
 {
     if let Some(version) = gift.image.came(sub) {
-        give_part(set, sub_part(set, device, sub, version), gift, target);
-    }
-}
-
-// Returns the device's own fields, at the version of `image`.
-fn own_part(set: &DescSet, device: u32, image: &Image) -> PartAt
-    requires { HasDevice set.now device }
-    ensures { result ≡ own_part device image.now.version }
-{
-    PartAt {
-        part: Part::Device(device),
-        version: image.version(),
-        base: set.first_cell(Part::Device(device)),
-    }
-}
-
-// Returns a subsection at a version.
-fn sub_part(set: &DescSet, device: u32, sub: u32, version: u32) -> PartAt
-    requires { HasSub set.now device sub }
-    ensures { result ≡ sub_part (described set.now) device sub version }
-{
-    let part = Part::Sub(device, sub);
-    PartAt {
-        part,
-        version,
-        base: set.first_cell(part),
+        let part = Part::Sub(device, sub);
+        let spot = PartAt {
+            part,
+            version,
+            base: set.first_cell(part),
+        };
+        give_part(set, spot, gift, target);
     }
 }
 

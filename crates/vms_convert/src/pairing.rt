@@ -1,18 +1,17 @@
 // The pairs of cells of an older and a newer device.
-ghost use Rattle.std.specs.Prelude.{◌≡◌, ◌++◌, ◌<◌, length, replicate, IfOk, None, OnOk, [], ◌∷◌, Some, if◌then◌else◌};
+ghost use Rattle.std.specs.Prelude.{◌≡◌, ◌++◌, ◌<◌, length, replicate, IfOk, None, OnOk};
 ghost use Rattle.vms_desc.specs.Described.{described, device_at};
-ghost use Rattle.vms_check.specs.Comparing.{same_kind};
 ghost use Rattle.vms_check.specs.Partners.{device_partners};
 ghost use Rattle.vms_convert.specs.Partnering.{AreArrays, HasRoom, IsBehind, IsNextStart, PairsElement, PairsField};
-ghost use Rattle.vms_convert.specs.Partnering.{AtField, AtStart, CanPair, CanPairElement, CanPairField, CanPairItems, CanPairPresent, CanPairStructs};
+ghost use Rattle.vms_convert.specs.Partnering.{AtField, AtStart, CanPair, CanPairElement, CanPairField, CanPairItems};
 ghost use Rattle.vms_convert.specs.Partnering.{CanPairSub, HasField, HaveFields};
-ghost use Rattle.vms_convert.specs.Partnering.{arrays_on, elements_left, elements_on, items_in, partners_on, structs_in, sub_on};
+ghost use Rattle.vms_convert.specs.Partnering.{arrays_on, elements_left, elements_on, items_in, partners_on, sub_on};
 
 use std::alloc::{AllocError, Global};
 use vms_check::{Side, at_own_version, fields_of, is_present, same_kind};
 use vms_desc::{DescSet, Part, find_sub};
 use vms_io::NoMemory;
-use vms_kinds::{Item, Kind};
+use vms_kinds::Item;
 use vms_parts::capacity;
 
 // A field of a description and its first cell.
@@ -131,7 +130,8 @@ fn pair_descs(
     Ok(())
 }
 
-// Pairs one field with the newer side's first present field from `start` on. Returns the start after that.
+// Pairs one field, if it is present, with the newer side's first present field from `start` on, if
+// there is one. Returns the start after that.
 #[cycle(pairing)]
 fn pair_field(
     old: Side,
@@ -146,37 +146,18 @@ fn pair_field(
         IfOk result (λ next. PairsField old.entry new.entry number start next before after) }
 {
     if is_present(&fields_of(old)[number as usize], old.version) {
-        pair_present(old, number, new, next_start(new, start), partners)
+        let found = next_start(new, start);
+        if found.field < new.set.field_count(new.part) {
+            let arrays = arrays_of(old, number, new, found.field);
+            pair_arrays(arrays, found.cell, partners)?;
+            Ok(behind(new, found))
+        } else {
+            put_unpaired(old.set.field_cells(old.part, number), partners)?;
+            Ok(found)
+        }
     } else {
         put_unpaired(old.set.field_cells(old.part, number), partners)?;
         Ok(start)
-    }
-}
-
-// Pairs one present field with a present field of the newer side, or with none.
-#[cycle(pairing)]
-fn pair_present(
-    old: Side,
-    number: u32,
-    new: Side,
-    found: Start,
-    partners: &mut Vec<Option<u32>>,
-) -> Result<Start, AllocError>
-    requires { CanPairPresent old new number found }
-    ensures { let before = partners.old.items in
-        let after = partners.new.items in
-        IfOk result (λ next. PairsField old.entry new.entry number found next before after) }
-{
-    if found.field < new.set.field_count(new.part) {
-        pair_arrays(
-            arrays_of(old, number, new, found.field),
-            found.cell,
-            partners,
-        )?;
-        Ok(behind(new, found))
-    } else {
-        put_unpaired(old.set.field_cells(old.part, number), partners)?;
-        Ok(found)
     }
 }
 
@@ -280,7 +261,8 @@ fn pair_element(
     }
 }
 
-// Pairs one element with another, whose first cell is `cell`.
+// Pairs one element with another, whose first cell is `cell`: numbers if they are of one kind, and
+// structures each at its own version.
 #[cycle(pairing)]
 fn pair_items(
     sets: Sets,
@@ -294,50 +276,17 @@ fn pair_items(
         OnOk result (partners.new.items ≡ partners.old.items ++ pairs) }
 {
     match (one, other) {
-        (Item::Num(one), Item::Num(other)) => put_pair(one, other, cell, partners),
-        (Item::Struct(one), Item::Struct(other)) => pair_structs(sets, one, other, cell, partners),
+        (Item::Num(one), Item::Num(other)) => {
+            partners.push(same_kind(one, other).then_some(cell))?;
+            Ok(())
+        }
+        (Item::Struct(in_old), Item::Struct(in_new)) => {
+            let older = at_own_version(sets.old, Part::Struct(in_old));
+            let newer = at_own_version(sets.new, Part::Struct(in_new));
+            pair_descs(older, newer, cell, partners)
+        }
         _ => put_unpaired(sets.old.item_cells(one), partners),
     }
-}
-
-// Pairs two numbers, if they are of one kind.
-fn put_pair(
-    one: Kind,
-    other: Kind,
-    cell: u32,
-    partners: &mut Vec<Option<u32>>,
-) -> Result<(), AllocError>
-    ensures { let partner = if same_kind one other then Some cell else None in
-        OnOk result (partners.new.items ≡ partners.old.items ++ partner ∷ []) }
-{
-    let partner = if same_kind(one, other) {
-        Some(cell)
-    } else {
-        None
-    };
-    partners.push(partner)?;
-    Ok(())
-}
-
-// Pairs two structures, each at its own version.
-#[cycle(pairing)]
-fn pair_structs(
-    sets: Sets,
-    in_old: u32,
-    in_new: u32,
-    cell: u32,
-    partners: &mut Vec<Option<u32>>,
-) -> Result<(), AllocError>
-    requires { CanPairStructs sets in_old in_new cell }
-    ensures { let pairs = structs_in sets.entry in_old in_new cell in
-        OnOk result (partners.new.items ≡ partners.old.items ++ pairs) }
-{
-    pair_descs(
-        at_own_version(sets.old, Part::Struct(in_old)),
-        at_own_version(sets.new, Part::Struct(in_new)),
-        cell,
-        partners,
-    )
 }
 
 // Appends `cells` cells without a partner.

@@ -1,10 +1,9 @@
 -- Parts with the same elements by two lists of numbers.
-use Rattle.vms_selfdesc.proofs.Facade.{AllByRecursion, ◌≡◌, ℕ, suc, ◌+◌, Bool, true, List, [], ◌∷◌, ◌++◌, length, ℤ, refl, sym, ap, ap₂, ◌∙◌, and_parts}
-use Rattle.vms_selfdesc.proofs.Facade.{Option, Some, None, Formula, is_none, Item, Struct, Field, Desc, Set, Count, One, Fixed, Counted, field_cells}
-use Rattle.vms_selfdesc.proofs.Facade.{struct_cells, counted, numbers_of, elements_of, no_parent, is_there, Shape, Element, shapes, cells_in, item_elements}
-use Rattle.vms_selfdesc.proofs.Facade.{field_elements, elements_from, entries_of, part_entries, Sub, Entry, is_some, object, sub_members, sub_tree}
+use Rattle.vms_selfdesc.proofs.Facade.{sub_tree, AllByRecursion, ◌≡◌, ℕ, suc, ◌+◌, Bool, true, List, [], ◌∷◌, ◌++◌, length, ℤ, refl, sym, ap, ap₂, ◌∙◌, Option}
+use Rattle.vms_selfdesc.proofs.Facade.{Item, Struct, Field, Desc, Set, field_cells, struct_cells, counted, numbers_of, Shape, Element, shapes, cells_in}
+use Rattle.vms_selfdesc.proofs.Facade.{item_elements, field_elements, elements_from, entries_of, part_entries, Sub, Entry, is_some, object, sub_members}
 use Rattle.vms_selfdesc.proofs.OfElements.{cells_are, of_desc}
-use Rattle.vms_selfdesc.specs.Alike.{IsFieldAlike, HasSameCount, is_plain, is_steady, is_uncounted}
+use Rattle.vms_selfdesc.specs.Alike.{IsFieldAlike, is_plain}
 
 -- field by field
 abbrev pub AreFieldsAlike : ℕ → (ℕ → ℕ) → (ℕ → ℕ) → List Field → Type 0

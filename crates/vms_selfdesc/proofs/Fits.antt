@@ -33,9 +33,8 @@ none_long most (e ∷ es) le = absurd (omega arith)
 -- the default of a number is spelled with at most 20 bytes; unused bytes are few
 abbrev pub IsSmall : Item → ℤ → Type 0
 IsSmall (Num kind) z = length (number_text (of_integer z)) ≤ 20
-IsSmall (Equal kind y) z = Unit {0}
 IsSmall (Unused n) z = n ≤ MOST_UNUSED
-IsSmall (Struct j) z = Unit {0}
+IsSmall item z = Unit {0}
 
 pub record IsSoundField (f : Field) : Type 0 where
   pub name : IsShort 32 f.name

@@ -2,11 +2,14 @@
 -- subsection and device, and fewer for the items of a part without structures.
 use Rattle.vms_selfdesc.proofs.{Facade.described_text, Plain.quoted_long, Plain.IsShort, Soundness.part_sound, Soundness.fields_flat}
 use Rattle.vms_selfdesc.proofs.EntryLong.{member_long, number_short}
-use Rattle.vms_selfdesc.proofs.Facade.{get_or, ◌≡◌, ℕ, suc, ◌+◌, ◌*◌, ◌<◌, ◌≤◌, List, [], ◌∷◌, length, length-append, map, ℤ, Bool, true, false, arith, Option}
-use Rattle.vms_selfdesc.proofs.Facade.{is_some, codes, mul-le-mul_left, mul-le-mul_right, AtLeast, no_desc, list_tree, natural, string, escape_byte, Data}
-use Rattle.vms_selfdesc.proofs.Facade.{no_members, member, object, array, boolean, items_of, compact_text, items_text, MOST_ITEMS, Field, Desc, Sub, Device}
+use Rattle.vms_selfdesc.proofs.Facade.{get_or, ◌≡◌, ℕ, suc, ◌+◌, ◌*◌, ◌<◌, ◌≤◌, List, [], ◌∷◌, length, length-append, map, ℤ, Bool, true, false, arith}
+use Rattle.vms_selfdesc.proofs.Facade.{Option}
+use Rattle.vms_selfdesc.proofs.Facade.{is_some, codes, mul-le-mul_left, mul-le-mul_right, AtLeast, no_desc, escape_byte, Data}
+use Rattle.vms_selfdesc.proofs.Facade.{Members, no_members, member, object, array, quoted, members_text, boolean, items_of, compact_text, items_text}
+use Rattle.vms_selfdesc.proofs.Facade.{MOST_ITEMS, Field, Desc, Sub, Device}
 use Rattle.vms_selfdesc.proofs.Facade.{Set, desc_cells, struct_cells, Image, own_cells, items_in, struct_items, subs_items, devices_items, struct_depths}
-use Rattle.vms_selfdesc.proofs.Facade.{deepest, is_well_formed, shapes, Entry, part_entries, entry_tree, sub_members, sub_trees, device_members, device_trees}
+use Rattle.vms_selfdesc.proofs.Facade.{deepest, is_well_formed, shapes, Entry, part_entries, entry_tree, sub_members, sub_trees, device_members}
+use Rattle.vms_selfdesc.proofs.Facade.{device_trees}
 use Rattle.vms_selfdesc.proofs.Fits.{AreLong, longer, AreSound, FitTables, tables_fit, entries_few, entries_long}
 use Rattle.vms_spec.specs.declared.Part.TheVariants as parts
 
@@ -37,18 +40,23 @@ flag_short false = omega arith
 
 -- ---- objects
 
+-- members and the brace after them, each with a comma, its key and a colon
+abbrev members_room : Members → ℕ
+members_room no_members = 1
+members_room (member k d ms) = length (quoted k) + length (compact_text d) + 2 + members_room ms
+
+members_long : (later : Bool) (ms : Members) → length (members_text later ms) ≤ members_room ms
+members_long later no_members = omega arith
+members_long false (member k d ms) = omega (arith, member_long false k d ms, members_long true ms)
+members_long true (member k d ms) = omega (arith, member_long true k d ms, members_long true ms)
+
 sub_long : (es : List Entry) (name : List ℕ) (sent : Bool) (version : ℕ) → IsShort 165 name → version < 4294967296
     → length (compact_text (object (sub_members es name sent version))) ≤ weight (map entry_tree es) + 299
 unfolding escape_byte
 sub_long es name sent version short small =
-    let last = member (codes "version") (natural version) no_members in
-    let third = member (codes "sent") (boolean sent) last in
     omega (
       arith,
-      member_long false (codes "fields") (list_tree entry_tree es) (member (codes "name") (string name) third),
-      member_long true (codes "name") (string name) third,
-      member_long true (codes "sent") (boolean sent) last,
-      member_long true (codes "version") (natural version) no_members,
+      members_long false (sub_members es name sent version),
       array_long (map entry_tree es),
       quoted_long name short.plain,
       short.short,
@@ -61,16 +69,9 @@ device_long : (es : List Entry) (instance : ℕ) (name : List ℕ) (subs : List 
     → length (compact_text (object (device_members es instance name subs version))) ≤ weight (map entry_tree es) + weight subs + 299
 unfolding escape_byte
 device_long es instance name subs version short few small =
-    let last = member (codes "version") (natural version) no_members in
-    let fourth = member (codes "subsections") (array (items_of subs)) last in
-    let third = member (codes "name") (string name) fourth in
     omega (
       arith,
-      member_long false (codes "fields") (list_tree entry_tree es) (member (codes "instance_id") (natural instance) third),
-      member_long true (codes "instance_id") (natural instance) third,
-      member_long true (codes "name") (string name) fourth,
-      member_long true (codes "subsections") (array (items_of subs)) last,
-      member_long true (codes "version") (natural version) no_members,
+      members_long false (device_members es instance name subs version),
       array_long (map entry_tree es),
       array_long subs,
       quoted_long name short.plain,

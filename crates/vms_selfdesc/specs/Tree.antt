@@ -47,10 +47,9 @@ sub_tree set numbers at s came =
 
 -- The trees of all subsections of the description, in order. The cells of the first one begin at a cell.
 abbrev pub sub_trees : Set → List ℤ → ℕ → List Sub → List (Option ℕ) → List Data
-sub_trees set numbers at [] came = []
-sub_trees set numbers at (s ∷ subs) [] = []
 sub_trees set numbers at (s ∷ subs) (c ∷ came) =
     sub_tree set numbers at s c ∷ sub_trees set numbers (at + length (desc_cells (struct_cells set) s.desc)) subs came
+sub_trees set numbers at subs came = []
 
 -- The members of a device.
 abbrev pub device_members : List Entry → ℕ → List ℕ → List Data → ℕ → Members
@@ -69,9 +68,8 @@ device_tree set d image = object (
 
 -- The trees of devices.
 abbrev pub device_trees : Set → List Device → List Image → List Data
-device_trees set [] images = []
-device_trees set (d ∷ devices) [] = []
 device_trees set (d ∷ devices) (image ∷ images) = device_tree set d image ∷ device_trees set devices images
+device_trees set devices images = []
 
 -- The tree of a set's images.
 abbrev pub described_tree : Set → List Image → Data

@@ -62,19 +62,6 @@ fn write_sub(lister: &Lister, device: u32, sub: u32, draft: &mut Draft)
 }
 
 // Writes the subsections, one after the other.
-fn write_each(lister: &Lister, device: u32, draft: &mut Draft)
-    requires { CanWriteDevice lister.now draft.old device }
-    ensures { let set = set_in lister.now in
-        let image = state_of lister.now.image.now in
-        let d = device_at set device in
-        let trees = sub_trees set image.numbers (own_cells set d) d.subs image.came in
-        Adds draft.old draft.new trees }
-{
-    for sub in 0..lister.set.sub_count(device) {
-        write_sub(lister, device, sub, draft);
-    }
-}
-
 fn write_subs(lister: &Lister, device: u32, draft: &mut Draft)
     requires { CanWriteDevice lister.now draft.old device }
     ensures { let set = set_in lister.now in
@@ -85,7 +72,9 @@ fn write_subs(lister: &Lister, device: u32, draft: &mut Draft)
 {
     draft.text.push("[");
     draft.later = false;
-    write_each(lister, device, draft);
+    for sub in 0..lister.set.sub_count(device) {
+        write_sub(lister, device, sub, draft);
+    }
     draft.text.push("]");
 }
 

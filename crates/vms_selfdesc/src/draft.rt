@@ -26,10 +26,13 @@ impl Draft {
     pub(crate) fn with_capacity(alloc: Global, capacity: usize) -> Result<Self, AllocError>
         ensures { IfOk result (λ d. IsNew d capacity) }
     {
-        let text = Text::with_capacity(alloc, capacity)?;
+        let written = String::with_capacity(alloc, capacity)?;
         let path = Path::new(alloc)?;
         Ok(Draft {
-            text,
+            text: Text {
+                written,
+                whole: true,
+            },
             path,
             later: false,
         })

@@ -2,7 +2,6 @@
 ghost use Rattle.std.specs.Prelude.{◌≡◌, true, IfOk, string_capacity};
 ghost use Rattle.vms_selfdesc.specs.Drafts.{Extends, IsEmpty};
 
-use std::alloc::{AllocError, Global};
 use vms_io::NoMemory;
 
 // What has been written, and whether memory was enough for all of it. A piece that finds none is left
@@ -14,17 +13,6 @@ pub(crate) struct Text {
 }
 
 impl Text {
-    // Returns an empty text with room for `capacity` bytes.
-    pub(crate) fn with_capacity(alloc: Global, capacity: usize) -> Result<Self, AllocError>
-        ensures { IfOk result (λ t. IsEmpty t capacity) }
-    {
-        let written = String::with_capacity(alloc, capacity)?;
-        Ok(Text {
-            written,
-            whole: true,
-        })
-    }
-
     // Appends `piece`.
     #[inline(always)]
     pub(crate) fn push(&mut self, piece: &str)

@@ -13,9 +13,9 @@ pub use Rattle.std.specs.{Borrow.Bor, Fmt.decimal, Fmt.signed_decimal, Int.w128,
 pub use Rattle.std.specs.List.{flat_map, list_all, slice_get}
 pub use Rattle.vms_kinds.specs.{Codes.InRange, declared.Item.Item, declared.Kind.Kind, declared.Kind.TheVariants.U8}
 pub use Rattle.vms_kinds.specs.declared.Item.TheVariants.{Num, Struct}
-pub use Rattle.vms_spec.proofs.{ListLaws.drop_on, ListLaws.natural_up, Prefixes.row_same, Prefixes.struct_cells_at, Sizes.elements_fit, Sizes.field_size}
-pub use Rattle.vms_spec.proofs.{Sizes.one_fits, Sizes.room_for_less, Sizes.size_same, Tables.first_at, Tables.one_more, WellFormedLaws.ranges}
-pub use Rattle.vms_spec.proofs.Prefixes.{FieldsBelow, ItemBelow, all_below, field_cells_same, first_cells, first_same, item_cells_same, own_same, readers_cells}
+pub use Rattle.vms_spec.proofs.{ListLaws.drop_on, ListLaws.natural_up, Prefixes.item_cells_same, Prefixes.own_same, Prefixes.readers_cells, Sizes.elements_fit}
+pub use Rattle.vms_spec.proofs.{Sizes.field_size, Sizes.one_fits, Sizes.room_for_less, Sizes.size_same, Tables.first_at, Tables.one_more, WellFormedLaws.ranges}
+pub use Rattle.vms_spec.proofs.Prefixes.{row_same, struct_cells_at, FieldsBelow, ItemBelow, all_below, field_cells_same, first_cells, first_same}
 pub use Rattle.vms_spec.specs.{Heads.FitsHeads, Numbers.exceeds, Numbers.same_number, Places.own_cell_count, Readiness.rules_are_true, Rules.in_range}
 pub use Rattle.vms_spec.specs.{Rules.uses_below, Sets.AtLeast, Sets.Desc, Sets.Device, Sets.Field, Sets.Set, Sets.Sub, Tests.is_there, declared.Count.Count}
 pub use Rattle.vms_spec.specs.{declared.Count.TheVariants.One, declared.Part.Part, declared.TheConstants.MOST_ITEMS, declared.ValuesReason.ValuesReason}
@@ -34,11 +34,10 @@ pub use Rattle.vms_spec.specs.ValuesReading.{rest_of, section_line, sub_fails, s
 unfoldable pub use Rattle.vms_spec.specs.{Layout.first, ValuesReading.values_read}
 pub use Rattle.vms_words.specs.{Lines.IsFirstLine, declared.line.NextLine.NextLine}
 pub use Rattle.vms_bodies.proofs.{CellLaws.cells_first, PartLaws.cells_of_sub, WalkLaws.place_first}
-pub use Rattle.vms_elements.proofs.{Names.array_name, Names.names_absent, Tables.shapes_cells, Walk.names_long, Walk.names_map, Walk.walks}
-pub use Rattle.vms_elements.proofs.Walk.{AreWalked, are_walked, desc_names_are, desc_walks, field_walks, fields_walk, is_dotted, item_walks, names_append}
-pub use Rattle.vms_elements.specs.{Elements.stand_of, Reading.Reads, Reading.Refused}
-pub use Rattle.vms_elements.specs.Elements.{Shape, desc_elements, dotted, elements_from, field_elements, index_text, item_elements, no_shape, shape, shapes}
-pub use Rattle.vms_elements.specs.Parts.{absent, cell_name, elements_in, names_of, subs_elements}
+pub use Rattle.vms_elements.proofs.{Names.array_name, Names.names_absent, Tables.shapes_cells, Walk.item_walks, Walk.names_append}
+pub use Rattle.vms_elements.proofs.Walk.{names_long, names_map, walks, AreWalked, are_walked, desc_names_are, desc_walks, field_walks, fields_walk, is_dotted}
+pub use Rattle.vms_elements.specs.{Reading.Reads, Reading.Refused, Parts.absent, Parts.cell_name, Parts.elements_in, Parts.names_of, Parts.subs_elements}
+pub use Rattle.vms_elements.specs.Elements.{stand_of, Shape, desc_elements, dotted, elements_from, field_elements, item_elements, no_shape, shape, shapes}
 pub use Rattle.vms_desc.proofs.AskLaws.{few_cells, found_field, here_fields, own_inside_device, sub_first, sub_inside, sub_next}
 pub use Rattle.vms_desc.proofs.Bounds.{few_devices, few_machines, few_structs, fit_of}
 pub use Rattle.vms_desc.proofs.Clean.{few_subs, field_clean, reach, struct_clean}
@@ -52,8 +51,8 @@ pub use Rattle.vms_io.proofs.WritingLemmas.{wrote_as, wrote_behind}
 pub use Rattle.vms_io.specs.{Told.Outlet, Told.outlet, Writing.Puts, Writing.Wrote}
 pub use Rattle.vms_parts.specs.{Capacities.least_of, declared.types.CellForm.CellForm, declared.types.Test.Test}
 pub use Rattle.vms_parts.specs.Views.{desc_of, device_of, field_of, form_of, formula}
-pub use Rattle.vms_values.specs.{Machines.NamesMachine, Machines.StartsAt, Paths.path_text, Written.joined, declared.devices.Reading.Reading}
-pub use Rattle.vms_values.specs.{declared.fault.LineFault.LineFault, declared.machine.Start.Start, declared.taken.Taken.Taken}
+pub use Rattle.vms_values.specs.{Machines.NamesMachine, Machines.StartsAt, Paths.element_text, Paths.path_text, Written.joined}
+pub use Rattle.vms_values.specs.{declared.devices.Reading.Reading, declared.fault.LineFault.LineFault, declared.machine.Start.Start, declared.taken.Taken.Taken}
 pub use Rattle.vms_values.specs.DevicesRead.{AllRead, DeviceRead, ToldAs, device_read, found, start_of}
 pub use Rattle.vms_values.specs.Judging.{bad_of, read_of, steps_hold, sub_defaults, sub_judged}
 pub use Rattle.vms_values.specs.Naming.{IsInPart, field_name, item_names, part_names, usable}

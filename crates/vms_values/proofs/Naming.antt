@@ -1,16 +1,21 @@
 -- Names from cells: a part's fields one after the other, one element, and the subsections of a device.
-use Rattle.vms_values.proofs.Facade.{lt_of_mul-lt-mul_right, ◌≡◌, ℕ, zero, suc, ◌+◌, ◌*◌, ◌<◌, List, [], ◌∷◌, ◌++◌, length, get_or, map, drop, ℤ, pos, refl}
+use Rattle.vms_values.proofs.Facade.{lt_of_mul-lt-mul_right, ◌≡◌, ℕ, zero, suc, ◌+◌, ◌*◌, ◌<◌, List, [], ◌∷◌, ◌++◌, length, get_or, map, drop, ℤ, pos}
+use Rattle.vms_values.proofs.Facade.{refl}
 use Rattle.vms_values.proofs.Facade.{sym, ap, ◌∙◌, subst, arith, append_assoc, append-nil, true, ◌-◌, ◌≤◌, ◌/◌, ◌%◌, length-append, codes, None, flat_map}
-use Rattle.vms_values.proofs.Facade.{length-map, get_or_append_left, get_or-map, drop_more, ltb-true, get_or-append_right, div-add-mod', mod-lt, decimal, Item}
+use Rattle.vms_values.proofs.Facade.{length-map, get_or_append_left, get_or-map, drop_more, ltb-true, get_or-append_right, div-add-mod', mod-lt, Item}
 use Rattle.vms_values.proofs.Facade.{Num, Struct, Set, Field, Device, Sub, AtLeast, Desc, own_cells, default_image, Cell, no_desc, item_size, field_cells}
 use Rattle.vms_values.proofs.Facade.{desc_cells, struct_cells, capacity_of, counted, first, numbers_of, no_parent, device_cells, field_size, field_at}
-use Rattle.vms_values.proofs.Facade.{device_at, is_well_formed, sub_at, HasPart, desc_at, size_in, cells_table, struct_size, reach, field_clean, Count, One}
-use Rattle.vms_values.proofs.Facade.{Part, uses_below, own_cell_count, item_rank, part_rank, reach_whole, uses_more, rank_below, fields_at, Shape, no_shape}
-use Rattle.vms_values.proofs.Facade.{shape, shapes, dotted, item_elements, stand_of, field_elements, elements_from, desc_elements, index_text, names_of, absent}
-use Rattle.vms_values.proofs.Facade.{elements_in, subs_elements, cell_name, first_at, shapes_cells, AreWalked, are_walked, is_dotted, names_append, names_long}
+use Rattle.vms_values.proofs.Facade.{device_at, is_well_formed, sub_at, HasPart, desc_at, size_in, cells_table, struct_size, reach, field_clean}
+use Rattle.vms_values.proofs.Facade.{Part, uses_below, own_cell_count, item_rank, part_rank, reach_whole, uses_more, rank_below, fields_at, Shape}
+use Rattle.vms_values.proofs.Facade.{no_shape}
+use Rattle.vms_values.proofs.Facade.{shape, shapes, dotted, item_elements, stand_of, field_elements, elements_from, desc_elements, names_of, absent}
+use Rattle.vms_values.proofs.Facade.{elements_in, subs_elements, cell_name, first_at, shapes_cells, AreWalked, are_walked, is_dotted, names_append}
+use Rattle.vms_values.proofs.Facade.{names_long}
 use Rattle.vms_values.proofs.Facade.{names_map, item_walks, field_walks, fields_walk, desc_walks, desc_names_are, walks, array_name, names_absent, usable}
-use Rattle.vms_values.proofs.Facade.{part_names, item_names, field_name, IsInPart, sub_inside, own_inside_device, few_cells, map-append, slice_get-get_or}
-use Rattle.vms_values.proofs.Facade.{get_or-drop, Kind, U8, item_cells, cells_from, times, size_same, cells_of_sub, first_cell, kinds_at, table, cells_in as table_cells}
+use Rattle.vms_values.proofs.Facade.{element_text, part_names, item_names, field_name, IsInPart, sub_inside, own_inside_device, few_cells, map-append}
+use Rattle.vms_values.proofs.Facade.{slice_get-get_or}
+use Rattle.vms_values.proofs.Facade.{get_or-drop, Kind, U8, item_cells, cells_from, times, size_same, cells_of_sub, first_cell, kinds_at, table}
+use Rattle.vms_values.proofs.Facade.{cells_in as table_cells}
 use Rattle.vms_values.proofs.Facade.{all_below, struct_cells_at, struct_clean, AreKinds, ElementKinds, part_cells, drop_on}
 use Rattle.vms_elements.specs.Elements.{cells_in}
 use Rattle.vms_spec.specs.declared.Part.TheVariants as parts
@@ -152,28 +157,16 @@ module _ (set : Set) where
       by_part _ h = refl
 
   -- a field's path and what comes after it
-  pub single_is : (f : Field) → f.count ≡ One → (path name : List ℕ) (step cell : ℕ) → name ≡ f.name → step ≡ size_in set f.item
-      → (path ++ name) ++ get_or (item_names set f.item) (cell % step) [] ≡ path ++ field_name set f cell
-  single_is f one path name step cell n s =
-      let rest = get_or (item_names set f.item) (cell % size_in set f.item) [] in
-      let none : index_text f.count (cell / size_in set f.item) ≡ [] = rw one in
-      ap (λ l. (path ++ l) ++ get_or (item_names set f.item) (cell % step) []) n
-      ∙ ap (λ k. (path ++ f.name) ++ get_or (item_names set f.item) (cell % k) []) s ∙ append_assoc path f.name rest
-      ∙ ap (λ l. path ++ (l ++ rest)) (sym (ap (λ l. f.name ++ l) none ∙ append-nil f.name))
+  pub element_is : (f : Field) (path : List ℕ) (step cell : ℕ) → step ≡ size_in set f.item
+      → (path ++ element_text f (cell / step)) ++ get_or (item_names set f.item) (cell % step) [] ≡ path ++ field_name set f cell
+  element_is f path step cell s =
+      rw s (append_assoc path (element_text f (cell / size_in set f.item)) (get_or (item_names set f.item) (cell % size_in set f.item) []))
 
-  pub element_is : (f : Field) → (f.count ≡ One → ⊥) → (path name : List ℕ) (step cell : ℕ) → name ≡ f.name → step ≡ size_in set f.item
-      → ((path ++ name) ++ codes "[" ++ decimal (cell / step) ++ codes "]") ++ get_or (item_names set f.item) (cell % step) [] ≡ path ++ field_name set f cell
-  element_is f many path name step cell n s =
-      let size = size_in set f.item in
-      let e = cell / size in
-      let rest = get_or (item_names set f.item) (cell % size) [] in
-      let joined : ((path ++ f.name) ++ codes "[" ++ decimal e ++ codes "]") ++ rest ≡ path ++ ((f.name ++ (codes "[" ++ (decimal e ++ codes "]"))) ++ rest) = simp append_assoc refl in
-      ap (λ l. ((path ++ l) ++ codes "[" ++ decimal (cell / step) ++ codes "]") ++ get_or (item_names set f.item) (cell % step) []) n
-      ∙ ap (λ k. ((path ++ f.name) ++ codes "[" ++ decimal (cell / k) ++ codes "]") ++ get_or (item_names set f.item) (cell % k) []) s ∙ joined
-      ∙ ap (λ l. path ++ ((f.name ++ l) ++ rest)) (sym (index_is f.count many e)) where
-        index_is : (c : Count) → (c ≡ One → ⊥) → (e : ℕ) → index_text c e ≡ codes "[" ++ (decimal e ++ codes "]")
-        index_is One other e = absurd (other refl)
-        index_is _ other e = refl
+  -- only a structure has cells with a path of their own
+  pub nothing_after : (item : Item) (cell : ℕ) → ((j : ℕ) → item ≡ Struct j → ⊥) → get_or (item_names set item) cell [] ≡ []
+  nothing_after (Struct j) cell other = absurd (other j refl)
+  nothing_after (Num kind) zero other = refl
+  nothing_after _ cell other = refl
 
 -- ---- Names from cells: a device's own fields, and its subsections one after the other.
 

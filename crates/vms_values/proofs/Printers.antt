@@ -218,14 +218,6 @@ joined_at pieces i d lt = ap joined (drop_more pieces i d lt)
 
 -- ---- The parts of a printed text.
 
--- an element's path, of three pieces after that of its array
-pub element_text : {T E : Type 0} {a b : Outlet} (path digits piece : List ℕ) (c : Outlet) (result : Result T E) → Puts a b path → piece ≡ digits
-    → Wrote b c (codes "[" ++ (piece ++ (codes "]" ++ []))) result → Wrote a c (path ++ codes "[" ++ digits ++ codes "]") result
-element_text {a = a} path digits piece c result p e w =
-    let s : path ++ (codes "[" ++ (piece ++ (codes "]" ++ []))) ≡ path ++ codes "[" ++ digits ++ codes "]" =
-    rw e (sym (append_assoc path (codes "[") (digits ++ codes "]")) ∙ sym (append_assoc (path ++ codes "[") digits (codes "]"))) in
-    wrote_as result a c s (wrote_behind result c (codes "[" ++ (piece ++ (codes "]" ++ []))) p w)
-
 -- a call whose fault was passed on as another
 pub wrote_mapped : {T E F : Type 0} (a b : Outlet) (text : List ℕ) (r : Result T E) (mapped : Result T F) → is_ok mapped ≡ is_ok r → Wrote a b text r → Wrote a b text mapped
 wrote_mapped a b text (Ok x) (Err f) e w = cc

@@ -75,13 +75,6 @@ module _ (shown : Shown) where
   abbrev pub device_text : ℕ → List ℕ
   device_text i = values.device_lines (described shown.set.now) (device_at (described shown.set.now) i) (state_of shown.image.now)
 
-  -- The lines of its subsections.
-  abbrev pub subs_text : ℕ → List ℕ
-  subs_text i =
-      let set = described shown.set.now in
-      let d = device_at set i in
-      values.sub_lines set shown.image.now.numbers (own_cells set d) d.subs shown.image.now.came
-
   -- The lines of its subsection j.
   abbrev pub sub_text : ℕ → ℕ → List ℕ
   sub_text i j = whole_sub (described shown.set.now) i j shown.image.now.numbers (get_or shown.image.now.came j None)

@@ -33,22 +33,20 @@ start_of set d reading = record { numbers = (default_image set d).numbers; line 
 -- The image, and the first bad line of the second pass so far; or the bad line. Memory may run out in any
 -- case.
 abbrev pub DeviceRead : Set → Device → Result (ReadDevice × Standing) BadLine → Reading → Reading → Result Image LineFault → Type 0
+DeviceRead set d r old new (Err faults.NoMemory) = Unit {0}
 DeviceRead set d (Ok (r, p)) old new (Ok image) =
     (image ≡ r.image) × (new.lines.line ≡ p.line) × (new.lines.rest.now ≡ p.rest) × (bad_of new.judged ≡ or_bad (bad_of old.judged) (judge_device set d r))
-DeviceRead set d (Err b) old new (Ok image) = ⊥
-DeviceRead set d (Ok (r, p)) old new (Err (faults.Bad line reason)) = ⊥
 DeviceRead set d (Err b) old new (Err (faults.Bad line reason)) = IsBad b (faults.Bad line reason)
-DeviceRead set d r old new (Err faults.NoMemory) = Unit {0}
+DeviceRead set d r old new result = ⊥
 
 -- The same for all devices.
 abbrev pub AllRead : Set → Result ReadAll BadLine → Reading → Reading → Result (List Image) LineFault → Type 0
+AllRead set r old new (Err faults.NoMemory) = Unit {0}
 AllRead set (Ok all) old new (Ok images) =
     (map (λ r. r.image) all.devices ≡ images) × (all.line ≡ new.lines.line) × (all.rest ≡ new.lines.rest.now)
     × (bad_of new.judged ≡ or_bad (bad_of old.judged) (judge_devices set set.devices all.devices))
-AllRead set (Err b) old new (Ok images) = ⊥
-AllRead set (Ok all) old new (Err (faults.Bad line reason)) = ⊥
 AllRead set (Err b) old new (Err (faults.Bad line reason)) = IsBad b (faults.Bad line reason)
-AllRead set r old new (Err faults.NoMemory) = Unit {0}
+AllRead set r old new result = ⊥
 
 -- `f` of what is Ok.
 abbrev pub map_ok : {V W E : Type 0} → (V → W) → Result V E → Result W E

@@ -1,6 +1,8 @@
 -- What is judged of sections and subsections.
-use Rattle.std.specs.Prelude.{◌≡◌, ℕ, Bool, true, false, not, ◌&&◌, if◌then◌else◌, List, [], ◌∷◌, ◌++◌, get_or, drop, Option, Some, None, ℤ, ◌<◌, length}
-use Rattle.std.proofs.Common.{refl, sym, ap, ◌∙◌}
+use Rattle.std.specs.Prelude.{◌≡◌, ℕ, Bool, true, false, not, ◌&&◌, if◌then◌else◌, List, ◌++◌, get_or, drop, Option, Some, None, ℤ, ◌<◌, length}
+use Rattle.std.specs.List.{list_all}
+use Rattle.std.proofs.Common.{ap, ◌∙◌}
+use Rattle.std.proofs.lemmas.List.Folds.{list_all-append}
 use Rattle.vms_spec.specs.declared.Part.TheVariants as parts
 use Rattle.vms_spec.specs.declared.ValuesReason.{ValuesReason}
 use Rattle.vms_spec.specs.declared.ValuesReason.TheVariants as reasons
@@ -12,7 +14,7 @@ use Rattle.vms_desc.specs.Asks.{first_cell}
 use Rattle.vms_desc.specs.Described.{device_at, described}
 use Rattle.vms_desc.specs.Parts.{sub_at}
 use Rattle.vms_walk.specs.declared.step.WalkStep.{WalkStep}
-use Rattle.vms_walk.specs.declared.step.WalkStep.TheVariants.{Number, Constant, Filler, Rule}
+use Rattle.vms_walk.specs.declared.step.WalkStep.TheVariants.{Rule}
 use Rattle.vms_values.specs.declared.judge.BadLine.{BadLine as Found}
 use Rattle.vms_spec.specs.Readiness.{rules_are_true}
 use Rattle.vms_spec.specs.ValuesReading as reading
@@ -49,31 +51,21 @@ sub_defaults set i j numbers =
 
 -- ---- steps
 
+-- Whether a step is no validation that fails.
+abbrev pub step_holds : WalkStep → Bool
+step_holds (Rule holds) = holds
+step_holds step = true
+
 -- Whether the validations among the steps hold.
 abbrev pub steps_hold : List WalkStep → Bool
-steps_hold [] = true
-steps_hold (Number cell kind most ∷ xs) = steps_hold xs
-steps_hold (Constant kind value ∷ xs) = steps_hold xs
-steps_hold (Filler bytes ∷ xs) = steps_hold xs
-steps_hold (Rule holds ∷ xs) = holds && steps_hold xs
-
-and_assoc : (a b c : Bool) → ((a && b) && c) ≡ (a && (b && c))
-and_assoc true b c = refl
-and_assoc false b c = refl
-
-hold_append : (xs ys : List WalkStep) → steps_hold (xs ++ ys) ≡ (steps_hold xs && steps_hold ys)
-hold_append [] ys = refl
-hold_append (Number cell kind most ∷ xs) ys = hold_append xs ys
-hold_append (Constant kind value ∷ xs) ys = hold_append xs ys
-hold_append (Filler bytes ∷ xs) ys = hold_append xs ys
-hold_append (Rule holds ∷ xs) ys = ap (λ (b : Bool). holds && b) (hold_append xs ys) ∙ sym (and_assoc holds (steps_hold xs) (steps_hold ys))
+steps_hold xs = list_all step_holds xs
 
 -- If they hold among the first steps, the later ones decide.
 pub hold_then : (xs ys : List WalkStep) (b : Bool) → steps_hold xs ≡ true → steps_hold ys ≡ b → steps_hold (xs ++ ys) ≡ b
-hold_then xs ys b e f = hold_append xs ys ∙ ap (λ (c : Bool). c && steps_hold ys) e ∙ f
+hold_then xs ys b e f = list_all-append step_holds xs ys ∙ ap (λ (c : Bool). c && steps_hold ys) e ∙ f
 
 pub fail_before : (xs ys : List WalkStep) → steps_hold xs ≡ false → steps_hold (xs ++ ys) ≡ false
-fail_before xs ys e = hold_append xs ys ∙ ap (λ (c : Bool). c && steps_hold ys) e
+fail_before xs ys e = list_all-append step_holds xs ys ∙ ap (λ (c : Bool). c && steps_hold ys) e
 
 module _ (set : DescSet) where
   -- The part's cells are among the image's.

@@ -8,11 +8,12 @@ use Rattle.vms_spec.specs.Sets.{Field, Set}
 use Rattle.vms_spec.specs.Layout.{first, capacity_of, device_cells}
 use Rattle.vms_desc.specs.Parts.{HasPart, desc_at}
 use Rattle.vms_walk.specs.Steps.{size_in}
-use Rattle.vms_elements.specs.Elements.{Shape, shape, shapes, item_elements, desc_elements, index_text}
+use Rattle.vms_elements.specs.Elements.{Shape, shape, shapes, item_elements, desc_elements}
 use Rattle.vms_elements.specs.Parts.{names_of, cell_name}
 use Rattle.vms_spec.specs.Places.{own_cell_count}
 use Rattle.vms_desc.specs.Described.{device_at, described}
 use Rattle.vms_values.specs.declared.name.Own.{Own}
+use Rattle.vms_values.specs.Paths.{element_text}
 use Rattle.vms_spec.specs.Rules.{uses_below}
 use Rattle.vms_parts.specs.Views.{field_of}
 use Rattle.vms_parts.specs.declared.types.Field.{Field as PartField}
@@ -34,7 +35,7 @@ item_names set item = names_of (item_elements (shapes set) item [] (pos 0) [] 0)
 -- The path of a cell of a field.
 abbrev pub field_name : Set → Field → ℕ → List ℕ
 field_name set f cell =
-    (f.name ++ index_text f.count (cell / size_in set f.item)) ++ get_or (item_names set f.item) (cell % size_in set f.item) []
+    element_text f (cell / size_in set f.item) ++ get_or (item_names set f.item) (cell % size_in set f.item) []
 
 -- The part that a cell of a device is in, and the cell's number in the part.
 pub record IsInPart (set : Set) (device cell : ℕ) (own : Own) : Type 0 where
@@ -72,13 +73,3 @@ module _ (set : DescSet) where
   -- The path of cell k of a field.
   abbrev pub element_name : PartField → ℕ → List ℕ
   element_name f k = field_name (described set) (field_of f) k
-
-  -- The item's structure is one of the set's, and the item has cell k.
-  pub record HasInside (item : Item) (k : ℕ) : Type 0 where
-    pub reaches : uses_below (length (described set).structs) item ≡ true
-    pub small : size_in (described set) item ≤ MOST_ITEMS
-    pub cell : k < size_in (described set) item
-
-  -- The path of cell k of an item.
-  abbrev pub inside_name : Item → ℕ → List ℕ
-  inside_name item k = get_or (item_names (described set) item) k []

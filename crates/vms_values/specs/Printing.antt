@@ -32,9 +32,8 @@ pub record IsOf (set : Set) (d : Device) (image : Image) : Type 0 where
 -- There is one image for each device.
 abbrev pub AreOf : Set → List Device → List Image → Type 0
 AreOf set [] [] = Unit {0}
-AreOf set [] (image ∷ images) = ⊥
-AreOf set (d ∷ devices) [] = ⊥
 AreOf set (d ∷ devices) (image ∷ images) = IsOf set d image × AreOf set devices images
+AreOf set devices images = ⊥
 
 -- The cells of `count` elements of a field, from cell `first` on, are among the numbers. A field that isn't
 -- an array has one.

@@ -28,16 +28,14 @@ IsBad b faults.NoMemory = ⊥
 -- The reading reaches that state, or is refused.
 abbrev pub Reaches : Read → Standing → Result (Unit {0}) LineFault → Type 0
 Reaches (Ok p) now (Ok u) = p ≡ now
-Reaches (Ok p) now (Err e) = ⊥
-Reaches (Err b) now (Ok u) = ⊥
 Reaches (Err b) now (Err e) = IsBad b e
+Reaches read now result = ⊥
 
 -- The required line was read, or it is refused.
 abbrev pub Passed : Bool → Lines → Lines → Result (Unit {0}) LineFault → Type 0
 Passed true old new (Ok u) = (new.line ≡ suc old.line) × (new.rest.now ≡ rest_of (first_line old.rest.now))
-Passed true old new (Err e) = ⊥
-Passed false old new (Ok u) = ⊥
 Passed false old new (Err e) = IsBad (record { line = old.line; reason = reasons.Form }) e
+Passed is_there old new result = ⊥
 
 -- The values are images in these states, with this machine.
 abbrev pub AreValues : Set → Option (List ℕ) → List Image → Given → Type 0
@@ -45,11 +43,10 @@ AreValues set machine images v = (map state_of v.images.items ≡ images) × (ma
 
 -- The values, or the bad line. Memory may run out in any case.
 abbrev pub ReadsBy : Set → ValuesRead → Result Given LineFault → Type 0
-ReadsBy set (Values machine images) (Ok v) = AreValues set machine images v
-ReadsBy set (Bad line reason) (Ok v) = ⊥
-ReadsBy set (Values machine images) (Err (faults.Bad line reason)) = ⊥
-ReadsBy set (Bad line reason) (Err (faults.Bad l r)) = (l ≡ line) × (r ≡ reason)
 ReadsBy set read (Err faults.NoMemory) = Unit {0}
+ReadsBy set (Values machine images) (Ok v) = AreValues set machine images v
+ReadsBy set (Bad line reason) (Err (faults.Bad l r)) = (l ≡ line) × (r ≡ reason)
+ReadsBy set read result = ⊥
 
 -- The same, for every text.
 abbrev pub ReadsAs : Set → ValuesRead → Result Given ValuesFault → Type 0

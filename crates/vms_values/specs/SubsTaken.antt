@@ -24,9 +24,8 @@ line_said s line =
 -- The line of a subsection was read, or it is refused.
 abbrev pub SubPassed : Option (Option ℕ) → Lines → Lines → Result (Option ℕ) LineFault → Type 0
 SubPassed (Some came) old new (Ok o) = (o ≡ came) × (new.line ≡ suc old.line) × (new.rest.now ≡ rest_of (first_line old.rest.now))
-SubPassed (Some came) old new (Err e) = ⊥
-SubPassed None old new (Ok o) = ⊥
 SubPassed None old new (Err e) = IsBad (record { line = old.line; reason = reasons.Form }) e
+SubPassed came old new result = ⊥
 
 -- Whether a subsection came, and the reading's state after it.
 abbrev pub with_came : Option ℕ → Read → Result (Option ℕ × Standing) BadLine
@@ -53,15 +52,13 @@ pub record IsAlike (old new : Typed) : Type 0 where
 abbrev pub SubReached : Result (Option ℕ × Standing) BadLine → ℕ → Taken → Taken → Result (Unit {0}) LineFault → Type 0
 SubReached (Ok (o, q)) j old new (Ok u) =
     (q ≡ place_of new) × (new.image.came ≡ slice_set old.image.came j o) × IsAlike old.image new.image
-SubReached (Ok (o, q)) j old new (Err e) = ⊥
-SubReached (Err b) j old new (Ok u) = ⊥
 SubReached (Err b) j old new (Err e) = IsBad b e
+SubReached read j old new result = ⊥
 
 -- All are read, with their line numbers, or one is refused. Memory may run out in any case.
 abbrev pub SubsReached : Result ReadSubs BadLine → Taken → Taken → List ℕ → Result (Unit {0}) LineFault → Type 0
+SubsReached read old new lines (Err faults.NoMemory) = Unit {0}
 SubsReached (Ok r) old new lines (Ok u) =
     (r.place ≡ place_of new) × (r.came ≡ new.image.came) × (r.lines ≡ lines) × IsAlike old.image new.image
-SubsReached (Err b) old new lines (Ok u) = ⊥
-SubsReached (Ok r) old new lines (Err (faults.Bad line reason)) = ⊥
 SubsReached (Err b) old new lines (Err (faults.Bad line reason)) = IsBad b (faults.Bad line reason)
-SubsReached read old new lines (Err faults.NoMemory) = Unit {0}
+SubsReached read old new lines result = ⊥

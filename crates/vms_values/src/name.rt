@@ -5,11 +5,11 @@ ghost use Rattle.vms_io.specs.Writing.{Wrote};
 ghost use Rattle.vms_spec.specs.Layout.{device_cells};
 ghost use Rattle.vms_desc.specs.Described.{described, device_at};
 ghost use Rattle.vms_elements.specs.Parts.{cell_name};
-ghost use Rattle.vms_values.specs.Naming.{HasCell, HasElement, HasInside, HasName, IsOwn, element_name, inside_name, name_at};
+ghost use Rattle.vms_values.specs.Naming.{HasCell, HasElement, HasName, IsOwn, element_name, name_at};
 ghost use Rattle.vms_values.specs.Paths.{path_text};
 
 use crate::path::{Path, write_path};
-use vms_desc::{Count, DescSet, Field, Part};
+use vms_desc::{DescSet, Field, Part};
 use vms_io::{Failed, Sink, WriteFault};
 use vms_kinds::Item;
 
@@ -116,38 +116,14 @@ fn print_element<K: Sink>(
     let (index, rest) = (cell / size, cell % size);
     let path = Path::Field {
         before: &*path,
-        name: field.name.as_bytes(),
+        field,
+        index,
     };
-    match field.count {
-        Count::One => print_inside(set, &field.item, rest, &path, sink),
-        _ => {
-            let path = Path::Element {
-                array: &path,
-                index,
-            };
-            print_inside(set, &field.item, rest, &path, sink)
-        }
-    }
-}
-
-// Prints the path of a cell of one element.
-#[cycle(name)]
-fn print_inside<K: Sink>(
-    set: &DescSet,
-    item: &Item,
-    cell: u32,
-    path: &Path,
-    sink: &mut K,
-) -> Result<(), Failed>
-    requires { HasInside set.now item.now cell }
-    ensures { let text = path_text path.now ++ inside_name set.now item.now cell in
-        Wrote (outlet K.Sink sink.old) (outlet K.Sink sink.new) text result }
-{
-    match item {
+    match field.item {
         Item::Struct(number) => {
-            let part = Part::Struct(*number);
-            print_name(set, part, cell, &Path::Inside(&*path), sink)
+            let part = Part::Struct(number);
+            print_name(set, part, rest, &Path::Inside(&path), sink)
         }
-        _ => write_path(sink, path),
+        _ => write_path(sink, &path),
     }
 }

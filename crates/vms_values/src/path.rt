@@ -1,10 +1,12 @@
 // The path of a cell in a device.
 ghost use Rattle.vms_io.specs.Told.{outlet};
 ghost use Rattle.vms_io.specs.Writing.{Wrote};
-ghost use Rattle.vms_values.specs.Paths.{path_text};
+ghost use Rattle.vms_parts.specs.Views.{field_of};
+ghost use Rattle.vms_values.specs.Paths.{element_text, path_text};
 
 use crate::lines::write_pieces;
 use itoa::Buffer;
+use vms_desc::{Count, Field};
 use vms_io::{Failed, Sink, write_all_of};
 
 /// The path of a field or of an element: its last part, and what comes before it.
@@ -12,14 +14,10 @@ use vms_io::{Failed, Sink, write_all_of};
 pub(crate) enum Path<'a> {
     /// Nothing: the fields of a device or a subsection have only their names.
     Top,
-    /// A field, `name`.
+    /// A field, or the element `index` of it if it is an array.
     Field {
         before: &'a Path<'a>,
-        name: &'a [u8],
-    },
-    /// The element `index` of an array.
-    Element {
-        array: &'a Path<'a>,
+        field: &'a Field,
         index: u32,
     },
     /// The fields of a structure.
@@ -32,18 +30,33 @@ pub(crate) fn write_path<K: Sink>(sink: &mut K, path: &Path) -> Result<(), Faile
 {
     match path {
         Path::Top => Ok(()),
-        Path::Field { before, name } => {
+        Path::Field {
+            before,
+            field,
+            index,
+        } => {
             write_path(sink, before)?;
-            write_all_of(sink, name)
-        }
-        Path::Element { array, index } => {
-            write_path(sink, array)?;
-            let mut digits = Buffer::new();
-            write_pieces(sink, &[b"[", digits.format(*index).as_bytes(), b"]"])
+            write_element(sink, field, *index)
         }
         Path::Inside(path) => {
             write_path(sink, path)?;
             write_all_of(sink, b".")
+        }
+    }
+}
+
+// Writes the name of a field, and the number of its element if it is an array.
+fn write_element<K: Sink>(sink: &mut K, field: &Field, index: u32) -> Result<(), Failed>
+    ensures { let text = element_text (field_of field.now) index in
+        Wrote (outlet K.Sink sink.old) (outlet K.Sink sink.new) text result }
+{
+    let name = field.name.as_bytes();
+    match field.count {
+        Count::One => write_all_of(sink, name),
+        _ => {
+            let mut digits = Buffer::new();
+            let index = digits.format(index).as_bytes();
+            write_pieces(sink, &[name, b"[", index, b"]"])
         }
     }
 }

@@ -7,7 +7,7 @@ ghost use Rattle.vms_spec.specs.Values.{values_text, machine_line};
 ghost use Rattle.vms_desc.specs.Described.{described};
 ghost use Rattle.vms_parts.specs.Views.{set_of, device_of};
 ghost use Rattle.vms_image.specs.Typed.{state_of};
-ghost use Rattle.vms_values.specs.Calls.{AreShown, HasImage, HasSubImage, device_text, devices_text, sub_text, subs_text};
+ghost use Rattle.vms_values.specs.Calls.{AreShown, HasImage, HasSubImage, device_text, devices_text, sub_text};
 ghost use Rattle.vms_values.specs.Printing.{AreOf, machine_of, section_text, sub_text as sub_line_text};
 
 use crate::line::Line;
@@ -76,6 +76,7 @@ fn print_devices<K: Sink>(set: &DescSet, images: &[Image], sink: &mut K) -> Resu
     Ok(())
 }
 
+// Prints a section with its subsections.
 fn print_device<K: Sink>(
     shown: Shown,
     device: u32,
@@ -95,7 +96,10 @@ fn print_device<K: Sink>(
         base: 0,
     };
     print_lines(shown, own, line, sink)?;
-    print_subs(shown, device, line, sink)
+    for sub in 0..shown.set.sub_count(device) {
+        print_sub(shown, device, sub, line, sink)?;
+    }
+    Ok(())
 }
 
 // Prints the line of a section.
@@ -113,23 +117,7 @@ fn print_section<K: Sink>(device: &Device, version: u32, sink: &mut K) -> Result
     )
 }
 
-// Prints the subsections, whether or not they came.
-fn print_subs<K: Sink>(
-    shown: Shown,
-    device: u32,
-    line: &mut Line,
-    sink: &mut K,
-) -> Result<(), Failed>
-    requires { HasImage shown device }
-    ensures { let text = subs_text shown.entry device in
-        Wrote (outlet K.Sink sink.old) (outlet K.Sink sink.new) text result }
-{
-    for sub in 0..shown.set.sub_count(device) {
-        print_sub(shown, device, sub, line, sink)?;
-    }
-    Ok(())
-}
-
+// Prints a subsection, whether or not it came.
 fn print_sub<K: Sink>(
     shown: Shown,
     device: u32,

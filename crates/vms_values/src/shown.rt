@@ -57,9 +57,7 @@ fn print_part<K: Sink>(
 ) -> Result<(), Failed>
     requires { CanPrintPart shown spot line.old }
     ensures { let text = part_lines shown.entry spot line.old in
-        let from = outlet K.Sink sink.old in
-        let to = outlet K.Sink sink.new in
-        Prints text line.old line.new from to result }
+        Prints text line.old line.new (outlet K.Sink sink.old) (outlet K.Sink sink.new) result }
 {
     let set = shown.set;
     let kept = line.len();
@@ -87,9 +85,7 @@ fn print_field<K: Sink>(
 ) -> Result<(), Failed>
     requires { CanPrintField shown field.now run line.old }
     ensures { let text = field_lines shown.entry field.now run line.old in
-        let from = outlet K.Sink sink.old in
-        let to = outlet K.Sink sink.new in
-        Prints text line.old line.new from to result }
+        Prints text line.old line.new (outlet K.Sink sink.old) (outlet K.Sink sink.new) result }
 {
     line.push(field.name.as_bytes());
     match field.count {
@@ -110,9 +106,7 @@ fn print_elements<K: Sink>(
 ) -> Result<(), Failed>
     requires { CanPrintElements shown item.now run line.old }
     ensures { let text = elements_lines shown.entry item.now run line.old in
-        let from = outlet K.Sink sink.old in
-        let to = outlet K.Sink sink.new in
-        Prints text line.old line.new from to result }
+        Prints text line.old line.new (outlet K.Sink sink.old) (outlet K.Sink sink.new) result }
 {
     let size = shown.set.item_cells(*item);
     let kept = line.len();
@@ -138,9 +132,7 @@ fn print_item<K: Sink>(
 ) -> Result<(), Failed>
     requires { CanPrintItem shown item.now cell line.old }
     ensures { let text = item_lines shown.entry item.now cell line.old in
-        let from = outlet K.Sink sink.old in
-        let to = outlet K.Sink sink.new in
-        Prints text line.old line.new from to result }
+        Prints text line.old line.new (outlet K.Sink sink.old) (outlet K.Sink sink.new) result }
 {
     match item {
         Item::Num(_) => print_number(shown.image.get(cell), line, sink),
@@ -162,9 +154,7 @@ fn print_struct<K: Sink>(
 ) -> Result<(), Failed>
     requires { CanPrintStruct shown number cell line.old }
     ensures { let text = item_lines shown.entry (items.Struct number) cell line.old in
-        let from = outlet K.Sink sink.old in
-        let to = outlet K.Sink sink.new in
-        Prints text line.old line.new from to result }
+        Prints text line.old line.new (outlet K.Sink sink.old) (outlet K.Sink sink.new) result }
 {
     let part = Part::Struct(number);
     let spot = PartAt {
@@ -181,9 +171,7 @@ fn print_struct<K: Sink>(
 fn print_number<K: Sink>(number: i128, line: &mut Line, sink: &mut K) -> Result<(), Failed>
     requires short { length line.old + NUMBER_ROOM ≤ LONGEST }
     ensures { let text = line.old ++ (codes " = " ++ (signed_decimal number ++ line_end)) in
-        let from = outlet K.Sink sink.old in
-        let to = outlet K.Sink sink.new in
-        Prints text line.old line.new from to result }
+        Prints text line.old line.new (outlet K.Sink sink.old) (outlet K.Sink sink.new) result }
 {
     let mut digits = Buffer::new();
     line.push(b" = ");

@@ -234,8 +234,6 @@ module _ (set : Set) (well : WellFormed set) (good : IsGood set) where
   ready_from : (devices : List Device) (images : List Image) → AllByRecursion IsKnown devices → AreShaped set devices images → AllUnsaid set devices images
       → AreFine (devices_entries set devices images) → AreGood set (devices_entries set devices images) → ReadyFrom devices images
   ready_from [] [] known shaped unsaid fine goods = record { one_each = refl; ready = λ k d image e f. cc }
-  ready_from [] (image ∷ images) known shaped unsaid fine goods = absurd shaped
-  ready_from (d ∷ devices) [] known shaped unsaid fine goods = absurd shaped
   ready_from (d ∷ devices) (image ∷ images) known shaped unsaid fine goods =
       let f = all_parts _ (device_entries set d image) (devices_entries set devices images) fine in
       let g = all_parts _ (device_entries set d image) (devices_entries set devices images) goods in
@@ -251,6 +249,7 @@ module _ (set : Set) (well : WellFormed set) (good : IsGood set) where
           let state : image ≡ j = cc in
           rw (← device, ← state) mine
       place (suc k) e j a b mine others = others k e j a b
+  ready_from _ _ known shaped unsaid fine goods = absurd shaped
 
   machine_good : (machine : Option (List ℕ)) (images : List Image) → AreFine (entries set machine images) → AreGood set (entries set machine images)
       → AreFine (devices_entries set set.devices images) × AreGood set (devices_entries set set.devices images)

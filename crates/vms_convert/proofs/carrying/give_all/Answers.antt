@@ -5,14 +5,14 @@ use Rattle.vms_convert.proofs.carrying.give_all.Goals as goal
 
 pub give_part-requires-clause-part : goal.give_part-requires-clause-part
 give_part-requires-clause-part c =
-    let h = own_spot (described c.args.set.now) c.args.device c.requires.device c.args.set.now.well_formed c.args.gift.image.now.numbers c.requires.of.cells in
-    rw c.own_part.ensures (record { part = h.part; few = h.few; room = h.room })
+    rw c.whole_part.ensures
+    (own_spot (described c.args.set.now) c.args.device c.requires.device c.args.set.now.well_formed c.args.gift.image.now.numbers c.requires.of.cells)
 
 pub loop-sub-init : goal.loop-sub-init
 loop-sub-init c =
     let given = gave_own (described c.args.set.now) c.args.device c.requires.device (state_of c.args.gift.image.now) c.requires.of.subs c.requires.version
     c.args.gift.partners.now c.args.target.now.numbers in
-    rw (c.own_part.ensures, given) at c.give_part.ensures
+    rw (c.whole_part.ensures, given) at c.give_part.ensures
 
 pub give_sub-requires : goal.give_sub-requires
 give_sub-requires c =

@@ -1,4 +1,4 @@
-use Rattle.vms_convert.proofs.{Facade.described, Facade.sub_part, BringLaws.sub_spot}
+use Rattle.vms_convert.proofs.{Facade.described, BringLaws.sub_spot}
 use Rattle.vms_convert.proofs.carrying.give_sub.Goals as goal
 
 pub give_part-requires-clause-part : goal.give_part-requires-clause-part
@@ -6,4 +6,4 @@ give_part-requires-clause-part c =
     let set = described c.args.set.now in
     let numbers = c.args.gift.image.now.numbers in
     let h = sub_spot set c.args.device c.requires.device c.args.set.now.well_formed numbers c.requires.of.cells c.args.sub c.requires.sub in
-    rw c.sub_part.ensures (record { part = h.part; few = h.few; room = h.room })
+    record { part = h.part; few = h.few; room = rw c.first_cell.ensures h.room }

@@ -1,5 +1,7 @@
-use Rattle.vms_convert.proofs.Facade.{ℕ, ◌+◌, ◌*◌, ◌<◌, ◌≤◌, List, ◌++◌, length, Option, refl, sym, ap, ◌∙◌, arith, rules, not-false, on_ok_weaker, ◌≡◌, subst}
-use Rattle.vms_convert.proofs.Facade.{HasFew, field_of, struct_on, described, found_field, reach, is_absent, desc_on, partners_on}
+use Rattle.vms_convert.proofs.Facade.{ℕ, ◌+◌, ◌*◌, ◌<◌, ◌≤◌, List, ◌++◌, length, Option, refl, sym, ap, ◌∙◌, arith, rules, not-false, on_ok_weaker, ◌≡◌}
+use Rattle.vms_convert.proofs.Facade.{subst}
+use Rattle.vms_convert.proofs.Facade.{false, get_or, no_field, HasFew, field_of, item_on, ltb-true, described, found_field, reach, is_absent, desc_on}
+use Rattle.vms_convert.proofs.Facade.{partners_on}
 use Rattle.vms_convert.proofs.PartnerLaws.{depth, structs_paired}
 use Rattle.vms_convert.proofs.PartnerSteps.{absent_pairs, all_paired, alone_pairs, arrays_are, arrays_room, both_pair, element_alone_pairs, element_pairs}
 use Rattle.vms_convert.proofs.PartnerSteps.{elements_all, few_next, few_struct, field_depth, room_struct}
@@ -54,54 +56,66 @@ pair_field-returns-in_ok-put_unpaired t c =
     absent_pairs c.args.old c.args.new c.args.number c.requires.field c.requires.few c.args.partners.now.items c.put_unpaired.new.partners.items
     c.args.start c.requires.start (rw (← is) absent) (rw c.field_cells.ensures at c.in_ok-put_unpaired.ensures)
 
-pub pair_present-pair_arrays-requires : goal.pair_present-pair_arrays-requires
-pair_present-pair_arrays-requires t c =
+pub pair_field-pair_arrays-requires : goal.pair_field-pair_arrays-requires
+pair_field-pair_arrays-requires t c =
     let s = c.args.old in
     let r = c.args.new in
-    let inside : c.args.found.field < length (desc_on r).fields = omega arith in
-    let low : depth c.arrays_of.result.one.item ≤ reach (described s.set.now) s.part =
-    rw c.arrays_of.ensures (field_depth s c.args.number c.requires.old c.requires.field) in
-    let less : 7 * depth c.arrays_of.result.one.item + 3 < 7 * reach (described s.set.now) s.part + 4 = omega arith in (
+    let found = c.next_start-found.result in
+    let inside : found.field < length (desc_on r).fields = omega arith in
+    let low : depth c.arrays_of-arrays.result.one.item ≤ reach (described s.set.now) s.part =
+    rw c.arrays_of-arrays.ensures (field_depth s c.args.number c.requires.old c.requires.field) in
+    let less : 5 * depth c.arrays_of-arrays.result.one.item + 2 < 5 * reach (described s.set.now) s.part + 3 = omega arith in (
       search rules,
       (
-        rw c.arrays_of.ensures (arrays_are s r c.args.number c.args.found.field c.requires.old c.requires.new c.requires.field inside c.requires.few),
-        rw c.arrays_of.ensures (arrays_room s r c.args.number c.args.found inside c.requires.found.start),
+        rw c.arrays_of-arrays.ensures (arrays_are s r c.args.number found.field c.requires.old c.requires.new c.requires.field inside c.requires.few),
+        rw c.arrays_of-arrays.ensures (arrays_room s r c.args.number found inside c.next_start-found.ensures.start),
       ),
     )
 
-pub pair_present-returns-in_ok-pair_arrays : goal.pair_present-returns-in_ok-pair_arrays
-pair_present-returns-in_ok-pair_arrays t c =
+pub pair_field-returns-in_ok-pair_arrays : goal.pair_field-returns-in_ok-pair_arrays
+pair_field-returns-in_ok-pair_arrays t c =
     let r = c.args.new in
-    both_pair c.args.old r c.args.number c.requires.field c.requires.few c.args.partners.now.items c.pair_arrays.new.partners.items c.args.found c.args.found
-    c.behind.result c.requires.found (omega arith) c.behind.ensures c.requires.there
-    (rw (c.arrays_of.ensures, elements_all c.args.old r c.args.number c.args.found.field c.args.found.cell) at c.in_ok-pair_arrays.ensures)
+    let there : is_absent c.args.old.version (get_or (desc_on c.args.old).fields c.args.number no_field) ≡ false = search rules in
+    let found = c.next_start-found.result in
+    both_pair c.args.old r c.args.number c.requires.field c.requires.few c.args.partners.now.items c.pair_arrays.new.partners.items c.args.start found
+    c.behind.result c.next_start-found.ensures (omega arith) c.behind.ensures there
+    (rw (c.arrays_of-arrays.ensures, elements_all c.args.old r c.args.number found.field found.cell) at c.in_ok-pair_arrays.ensures)
 
-pub pair_present-returns-in_ok-put_unpaired : goal.pair_present-returns-in_ok-put_unpaired
-pair_present-returns-in_ok-put_unpaired t c =
-    alone_pairs c.args.old c.args.new c.args.number c.requires.field c.requires.few c.args.partners.now.items c.put_unpaired.new.partners.items c.args.found
-    c.args.found c.requires.found (omega arith) c.requires.there (rw c.field_cells.ensures at c.in_ok-put_unpaired.ensures)
+pub pair_field-returns-in_ok-put_unpaired-2 : goal.pair_field-returns-in_ok-put_unpaired-2
+pair_field-returns-in_ok-put_unpaired-2 t c =
+    let there : is_absent c.args.old.version (get_or (desc_on c.args.old).fields c.args.number no_field) ≡ false = search rules in
+    alone_pairs c.args.old c.args.new c.args.number c.requires.field c.requires.few c.args.partners.now.items c.put_unpaired.new.partners.items c.args.start
+    c.next_start-found.result c.next_start-found.ensures (omega arith) there (rw c.field_cells.ensures at c.in_ok-put_unpaired.ensures)
 
 -- structures
-pub pair_structs-pair_descs-requires : goal.pair_structs-pair_descs-requires
-pair_structs-pair_descs-requires t c =
-    let less : 7 * reach (described c.at_own_version.result.set.now) c.at_own_version.result.part + 6 < 7 * c.args.in_old + 7 =
-    rw c.at_own_version.ensures (omega arith) in (
+pub pair_items-pair_descs-requires : goal.pair_items-pair_descs-requires
+pair_items-pair_descs-requires t c =
+    let m = c.in-Struct-Struct in
+    let sets = c.args.sets in
+    let older = c.at_own_version-older.ensures in
+    let newer = c.at_own_version-newer.ensures in
+    let old = ltb-true m.in_old (length (described sets.old.now).structs) (rw m.is-0 at c.requires.one) in
+    let new = ltb-true m.in_new (length (described sets.new.now).structs) (rw m.is-1 at c.requires.other) in
+    let less : 5 * reach (described c.at_own_version-older.result.set.now) c.at_own_version-older.result.part + 4 < 5 * depth c.args.one =
+    rw (older, m.is-0) (omega arith) in (
       search rules,
       record {
-        old = rw c.at_own_version.ensures c.requires.old;
-        new = rw c.at_own_version-2.ensures c.requires.new;
-        few = subst (λ x. HasFew x 0) (sym c.at_own_version.ensures) (few_struct c.args.sets.old c.args.in_old c.requires.few);
-        room = rw c.at_own_version-2.ensures (room_struct c.args.sets.new c.args.in_new c.args.cell c.requires.room);
+        old = rw older old;
+        new = rw newer new;
+        few = subst (λ x. HasFew x 0) (sym older) (few_struct sets.old m.in_old (rw m.is-0 at c.requires.few));
+        room = rw newer (room_struct sets.new m.in_new c.args.cell (rw m.is-1 at c.requires.room));
       },
     )
 
-pub pair_structs-returns : goal.pair_structs-returns
-pair_structs-returns t c =
+pub pair_items-returns-in-Struct-Struct : goal.pair_items-returns-in-Struct-Struct
+pair_items-returns-in-Struct-Struct t c =
+    let m = c.in-Struct-Struct in
     let old = c.args.sets.old in
     let new = c.args.sets.new in
     let at = c.args.cell in
-    let is = structs_paired (described old.now) (described new.now) old.now.well_formed c.args.in_old c.args.in_new _ _ at c.requires.old refl refl in
-    let pairs : partners_on c.at_own_version.result c.at_own_version-2.result at
-    ≡ struct_on (described old.now) (described new.now) c.args.in_old c.args.in_new at =
-    rw (c.at_own_version.ensures, c.at_own_version-2.ensures, is) in
+    let lt = ltb-true m.in_old (length (described old.now).structs) (rw m.is-0 at c.requires.one) in
+    let is = structs_paired (described old.now) (described new.now) old.now.well_formed m.in_old m.in_new _ _ at lt refl refl in
+    let pairs : partners_on c.at_own_version-older.result c.at_own_version-newer.result at
+    ≡ item_on (described old.now) (described new.now) c.args.one c.args.other at =
+    rw (c.at_own_version-older.ensures, c.at_own_version-newer.ensures, m.is-0, m.is-1, is) in
     on_ok_weaker c.pair_descs.result (λ e. e ∙ ap (λ (l : List (Option ℕ)). c.args.partners.now.items ++ l) pairs) c.pair_descs.ensures

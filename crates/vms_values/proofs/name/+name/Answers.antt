@@ -1,8 +1,8 @@
-use Rattle.vms_values.proofs.Facade.{rules, arith, ◌≡◌, ◌+◌, ◌*◌, ◌-◌, ◌%◌, ◌<◌, ◌≤◌, true, [], ◌++◌, ℕ, length, get_or, codes, append_assoc, refl, sym, ap}
+use Rattle.vms_values.proofs.Facade.{rules, arith, ◌≡◌, ◌+◌, ◌*◌, ◌-◌, ◌/◌, ◌%◌, ◌<◌, ◌≤◌, true, [], ◌++◌, ℕ, length, get_or, codes, append_assoc, refl, sym, ap}
 use Rattle.vms_values.proofs.Facade.{◌∙◌, subst, ltb-true, mod-lt, MOST_ITEMS, Field, capacity_of, field_of, field_at, described, desc_at, found_field}
 use Rattle.vms_values.proofs.Facade.{here_fields, size_in, size_code, width_code, struct_size, item_rank, part_rank, one_fits, uses_below, path_text}
-use Rattle.vms_values.proofs.Facade.{part_names, item_names, wrote_as, field_name, List}
-use Rattle.vms_values.proofs.Naming.{NextNames, next_names, all_names, names_from, part_long, struct_name, positive, single_is, element_is}
+use Rattle.vms_values.proofs.Facade.{part_names, item_names, wrote_as, field_name, List, append-nil, element_text}
+use Rattle.vms_values.proofs.Naming.{NextNames, next_names, all_names, names_from, part_long, struct_name, positive, element_is, nothing_after}
 use Rattle.vms_spec.specs.declared.Part.TheVariants as parts
 use Rattle.vms_values.proofs.name.+name.Given.{Over}
 use Rattle.vms_values.proofs.name.+name.Goals.{print_element-After-item_cells-size, print_name-After-field_cells-size}
@@ -23,51 +23,42 @@ print_element-nonzero_div-index g t c = omega (arith, (inside g t c).0)
 pub print_element-nonzero_rem-rest : goal.print_element-nonzero_rem-rest
 print_element-nonzero_rem-rest g t c = omega (arith, (inside g t (goal.at.print_element-nonzero_rem-rest g t c).After-item_cells-size).0)
 
-pub print_element-print_inside-requires : goal.print_element-print_inside-requires
-print_element-print_inside-requires g t c =
-    let rest = (inside g t (goal.at.print_element-print_inside-requires g t c).After-item_cells-size).1 in
-    λ κs h. (search rules, (search rules, record { reaches = c.requires.reaches; small = c.requires.small; cell = rest }))
+pub print_element-print_name-requires : goal.print_element-print_name-requires
+print_element-print_name-requires g t c =
+    let set = described c.args.set.now in
+    let j = c.in-Struct.number in
+    let lt : j < length set.structs = ltb-true j (length set.structs) (rw c.in-Struct.is at c.requires.reaches) in
+    let small = rw c.in-Struct.is at c.requires.small in
+    let cell = rw c.in-Struct.is at (inside g t (goal.at.print_element-print_name-requires g t c).After-item_cells-size).1 in
+    let size = struct_size set c.args.set.now.well_formed j lt in
+    λ κs h. (search rules, (search rules, record { part = lt; small = omega arith; cell = omega arith }))
 
-pub print_element-print_inside-requires-in_default : goal.print_element-print_inside-requires-in_default
-print_element-print_inside-requires-in_default g t c =
-    let rest = (inside g t (goal.at.print_element-print_inside-requires-in_default g t c).After-item_cells-size).1 in
-    λ κs h. (search rules, (search rules, record { reaches = c.requires.reaches; small = c.requires.small; cell = rest }))
-
-pub print_element-returns-in-One : goal.print_element-returns-in-One
-print_element-returns-in-One g t c =
+pub print_element-returns-in-Struct : goal.print_element-returns-in-Struct
+print_element-returns-in-Struct g t c =
     let set = described c.args.set.now in
     let f = field_of c.args.field.now in
-    let size = size_code set f.item c.item_cells-size.result c.item_cells-size.ensures c.requires.small in
-    wrote_as c.print_inside.result _ _ (single_is set f c.in-One.is (path_text c.args.path.now) c.as_bytes.result.now c.item_cells-size.result c.args.cell c.as_bytes.ensures size) c.print_inside.ensures
+    let j = c.in-Struct.number in
+    let step = c.item_cells-size.result in
+    let rest = c.args.cell % step in
+    let lt = ltb-true j (length set.structs) (rw c.in-Struct.is at c.requires.reaches) in
+    let small = rw c.in-Struct.is at (inside g t (goal.at.print_element-returns-in-Struct g t c).After-item_cells-size).1 in
+    let size = size_code set f.item step c.item_cells-size.ensures c.requires.small in
+    let path = path_text c.args.path.now ++ element_text f (c.args.cell / step) in
+    wrote_as c.print_name.result _ _
+    (append_assoc path (codes ".") (get_or (part_names set (parts.Struct j)) rest []) ∙ ap (λ l. path ++ l) (sym (struct_name set j lt rest small))
+    ∙ ap (λ i. path ++ get_or (item_names set i) rest []) (sym c.in-Struct.is) ∙ element_is set f (path_text c.args.path.now) step c.args.cell size)
+    c.print_name.ensures
 
 pub print_element-returns-in_default : goal.print_element-returns-in_default
 print_element-returns-in_default g t c =
     let set = described c.args.set.now in
     let f = field_of c.args.field.now in
-    let size = size_code set f.item c.item_cells-size.result c.item_cells-size.ensures c.requires.small in
-    wrote_as c.print_inside-in_default.result _ _ (element_is set f c.in_default.not-One (path_text c.args.path.now) c.as_bytes.result.now c.item_cells-size.result c.args.cell c.as_bytes.ensures size) c.print_inside-in_default.ensures
-
-pub print_inside-print_name-requires : goal.print_inside-print_name-requires
-print_inside-print_name-requires g t c =
-    let set = described c.args.set.now in
-    let j = c.in-Struct.number in
-    let lt : j < length set.structs = ltb-true j (length set.structs) (rw c.in-Struct.is at c.requires.reaches) in
-    let small = rw c.in-Struct.is at c.requires.small in
-    let cell = rw c.in-Struct.is at c.requires.cell in
-    let size = struct_size set c.args.set.now.well_formed j lt in
-    λ κs h. (search rules, (search rules, record { part = lt; small = omega arith; cell = omega arith }))
-
-pub print_inside-returns-in-Struct : goal.print_inside-returns-in-Struct
-print_inside-returns-in-Struct g t c =
-    let set = described c.args.set.now in
-    let j = c.in-Struct.number in
-    let cell = rw c.in-Struct.is at c.requires.cell in
-    let path = path_text c.args.path.now in
-    wrote_as c.print_name.result _ _
-    (append_assoc path (codes ".") (get_or (part_names set (parts.Struct j)) c.args.cell [])
-    ∙ ap (λ l. path ++ l) (sym (struct_name set j (ltb-true j (length set.structs) (rw c.in-Struct.is at c.requires.reaches)) c.args.cell cell))
-    ∙ ap (λ i. path ++ get_or (item_names set i) c.args.cell []) (sym c.in-Struct.is))
-    c.print_name.ensures
+    let step = c.item_cells-size.result in
+    let size = size_code set f.item step c.item_cells-size.ensures c.requires.small in
+    let path = path_text c.args.path.now ++ element_text f (c.args.cell / step) in
+    wrote_as c.write_path.result _ _
+    (sym (append-nil path) ∙ ap (λ l. path ++ l) (sym (nothing_after set f.item (c.args.cell % step) c.in_default.not-Struct))
+    ∙ element_is set f (path_text c.args.path.now) step c.args.cell size) c.write_path.ensures
 
 pub print_name-loop-field-init : goal.print_name-loop-field-init
 print_name-loop-field-init g t c =

@@ -5,9 +5,6 @@ use Rattle.vms_values.proofs.name.+name.Given as goal
 abbrev pub decreases-print_element : goal.decreases-print_element
 decreases-print_element g l = item_rank l.field.now.item + 1
 
-abbrev pub decreases-print_inside : goal.decreases-print_inside
-decreases-print_inside g l = item_rank l.item.now
-
 abbrev pub decreases-print_name : goal.decreases-print_name
 decreases-print_name g l = part_rank (described l.set.now) l.part + 2
 

@@ -1,6 +1,9 @@
-use Rattle.vms_values.proofs.{Printers.own_spot, Printers.device_is, print.print_device.Given.Over, print.print_device.Goals.After-device}
-use Rattle.vms_values.proofs.Facade.{◌≡◌, [], ap, ◌∙◌, err_from_is_err_and, puts_as, puts_both, stops_as, stops_front, stops_behind, wrote_as, wrote_behind}
-use Rattle.vms_values.proofs.Facade.{own_cells, printers, desc_lines, sub_lines, described, device_at, device_of, state_of, section_text}
+use Rattle.vms_spec.specs.declared.Part.TheVariants as parts
+use Rattle.vms_values.proofs.Facade.{◌≡◌, ◌<◌, [], length, drop, ap, arith, ◌∙◌, err_from_is_err_and, puts_as, puts_both, stops_as, stops_front, stops_behind}
+use Rattle.vms_values.proofs.Facade.{own_cells, printers, desc_lines, sub_lines, described, device_at, device_of, first_cell, state_of, section_text}
+use Rattle.vms_values.proofs.Facade.{leaves_all, leaves_none, leaves_rest, leaves_stop}
+use Rattle.vms_values.proofs.Printers.{own_spot, device_is, first_sub, no_subs, subs_left}
+use Rattle.vms_values.proofs.print.print_device.{Given.Over, Goals.After-device, Goals.In-loop-sub}
 use Rattle.vms_values.proofs.print.print_device.Goals as goal
 
 line_is : (g : Over) (c : goal.After-device g)
@@ -32,11 +35,40 @@ returns-in_err-print_lines g c =
     let p = err_from_is_err_and c.from_residual-in_err-print_lines.result c.from_residual-in_err-print_lines.ensures.1 in
     rw p.1 (stops_as (device_is set d image) (stops_front subs (stops_behind (puts_as (line_is g (goal.at.returns-in_err-print_lines g c).After-device) c.in_ok-print_section.ensures) c.in_err-print_lines.ensures)))
 
+pub loop-sub-init : goal.loop-sub-init
+loop-sub-init g c =
+    let image = state_of c.args.shown.image.now in
+    leaves_all _ _ _ (first_sub (described c.args.shown.set.now) c.args.device image.numbers image.came)
+
+-- the next subsection is one of the device's, and the image says whether it came
+inside : (g : Over) (c : goal.In-loop-sub g)
+    → (c.loop-sub.sub < length (device_at (described c.args.shown.set.now) c.args.device).subs) × (c.loop-sub.sub < length (state_of c.args.shown.image.now).came)
+inside g c = (omega arith, omega arith)
+
+pub returns-in_err-print_sub : goal.returns-in_err-print_sub
+returns-in_err-print_sub g c =
+    let set = described c.args.shown.set.now in
+    let image = state_of c.args.shown.image.now in
+    let at = goal.at.returns-in_err-print_sub g c in
+    let i = inside g at.In-loop-sub in
+    let p = err_from_is_err_and c.from_residual-in_err-print_sub.result c.from_residual-in_err-print_sub.ensures.1 in
+    let front = puts_both (puts_as (line_is g at.After-device) c.in_ok-print_section.ensures) c.in_ok-print_lines.ensures in
+    rw p.1 (stops_as (device_is set (device_at set c.args.device) image) (stops_behind front
+    (leaves_stop _ (subs_left set c.args.device image.numbers image.came c.loop-sub.sub i.0 i.1) c.loop-sub.invariant c.in_err-print_sub.ensures)))
+
+pub loop-sub-preserved : goal.loop-sub-preserved
+loop-sub-preserved g c =
+    let image = state_of c.args.shown.image.now in
+    let i = inside g (goal.at.loop-sub-preserved g c).In-loop-sub in
+    leaves_rest _ (subs_left (described c.args.shown.set.now) c.args.device image.numbers image.came c.loop-sub.sub i.0 i.1) c.loop-sub.invariant
+    c.in_ok-print_sub.ensures
+
 pub returns : goal.returns
 returns g c =
     let set = described c.args.shown.set.now in
     let image = state_of c.args.shown.image.now in
     let d = device_at set c.args.device in
-    let subs = sub_lines set image.numbers (own_cells set d) d.subs image.came in
-    wrote_as c.print_subs.result _ _ (device_is set d image)
-    (wrote_behind c.print_subs.result _ subs (puts_both (puts_as (line_is g (goal.at.returns g c).After-device) c.in_ok-print_section.ensures) c.in_ok-print_lines.ensures) c.print_subs.ensures)
+    let end : c.loop-sub.sub ≡ length d.subs = omega arith in
+    let none = no_subs set image.numbers (first_cell set (parts.Sub c.args.device c.loop-sub.sub)) c.loop-sub.sub d.subs (drop c.loop-sub.sub image.came) end in
+    let front = puts_both (puts_as (line_is g (goal.at.returns g c).After-device) c.in_ok-print_section.ensures) c.in_ok-print_lines.ensures in
+    puts_as (device_is set d image) (puts_both front (leaves_none none c.loop-sub.invariant))

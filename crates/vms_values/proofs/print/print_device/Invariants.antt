@@ -1,6 +1,6 @@
 use Rattle.vms_values.proofs.Facade.{drop, own_cells, sub_lines, first_cell, described, device_at, state_of, outlet, Leaves}
 use Rattle.vms_spec.specs.declared.Part.TheVariants as parts
-use Rattle.vms_values.proofs.print.print_subs.Given as goal
+use Rattle.vms_values.proofs.print.print_device.Given as goal
 
 abbrev pub invariant-loop-sub : goal.invariant-loop-sub
 invariant-loop-sub g l =

@@ -1,7 +1,7 @@
 use Rattle.vms_selfdesc.proofs.Facade.{drop, own_cells, first_cell, described, device_at, state_of, sub_trees}
 use Rattle.vms_spec.specs.declared.Part.TheVariants as parts
 use Rattle.vms_selfdesc.proofs.Trees.{Leaves}
-use Rattle.vms_selfdesc.proofs.devices.write_each.Given as goal
+use Rattle.vms_selfdesc.proofs.devices.write_subs.Given as goal
 
 abbrev pub invariant-loop-sub : goal.invariant-loop-sub
 invariant-loop-sub l =
