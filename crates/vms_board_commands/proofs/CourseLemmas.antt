@@ -3,7 +3,7 @@ use Rattle.vms_board_commands.proofs.Facade.{◌≡◌, ℕ, Bool, true, false, 
 use Rattle.vms_board_commands.proofs.Facade.{Some, None, or_right, Keeps-refl, ArrayVec, Saves, SaveFault, Rose, Looks, Intake, Outlet, Stock, serves_none}
 use Rattle.vms_board_commands.proofs.Facade.{Goes, PlayFault, asked, draws_none, looked_so, same_so, unshelved_so, writes_serve, wrong, mapped_by, Course}
 use Rattle.vms_board_commands.proofs.Facade.{Draws, EndsSo, Risen, is_among, of_shelf, text_course, SetCause, WritesAs, status_of, Ending, Refused, BadText}
-use Rattle.vms_board_commands.proofs.Facade.{ReadFault, WriteFault, ShelfFault, NotThere, TooLarge, NoMemory, drill_course, load_course, play_course}
+use Rattle.vms_board_commands.proofs.Facade.{ReadFault, WriteFault, ShelfFault, NotThere, TooLarge, NoMemory, drill_course, play_course}
 use Rattle.vms_board_commands.proofs.Facade.{save_course, stream_course, ending_by}
 use Rattle.vms_board.specs.declared.save.SaveFault.TheVariants as saves
 use Rattle.vms_session.specs.declared.line.PlayFault.TheVariants as plays
@@ -41,8 +41,8 @@ text_asks own takes asks ten = record { held = shelf_has own asks; memory = amon
 pub save_asks : MayAsk save_course true
 save_asks = text_asks (0 ∷ 6 ∷ 10 ∷ []) [] true refl
 
-pub load_asks : MayAsk load_course true
-load_asks = text_asks (0 ∷ 1 ∷ 5 ∷ 6 ∷ 10 ∷ []) (0 ∷ 1 ∷ 5 ∷ 6 ∷ []) true refl
+pub stream_asks : (asks : Bool) → MayAsk (stream_course asks) asks
+stream_asks asks = text_asks (0 ∷ 1 ∷ 5 ∷ 6 ∷ 10 ∷ []) (0 ∷ 1 ∷ 5 ∷ 6 ∷ []) asks refl
 
 pub play_asks : MayAsk play_course true
 play_asks = record { held = shelf_has (0 ∷ 6 ∷ 10 ∷ []) true; memory = refl }
