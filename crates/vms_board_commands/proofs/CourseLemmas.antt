@@ -1,13 +1,12 @@
 -- The endings of the commands of boards, by their steps.
-use Rattle.vms_board_commands.proofs.Facade.{◌≡◌, ℕ, Bool, true, false, ◌||◌, List, [], ◌∷◌, ◌++◌, Result, Ok, Err, refl, Option}
-use Rattle.vms_board_commands.proofs.Facade.{Some, None, or_right, Keeps-refl, ArrayVec, Saves, SaveFault, Rose, Looks, Intake, Outlet, Stock, serves_none}
-use Rattle.vms_board_commands.proofs.Facade.{Goes, PlayFault, asked, draws_none, looked_so, same_so, unshelved_so, writes_serve, wrong, mapped_by, Course}
-use Rattle.vms_board_commands.proofs.Facade.{Draws, EndsSo, Risen, is_among, of_shelf, text_course, SetCause, WritesAs, status_of, Ending, Refused, BadText}
-use Rattle.vms_board_commands.proofs.Facade.{ReadFault, WriteFault, ShelfFault, NotThere, TooLarge, NoMemory, drill_course, play_course}
-use Rattle.vms_board_commands.proofs.Facade.{save_course, stream_course, ending_by}
+use Rattle.vms_board_commands.proofs.Facade.{◌≡◌, ℕ, Bool, true, false, ◌||◌, List, [], ◌∷◌, ◌++◌, Result, Ok, Err, refl, Option, Some, None, or_right}
+use Rattle.vms_board_commands.proofs.Facade.{Keeps-refl, ArrayVec, Saves, SaveFault, Rose, Looks, Intake, Outlet, Stock, serves_none, Goes, PlayFault, asked}
+use Rattle.vms_board_commands.proofs.Facade.{draws_none, looked_so, same_so, unshelved_so, writes_serve, wrong, mapped_by, Course, Draws, EndsSo, Risen}
+use Rattle.vms_board_commands.proofs.Facade.{is_among, of_shelf, text_course, SetCause, WritesAs, status_of, Ending, Refused, BadText, ReadFault, WriteFault}
+use Rattle.vms_board_commands.proofs.Facade.{ShelfFault, NotThere, TooLarge, NoMemory, drill_course, play_course, save_course, stream_course, ending_by}
+use Rattle.vms_board_commands.specs.Save.{ending_by as save_ending}
 use Rattle.vms_board.specs.declared.save.SaveFault.TheVariants as saves
 use Rattle.vms_session.specs.declared.line.PlayFault.TheVariants as plays
-use Rattle.vms_board_commands.specs.Save.{ending_by as save_ending}
 
 -- ---- lists of statuses
 

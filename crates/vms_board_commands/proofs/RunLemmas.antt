@@ -1,10 +1,10 @@
 -- The run of a command, from the steps before its work and from the work itself.
-use Rattle.vms_board_commands.proofs.{CourseLemmas.MayAsk, CourseLemmas.unread_so, CourseLemmas.unset_so, SeenLemmas.content_seen, SeenLemmas.other_seen}
-use Rattle.vms_board_commands.proofs.{SeenLemmas.sees_as, SeenLemmas.set_other}
-use Rattle.vms_board_commands.proofs.Facade.{◌≡◌, ℕ, ◌<◌, ◌^◌, Bool, true, false, List, [], ◌∷◌, Option, Some, Ok, Err, refl, sym, ap, subst, ◌∙◌, IfSome}
+use Rattle.vms_board_commands.proofs.CourseLemmas.{MayAsk, unread_so, unset_so}
+use Rattle.vms_board_commands.proofs.Facade.{◌≡◌, ℕ, ◌<◌, ◌^◌, Bool, true, false, List, [], ◌∷◌, Option, Some, Err, refl, sym, ap, subst, ◌∙◌, IfSome}
 use Rattle.vms_board_commands.proofs.Facade.{IsSomeAnd, Keeps-refl, IsBytes, Held, Intake, Outlet, Stock, Looks, Rose, Course, Draws, EndsSo, is_among}
 use Rattle.vms_board_commands.proofs.Facade.{SetCause, Ending, ReadFault, Outcome, Seen, SeenAs, StepAs, Step, TextEnds, Untold, next, comes_to_nothing}
 use Rattle.vms_board_commands.proofs.Facade.{ended_by, quiet_same, so_quiet, so_since, stream_course, text_ends, wrong}
+use Rattle.vms_board_commands.proofs.SeenLemmas.{content_seen, other_seen, sees_as, set_other}
 use Rattle.vms_board_commands.specs.Runs.{Runs, RunsBehind, Task, moment, unread_task}
 use Rattle.vms_commands.specs.Steps.{HasBy, HasText}
 

@@ -5,7 +5,7 @@ use Rattle.vms_cli.proofs.Facade.{Intake, Outlet, Stock, Reason, IsBytes, no_des
 use Rattle.vms_cli.proofs.Facade.{one_stream_holds, never_both_holds, one_fault_holds, Refusal, LoadReads, IsMachine, AreShaped, no_image, name_of, accepted_of}
 use Rattle.vms_cli.proofs.Facade.{most_given, device_at, is_well_formed, few_cells, Typed, state_of, AreImagesOf, AreOf, IsOf, machine_of, Ending, Refused}
 use Rattle.vms_cli.proofs.Facade.{WritesAs, refused_line, Outcome, done, ended, StepAs, Step, Untold, Gives, Ends, Both, HasText, both, next, Seen, load_seen}
-use Rattle.vms_cli.proofs.Facade.{seen_written, sees_as, GivesWithin, Shows, ShowsWell, Refuses, at_option, Mismatch, Counters, computed, one_answer_holds}
+use Rattle.vms_cli.proofs.Facade.{seen_written, GivesWithin, Shows, Refuses, at_option, Mismatch, Counters, computed, one_answer_holds}
 use Rattle.vms_cli.proofs.Facade.{computed_holds, Finding, answer_of, fetched_set, named_sets, SetText, sets_in, mismatch_line, SetWord, FitStep}
 use Rattle.vms_cli.proofs.Facade.{fit_text, IsSound, sound_next, sound_sets, Answers, CountersBy, counted, counter_text, no_state}
 use Rattle.vms_cli.specs.{Commands.ShowCommand.Values}
@@ -90,11 +90,6 @@ module _ (set : Set) where
   refusal_seen {i} {i'} {o} {o'} {s} images taken r line reads said =
       load_seen {P = OfSet s.held} set (accepted_of set None) images taken r line reads
       (λ input size fault. rw said (Refuses r.at r.section r.reason size fault))
-
-  -- under a set that is well formed
-  pub well_seen : {i i' : Intake} {o o' : Outlet} {s s' : Stock} {e : Option Ending} → IsFit set → Seen (OfSet s.held) i i' o o' s s' e
-      → Seen (ShowsWell s.held set) i i' o o' s s' e
-  well_seen {i} {i'} {o} {o'} {s} fit v = sees_as {P = OfSet s.held} {Q = ShowsWell s.held set} (λ bytes x shows. (fit.well, shows)) v
 
 -- ---- what is printed
 

@@ -1,6 +1,6 @@
-use Rattle.vms_board_commands.proofs.{CourseLemmas.save_asks, RunLemmas.lacks_text, RunLemmas.text_runs, Facade.saved_after, Facade.so_since, Facade.wrong}
-use Rattle.vms_board_commands.proofs.Facade.{Family, List, ℕ, None, refl, sym, ◌∙◌, Global, Vec, Event, saved_stream, after_events, outlet, stock}
-use Rattle.vms_board_commands.proofs.Facade.{ending_of, ending_passed, then_text, Step, Gives, events_back, events_of, scripted, ScriptLine, event_lines}
+use Rattle.vms_board_commands.proofs.{CourseLemmas.save_asks, RunLemmas.lacks_text, RunLemmas.text_runs, Facade.ScriptLine, Facade.event_lines}
+use Rattle.vms_board_commands.proofs.Facade.{saved_after, so_since, wrong, Family, List, ℕ, None, refl, sym, ◌∙◌, Global, Vec, Event, saved_stream}
+use Rattle.vms_board_commands.proofs.Facade.{after_events, outlet, stock, ending_of, ending_passed, then_text, Step, Gives, events_back, events_of, scripted}
 use Rattle.vms_board_commands.proofs.save.save_board.Goals as goal
 
 abbrev view : Vec Event Global → List ScriptLine
