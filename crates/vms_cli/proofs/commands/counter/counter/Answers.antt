@@ -1,5 +1,5 @@
-use Rattle.vms_cli.proofs.{Facade.text_asks, Facade.text_runs, Facade.then_text, RowLemmas.counter_ends, ShowLemmas.counters_text, ShowLemmas.fit_sets}
-use Rattle.vms_cli.proofs.Facade.{[], ◌∷◌, refl, outlet, set_asked, named_sets, asks_shelf, next, sets_of, counted, ending_of, ending_passed, lacks_text}
+use Rattle.vms_cli.proofs.{Facade.ending_passed, Facade.lacks_text, RowLemmas.counter_ends, ShowLemmas.counters_text, ShowLemmas.fit_sets}
+use Rattle.vms_cli.proofs.Facade.{text_asks, text_runs, then_text, [], ◌∷◌, refl, outlet, set_asked, named_sets, asks_shelf, next, sets_of, counted, ending_of}
 use Rattle.vms_cli.proofs.commands.counter.counter.Goals as goal
 
 pub returns : goal.returns
