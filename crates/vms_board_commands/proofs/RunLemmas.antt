@@ -3,7 +3,7 @@ use Rattle.vms_board_commands.proofs.CourseLemmas.{MayAsk, unread_so, unset_so}
 use Rattle.vms_board_commands.proofs.Facade.{◌≡◌, ℕ, ◌<◌, ◌^◌, Bool, true, false, List, [], ◌∷◌, Option, Some, Err, refl, sym, ap, subst, ◌∙◌, IfSome}
 use Rattle.vms_board_commands.proofs.Facade.{IsSomeAnd, Keeps-refl, IsBytes, Held, Intake, Outlet, Stock, Looks, Rose, Course, Draws, EndsSo, is_among}
 use Rattle.vms_board_commands.proofs.Facade.{SetCause, Ending, ReadFault, Outcome, Seen, SeenAs, StepAs, Step, TextEnds, Untold, next, comes_to_nothing}
-use Rattle.vms_board_commands.proofs.Facade.{ended_by, quiet_same, so_quiet, so_since, stream_course, text_ends, wrong}
+use Rattle.vms_board_commands.proofs.Facade.{ended_by, quiet_same, so_quiet, so_since, stream_course, text_ends, then_text, wrong}
 use Rattle.vms_board_commands.proofs.SeenLemmas.{content_seen, other_seen, sees_as, set_other}
 use Rattle.vms_board_commands.specs.Runs.{Runs, RunsBehind, Task, moment, unread_task}
 use Rattle.vms_commands.specs.Steps.{HasBy, HasText}
@@ -44,6 +44,13 @@ text_runs text {Has} {course} {i} {o} {o'} {s} {s'} {e} few held ends so lists h
   given = tt;
   seen = λ reads. absurd (wrong (sym reads ∙ ap (λ l. is_among l 0) lists.1));
 }
+
+-- after a step that gave something
+pub then_runs : {A T : Type 0} (m : T → A) (f : A → Step (List ℕ)) (step : Step A) (t : T) {Has : Option Held → Outcome → Type 0} {course : Course} {i : Intake} {o o' : Outlet} {s s' : Stock} {e : Option Ending}
+    → i.given < 2 ^ 64 → s'.held ≡ s.held → StepAs m step (Ok t) → TextEnds (f (m t)) o o' e → EndsSo i i o o' s s' course e → (course.writes ≡ 0 ∷ 6 ∷ []) × (course.takes ≡ [])
+    → ((x : Outcome) → Has s.held x → HasText s.held (next step f) x) → Runs (unread_task Has course) (moment i o s) (moment i o' s') e
+then_runs m f step t {Has} {course} {i} {o} {o'} {s} {s'} {e} few held had ends so lists has =
+    text_runs (next step f) few held (then_text m f o o' e step t had ends) so lists has
 
 -- ---- the input is read
 

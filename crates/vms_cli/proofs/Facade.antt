@@ -28,7 +28,7 @@ pub use Rattle.vms_board.specs.Family.{Family, IsNumber, images_saved, lists_in}
 unfoldable pub use Rattle.vms_board.specs.Saving.{saved_stream}
 pub use Rattle.vms_board_commands.proofs.{LoadOutcome.loads_one, PlayOutcome.has_end, PlayOutcome.one_outcome, SeenLemmas.other_seen, SeenLemmas.reads_all}
 pub use Rattle.vms_board_commands.proofs.CourseLemmas.{among_left, refused_so, save_asks, shelf_has, stream_asks, text_asks, traced_so}
-pub use Rattle.vms_board_commands.proofs.RunLemmas.{behind_runs, lacks_runs, lacks_text, seen_runs, text_runs, unread_runs}
+pub use Rattle.vms_board_commands.proofs.RunLemmas.{behind_runs, lacks_runs, lacks_text, seen_runs, then_runs, unread_runs}
 pub use Rattle.vms_board_commands.proofs.ScriptSteps.{AreStepLines, script_gives, scripted_lines, sound_saved, sound_script}
 pub use Rattle.vms_board_commands.proofs.SeenLemmas.{seen_given, seen_lost, seen_refused, seen_written, sees_as, TakesSo, content_seen, load_seen}
 pub use Rattle.vms_board_commands.specs.{Causes.save_course, Drill.drill_line, Save.saved_after, Scripts.scripted, Runs.Frame, Runs.Runs}
@@ -67,7 +67,7 @@ pub use Rattle.vms_commands.proofs.CourseLemmas.{draws_none, draws_took, unshelv
 pub use Rattle.vms_commands.proofs.EndLemmas.{around, comes_to_nothing, ends_with, kept_none, outcome_so, same_keeps}
 pub use Rattle.vms_commands.proofs.FileSets.{FitStep, fit_text, fit_word}
 pub use Rattle.vms_commands.proofs.StepLemmas.{IsSound, ending_passed, fetched_gives, first_err, had_by, one_text, sound_fetch, sound_next}
-pub use Rattle.vms_commands.proofs.StepLemmas.{sound_set, sound_sets, sound_word, sound_word_set, then_as, then_text}
+pub use Rattle.vms_commands.proofs.StepLemmas.{sound_set, sound_sets, sound_word, sound_word_set, then_as}
 pub use Rattle.vms_commands.specs.{Asks.set_asked, SetLines.mismatch_line, declared.ending.Ending.Ending, SetWords.set_word, declared.kinds.BoardKind.BoardKind}
 pub use Rattle.vms_commands.specs.Courses.{EndsSo, Risen, Stands, is_among, of_shelf, text_course}
 pub use Rattle.vms_commands.specs.Endings.{Caused, EndsAs, Tells, WritesAs, ending_of, line_of, status_of}

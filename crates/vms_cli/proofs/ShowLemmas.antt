@@ -154,9 +154,13 @@ fit_sets held old new = fit_after (both (fetched_set held old) (fetched_set held
 pub answered : (old new : Set) → IsFit old → IsFit new → (answer : Answer) → Counters old new answer → answer ≡ computed old new
 answered old new fit fit' answer c = one_answer_holds old new fit.well answer (computed old new) c (computed_holds old new fit.well fit'.well fit'.heads)
 
-pub counters_text : (held : Option Held) (s : Step (Both Set)) (o : Outcome) → AreFit s → CountersBy s held o → HasText held (next s counted) o
-counters_text held (Gives sets) _ fit (Answers answer c) = rw (answered _ _ fit.0 fit.1 answer c)
-counters_text held _ o fit has = has
+text_of_answer : (held : Option Held) (s : Step (Both Set)) (o : Outcome) → AreFit s → CountersBy s held o → HasText held (next s counted) o
+text_of_answer held (Gives sets) _ fit (Answers answer c) = rw (answered _ _ fit.0 fit.1 answer c)
+text_of_answer held _ o fit has = has
+
+pub counters_text : (held : Option Held) (old new : SetWord) (o : Outcome) → CountersBy (named_sets held old new) held o
+    → HasText held (next (named_sets held old new) counted) o
+counters_text held old new o has = text_of_answer held (named_sets held old new) o (fit_sets held old new) has
 
 pub text_counters : (held : Option Held) (s : Step (Both Set)) (o : Outcome) → AreFit s → HasText held (next s counted) o → CountersBy s held o
 text_counters held (Gives sets) o fit has = rw has (Answers (computed sets.old sets.new) (computed_holds sets.old sets.new fit.0.well fit.1.well fit.1.heads))

@@ -18,12 +18,11 @@ counter_row old new = record {
   fits = text_fits _ refl (inr refl) refl refl;
   one = λ input held ok holds words.
       let step = named_sets (Some held) old new in
-      let fit = fit_sets (Some held) old new in
       let one = one_text held (next step counted) (sound_counter (Some held) old new) in
       record {
         outcome = one.outcome;
-        is = text_counters (Some held) step one.outcome fit one.is;
-        only = λ other has. one.only other (counters_text (Some held) step other fit has);
+        is = text_counters (Some held) step one.outcome (fit_sets (Some held) old new) one.is;
+        only = λ other has. one.only other (counters_text (Some held) old new other has);
       };
   done = λ input held octets words can. found old new input held can;
 }

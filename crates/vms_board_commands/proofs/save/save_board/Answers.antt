@@ -1,6 +1,6 @@
-use Rattle.vms_board_commands.proofs.{CourseLemmas.save_asks, RunLemmas.lacks_text, RunLemmas.text_runs, Facade.ScriptLine, Facade.event_lines}
-use Rattle.vms_board_commands.proofs.Facade.{saved_after, so_since, wrong, Family, List, ℕ, None, refl, sym, ◌∙◌, Global, Vec, Event, saved_stream}
-use Rattle.vms_board_commands.proofs.Facade.{after_events, outlet, stock, ending_of, ending_passed, then_text, Step, Gives, events_back, events_of, scripted}
+use Rattle.vms_board_commands.proofs.{CourseLemmas.save_asks, RunLemmas.lacks_text, RunLemmas.then_runs}
+use Rattle.vms_board_commands.proofs.Facade.{ScriptLine, event_lines, so_since, wrong, Family, List, ℕ, None, refl, sym, ◌∙◌, Global, Vec, Event, saved_stream}
+use Rattle.vms_board_commands.proofs.Facade.{after_events, stock, ending_passed, Step, Gives, events_back, events_of, scripted}
 use Rattle.vms_board_commands.proofs.save.save_board.Goals as goal
 
 abbrev view : Vec Event Global → List ScriptLine
@@ -12,16 +12,12 @@ stream_after f number set lines = Gives (saved_stream f set (after_events f (eve
 
 pub returns : goal.returns
 returns g c = λ input few.
-    let f = g.M.Machine.family in
-    let held = g.H.Shelf.held c.args.shelf.now in
     let asked = c.args.asked in
     let had = c.in_ok-events.ensures in
     let events = c.in_ok-events.events in
-    let e = ending_of c.save_after.result in
-    text_runs (saved_after f asked.number asked.set held asked.script.now) few had.asks.looks.held
-    (then_text view (stream_after f asked.number asked.set) (outlet g.O.Sink c.args.out.now) (outlet g.O.Sink c.save_after.new.out) e
-    (scripted None held asked.script.now) events had.read (rw (c.deref.ensures.value ∙ sym (events_back events.items)) at c.save_after.ensures.ends))
-    (so_since e refl had.asks.looks (c.save_after.ensures.so input (stock g.H.Shelf c.events_of.new.shelf))) (refl, refl) (λ x has. has)
+    then_runs view (stream_after g.M.Machine.family asked.number asked.set) (scripted None (g.H.Shelf.held c.args.shelf.now) asked.script.now) events few
+    had.asks.looks.held had.read (rw (c.deref.ensures.value ∙ sym (events_back events.items)) at c.save_after.ensures.ends)
+    (so_since _ refl had.asks.looks (c.save_after.ensures.so input (stock g.H.Shelf c.events_of.new.shelf))) (refl, refl) (λ x has. has)
 
 pub returns-in_err-events : goal.returns-in_err-events
 returns-in_err-events g c = rw (ending_passed _ c.from_residual.ensures.1) (λ input few.

@@ -1,17 +1,12 @@
-use Rattle.vms_cli.proofs.{Facade.text_asks, Facade.text_runs, Facade.then_text, RowLemmas.check_ends}
-use Rattle.vms_cli.proofs.Facade.{[], ◌∷◌, refl, outlet, set_asked, named_sets, asks_shelf, checked, compared, sets_of, ending_of, ending_passed, lacks_text}
+use Rattle.vms_cli.proofs.Facade.{lacks_text, text_asks, then_runs, [], ◌∷◌, refl, set_asked, named_sets, asks_shelf, compared, sets_of, ending_passed}
+use Rattle.vms_cli.proofs.RowLemmas.{check_ends}
 use Rattle.vms_cli.proofs.commands.check.check.Goals as goal
 
 pub returns : goal.returns
 returns g c = λ input few.
-    let held = g.H.Shelf.held c.args.shelf.now in
-    let old = set_asked c.args.old in
-    let new = set_asked c.args.new in
     let had = c.in_ok-sets.ensures in
-    text_runs (checked held old new) few had.asks.looks.held
-    (then_text sets_of compared (outlet g.O.Sink c.args.out.now) (outlet g.O.Sink c.compare.new.out) (ending_of c.compare.result)
-    (named_sets held old new) c.in_ok-sets.sets had.had c.compare.ensures.ends)
-    (check_ends input _ _ _ _ _ _ c.compare.ensures.so had.asks.looks had.asks.unasked) (refl, refl) (λ x has. has)
+    then_runs sets_of compared (named_sets (g.H.Shelf.held c.args.shelf.now) (set_asked c.args.old) (set_asked c.args.new)) c.in_ok-sets.sets few had.asks.looks.held
+    had.had c.compare.ensures.ends (check_ends input _ _ _ _ _ _ c.compare.ensures.so had.asks.looks had.asks.unasked) (refl, refl) (λ x has. has)
 
 pub returns-in_err-sets : goal.returns-in_err-sets
 returns-in_err-sets g c = rw (ending_passed c.from_residual.result c.from_residual.ensures.1) (λ input few.
