@@ -35,8 +35,8 @@ use Rattle.vms_commands.specs.declared.ending.Ending.{Ending}
 use Rattle.vms_commands.specs.declared.kinds.BoardKind.TheVariants.{Isa}
 use Rattle.vms_commands.specs.declared.ending.Ending.TheVariants as endings
 use Rattle.vms_board_commands.specs.Seen.{WithGiven}
-use Rattle.vms_board_commands.specs.Runs.{ReadsBy, RunsBehind, Task, read_task}
-use Rattle.vms_cli.specs.Entry.{Entry}
+use Rattle.vms_board_commands.specs.Runs.{ReadsBy, RunsBehind, read_task}
+use Rattle.vms_cli.specs.Entry.{Entry, plain_entry}
 
 -- A set that `convert` takes: a shipped one of the boards isa-1 to isa-4, or a file on the shelf.
 abbrev pub convertible : Option SetWord → Option SetWord
@@ -120,13 +120,10 @@ CanBeConverted word input held =
     × (images : List Image) × Takes newest newest.machines bytes taken machine images
     × ((section cell : Option ℕ) → LosesFirst to newest machine images section cell → ⊥))
 
--- The task of `convert`.
-abbrev pub convert_task : SetWord → Task
-convert_task word = read_task (λ held. target held word) Converts ConvertsWell ConvertGives (convert_course (is_on_shelf word))
-
 -- The command `convert SET`.
 abbrev pub convert_entry : SetWord → Entry
-convert_entry word = record { task = convert_task word; words = Unit {0}; needs = λ input held. CanBeConverted word input held }
+convert_entry word =
+    plain_entry (read_task (λ held. target held word) Converts ConvertsWell ConvertGives (convert_course (is_on_shelf word))) (CanBeConverted word)
 
 -- ---- how it ends, and why, also where the contents are unknown
 

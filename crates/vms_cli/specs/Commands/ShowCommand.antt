@@ -18,8 +18,8 @@ use Rattle.vms_commands.specs.SetWords.{SetWord}
 use Rattle.vms_commands.specs.Steps.{Step, Untold, Gives, Ends}
 use Rattle.vms_commands.specs.declared.ending.Ending.{Ending}
 use Rattle.vms_board_commands.specs.Causes.{stream_course}
-use Rattle.vms_board_commands.specs.Runs.{ReadsBy, RunsBehind, Task, read_task}
-use Rattle.vms_cli.specs.Entry.{Entry}
+use Rattle.vms_board_commands.specs.Runs.{ReadsBy, RunsBehind, read_task}
+use Rattle.vms_cli.specs.Entry.{Entry, plain_entry}
 
 -- The values text of the stream at the front of the input; or where and why the input is refused, up to the end of
 -- the offending unit. The shelf holds the same as before.
@@ -60,10 +60,7 @@ CanBeShown word input held =
     (set : Set) × (word_set held word ≡ Gives set) × IsSomeAnd input (λ bytes. (taken : ℕ) × (machine : Option (List ℕ))
     × (images : List Image) × Takes set set.machines bytes taken machine images)
 
--- The task of `show`.
-abbrev pub show_task : SetWord → Task
-show_task word = read_task (λ held. word_set held word) Shows ShowsWell GivesWithin (show_course (is_on_shelf word))
-
 -- The command `show SET`.
 abbrev pub show_entry : SetWord → Entry
-show_entry word = record { task = show_task word; words = Unit {0}; needs = λ input held. CanBeShown word input held }
+show_entry word =
+    plain_entry (read_task (λ held. word_set held word) Shows ShowsWell GivesWithin (show_course (is_on_shelf word))) (CanBeShown word)
