@@ -1,8 +1,9 @@
--- The properties that the laws of streams need of the boards clk-1 and clk-2.
-use Rattle.vms_board_streams.proofs.{Facade.StreamsStand, ClockBytes.streams_are_bytes, ClockBytes.well}
+-- The laws of the streams of the boards clk-1 and clk-2, and the properties that they need.
+use Rattle.vms_board_streams.proofs.{Facade.StreamsStand, Facade.clock_stands, ClockBytes.streams_are_bytes, ClockBytes.well, FamilyLaws.Laws}
+use Rattle.vms_board_streams.proofs.FamilyLaws as family
 use Rattle.vms_board_streams.proofs.Facade.{arith, alike_stays, IsSound, Alike, images_come_back, sets_are_compatible, saved_images, clock, clock_holds}
 
-pub clock_streams_stand : StreamsStand clock Alike IsSound
+clock_streams_stand : StreamsStand clock Alike IsSound
 clock_streams_stand = record {
   well = λ set last. well set;
   compatible = sets_are_compatible.newest;
@@ -13,3 +14,6 @@ clock_streams_stand = record {
   alike = λ event m n a. let one = alike_stays.event event m n a in record { answer = one.value; alike = one.alike };
   octets = streams_are_bytes;
 }
+
+pub clock_laws : Laws clock Alike IsSound
+clock_laws = family.laws clock Alike clock_stands clock_streams_stand
