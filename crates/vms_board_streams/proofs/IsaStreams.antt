@@ -26,9 +26,7 @@ isa_streams_stand = record {
   well = λ set last. well set;
   compatible = compatible;
   described = λ set m last. let l = shipped_holds.shipped set last (saved_images set m) in omega arith;
-  back = λ set m s may.
-      let back = images_come_back.back set m s may in
-      record { back = back.back; restored = back.restored; alike = back.alike };
+  back = λ set m s may. let b = images_come_back.back set m s may in record { back = b.back; restored = b.restored; alike = b.alike };
   alike = λ event m n a. let one = alike_stays.event event m n a in record { answer = one.value; alike = one.alike };
   octets = streams_are_bytes;
 }
