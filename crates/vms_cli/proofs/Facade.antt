@@ -31,7 +31,7 @@ pub use Rattle.vms_board_commands.proofs.CourseLemmas.{among_left, refused_so, s
 pub use Rattle.vms_board_commands.proofs.RunLemmas.{behind_runs, lacks_runs, lacks_text, seen_runs, then_runs, unread_runs}
 pub use Rattle.vms_board_commands.proofs.ScriptSteps.{AreStepLines, script_gives, scripted_lines, sound_saved, sound_script}
 pub use Rattle.vms_board_commands.proofs.SeenLemmas.{seen_given, seen_lost, seen_refused, seen_written, sees_as, TakesSo, content_seen, load_seen}
-pub use Rattle.vms_board_commands.specs.{Causes.save_course, Drill.drill_line, Save.saved_after, Scripts.scripted, Runs.Frame, Runs.Runs}
+pub use Rattle.vms_board_commands.specs.{Causes.save_course, Drill.drill_line, Play.PlaysAll, Save.saved_after, Scripts.scripted, Runs.Frame, Runs.Runs}
 pub use Rattle.vms_board_commands.specs.{Runs.Task, Runs.moment, Seen.IsGiven, Seen.Seen, Seen.SeenAs, Seen.Sees, Seen.WithGiven}
 pub use Rattle.vms_board_commands.specs.Load.{Loads, LoadsBy, Traces, Unfit}
 pub use Rattle.vms_board_streams.proofs.FamilyLaws.{takes_under}

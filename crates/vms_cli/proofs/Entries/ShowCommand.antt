@@ -1,6 +1,6 @@
 -- `show` has one outcome, and what can be shown is.
 use Rattle.vms_cli.proofs.Facade.{ℕ, ◌+◌, List, Option, Some, None, refl, inl, Held, IsBytes, values_text, Set, IsFit, Answer, Taken, Faulty, either_holds}
-use Rattle.vms_cli.proofs.Facade.{refused_line, done, ended, SetWord, FitStep, fit_word, sound_word_set, CanBeShown, Refuses, HasOne, show_entry}
+use Rattle.vms_cli.proofs.Facade.{refused_line, done, ended, SetWord, FitStep, fit_word, sound_word_set, CanBeShown, Refuses, Shows, HasOne, show_entry, subst}
 use Rattle.vms_cli.proofs.RowFacts.{IsDone, IsRow, one_by, text_fits}
 use Rattle.vms_cli.proofs.ShowLemmas.{shows_same, shows_under}
 use Rattle.vms_cli.specs.Commands.ShowCommand.{Values as Printed}
