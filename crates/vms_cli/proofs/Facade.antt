@@ -27,7 +27,7 @@ pub use Rattle.vms_board.specs.{Isa.isa, IsaStands.isa_stands, Restoring.Back, R
 pub use Rattle.vms_board.specs.Family.{Family, IsNumber, images_saved, lists_in}
 unfoldable pub use Rattle.vms_board.specs.Saving.{saved_stream}
 pub use Rattle.vms_board_commands.proofs.{LoadOutcome.loads_one, PlayOutcome.has_end, PlayOutcome.one_outcome, SeenLemmas.other_seen, SeenLemmas.reads_all}
-pub use Rattle.vms_board_commands.proofs.CourseLemmas.{among_left, refused_so, save_asks, shelf_has, stream_asks, text_asks, traced_so}
+pub use Rattle.vms_board_commands.proofs.CourseLemmas.{among_left, kept_so, wrote_so, refused_so, save_asks, shelf_has, stream_asks, text_asks, traced_so}
 pub use Rattle.vms_board_commands.proofs.RunLemmas.{behind_runs, lacks_runs, lacks_text, seen_runs, then_runs, unread_runs}
 pub use Rattle.vms_board_commands.proofs.ScriptSteps.{AreStepLines, script_gives, scripted_lines, sound_saved, sound_script}
 pub use Rattle.vms_board_commands.proofs.SeenLemmas.{seen_given, seen_lost, seen_refused, seen_written, sees_as, TakesSo, content_seen, load_seen}
@@ -63,7 +63,7 @@ pub use Rattle.vms_cli.specs.Rows.{CanAnswer, ComesSeen, DoesSeen, HasCause}
 pub use Rattle.vms_cli.specs.States.{AlwaysNamedLaw, Prints, RefusesSo, StateLaw}
 pub use Rattle.vms_cli.specs.Upgrade.{IsWritten, Upgrade, UpgradesTo, shown_newer}
 unfoldable pub use Rattle.vms_cli.specs.Commands.{pair_of, single_of, triple_of}
-pub use Rattle.vms_commands.proofs.CourseLemmas.{draws_none, draws_took, unshelved_so, writes_end, writes_serve, wrong}
+pub use Rattle.vms_commands.proofs.CourseLemmas.{draws_none, draws_took, writes_end, writes_serve, wrong}
 pub use Rattle.vms_commands.proofs.EndLemmas.{around, comes_to_nothing, ends_with, kept_none, outcome_so, same_keeps}
 pub use Rattle.vms_commands.proofs.FileSets.{FitStep, fit_text, fit_word}
 pub use Rattle.vms_commands.proofs.StepLemmas.{IsSound, ending_passed, fetched_gives, first_err, had_by, one_text, sound_fetch, sound_next}
