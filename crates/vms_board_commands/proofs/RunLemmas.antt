@@ -30,7 +30,7 @@ pub lacks_text : {A T : Type 0} (m : T → A) (f : A → Step (List ℕ)) (step 
     → MayAsk course asks → i.given < 2 ^ 64 → Looks s s' → (course.asks ≡ false → s' ≡ s) → SetCause asks s s' (Some e) → StepAs {A = A} {T = T} m step (Err e)
     → ((x : Outcome) → Has s.held x → HasText s.held (next step f) x) → Runs (unread_task Has course) (moment i o s) (moment i o s') (Some e)
 lacks_text m f step {Has} {course} {asks} {i} {o} {s} may few looks same cause had has =
-    lacks_runs m (λ a x. HasText s.held (f a) x) step may few looks same cause had (λ x h. by_first s.held f step x (has x h)) tt
+    lacks_runs m (λ a x. HasText s.held (f a) x) step {t = unread_task Has course} may few looks same cause had (λ x h. by_first s.held f step x (has x h)) tt
 
 -- ---- a text is written
 
@@ -77,7 +77,7 @@ pub seen_runs : (Has : List ℕ → Option Held → Outcome → Type 0) {Sees : 
     → IfSome i.left IsBytes → ((s s' : Stock) → s'.held ≡ s.held → Seen (λ bytes x. Has bytes s.held x) i i' o o' s s' e) → ((s : Stock) (asks : Bool) → EndsSo i i' o o' s s (course asks) e)
     → RunsBehind (λ left held x. IsSomeAnd left (λ bytes. Has bytes held x)) Sees course i i' o o' e
 seen_runs Has {Sees} {course} {i} {i'} {o} {o'} {e} one well octets seen so = record {
-  content = λ s s' x held has. content_seen {P = λ bytes y. Has bytes s.held y} e x (λ bytes y ok p q. one bytes s.held x y ok p q) octets (seen s s' held) has;
+  content = λ s s' x held has. content_seen {o = o} {o' = o'} {s = s} {s' = s'} {P = λ bytes y. Has bytes s.held y} e x (λ bytes y ok p q. one bytes s.held x y ok p q) octets (seen s s' held) has;
   so = so;
   seen = λ s s' held among. sees_as {P = λ bytes y. Has bytes s.held y} {Q = Sees s.held} (λ bytes y p. well s.held bytes y p) (seen s s' held);
 }
