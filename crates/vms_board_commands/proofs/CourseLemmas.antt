@@ -64,7 +64,8 @@ module _ (course : Course) (asks : Bool) (may : MayAsk course asks) (i : Intake)
 
 -- whether or not the input was read, the shelf isn't used any more
 module _ {i i' : Intake} {o o' : Outlet} (s : Stock) (course : Course) (e : Option Ending) (can : is_among course.statuses (status_of e) ≡ true) (draws : Draws i i') where
-  pub wrote_so : (text : List ℕ) → WritesAs text o o' e → Risen i i' o o' s s e → is_among course.writes (status_of e) ≡ true → (is_among course.takes (status_of e) ≡ false → i' ≡ i) → EndsSo i i' o o' s s course e
+  pub wrote_so : (text : List ℕ) → WritesAs text o o' e → Risen i i' o o' s s e → is_among course.writes (status_of e) ≡ true
+      → (is_among course.takes (status_of e) ≡ false → i' ≡ i) → EndsSo i i' o o' s s course e
   wrote_so text w risen writes input =
       unshelved_so s course e can risen (λ f. absurd (asked (is_among course.writes (status_of e)) writes f)) input draws (writes_serve text o o' e w)
 
