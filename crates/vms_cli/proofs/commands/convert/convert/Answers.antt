@@ -16,7 +16,7 @@ returns g c =
     (gives_next described agrees step to (intake g.I.Source c.args.input.now) (intake g.I.Source c.convert_to.new.input) had.had c.convert_to.ensures.given)
     (λ seen. seen_next described agrees (ConvertsWell held) _ step to had.had seen)
 
--- the set isn't had
+-- the set can't be obtained
 pub returns-in_err-to : goal.returns-in_err-to
 returns-in_err-to g c = rw (ending_passed c.from_residual.result c.from_residual.ensures.1) (
     let held = g.H.Shelf.held c.args.shelf.now in

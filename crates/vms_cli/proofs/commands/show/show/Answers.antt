@@ -15,7 +15,7 @@ returns g c =
     had.had c.show_stream.ensures.given (well_of (loads loader) loader.set.well_formed))
     (λ seen. seen_given {P = ShowsWell held} loads (word_set held word) loader _ had.had seen)
 
--- the set isn't had
+-- the set can't be obtained
 pub returns-in_err-loader : goal.returns-in_err-loader
 returns-in_err-loader g c = rw (ending_passed c.from_residual.result c.from_residual.ensures.1) (
     let word = set_asked c.args.set in
