@@ -33,27 +33,13 @@ fn saved(digit: u8, level: u8, set: u8, moment: u64) -> DevCells
     requires { digit < 10 }
     ensures { result.items ≡ pos digit ∷ pos level ∷ pos set ∷ pos moment ∷ [] }
 {
-    save_by(
-        |pass: &Pass, echo: &Echo| cells_of(pass, echo),
-        |pass: &Pass, cells: &DevCells| echo_of(pass, cells),
-        level,
-        set,
-        moment,
-        &Echo { digit },
-    )
+    save_by(cells_of, echo_of, level, set, moment, &Echo { digit })
 }
 
 fn loaded(cells: &DevCells, level: u8, set: u8, moment: u64) -> Result<Echo, HookFault>
     requires { length cells.now.items < 97 }
 {
-    load_by(
-        |pass: &Pass, echo: &Echo| cells_of(pass, echo),
-        |pass: &Pass, cells: &DevCells| echo_of(pass, cells),
-        level,
-        set,
-        moment,
-        cells,
-    )
+    load_by(cells_of, echo_of, level, set, moment, cells)
 }
 
 fn cells_of(pass: &Pass, echo: &Echo) -> DevCells

@@ -114,10 +114,14 @@ fit_each set lists r k lt =
     fit-device set k (get_or lists k [])
     (r.ready k (device_at set k) (image_of set (device_at set k) (get_or lists k [])) (slice_get-get_or set.devices k no_device lt) here).normal.cells
 
+-- the images below an index are those of their numbers
+abbrev pub AreOfNumbers : Set → List (List ℤ) → List Typed → ℕ → Type 0
+AreOfNumbers set lists images device = (k : ℕ) → k < device → get_or images k no_typed ≡ typed_of set k (get_or lists k [])
+
 -- the images below an index are made
 pub record Made (set : Set) (lists : List (List ℤ)) (images : List Typed) (device : ℕ) : Type 0 where
   pub long : length images ≡ device
-  pub each : (k : ℕ) → k < device → get_or images k no_typed ≡ typed_of set k (get_or lists k [])
+  pub each : AreOfNumbers set lists images device
 
 pub at_below : {X : Type 0} (xs : List X) (k : ℕ) (x : X) → slice_get xs k ≡ Some x → k < length xs
 at_below [] k x e = cc
@@ -129,35 +133,35 @@ is-of : (set : Set) (k : ℕ) (numbers : List ℤ) → FitDevice set k numbers �
 is-of set k numbers f =
     record { subs = needed-long set (device_at set k) (bare (device_at set k) numbers) 0 (device_at set k).subs; cells = f.long; kinds = refl }
 
--- all images are made: they have these states, and each is one of its device
-pub made_states : (set : Set) (lists : List (List ℤ)) (images : List Typed) (device : ℕ) → AreReady set (images_of set set.devices lists)
-    → Made set lists images device → device ≡ length set.devices
-    → map state_of images ≡ images_of set set.devices lists
-made_states set lists images device r m e =
-    let one = r.one_each in
-    let long = m.long in
-    let same : length (map state_of images) ≡ length images = length-map images state_of in
-    ext_get_or no_image (map state_of images) (images_of set set.devices lists) (same ∙ long ∙ e ∙ sym one)
-    (λ k lt.
-    get_or-map state_of images k no_typed no_image (omega (arith, lt, same)) ∙ ap state_of (m.each k (omega (arith, lt, same, long)))
-    ∙ sym (image-get set lists one k (omega arith)))
+-- all images are made
+module _ (set : Set) (lists : List (List ℤ)) (images : List Typed) (device : ℕ) (r : AreReady set (images_of set set.devices lists))
+    (m : Made set lists images device) (e : device ≡ length set.devices) where
+  -- they have these states
+  made_states : map state_of images ≡ images_of set set.devices lists
+  made_states =
+      let one = r.one_each in
+      let long = m.long in
+      let same : length (map state_of images) ≡ length images = length-map images state_of in
+      ext_get_or no_image (map state_of images) (images_of set set.devices lists) (same ∙ long ∙ e ∙ sym one)
+      (λ k lt.
+      get_or-map state_of images k no_typed no_image (omega (arith, lt, same)) ∙ ap state_of (m.each k (omega (arith, lt, same, long)))
+      ∙ sym (image-get set lists one k (omega arith)))
 
-pub made_of : (set : Set) (lists : List (List ℤ)) (images : List Typed) (device : ℕ) → AreReady set (images_of set set.devices lists)
-    → Made set lists images device → device ≡ length set.devices → AreImagesOf set images
-made_of set lists images device r m e =
-    record {
-      one_each = cc;
-      each = λ k image here.
-          let below = at_below images k image here in
-          let is : image ≡ typed_of set k (get_or lists k []) =
-          same_at images k _ _ here (slice_get-get_or images k no_typed below) ∙ m.each k (omega (arith, below, m.long)) in
-          subst (λ (i : Typed). IsImageOf set k i) (sym is) (is-of set k (get_or lists k []) (fit_each set lists r k (omega arith)));
-    }
+  -- each is one of its device
+  made_of : AreImagesOf set images
+  made_of = record {
+    one_each = cc;
+    each = λ k image here.
+        let below = at_below images k image here in
+        let is : image ≡ typed_of set k (get_or lists k []) =
+        same_at images k _ _ here (slice_get-get_or images k no_typed below) ∙ m.each k (omega (arith, below, m.long)) in
+        subst (λ (i : Typed). IsImageOf set k i) (sym is) (is-of set k (get_or lists k []) (fit_each set lists r k (omega arith)));
+  }
 
 -- the images below an index are filled again
 pub record Refilled (set : Set) (lists : List (List ℤ)) (images old : List Typed) (device : ℕ) : Type 0 where
   pub long : length images ≡ length old
-  pub before : (k : ℕ) → k < device → get_or images k no_typed ≡ typed_of set k (get_or lists k [])
+  pub before : AreOfNumbers set lists images device
   pub after : (k : ℕ) → device ≤ k → get_or images k no_typed ≡ get_or old k no_typed
 
 pub refilled_made : (set : Set) (lists : List (List ℤ)) (images old : List Typed) (device : ℕ) → Refilled set lists images old device → AreImagesOf set old

@@ -14,7 +14,7 @@ use Rattle.vms_board.specs.Family.{Family}
 -- the machine that a board of a version is
 pub use Rattle.vms_shipped.specs.ClockSets.{clock_machine}
 
--- The family: the sets, the machines, the events, and saving and restoring.
+-- The family. The number of a board is the version of its clock chip; all other devices are those of the board inside.
 abbrev pub clock : Family ClockState
 clock = record {
   set = clock_set;

@@ -14,7 +14,6 @@ use Rattle.vms_desc.proofs.Formed.{clock_formed}
 use Rattle.vms_desc.specs.Formed.{clock_set}
 use Rattle.vms_rtc.proofs.CallLaws.{version_stays}
 use Rattle.vms_rtc.specs.declared.limits.TheConstants.{NEWEST_CLOCK}
-use Rattle.vms_spec.specs.WellFormed.{first_fault}
 use Rattle.vms_board.specs.Clock.{clock, clock_machine, AreTold}
 use Rattle.vms_board.specs.Family.{Stands}
 
@@ -46,6 +45,6 @@ clock_stands = record {
   kept = λ version lists m e. restored_is_sound.version version (cells_of lists) m e;
   ready = saved_are_ready.images;
   told = λ images kept. normal_may_be_restored.cells images kept.one_each (λ k d image there here. (kept.each k d image there here).normal);
-  well = none_is (first_fault (clock_set NEWEST_CLOCK)) (clock_formed NEWEST_CLOCK);
+  well = none_is _ (clock_formed NEWEST_CLOCK);
   heads = clock_heads NEWEST_CLOCK;
 }

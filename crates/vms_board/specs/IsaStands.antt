@@ -10,10 +10,8 @@ use Rattle.dev_board.proofs.ClockLaws.{answers_tell_int, clock_goes_on}
 use Rattle.dev_board.proofs.RestoredLaws.{restored_is_sound}
 use Rattle.dev_images.proofs.BoardReady.{saved_are_ready}
 use Rattle.dev_images.proofs.NormalBoard.{normal_may_be_restored}
-use Rattle.vms_desc.proofs.Bounds.{none_is}
-use Rattle.vms_desc.proofs.Formed.{by_list, fit_number, formed}
+use Rattle.vms_desc.proofs.Formed.{by_list, fit_number}
 use Rattle.vms_desc.specs.Formed.{shipped_set}
-use Rattle.vms_spec.specs.WellFormed.{first_fault}
 use Rattle.vms_board.specs.Family.{Stands}
 use Rattle.vms_board.specs.Isa.{isa, machine_of, cells_of, AreTold}
 
@@ -44,6 +42,6 @@ isa_stands = record {
   kept = λ level lists m e. restored_is_sound.level level (cells_of lists) m e;
   ready = saved_are_ready.images;
   told = λ images kept. normal_may_be_restored.cells images kept.one_each (λ k d image there here. (kept.each k d image there here).normal);
-  well = none_is (first_fault (shipped_set NEWEST)) (formed NEWEST);
+  well = (fit_number NEWEST).well;
   heads = (fit_number NEWEST).heads;
 }

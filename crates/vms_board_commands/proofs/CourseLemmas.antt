@@ -1,13 +1,13 @@
 -- The endings of the commands of boards, by their steps.
-use Rattle.vms_board_commands.proofs.Facade.{◌≡◌, ℕ, Bool, true, false, ◌||◌, List, [], ◌∷◌, ◌++◌, Result, Ok, Err, refl, Option}
-use Rattle.vms_board_commands.proofs.Facade.{Some, None, or_right, Keeps-refl, ArrayVec, Saves, SaveFault, Rose, Looks, Intake, Outlet, Stock, serves_none}
-use Rattle.vms_board_commands.proofs.Facade.{Goes, PlayFault, asked, draws_none, looked_so, same_so, unshelved_so, writes_serve, wrong, mapped_by, Course}
-use Rattle.vms_board_commands.proofs.Facade.{Draws, EndsSo, Risen, is_among, of_shelf, text_course, SetCause, WritesAs, status_of, Ending, Refused, BadText}
-use Rattle.vms_board_commands.proofs.Facade.{ReadFault, WriteFault, ShelfFault, NotThere, TooLarge, NoMemory, drill_course, load_course, play_course}
-use Rattle.vms_board_commands.proofs.Facade.{save_course, stream_course, ending_by}
+use Rattle.vms_board_commands.proofs.Facade.{◌≡◌, ℕ, Bool, true, false, ◌||◌, List, [], ◌∷◌, ◌++◌, Result, Ok, Err, refl, Option, Some, None, or_right}
+use Rattle.vms_board_commands.proofs.Facade.{ArrayVec, Saves, SaveFault, Rose, Looks, Intake, Outlet, Stock, serves_none, Goes, PlayFault, asked}
+use Rattle.vms_board_commands.proofs.Facade.{draws_none, looked_so, same_so, unshelved_so, writes_serve, wrong, mapped_by, Course, Draws, EndsSo, Risen}
+use Rattle.vms_board_commands.proofs.Facade.{is_among, of_shelf, text_course, SetCause, WritesAs, status_of, Ending, Refused, BadText, ReadFault, WriteFault}
+use Rattle.vms_board_commands.proofs.Facade.{ShelfFault, NotThere, TooLarge, NoMemory, drill_course, play_course, save_course, stream_course, ending_by}
+use Rattle.vms_board_commands.specs.Save.{ending_by as save_ending}
+use Rattle.vms_commands.proofs.EndLemmas.{same_keeps}
 use Rattle.vms_board.specs.declared.save.SaveFault.TheVariants as saves
 use Rattle.vms_session.specs.declared.line.PlayFault.TheVariants as plays
-use Rattle.vms_board_commands.specs.Save.{ending_by as save_ending}
 
 -- ---- lists of statuses
 
@@ -41,8 +41,8 @@ text_asks own takes asks ten = record { held = shelf_has own asks; memory = amon
 pub save_asks : MayAsk save_course true
 save_asks = text_asks (0 ∷ 6 ∷ 10 ∷ []) [] true refl
 
-pub load_asks : MayAsk load_course true
-load_asks = text_asks (0 ∷ 1 ∷ 5 ∷ 6 ∷ 10 ∷ []) (0 ∷ 1 ∷ 5 ∷ 6 ∷ []) true refl
+pub stream_asks : (asks : Bool) → MayAsk (stream_course asks) asks
+stream_asks asks = text_asks (0 ∷ 1 ∷ 5 ∷ 6 ∷ 10 ∷ []) (0 ∷ 1 ∷ 5 ∷ 6 ∷ []) asks refl
 
 pub play_asks : MayAsk play_course true
 play_asks = record { held = shelf_has (0 ∷ 6 ∷ 10 ∷ []) true; memory = refl }
@@ -60,20 +60,27 @@ module _ (course : Course) (asks : Bool) (may : MayAsk course asks) (i : Intake)
   unset_so (Some NoMemory) c = untouched _ may.memory tt
   unset_so e c = absurd c
 
--- ---- a text is written
+-- ---- a text is written, or nothing
+
+-- whether or not the input was read, the shelf isn't used any more
+module _ {i i' : Intake} {o o' : Outlet} (s : Stock) (course : Course) (e : Option Ending) (can : is_among course.statuses (status_of e) ≡ true) (draws : Draws i i') where
+  pub wrote_so : (text : List ℕ) → WritesAs text o o' e → Risen i i' o o' s s e → is_among course.writes (status_of e) ≡ true
+      → (is_among course.takes (status_of e) ≡ false → i' ≡ i) → EndsSo i i' o o' s s course e
+  wrote_so text w risen writes input =
+      unshelved_so s course e can risen (λ f. absurd (asked (is_among course.writes (status_of e)) writes f)) input draws (writes_serve text o o' e w)
+
+  pub kept_so : o' ≡ o → Risen i i' o o' s s e → (is_among course.takes (status_of e) ≡ false → i' ≡ i) → EndsSo i i' o o' s s course e
+  kept_so same risen input = unshelved_so s course e can risen (λ f. same_keeps o o' same) input draws (rw same (serves_none o))
 
 module _ (i : Intake) (s : Stock) (o o' : Outlet) where
   pub saved_so : (bytes : List ℕ) (r : Result Unit SaveFault) → Saves bytes o o' r → EndsSo i i o o' s s save_course (mapped_by save_ending r)
-  saved_so bytes (Ok u) h =
-      unshelved_so s save_course None refl tt (λ f. absurd (wrong f)) (λ f. refl) (draws_none i) (record { later = h.later; promise = h.promise })
-  saved_so bytes (Err saves.WriteFault) h =
-      unshelved_so s save_course (Some WriteFault) refl h.rose (λ f. absurd (wrong f)) (λ f. refl) (draws_none i) (record { later = h.puts.later; promise = h.puts.promise })
+  saved_so bytes (Ok u) h = wrote_so s save_course None refl (draws_none i) bytes h tt refl (λ f. refl)
+  saved_so bytes (Err saves.WriteFault) h = wrote_so s save_course (Some WriteFault) refl (draws_none i) bytes h h.rose refl (λ f. refl)
   saved_so bytes (Err saves.NoMemory) h = rw h (same_so i o s _ _ refl tt)
 
   pub drilled_so : (text : List ℕ) (e : Option Ending) → WritesAs text o o' e → EndsSo i i o o' s s drill_course e
-  drilled_so text None w = unshelved_so s drill_course None refl tt (λ f. absurd (wrong f)) (λ f. refl) (draws_none i) (writes_serve text o o' None w)
-  drilled_so text (Some WriteFault) w =
-      unshelved_so s drill_course (Some WriteFault) refl w.rose (λ f. absurd (wrong f)) (λ f. refl) (draws_none i) (writes_serve text o o' (Some WriteFault) w)
+  drilled_so text None w = wrote_so s drill_course None refl (draws_none i) text w tt refl (λ f. refl)
+  drilled_so text (Some WriteFault) w = wrote_so s drill_course (Some WriteFault) refl (draws_none i) text w w.rose refl (λ f. refl)
   drilled_so text e w = absurd w
 
 -- ---- a stream is read
@@ -81,18 +88,15 @@ module _ (i : Intake) (s : Stock) (o o' : Outlet) where
 -- whether or not the command reads the shelf
 module _ {asks : Bool} {i i' : Intake} (s : Stock) (draws : Draws i i') where
   pub traced_so : (text : List ℕ) (o o' : Outlet) (e : Option Ending) → WritesAs text o o' e → EndsSo i i' o o' s s (stream_course asks) e
-  traced_so text o o' None w =
-      unshelved_so s (stream_course asks) None refl tt (λ f. absurd (wrong f)) (λ f. absurd (wrong f)) draws (writes_serve text o o' None w)
-  traced_so text o o' (Some WriteFault) w =
-      unshelved_so s (stream_course asks) (Some WriteFault) refl w.rose (λ f. absurd (wrong f)) (λ f. absurd (wrong f)) draws (writes_serve text o o' (Some WriteFault) w)
+  traced_so text o o' None w = wrote_so s (stream_course asks) None refl draws text w tt refl (λ f. absurd (wrong f))
+  traced_so text o o' (Some WriteFault) w = wrote_so s (stream_course asks) (Some WriteFault) refl draws text w w.rose refl (λ f. absurd (wrong f))
   traced_so text o o' e w = absurd w
 
   pub refused_so : (o : Outlet) (line : ArrayVec ℕ) → EndsSo i i' o o s s (stream_course asks) (Some (Refused line))
-  refused_so o line =
-      unshelved_so s (stream_course asks) (Some (Refused line)) refl tt (λ f. Keeps-refl o.written) (λ f. absurd (wrong f)) draws (serves_none o)
+  refused_so o line = kept_so s (stream_course asks) (Some (Refused line)) refl draws refl tt (λ f. absurd (wrong f))
 
   pub unread_so : (o : Outlet) → Rose i.faults i'.faults → EndsSo i i' o o s s (stream_course asks) (Some ReadFault)
-  unread_so o rose = unshelved_so s (stream_course asks) (Some ReadFault) refl rose (λ f. Keeps-refl o.written) (λ f. absurd (wrong f)) draws (serves_none o)
+  unread_so o rose = kept_so s (stream_course asks) (Some ReadFault) refl draws refl rose (λ f. absurd (wrong f))
 
 -- ---- a session is played
 

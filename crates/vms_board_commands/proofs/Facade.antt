@@ -15,7 +15,7 @@ pub use Rattle.vms_board.specs.Saving.{Saves, saved_stream}
 pub use Rattle.vms_board_commands.specs.{Drill.drill_line, DrillEvents.events_after, DrillEvents.wires, DrillViews.IsInProgress, DrillViews.progress_view}
 pub use Rattle.vms_board_commands.specs.{Play.PlaysAll, Play.ending_by, Save.saved_after, Scripts.longest_script, Scripts.said_lines, Scripts.scripted}
 pub use Rattle.vms_board_commands.specs.{Seen.IsGiven, Seen.Seen, Seen.SeenAs, Seen.Sees, Seen.WithGiven, declared.drills.schedule.TheConstants.BETWEEN_SAVES}
-pub use Rattle.vms_board_commands.specs.Causes.{drill_course, load_course, play_course, save_course, stream_course}
+pub use Rattle.vms_board_commands.specs.Causes.{drill_course, play_course, save_course, stream_course}
 pub use Rattle.vms_board_commands.specs.DrillEventLaws.{EventsAreGood, IsAsUnsaved, SavesLeaveCounts}
 pub use Rattle.vms_board_commands.specs.DrillLaws.{NumbersAre, ProgressIsSame, SizesAreSmall}
 pub use Rattle.vms_board_commands.specs.DrillProgress.{Counts, Progress, back_of, counted, counted_all, drilled, saves_of, with_event}
@@ -23,12 +23,12 @@ pub use Rattle.vms_board_commands.specs.Drills.{Drill, drill_begun, drill_on, dr
 pub use Rattle.vms_board_commands.specs.Load.{Faulty, LoadGives, Loads, Traces, Unfit}
 unfoldable pub use Rattle.vms_board_commands.specs.{DrillEvents.event_by, DrillEvents.event_of, DrillEvents.next_number, Drills.bytes_after, Drills.taken_after}
 unfoldable pub use Rattle.vms_board_commands.specs.DrillProgress.{after_save, came_back, is_save_due, set_of}
-pub use Rattle.vms_board_streams.proofs.{BytesLaws.bytes_come, BytesLaws.no_fault, BytesLaws.one_restore, IsaBytes.streams_are_short, IsaLaws.streams_come_back}
+pub use Rattle.vms_board_streams.proofs.{BytesLaws.bytes_come, BytesLaws.no_fault, BytesLaws.one_restore, IsaBytes.streams_are_short, IsaStreams.isa_laws}
 pub use Rattle.vms_board_streams.specs.{Streams.after_events, Streams.answers_to, Streams.trace_of, declared.memory.TheConstants.STREAM_ROOM}
 pub use Rattle.vms_commands.proofs.{CourseLemmas.writes_serve, StepLemmas.first_err, StepLemmas.had_by, StepLemmas.mapped_by, StepLemmas.sound_fetch}
 pub use Rattle.vms_commands.proofs.CourseLemmas.{wrong, asked, draws_none, draws_took, looked_so, same_so, so_quiet, so_since, unshelved_so, writes_end}
 pub use Rattle.vms_commands.proofs.EndLemmas.{comes_to_nothing, quiet_same, takes_nothing, text_written}
-pub use Rattle.vms_commands.proofs.StepLemmas.{sound_next, text_ends, then_as, then_text, ended_by, ending_mapped, ending_passed, err_text, fetched_gives}
+pub use Rattle.vms_commands.proofs.StepLemmas.{sound_next, text_ends, then_as, then_text, ended_by, ending_mapped, ending_passed, fetched_gives}
 pub use Rattle.vms_commands.specs.{Fetching.fetched, Lines.refused_line, declared.ending.Ending.Ending, declared.ending.Ending.TheVariants.WouldLose}
 pub use Rattle.vms_commands.specs.Courses.{Course, Draws, EndsSo, Risen, is_among, of_shelf, text_course}
 pub use Rattle.vms_commands.specs.Endings.{DoneAs, EndsAs, EndsWith, SetCause, WritesAs, ending_of, status_of}

@@ -10,6 +10,7 @@ pub mod LoadLemmas
 pub mod LoadOutcome
 pub mod PlayLemmas
 pub mod PlayOutcome
+pub mod RunLemmas
 pub mod SaveLemmas
 pub mod ScriptLemmas
 pub mod ScriptSteps

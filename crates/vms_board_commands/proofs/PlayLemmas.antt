@@ -15,21 +15,6 @@ module _ (level : ℕ) (lines : List ScriptLine) (i : Intake) (o o' : Outlet) (s
   at-power-on : (result : Result Unit PlayFault) → Content lines board board' o o' s s' result → Content lines (power_on level) board' o o' s s' result
   at-power-on result content = rw on at content
 
-  all_played : i.given < 2 ^ 64 → Content lines board board' o o' s s' (Ok tt) → IsSomeAnd s.held (λ map. PlaysAll level lines map x) → DoneAs i i o o' s s' x
-  all_played few content has = by s.held refl has
-    where
-      by : (held : Option Held) → s.held ≡ held → IsSomeAnd held (λ map. PlaysAll level lines map x) → DoneAs i i o o' s s' x
-      by None e h = absurd h
-      by (Some map) e h =
-          let ends = at-power-on (Ok tt) content map h.parts h.new e h.plays in
-          rw h.outcome (record {
-            status_is = refl;
-            text = ends.0;
-            note = refl;
-            held = ends.1;
-            taken = takes_nothing i few;
-          })
-
   -- parts that are done were begun
   comes_so : (parts : List Part) → DoesSome o o' s s' parts → ComesTo o o' s s' parts
   comes_so parts h = record {
@@ -39,25 +24,23 @@ module _ (level : ℕ) (lines : List ScriptLine) (i : Intake) (o o' : Outlet) (s
     held = h.held;
   }
 
-  -- by each fault
-  as_ending : (fault : PlayFault) (parts : List Part) (new : Session) → LinesEnd parts new o o' s s' board' (Err fault)
-      → EndsAs i i o o' s s' (Some (ending_by fault)) (record { status = 0; parts = parts; note = []; taken = 0 })
-  as_ending faults.WriteFault parts new h = h
-  as_ending faults.ShelfFault parts new (inl h) = inl (comes_so parts h)
-  as_ending faults.ShelfFault parts new (inr h) = inr h
-  as_ending faults.NoMemory parts new h = comes_so parts h
-
-  stopped_by : (fault : PlayFault) → Content lines board board' o o' s s' (Err fault) → IsSomeAnd s.held (λ map. PlaysAll level lines map x) → EndsAs i i o o' s s' (Some (ending_by fault)) x
-  stopped_by fault content has = by s.held refl has
-    where
-      by : (held : Option Held) → s.held ≡ held → IsSomeAnd held (λ map. PlaysAll level lines map x) → EndsAs i i o o' s s' (Some (ending_by fault)) x
-      by None e h = absurd h
-      by (Some map) e h = rw h.outcome (as_ending fault h.parts h.new (at-power-on (Err fault) content map h.parts h.new e h.plays))
+  -- by each result
+  as_ending : (r : Result Unit PlayFault) (parts : List Part) (new : Session) → i.given < 2 ^ 64 → LinesEnd parts new o o' s s' board' r
+      → EndsAs i i o o' s s' (mapped_by ending_by r) (record { status = 0; parts = parts; note = []; taken = 0 })
+  as_ending (Ok u) parts new few h = record { status_is = refl; text = h.0; note = refl; held = h.1; taken = takes_nothing i few }
+  as_ending (Err faults.WriteFault) parts new few h = h
+  as_ending (Err faults.ShelfFault) parts new few (inl h) = inl (comes_so parts h)
+  as_ending (Err faults.ShelfFault) parts new few (inr h) = inr h
+  as_ending (Err faults.NoMemory) parts new few h = comes_so parts h
 
   -- however it ends
-  pub played_by : (r : Result Unit PlayFault) → i.given < 2 ^ 64 → Content lines board board' o o' s s' r → IsSomeAnd s.held (λ map. PlaysAll level lines map x) → EndsAs i i o o' s s' (mapped_by ending_by r) x
-  played_by (Ok u) few content has = all_played few content has
-  played_by (Err fault) few content has = stopped_by fault content has
+  pub played_by : (r : Result Unit PlayFault) → i.given < 2 ^ 64 → Content lines board board' o o' s s' r → IsSomeAnd s.held (λ map. PlaysAll level lines map x)
+      → EndsAs i i o o' s s' (mapped_by ending_by r) x
+  played_by r few content has = by s.held refl has
+    where
+      by : (held : Option Held) → s.held ≡ held → IsSomeAnd held (λ map. PlaysAll level lines map x) → EndsAs i i o o' s s' (mapped_by ending_by r) x
+      by None e h = absurd h
+      by (Some map) e h = rw h.outcome (as_ending r h.parts h.new few (at-power-on r content map h.parts h.new e h.plays))
 
 -- ---- from before the script was fetched
 

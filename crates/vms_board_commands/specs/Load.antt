@@ -8,14 +8,14 @@ use Rattle.vms_io.specs.Told.{Intake, Outlet}
 use Rattle.vms_load.specs.Staging.{most_given}
 use Rattle.vms_commands.specs.Lines.{refused_line}
 use Rattle.vms_commands.specs.Outcomes.{Outcome, done, ended}
-use Rattle.vms_commands.specs.Steps.{Step, Ends, HasBy}
+use Rattle.vms_commands.specs.Steps.{Step, Ends}
 use Rattle.vms_session.specs.Events.{events_of}
 use Rattle.vms_script.specs.Lines.{ScriptLine}
 use Rattle.vms_spec.specs.declared.Reason.{Reason}
 use Rattle.vms_stream.specs.Faults.{Fault}
 use Rattle.vms_commands.specs.declared.ending.Ending.{Ending}
 use Rattle.vms_board_commands.specs.Causes.{load_course, stream_course}
-use Rattle.vms_board_commands.specs.Runs.{RunsBehind, Task}
+use Rattle.vms_board_commands.specs.Runs.{ReadsBy, RunsBehind, Task, read_task}
 use Rattle.vms_board_commands.specs.Scripts.{scripted}
 use Rattle.vms_board_commands.specs.Seen.{WithGiven}
 
@@ -34,8 +34,7 @@ pub data Loads {S : Type 0} (f : Family S) (number : ℕ) (lines : List ScriptLi
 -- The outcome with the script that `step` gives, if the input is known; or the end of that step,
 -- before the input is read.
 abbrev pub LoadsBy : {S : Type 0} → Family S → ℕ → Step (List ScriptLine) → Option (List ℕ) → Option Held → Outcome → Type 0
-LoadsBy f number step input held o =
-    HasBy (λ lines x. IsSomeAnd input (λ bytes. Loads f number lines bytes held x)) step o
+LoadsBy f number step input held o = ReadsBy (Loads f number) step input held o
 
 -- The most bytes that are read from the input: as many as a stream of the newest set may have, and
 -- none without a script.
@@ -49,12 +48,8 @@ LoadsWith f number step held = WithGiven step (λ lines bytes o. Loads f number 
 
 -- The task of `load` for the board with this number and the script `name`.
 abbrev pub load_task : {S : Type 0} → Family S → ℕ → List ℕ → Task
-load_task f number name = record {
-  has = λ left held o. LoadsBy f number (scripted None held name) left held o;
-  sees = λ held bytes o. LoadsWith f number (scripted None held name) held bytes o;
-  gives = λ held i i'. LoadGives f (scripted None held name) i i';
-  course = load_course;
-}
+load_task f number name =
+    read_task (λ held. scripted None held name) (Loads f number) (λ held lines bytes o. Loads f number lines bytes held o) (LoadGives f) load_course
 
 -- The same, once the script has been read.
 pub record LoadsStream {S : Type 0} (f : Family S) (number : ℕ) (lines : List ScriptLine) (i i' : Intake) (o o' : Outlet) (e : Option Ending) : Type 0 where

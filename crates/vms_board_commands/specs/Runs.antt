@@ -1,6 +1,6 @@
 -- A run of a command: how its ending relates the input, the outputs and the shelf, known or
 -- unknown.
-use Rattle.std.specs.Prelude.{◌≡◌, ℕ, ◌<◌, ◌^◌, Bool, true, List, Option}
+use Rattle.std.specs.Prelude.{◌≡◌, ℕ, ◌<◌, ◌^◌, Bool, true, List, Option, IsSomeAnd}
 use Rattle.vms_io.specs.Shelves.{Held}
 use Rattle.vms_io.specs.Told.{Intake, Outlet, Stock, intake, outlet, stock}
 use Rattle.vms_io.specs.declared.source.Source as source
@@ -10,8 +10,8 @@ use Rattle.vms_commands.specs.declared.ending.Ending.{Ending}
 use Rattle.vms_commands.specs.Courses.{Course, EndsSo, is_among}
 use Rattle.vms_commands.specs.Endings.{EndsAs}
 use Rattle.vms_commands.specs.Outcomes.{Outcome}
-use Rattle.vms_commands.specs.Steps.{HasText, Step}
-use Rattle.vms_board_commands.specs.Seen.{SeenAs}
+use Rattle.vms_commands.specs.Steps.{HasBy, HasText, Step}
+use Rattle.vms_board_commands.specs.Seen.{SeenAs, WithGiven}
 
 -- What contracts know of the objects of a command at one moment.
 pub record Frame : Type 0 where
@@ -39,6 +39,22 @@ pub record Task : Type 1 where
 -- The task of a command that doesn't read the input.
 abbrev pub unread_task : (Option Held → Outcome → Type 0) → Course → Task
 unread_task has course = record { has = λ left held o. has held o; sees = λ held bytes o. ⊥; gives = λ held i i'. Unit {0}; course = course }
+
+-- The outcome of a command that reads the input: by the value that `step` gives, if the input is known; or the end of
+-- that step, before the input is read.
+abbrev pub ReadsBy : {A : Type 0} → (A → List ℕ → Option Held → Outcome → Type 0) → Step A → Option (List ℕ) → Option Held → Outcome → Type 0
+ReadsBy Has step left held o = HasBy (λ a x. IsSomeAnd left (λ bytes. Has a bytes held x)) step o
+
+-- The task of a command that reads the input once `step` has given a value. By that value `Has` is the outcome of the
+-- input, and `Sees` that of the bytes that were read. `gives` bounds their number, by the step.
+abbrev pub read_task : {A : Type 0} → (Option Held → Step A) → (A → List ℕ → Option Held → Outcome → Type 0)
+    → (Option Held → A → List ℕ → Outcome → Type 0) → (Step A → Intake → Intake → Type 0) → Course → Task
+read_task step Has Sees gives course = record {
+  has = λ left held o. ReadsBy Has (step held) left held o;
+  sees = λ held bytes o. WithGiven (step held) (Sees held) bytes o;
+  gives = λ held i i'. gives (step held) i i';
+  course = course;
+}
 
 -- The task of a command that writes the text of `step` and doesn't read the input.
 abbrev pub text_task : (Option Held → Step (List ℕ)) → Course → Task

@@ -20,8 +20,7 @@ small = record {
   well = λ set le. well set;
   sections = λ set le. sections-short set;
   text = λ set images le. clock_holds.clock set images;
-  machine = λ set m may.
-      named _ (omega arith);
+  machine = λ set m may. named _ (omega arith);
 }
 
 pub streams_are_short : StreamsAreShort clock IsSound

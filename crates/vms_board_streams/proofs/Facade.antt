@@ -6,10 +6,10 @@ pub use Rattle.std.proofs.lemmas.Bool.{and_parts, ltb-false, ltb-true}
 pub use Rattle.std.specs.{List.AllByRecursion, List.list_all, List.slice_get, Str.bytes_eq}
 pub use Rattle.vms_kinds.specs.{Bytes.IsBytes, Codes.width, declared.Kind.Kind, declared.TheConstants.NEWEST_CLOCK_SET}
 pub use Rattle.vms_spec.proofs.WellFormedLaws.{Clean, device_parts, get_none, struct_clean, sub_clean}
-pub use Rattle.vms_spec.specs.{Heads.FitsHeads, Names.is_name, Streams.IsConfiguration, Streams.is_one_of, Streams.written, declared.Count.Count}
-pub use Rattle.vms_spec.specs.{declared.Reason.Reason, declared.Count.TheVariants.One, Images.Image, Images.own_cells, Layout.counted, Layout.desc_cells}
-pub use Rattle.vms_spec.specs.{Layout.no_desc, Layout.struct_cells, Shipped.shipped_sets, WellFormed.WellFormed}
-pub use Rattle.vms_spec.specs.Sets.{Desc, Device, Field, Set, Sub}
+pub use Rattle.vms_spec.specs.{Heads.FitsHeads, Names.is_name, declared.Count.Count, declared.Reason.Reason, declared.Count.TheVariants.One, Images.Image}
+pub use Rattle.vms_spec.specs.{Images.own_cells, Shipped.shipped_sets, WellFormed.WellFormed, Sets.Desc, Sets.Device, Sets.Field, Sets.Set, Sets.Sub}
+pub use Rattle.vms_spec.specs.Layout.{counted, desc_cells, no_desc, struct_cells}
+pub use Rattle.vms_spec.specs.Streams.{IsConfiguration, is_one_of, written}
 unfoldable pub use Rattle.vms_spec.specs.Layout.{first}
 pub use Rattle.vms_stream.proofs.Stated.{either_holds, never_both_holds, one_fault_holds, one_stream_holds}
 pub use Rattle.vms_stream.proofs.WrittenBytes.{AllParts, AllSubs, AreBytes, EachPart, all_parts, bytes_at, is_named, parts_named, written_are_bytes}
@@ -31,8 +31,8 @@ pub use Rattle.vms_check_laws.proofs.Streaming.{upgrade_stands}
 pub use Rattle.vms_desc.proofs.{Bounds.none_is, Formed.by_number, Formed.clock_formed, Formed.formed}
 pub use Rattle.vms_desc.specs.Formed.{clock_set, shipped_set}
 pub use Rattle.vms_load.proofs.StreamLengths.{devices_long, stream_le}
-pub use Rattle.vms_selfdesc.proofs.{Bounds.clock_holds, Bounds.shipped_holds, JsonBytes.devices_letters, JsonBytes.kind_letters}
-pub use Rattle.vms_selfdesc.proofs.JsonBytes.{sub_letters, text_good, word, Allows, AreSpelled, HasLetters, IsSpelled, ItemsHave, decimal_good, device_letters}
+pub use Rattle.vms_selfdesc.proofs.{Bounds.clock_holds, Bounds.shipped_holds, JsonBytes.decimal_good, JsonBytes.device_letters}
+pub use Rattle.vms_selfdesc.proofs.JsonBytes.{devices_letters, kind_letters, sub_letters, text_good, word, Allows, AreSpelled, HasLetters, IsSpelled, ItemsHave}
 pub use Rattle.vms_selfdesc.specs.Entries.{Entry, cell_entry, entries_of, entry_of, listed_if, part_entries, sent_entry}
 pub use Rattle.vms_selfdesc.specs.Tree.{described_text, described_tree, device_tree, device_trees, sub_trees}
 pub use Rattle.dev_base.specs.declared.limits.TheConstants.{NEWEST}

@@ -1,10 +1,10 @@
 -- The stream of a board of a family restores a board like it.
-use Rattle.vms_board_streams.proofs.{Facade.answers_to, Facade.trace_of, Facade.images_carried, Facade.is_among, BytesLaws.same_ok, BytesLaws.never_each}
+use Rattle.vms_board_streams.proofs.{Facade.answers_to, Facade.trace_of, Facade.images_carried, Facade.is_among, BytesLaws.bytes_are_one, BytesLaws.same_ok, BytesLaws.never_each}
 use Rattle.vms_board_streams.proofs.Facade.{◌≡◌, inl, inr, ℕ, ◌-◌, ◌≤◌, ◌||◌, Bool, true, false, List, [], ◌∷◌, length, Option, Some, None, IfSome, Ok, ℤ}
 use Rattle.vms_board_streams.proofs.Facade.{arith, refl, sym, ap, subst, ◌∙◌, append-nil, bytes_eq, bytes_eq-Decides, answers_by, Event, Image, IsBytes, Set}
 use Rattle.vms_board_streams.proofs.Facade.{IsConfiguration, is_one_of, Reason, WellFormed, one_stream_holds, never_both_holds, IsWholeStream, Takes}
 use Rattle.vms_board_streams.proofs.Facade.{upgrade_stands, Family, MaySaveIn, Stands, images_saved, lists_in, TakesBoard, Back, Refused, Restores, saved_text}
-use Rattle.vms_board_streams.proofs.Facade.{saved_stream, stream_with, StreamsStand, StreamComesBack, StreamsComeBack, BoardsGoOn, IsContinued, HasRoomFor}
+use Rattle.vms_board_streams.proofs.Facade.{saved_stream, stream_with, StreamsStand, StreamComesBack, StreamsComeBack, BoardsGoOn, BytesAreOne, IsContinued, HasRoomFor}
 
 -- ---- one accepted name
 
@@ -49,6 +49,13 @@ takes_under set names others input taken machine images h t =
 
 alone : (set : Set) (names : List (List ℕ)) (input : List ℕ) (taken : ℕ) (name : List ℕ) (images : List Image) → Takes set names input taken (Some name) images → Takes set (name ∷ []) input taken (Some name) images
 alone set names input taken name images t = takes_under set names _ input taken _ images (named-alone name) t
+
+-- ---- the laws
+
+pub record Laws {S : Type 0} (f : Family S) (Alike : S → S → Type 0) (IsSound : S → Type 0) : Type 0 where
+  pub come_back : StreamsComeBack f Alike IsSound
+  pub go_on : BoardsGoOn f Alike IsSound
+  pub one : BytesAreOne f
 
 module _ {S : Type 0} (f : Family S) (Alike : S → S → Type 0) {IsSound : S → Type 0} {AreTold : List (List ℤ) → Type 0} (stands : Stands f IsSound AreTold) (st : StreamsStand f Alike IsSound) where
   -- ---- the stream of a board
@@ -134,9 +141,6 @@ module _ {S : Type 0} (f : Family S) (Alike : S → S → Type 0) {IsSound : S �
         accepted = never-refused set m text room s may (st.octets.bytes set m s may);
       }
 
-  pub streams_come_back : StreamsComeBack f Alike IsSound
-  streams_come_back = record { stream = comes-back }
-
   -- ---- events on a loaded board
 
   alike-answers : (events : List Event) (m n : S) → Alike m n → answers_to f events n ≡ answers_to f events m
@@ -157,5 +161,5 @@ module _ {S : Type 0} (f : Family S) (Alike : S → S → Type 0) {IsSound : S �
             (is.1, goes.trace_is ∙ ap (λ (n : S). trace_of (answers_to f events n)) is.0 ∙ ap trace_of same);
       }
 
-  pub boards_go_on : BoardsGoOn f Alike IsSound
-  boards_go_on = record { on = goes-on; own = own }
+  pub laws : Laws f Alike IsSound
+  laws = record { come_back = record { stream = comes-back }; go_on = record { on = goes-on; own = own }; one = bytes_are_one f stands.well stands.heads }

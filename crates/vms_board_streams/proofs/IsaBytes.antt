@@ -26,8 +26,7 @@ small = record {
   well = λ set le. well set;
   sections = sections-short;
   text = λ set images le. shipped_holds.shipped set le images;
-  machine = λ set m may.
-      named _ (omega arith);
+  machine = λ set m may. named _ (omega arith);
 }
 
 pub streams_are_short : StreamsAreShort isa IsSound

@@ -1,11 +1,12 @@
--- The properties that the laws of streams need of the boards isa-1 to isa-4.
+-- The laws of the streams of the boards isa-1 to isa-4, and the properties that they need.
+use Rattle.vms_board_streams.proofs.{FamilyLaws.Laws, IsaBytes.streams_are_bytes, IsaBytes.well}
 use Rattle.vms_board_streams.proofs.Facade.{◌≡◌, ℕ, ◌≤◌, Bool, true, false, nat_lt, arith, refl, sym, subst, ltb-true, ltb-false, NEWEST, shipped_compatible}
-use Rattle.vms_board_streams.proofs.Facade.{Compatible, first_mismatch, shipped_set, shipped_holds, first, isa, StreamsStand}
+use Rattle.vms_board_streams.proofs.Facade.{Compatible, first_mismatch, shipped_set, shipped_holds, first, isa, StreamsStand, isa_stands}
 use Rattle.dev_board.proofs.AlikeLaws.{alike_stays}
 use Rattle.dev_board.specs.Sound.{IsSound, Alike}
 use Rattle.dev_images.proofs.BoardCarried.{images_come_back}
 use Rattle.dev_images.specs.Images.{saved_images}
-use Rattle.vms_board_streams.proofs.IsaBytes.{streams_are_bytes, well}
+use Rattle.vms_board_streams.proofs.FamilyLaws as family
 
 newest_itself : Compatible (shipped_set NEWEST) (shipped_set NEWEST)
 unfolding first_mismatch first
@@ -20,14 +21,15 @@ compatible s l h = at _ refl where
       let same : s ≡ NEWEST = omega (arith, h, least) in
       subst (λ (n : ℕ). Compatible (shipped_set n) (shipped_set NEWEST)) (sym same) newest_itself
 
-pub isa_streams_stand : StreamsStand isa Alike IsSound
+isa_streams_stand : StreamsStand isa Alike IsSound
 isa_streams_stand = record {
   well = λ set last. well set;
   compatible = compatible;
   described = λ set m last. let l = shipped_holds.shipped set last (saved_images set m) in omega arith;
-  back = λ set m s may.
-      let back = images_come_back.back set m s may in
-      record { back = back.back; restored = back.restored; alike = back.alike };
+  back = λ set m s may. let b = images_come_back.back set m s may in record { back = b.back; restored = b.restored; alike = b.alike };
   alike = λ event m n a. let one = alike_stays.event event m n a in record { answer = one.value; alike = one.alike };
   octets = streams_are_bytes;
 }
+
+pub isa_laws : Laws isa Alike IsSound
+isa_laws = family.laws isa Alike isa_stands isa_streams_stand

@@ -1,12 +1,10 @@
 pub mod BytesLaws
 pub mod ClockBytes
-pub mod ClockLaws
 pub mod ClockStreams
 pub mod Facade
 pub mod FamilyBytes
 pub mod FamilyLaws
 pub mod Front
 pub mod IsaBytes
-pub mod IsaLaws
 pub mod IsaStreams
 pub mod TextBytes

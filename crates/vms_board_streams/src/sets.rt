@@ -6,7 +6,7 @@ ghost use Rattle.vms_board.specs.Saving.{saved_stream, stream_with};
 ghost use Rattle.vms_board_streams.specs.Sets.{AreOf, IsOf};
 ghost use Rattle.vms_desc.specs.Described.{described};
 
-use crate::memory::{bare_of, bare_under, stream_again};
+use crate::memory::{bare_under, stream_again};
 use std::alloc::Global;
 use vms_board::{LastDescription, Machine, MachineBoard, NoMemory};
 use vms_desc::DescSet;
@@ -126,7 +126,7 @@ pub fn bare_by<M: Machine>(
     ensures sets { AreOf M.family sets.new }
 {
     if set == M::newest() {
-        return bare_of(alloc, board, set);
+        return bare_under(alloc, board, set, board.set());
     }
     if let Some(own) = find::<M>(&sets.sets, set) {
         return bare_under(alloc, board, set, own);

@@ -1,14 +1,13 @@
 -- From what the listing of an input says to how `analyze` ends.
-use Rattle.vms_cli.proofs.Facade.{◌≡◌, ℕ, ◌+◌, ◌≤◌, true, false, List, ◌++◌, length, length-append, Option, Some, Result, Ok, Err, IfSome, IsSomeAnd, IsErrAnd}
-use Rattle.vms_cli.proofs.Facade.{draws_took, serves_none, unshelved_so, writes_serve, refl, sym, ap, ◌∙◌, arith, None, drop_at, MatchResult, Reads, Course}
-use Rattle.vms_cli.proofs.Facade.{Last, MayFollow, Held, Intake, Outlet, Stock, nothing_follows, reads_as, ArrayVec, IsBytes, Analyzes, IsListed, IsTooMuch}
-use Rattle.vms_cli.proofs.Facade.{ListsTaken, HasListing, Listing, Text, Lists, longest_input, AnalyzeFault, AnalyzeReason, one_holds, total_holds, Ending}
-use Rattle.vms_cli.proofs.Facade.{wrong, EndsSo, Risen, is_among, EndsAs, WritesAs, ending_of, status_of, Outcome, comes_to_nothing, same_keeps, Seen, SeenAs}
-use Rattle.vms_cli.proofs.Facade.{Sees, TakesSo, content_seen, other_seen, reads_all, seen_refused, seen_written, analyze_course, EndsLike, IsRefused}
-use Rattle.vms_cli.proofs.Facade.{FailsReading, FailsWriting, GivesListed, IsListing, bytes_taken, listing_outcome, unlisted_line}
+use Rattle.vms_cli.proofs.Facade.{◌≡◌, ℕ, ◌+◌, ◌≤◌, List, ◌++◌, length, length-append, Option, Some, Result, Ok, Err, IfSome, IsSomeAnd, IsErrAnd, draws_took}
+use Rattle.vms_cli.proofs.Facade.{refl, sym, ap, ◌∙◌, arith, None, drop_at, MatchResult, Reads, Course, Last, MayFollow, Held, Intake, Outlet, Stock}
+use Rattle.vms_cli.proofs.Facade.{nothing_follows, reads_as, ArrayVec, IsBytes, Analyzes, IsListed, IsTooMuch, ListsTaken, HasListing, Listing, Text, Lists}
+use Rattle.vms_cli.proofs.Facade.{longest_input, AnalyzeFault, AnalyzeReason, one_holds, total_holds, Ending, wrong, EndsSo, EndsAs, WritesAs, ending_of}
+use Rattle.vms_cli.proofs.Facade.{Outcome, comes_to_nothing, same_keeps, Seen, SeenAs, Sees, TakesSo, content_seen, other_seen, reads_all, seen_refused}
+use Rattle.vms_cli.proofs.Facade.{seen_written, analyze_course, EndsLike, IsRefused, FailsReading, FailsWriting, GivesListed, IsListing, bytes_taken}
+use Rattle.vms_cli.proofs.Facade.{listing_outcome, unlisted_line, kept_so, wrote_so}
 use Rattle.vms_cli.specs.Commands.AnalyzeCommand.{IsDone, LacksMemory}
 use Rattle.vms_io.specs.Reading.{Takes}
-use Rattle.vms_commands.specs.Courses.{Course as Touches, Draws}
 use Rattle.vms_analyze.specs.Listing.{Refused}
 use Rattle.vms_analyze.specs.declared.fault.AnalyzeFault.TheVariants as faults
 use Rattle.vms_analyze.specs.declared.fault.AnalyzeReason.TheVariants as reasons
@@ -68,20 +67,6 @@ refused_took : {i i' : Intake} (at : ℕ) (reason : AnalyzeReason) → ListsTake
 refused_took at reasons.TooLong p = too_much_took p
 refused_took at _ p = listed_took p
 
--- ---- what a command touches, but for the shelf
-
-module _ {i i' : Intake} {o o' : Outlet} (s : Stock) (course : Touches) (e : Option Ending)
-    (can : is_among course.statuses (status_of e) ≡ true) (draws : Draws i i') where
-  -- a text was written, or some of it
-  pub wrote_so : (text : List ℕ) → WritesAs text o o' e → Risen i i' o o' s s e → is_among course.writes (status_of e) ≡ true
-      → is_among course.takes (status_of e) ≡ true → EndsSo i i' o o' s s course e
-  wrote_so text w risen writes takes =
-      unshelved_so s course e can risen (λ f. absurd (wrong (sym writes ∙ f))) (λ f. absurd (wrong (sym takes ∙ f))) draws (writes_serve text o o' e w)
-
-  -- nothing was written
-  pub kept_so : o' ≡ o → Risen i i' o o' s s e → (is_among course.takes (status_of e) ≡ false → i' ≡ i) → EndsSo i i' o o' s s course e
-  kept_so same risen input = unshelved_so s course e can risen (λ f. same_keeps o o' same) input draws (rw same (serves_none o))
-
 -- ---- what is seen
 
 module _ (i i' : Intake) (o o' : Outlet) where
@@ -138,8 +123,8 @@ module _ (i i' : Intake) (o o' : Outlet) where
 
   pub list_so : (r : Result (Unit {0}) AnalyzeFault) (e : Option Ending) → EndsLike r e → Analyzes i i' o o' r → (s : Stock)
       → EndsSo i i' o o' s s analyze_course e
-  list_so _ _ (IsDone u) a s = wrote_so s _ None refl (draws_took (listed_took a.listed).takes) a.text a.written tt refl refl
+  list_so _ _ (IsDone u) a s = wrote_so s _ None refl (draws_took (listed_took a.listed).takes) a.text a.written tt refl (λ f. absurd (wrong f))
   list_so _ _ (IsRefused at reason line said) a s = kept_so s _ _ refl (draws_took (refused_took at reason a.0).takes) a.1 tt (λ f. absurd (wrong f))
   list_so _ _ FailsReading a s = kept_so s _ _ refl (draws_took a.0.takes) a.1 a.0.rose (λ f. absurd (wrong f))
-  list_so _ _ FailsWriting a s = wrote_so s _ _ refl (draws_took (listed_took a.listed).takes) a.text a.written a.written.rose refl refl
+  list_so _ _ FailsWriting a s = wrote_so s _ _ refl (draws_took (listed_took a.listed).takes) a.text a.written a.written.rose refl (λ f. absurd (wrong f))
   list_so _ _ LacksMemory a s = kept_so s _ _ refl (draws_took a.0.takes) a.1 tt (λ f. absurd (wrong f))

@@ -1,15 +1,14 @@
 -- What `convert` answers, and how it ends.
-use Rattle.vms_cli.proofs.AnalyzeLemmas.{kept_so, wrote_so}
-use Rattle.vms_cli.proofs.Facade.{draws_none, draws_took, ◌≡◌, ◌⊎◌, ℕ, zero, suc, ◌<◌, List, [], ◌∷◌, length, get_or, Option, Some, None, ℤ, inl, inr, refl}
-use Rattle.vms_cli.proofs.Facade.{sym, ap, ◌∙◌, arith, ◌+◌, ◌^◌, Bool, false, Result, Ok, Err, IfSome, length-map, slice_get-get_or, string_bytes, IsFit, Image}
-use Rattle.vms_cli.proofs.Facade.{device_cells, Set, written, device_at, AreKept, described_text, carried, Compatible, first_mismatch, IsStreamFor, LosesFirst}
-use Rattle.vms_cli.proofs.Facade.{AreBack, recast_each, KeepsAll, Loses, OfCell, OfDevice, OfMachine, first_cell, numbers_in, answered, same_backs, one_lost}
-use Rattle.vms_cli.proofs.Facade.{newest_kinds, recast_long, fit_word, Isa, SetOf, Shipped, IsInNewest, newest, Converts, ConvertGives, ConvertsBy}
-use Rattle.vms_cli.proofs.Facade.{ConvertsStream, ConvertsWith, IsDone, IsLost, IsMismatch, LacksLine, LacksMemory, NamesCell, Rewrites, WouldLose, agreed}
-use Rattle.vms_cli.proofs.Facade.{agrees, lost_line, ArrayVec, Held, Intake, Outlet, Stock, reads_as, IsBytes, Refusal, LoadReads, name_of, loads_kept}
-use Rattle.vms_cli.proofs.Facade.{Mismatch, ConvertFault, Ending, EndsSo, is_among, EndsAs, WritesAs, status_of, refused_line, Outcome, done, ended}
-use Rattle.vms_cli.proofs.Facade.{mismatch_line, Step, Gives, Ends, wrong, comes_to_nothing, ends_with, same_keeps, Seen, SeenAs, content_seen, load_seen}
-use Rattle.vms_cli.proofs.Facade.{other_seen, seen_lost, seen_written, sees_as, convert_course}
+use Rattle.vms_cli.proofs.Facade.{kept_so, wrote_so, draws_none, draws_took, ◌≡◌, ◌⊎◌, ℕ, zero, suc, ◌<◌, List, [], ◌∷◌, length, get_or, Option, Some, None, ℤ}
+use Rattle.vms_cli.proofs.Facade.{inl, inr, refl, sym, ap, ◌∙◌, arith, ◌+◌, ◌^◌, Bool, false, Result, Ok, Err, IfSome, length-map, slice_get-get_or}
+use Rattle.vms_cli.proofs.Facade.{string_bytes, IsFit, Image, device_cells, Set, written, device_at, AreKept, described_text, carried, Compatible}
+use Rattle.vms_cli.proofs.Facade.{first_mismatch, IsStreamFor, LosesFirst, AreBack, recast_each, KeepsAll, Loses, OfCell, OfDevice, OfMachine, first_cell}
+use Rattle.vms_cli.proofs.Facade.{numbers_in, answered, same_backs, one_lost, newest_kinds, recast_long, fit_word, Isa, SetOf, Shipped, IsInNewest, newest}
+use Rattle.vms_cli.proofs.Facade.{Converts, ConvertGives, ConvertsBy, ConvertsStream, ConvertsWith, IsDone, IsLost, IsMismatch, LacksLine, LacksMemory}
+use Rattle.vms_cli.proofs.Facade.{NamesCell, Rewrites, WouldLose, agreed, agrees, lost_line, ArrayVec, Held, Intake, Outlet, Stock, reads_as, IsBytes, Refusal}
+use Rattle.vms_cli.proofs.Facade.{LoadReads, name_of, loads_kept, Mismatch, ConvertFault, Ending, EndsSo, is_among, EndsAs, WritesAs, status_of, refused_line}
+use Rattle.vms_cli.proofs.Facade.{Outcome, done, ended, mismatch_line, Step, Gives, Ends, wrong, comes_to_nothing, ends_with, same_keeps, Seen, SeenAs}
+use Rattle.vms_cli.proofs.Facade.{content_seen, load_seen, other_seen, seen_lost, seen_written, sees_as, convert_course}
 use Rattle.vms_cli.proofs.ShowLemmas.{Front, HasFront, Invalid, Stream, one_front}
 use Rattle.vms_cli.specs.Commands.ConvertCommand.{EndsLike, FailsReading, FailsWriting, IsRefused, Refuses}
 use Rattle.std.specs.{declared.alloc.Global.Global, declared.string.String.String}
@@ -217,7 +216,7 @@ module _ (to : Set) (fit : IsFit to) (i i' : Intake) (o o' : Outlet) where
   pub convert_so : (r : Result (Unit {0}) ConvertFault) (e : Option Ending) → EndsLike r e → Calls to newest i i' o o' r → (s : Stock) (asks : Bool)
       → EndsSo i i' o o' s s (convert_course asks) e
   convert_so _ _ (IsDone u) c s asks =
-      wrote_so s (convert_course asks) None refl (draws_took c.1.reads.takes) c.1.converts.bytes c.1.converts.puts tt refl refl
+      wrote_so s (convert_course asks) None refl (draws_took c.1.reads.takes) c.1.converts.bytes c.1.converts.puts tt refl (λ f. absurd (wrong f))
   convert_so _ _ (IsMismatch m line said) c s asks =
       kept_so s (convert_course asks) (Some (endings.NotCompatible line)) refl (rw c.1 (draws_none i)) c.2 tt (λ f. c.1)
   convert_so _ _ (IsRefused r line said) c s asks =
@@ -228,7 +227,7 @@ module _ (to : Set) (fit : IsFit to) (i i' : Intake) (o o' : Outlet) where
       kept_so s (convert_course asks) (Some endings.ReadFault) refl (draws_took c.1.reads.takes) c.1.none c.1.reads.cause (λ f. absurd (wrong f))
   convert_so _ _ FailsWriting c s asks =
       let put = c.1.converts in
-      wrote_so s (convert_course asks) (Some endings.WriteFault) refl (draws_took c.1.reads.takes) put.bytes put.puts put.puts.rose refl refl
+      wrote_so s (convert_course asks) (Some endings.WriteFault) refl (draws_took c.1.reads.takes) put.bytes put.puts put.puts.rose refl (λ f. absurd (wrong f))
   convert_so _ _ LacksMemory c s asks = kept_so s (convert_course asks) (Some endings.NoMemory) refl (rw c.0 (draws_none i)) c.1 tt (λ f. c.0)
   convert_so _ _ (LacksLine m) c s asks = kept_so s (convert_course asks) (Some endings.NoMemory) refl (rw c.1 (draws_none i)) c.2 tt (λ f. c.1)
 

@@ -1,5 +1,5 @@
 -- The names of other crates, and of this crate's `specs`, that the proofs use.
-pub use Rattle.std.proofs.{KnownBytes.Keeps-refl, lemmas.Bool.ltb-true, lemmas.Bool.and_parts, lemmas.Bool.Decides.nat_tests, lemmas.Fmt.decimal_digit}
+pub use Rattle.std.proofs.{lemmas.Bool.ltb-true, lemmas.Bool.and_parts, lemmas.Bool.Decides.nat_tests, lemmas.Fmt.decimal_digit}
 pub use Rattle.std.proofs.{lemmas.Result.err_from_is_err_and, lemmas.Slice.Eq.bytes_eq-Decides, Math.Nat.le-max_left, Math.Nat.le-max_right}
 pub use Rattle.std.proofs.Common.{Bool, Err, IfSome, IsErrAnd, IsSomeAnd, List, None, Ok, Option, Result, Some, [], ap, append-nil, arith, codes, false, get_or}
 pub use Rattle.std.proofs.Common.{if◌then◌else◌, inl, inr, le_refl, length, length-append, map, max, nat_lt, refl, rules, subst, suc, sym, take, take_all, true}
@@ -27,10 +27,11 @@ pub use Rattle.vms_board.specs.{Isa.isa, IsaStands.isa_stands, Restoring.Back, R
 pub use Rattle.vms_board.specs.Family.{Family, IsNumber, images_saved, lists_in}
 unfoldable pub use Rattle.vms_board.specs.Saving.{saved_stream}
 pub use Rattle.vms_board_commands.proofs.{LoadOutcome.loads_one, PlayOutcome.has_end, PlayOutcome.one_outcome, SeenLemmas.other_seen, SeenLemmas.reads_all}
-pub use Rattle.vms_board_commands.proofs.CourseLemmas.{among_left, refused_so, shelf_has, text_asks, traced_so, unread_so, unset_so}
+pub use Rattle.vms_board_commands.proofs.CourseLemmas.{among_left, kept_so, wrote_so, refused_so, save_asks, shelf_has, stream_asks, text_asks, traced_so}
+pub use Rattle.vms_board_commands.proofs.RunLemmas.{behind_runs, lacks_runs, lacks_text, seen_runs, then_runs, unread_runs}
 pub use Rattle.vms_board_commands.proofs.ScriptSteps.{AreStepLines, script_gives, scripted_lines, sound_saved, sound_script}
-pub use Rattle.vms_board_commands.proofs.SeenLemmas.{seen_given, seen_lost, seen_refused, seen_written, sees_as, set_other, TakesSo, content_seen, load_seen}
-pub use Rattle.vms_board_commands.specs.{Causes.save_course, Drill.drill_line, Play.PlaysBy, Save.saved_after, Scripts.scripted, Runs.Frame, Runs.Runs}
+pub use Rattle.vms_board_commands.proofs.SeenLemmas.{seen_given, seen_lost, seen_refused, seen_written, sees_as, TakesSo, content_seen, load_seen}
+pub use Rattle.vms_board_commands.specs.{Causes.save_course, Drill.drill_line, Play.PlaysAll, Save.saved_after, Scripts.scripted, Runs.Frame, Runs.Runs}
 pub use Rattle.vms_board_commands.specs.{Runs.Task, Runs.moment, Seen.IsGiven, Seen.Seen, Seen.SeenAs, Seen.Sees, Seen.WithGiven}
 pub use Rattle.vms_board_commands.specs.Load.{Loads, LoadsBy, Traces, Unfit}
 pub use Rattle.vms_board_streams.proofs.FamilyLaws.{takes_under}
@@ -45,7 +46,7 @@ pub use Rattle.vms_cli.specs.Commands.{Analyze, Asked, Check, Convert, Counter, 
 pub use Rattle.vms_cli.specs.Commands.{save_of, save_on, task_of, with_file, PlayCommand.play_entry, DrillCommand.drill_entry, DrillCommand.few_events}
 pub use Rattle.vms_cli.specs.Commands.AnalyzeCommand.{EndsLike, FailsReading, FailsWriting, GivesListed, IsListing, IsRefused, analyze_course, analyze_entry}
 pub use Rattle.vms_cli.specs.Commands.AnalyzeCommand.{bytes_taken, listing_outcome, unlisted_line}
-pub use Rattle.vms_cli.specs.Commands.CheckCommand.{AreCompatible, check_course, check_entry, checked, compared, compatible_text, verdict}
+pub use Rattle.vms_cli.specs.Commands.CheckCommand.{AreCompatible, asks_shelf, check_course, check_entry, checked, compared, compatible_text, verdict}
 pub use Rattle.vms_cli.specs.Commands.ConvertCommand.{CanBeConverted, ConvertGives, Converts, ConvertsBy, ConvertsStream, ConvertsWell, ConvertsWith, IsDone}
 pub use Rattle.vms_cli.specs.Commands.ConvertCommand.{IsInNewest, IsLost, IsMismatch, LacksLine, LacksMemory, NamesCell, Rewrites, WouldLose, agreed, agrees}
 pub use Rattle.vms_cli.specs.Commands.ConvertCommand.{convert_course, convert_entry, convertible, lost_line, newest, target}
@@ -53,7 +54,7 @@ pub use Rattle.vms_cli.specs.Commands.CounterCommand.{Answers, CountersBy, count
 pub use Rattle.vms_cli.specs.Commands.PackCommand.{packed, packed_by, packed_parts, packs, parts_of, with_values, CanBePacked, Parts, described_stream}
 pub use Rattle.vms_cli.specs.Commands.PackCommand.{named_parts, pack_entry}
 pub use Rattle.vms_cli.specs.Commands.SaveCommand.{MaySaveOn, save_entry, saved_on}
-pub use Rattle.vms_cli.specs.Commands.ShowCommand.{CanBeShown, GivesWithin, Refuses, Shows, ShowsBy, ShowsWell, show_entry}
+pub use Rattle.vms_cli.specs.Commands.ShowCommand.{CanBeShown, GivesWithin, Refuses, Shows, ShowsBy, ShowsWell, show_course, show_entry}
 pub use Rattle.vms_cli.specs.Continuation.{Continuation, ContinuesBy, goes_on}
 pub use Rattle.vms_cli.specs.ConvertLaws.{ConvertAgainLaw, ConvertThenAnalyzeLaw, ConvertThenLoadLaw, StandsFor}
 pub use Rattle.vms_cli.specs.Laws.{AmpleLaw, AskedLaw, CanBeAsked, CanBeDone, CheckThenShowLaw, CompleteLaw, HasOne, HasOneOutcome, HasRoom, IsAmple, NoneRises}
@@ -62,21 +63,21 @@ pub use Rattle.vms_cli.specs.Rows.{CanAnswer, ComesSeen, DoesSeen, HasCause}
 pub use Rattle.vms_cli.specs.States.{AlwaysNamedLaw, Prints, RefusesSo, StateLaw}
 pub use Rattle.vms_cli.specs.Upgrade.{IsWritten, Upgrade, UpgradesTo, shown_newer}
 unfoldable pub use Rattle.vms_cli.specs.Commands.{pair_of, single_of, triple_of}
-pub use Rattle.vms_commands.proofs.CourseLemmas.{draws_none, draws_took, so_since, unshelved_so, writes_end, writes_serve, wrong}
-pub use Rattle.vms_commands.proofs.EndLemmas.{around, comes_to_nothing, ends_with, kept_none, outcome_so, quiet_same, same_keeps}
+pub use Rattle.vms_commands.proofs.CourseLemmas.{draws_none, draws_took, writes_end, writes_serve, wrong}
+pub use Rattle.vms_commands.proofs.EndLemmas.{around, comes_to_nothing, ends_with, kept_none, outcome_so, same_keeps}
 pub use Rattle.vms_commands.proofs.FileSets.{FitStep, fit_text, fit_word}
-pub use Rattle.vms_commands.proofs.StepLemmas.{IsSound, ended_by, ending_passed, err_text, fetched_gives, first_err, had_by, one_text, sound_fetch, sound_next}
-pub use Rattle.vms_commands.proofs.StepLemmas.{sound_set, sound_sets, sound_word, sound_word_set, text_ends, then_as, then_text}
+pub use Rattle.vms_commands.proofs.StepLemmas.{IsSound, ending_passed, fetched_gives, first_err, had_by, one_text, sound_fetch, sound_next}
+pub use Rattle.vms_commands.proofs.StepLemmas.{sound_set, sound_sets, sound_word, sound_word_set, then_as}
 pub use Rattle.vms_commands.specs.{Asks.set_asked, SetLines.mismatch_line, declared.ending.Ending.Ending, SetWords.set_word, declared.kinds.BoardKind.BoardKind}
 pub use Rattle.vms_commands.specs.Courses.{EndsSo, Risen, Stands, is_among, of_shelf, text_course}
-pub use Rattle.vms_commands.specs.Endings.{Caused, EndsAs, Quiet, Tells, WritesAs, ending_of, line_of, status_of}
+pub use Rattle.vms_commands.specs.Endings.{Caused, EndsAs, Tells, WritesAs, ending_of, line_of, status_of}
 pub use Rattle.vms_commands.specs.Fetching.{SetText, fetched, fetched_set, is_on_shelf, longest_file, named_sets, set_in, sets_in, word_set}
 pub use Rattle.vms_commands.specs.Kinds.{board_front, first_kind, first_set, kinds, newest_of, set_front}
 pub use Rattle.vms_commands.specs.Lines.{bad_words, out_of_memory, read_fault, refused_line, shelf_fault, too_large_line, write_fault}
 pub use Rattle.vms_commands.specs.Outcomes.{ComesTo, Does, DoesOrStops, FailsToStore, HasPart, NotesFault, OutFault, Outcome, Outside, Part, ShelfFault}
 pub use Rattle.vms_commands.specs.Outcomes.{TellsShelfFault, WantsMemory, done, ended, text_begun}
 pub use Rattle.vms_commands.specs.SetWords.{shipped_word, BoardOf, BoardWord, SetOf, SetWord, Shipped, ShippedSet, board_word, named_set, number_after}
-pub use Rattle.vms_commands.specs.StepEndings.{AsksIf, HadCause, StepAs, TextEnds, WrittenAs, text_of}
+pub use Rattle.vms_commands.specs.StepEndings.{StepAs, TextEnds, WrittenAs, text_of}
 pub use Rattle.vms_commands.specs.Steps.{Both, Ends, Gives, HasBy, HasText, Step, Untold, both, next}
 pub use Rattle.vms_commands.specs.declared.ending.Ending.TheVariants.{Refused, WriteFault, BadText, BadWords, NoMemory, NotCompatible, ReadFault}
 pub use Rattle.vms_commands.specs.declared.kinds.BoardKind.TheVariants.{Clock, Isa}

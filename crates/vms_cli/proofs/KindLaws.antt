@@ -5,7 +5,7 @@ use Rattle.dev_board.specs.{Laws.AreEvents, Sound.Alike, declared.event.Event.Ev
 use Rattle.dev_clock.proofs.SoundLaws.{sound_stays_on as clock_stays_on}
 use Rattle.dev_clock.specs.Sound.{Alike as AlikeClocks}
 use Rattle.vms_board.specs.{Clock.AreTold as AreToldClocks, ClockStands.clock_stands, Family.IsNumber, Family.Stands, Isa.AreTold, IsaStands.isa_stands}
-use Rattle.vms_board_streams.proofs.{ClockLaws.boards_go_on as clocks_go_on, IsaLaws.boards_go_on}
+use Rattle.vms_board_streams.proofs.{ClockStreams.clock_laws, IsaStreams.isa_laws}
 use Rattle.vms_board_streams.specs.Streams.{BoardsGoOn, after_events}
 use Rattle.vms_commands.specs.Kinds.{first_set, newest_of, set_of}
 use Rattle.vms_commands.specs.declared.kinds.BoardKind.{BoardKind, TheVariants.Isa, TheVariants.Clock}
@@ -38,8 +38,8 @@ stands_of Clock = clock_stands
 
 -- a restored board goes on as the saved one
 pub goes_on_of : (kind : BoardKind) → BoardsGoOn (family_of kind) (AlikeOf kind) (IsSoundOf kind)
-goes_on_of Isa = boards_go_on
-goes_on_of Clock = clocks_go_on
+goes_on_of Isa = isa_laws.go_on
+goes_on_of Clock = clock_laws.go_on
 
 -- a board is sound at power on, and remains so
 pub record StaysSound (kind : BoardKind) : Type 0 where

@@ -1,6 +1,7 @@
 -- What is proved of each command, by its entry.
 use Rattle.vms_cli.proofs.Facade.{◌≡◌, ◌⊎◌, ℕ, true, false, List, [], ◌∷◌, Option, Some, refl, IfSome, IsBytes, Held, HoldsAll, Outcome, is_among, Task, Entry}
-use Rattle.vms_cli.proofs.Facade.{HasOne, arith, nat_tests}
+use Rattle.vms_cli.proofs.Facade.{HasOne, arith, nat_tests, inl, inr, none-some, sym, Ends, Gives, HasBy, IsSound, Step, Untold, done, ended, one_text}
+use Rattle.vms_board_commands.specs.Runs.{text_task}
 use Rattle.vms_commands.specs.Courses.{Course}
 
 -- ---- the lists of a course
@@ -42,3 +43,37 @@ pub record IsRow (entry : Entry) : Type 0 where
   pub fits : Fits entry.task.course
   pub one : (input : List ℕ) (held : Held) → IsBytes input → HoldsAll held → entry.words → HasOne (λ o. entry.task.has (Some input) (Some held) o)
   pub done : (input : Option (List ℕ)) (held : Option Held) → IfSome held HoldsAll → entry.words → entry.needs input held → IsDone entry.task input held
+
+-- ---- by the steps of a command
+
+-- there is one outcome of a step that is known, if there is one of what it gives
+pub one_by : {A : Type 0} (P : A → Outcome → Type 0) (held : Held) (step : Step A) → IsSound (Some held) step → ((a : A) → step ≡ Gives a → HasOne (P a))
+    → HasOne (λ o. HasBy P step o)
+one_by P held Untold sound each = absurd (none-some {A = Held} held (sym sound))
+one_by P held (Gives a) sound each = each a refl
+one_by P held (Ends status line) sound each = record { outcome = ended status line 0; is = refl; only = λ other e. e }
+
+-- a command that writes one text and stores nothing
+pub text_fits : (course : Course) → is_among course.statuses 6 ≡ true → HasSix course.takes → course.writes ≡ 0 ∷ 6 ∷ [] → course.stores ≡ [] → Fits course
+text_fits course six takes writes stores = record {
+  statuses = six;
+  writes = inl (rw writes refl);
+  takes = takes;
+  stores = inr stores;
+  unwritten = rw writes spares_text;
+  unstored = rw stores spares_none;
+}
+
+-- if its steps give the text wherever all that it needs is there
+pub text_row : (step : Option Held → Step (List ℕ)) {course : Course} {words : Type 0} {needs : Option (List ℕ) → Option Held → Type 0} → Fits course
+    → ((held : Option Held) → IsSound held (step held)) → ((input : Option (List ℕ)) (held : Option Held) → needs input held → (text : List ℕ) × (step held ≡ Gives text))
+    → IsRow (record { task = text_task step course; words = words; needs = needs })
+text_row step fits sound gives = record {
+  fits = fits;
+  one = λ input held ok holds words.
+      let one = one_text held (step (Some held)) (sound (Some held)) in
+      record { outcome = one.outcome; is = one.is; only = one.only };
+  done = λ input held octets words can.
+      let text = gives input held can in
+      record { outcome = done text.0 held 0; is = rw text.1 refl; status = refl };
+}

@@ -1,11 +1,10 @@
 -- From how a command ends, and why, to its row.
-use Rattle.vms_cli.proofs.Facade.{◌≡◌, ◌⊎◌, ℕ, true, false, List, [], ◌∷◌, Option, Some, None, inl, inr, refl, sym, ◌∙◌, subst, Err, Bool, ◌++◌, ap, arith}
-use Rattle.vms_cli.proofs.Facade.{Keeps, Appends, is_among, EndsSo, Risen, of_shelf, text_course, wrong, draws_none, so_since, writes_serve, Asked}
-use Rattle.vms_cli.proofs.Facade.{check_course, counter_course, course_of, Looks, looks_reaches, Intake, Outlet, Stock, Serves}
-use Rattle.vms_cli.proofs.Facade.{save_course, Ending, BadText, NotCompatible, ReadFault, WriteFault, NoMemory, BadWords, Caused, Quiet, WritesAs, status_of}
-use Rattle.vms_cli.proofs.Facade.{Tells, line_of, AsksIf, HadCause, among_left, shelf_has, text_asks, unset_so, WriteCause, WritesBy, Rose, SeenAs, Does}
-use Rattle.vms_cli.proofs.Facade.{DoesOrStops, Outcome, Outside, around, kept_none, outcome_so, same_keeps, Runs, moment, task_of, CanAnswer, ComesSeen}
-use Rattle.vms_cli.proofs.Facade.{DoesSeen, HasCause, bad_words, out_of_memory, read_fault, shelf_fault, write_fault}
+use Rattle.vms_cli.proofs.Facade.{◌≡◌, ◌⊎◌, ℕ, true, false, List, [], ◌∷◌, Option, Some, None, inl, inr, refl, sym, ◌∙◌, Bool, ◌++◌, ap, arith, Keeps, Appends}
+use Rattle.vms_cli.proofs.Facade.{is_among, EndsSo, Risen, of_shelf, text_course, wrong, draws_none, writes_serve, Asked, check_course, counter_course}
+use Rattle.vms_cli.proofs.Facade.{course_of, Looks, looks_reaches, Intake, Outlet, Stock, Serves, save_course, Ending, BadText, NotCompatible, ReadFault}
+use Rattle.vms_cli.proofs.Facade.{WriteFault, NoMemory, BadWords, Caused, WritesAs, status_of, Tells, line_of, among_left, shelf_has, WriteCause, WritesBy}
+use Rattle.vms_cli.proofs.Facade.{Rose, SeenAs, Does, DoesOrStops, Outcome, Outside, around, kept_none, outcome_so, same_keeps, Runs, moment, task_of}
+use Rattle.vms_cli.proofs.Facade.{CanAnswer, ComesSeen, DoesSeen, HasCause, bad_words, out_of_memory, read_fault, shelf_fault, write_fault}
 use Rattle.vms_cli.proofs.RowFacts.{Fits, HasSix}
 use Rattle.vms_commands.specs.{Courses.Course, declared.ending.Ending.TheVariants.ShelfFault}
 
@@ -16,30 +15,11 @@ at_six l (inr is) k status six P h none = h (rw is refl)
 
 -- ---- Each ending of a command, by what it touches.
 
-pub write_quiet : (asks compares : Bool) (o o' : Outlet) (e : Option Ending) → WriteCause asks compares o o' e → Quiet o o' e
-write_quiet asks compares o o' None c = tt
-write_quiet asks compares o o' (Some (BadText line)) c = c.1
-write_quiet asks compares o o' (Some (NotCompatible line)) c = c.1
-write_quiet asks compares o o' (Some WriteFault) c = tt
-write_quiet asks compares o o' (Some NoMemory) c = c
-write_quiet asks compares o o' e c = absurd c
-
 -- a text was written
 pub written_by : (asks compares : Bool) (text : List ℕ) (o o' : Outlet) (e : Option Ending) → WritesAs text o o' e → WritesBy asks compares o o' e
 written_by asks compares text o o' None w = record { cause = tt; serves = writes_serve text o o' None w }
 written_by asks compares text o o' (Some WriteFault) w = record { cause = w.rose; serves = writes_serve text o o' (Some WriteFault) w }
 written_by asks compares text o o' e w = absurd w
-
--- where it isn't had, input and out aren't touched
-pub lacks_so : {T : Type 0} (own takes : List ℕ) → is_among own 10 ≡ true → {b : Bool} (i : Intake) (o : Outlet) {s s' : Stock} {e : Ending}
-    → AsksIf (HadCause {T = T}) b s s' (Err e) → EndsSo i i o o s s' (text_course own takes b) (Some e)
-lacks_so own takes ten {b} i o {s} {s'} {e} a = unset_so _ b (text_asks own takes b ten) i o a.looks a.unasked _ a.cause
-
--- what follows the fetch depends on the shelf as it was before
-pub behind_so : (own takes : List ℕ) (b : Bool) {i i' : Intake} {o o' : Outlet} {s s' : Stock} (e : Option Ending) → (b ≡ false → s' ≡ s) → Looks s s'
-    → EndsSo i i' o o' s' s' (text_course own takes b) e → EndsSo i i' o o' s s' (text_course own takes b) e
-behind_so own takes true e same looks g = so_since e refl looks g
-behind_so own takes false {i} {i'} {o} {o'} {s} {s'} e same looks g = subst (λ x. EndsSo i i' o o' x s' (text_course own takes false) e) (same refl) g
 
 -- ---- a text
 

@@ -5,7 +5,7 @@ use Rattle.vms_cli.proofs.Facade.{Intake, Outlet, Stock, Reason, IsBytes, no_des
 use Rattle.vms_cli.proofs.Facade.{one_stream_holds, never_both_holds, one_fault_holds, Refusal, LoadReads, IsMachine, AreShaped, no_image, name_of, accepted_of}
 use Rattle.vms_cli.proofs.Facade.{most_given, device_at, is_well_formed, few_cells, Typed, state_of, AreImagesOf, AreOf, IsOf, machine_of, Ending, Refused}
 use Rattle.vms_cli.proofs.Facade.{WritesAs, refused_line, Outcome, done, ended, StepAs, Step, Untold, Gives, Ends, Both, HasText, both, next, Seen, load_seen}
-use Rattle.vms_cli.proofs.Facade.{seen_written, sees_as, GivesWithin, Shows, ShowsWell, Refuses, at_option, Mismatch, Counters, computed, one_answer_holds}
+use Rattle.vms_cli.proofs.Facade.{seen_written, GivesWithin, Shows, Refuses, at_option, Mismatch, Counters, computed, one_answer_holds}
 use Rattle.vms_cli.proofs.Facade.{computed_holds, Finding, answer_of, fetched_set, named_sets, SetText, sets_in, mismatch_line, SetWord, FitStep}
 use Rattle.vms_cli.proofs.Facade.{fit_text, IsSound, sound_next, sound_sets, Answers, CountersBy, counted, counter_text, no_state}
 use Rattle.vms_cli.specs.{Commands.ShowCommand.Values}
@@ -91,11 +91,6 @@ module _ (set : Set) where
       load_seen {P = OfSet s.held} set (accepted_of set None) images taken r line reads
       (λ input size fault. rw said (Refuses r.at r.section r.reason size fault))
 
-  -- under a set that is well formed
-  pub well_seen : {i i' : Intake} {o o' : Outlet} {s s' : Stock} {e : Option Ending} → IsFit set → Seen (OfSet s.held) i i' o o' s s' e
-      → Seen (ShowsWell s.held set) i i' o o' s s' e
-  well_seen {i} {i'} {o} {o'} {s} fit v = sees_as {P = OfSet s.held} {Q = ShowsWell s.held set} (λ bytes x shows. (fit.well, shows)) v
-
 -- ---- what is printed
 
 pub machine_for : (machines : List (List ℕ)) (machine : Option ℕ) → IsMachine machines machine → ForSome machine (λ m. m < length machines)
@@ -159,9 +154,13 @@ fit_sets held old new = fit_after (both (fetched_set held old) (fetched_set held
 pub answered : (old new : Set) → IsFit old → IsFit new → (answer : Answer) → Counters old new answer → answer ≡ computed old new
 answered old new fit fit' answer c = one_answer_holds old new fit.well answer (computed old new) c (computed_holds old new fit.well fit'.well fit'.heads)
 
-pub counters_text : (held : Option Held) (s : Step (Both Set)) (o : Outcome) → AreFit s → CountersBy s held o → HasText held (next s counted) o
-counters_text held (Gives sets) _ fit (Answers answer c) = rw (answered _ _ fit.0 fit.1 answer c)
-counters_text held _ o fit has = has
+text_of_answer : (held : Option Held) (s : Step (Both Set)) (o : Outcome) → AreFit s → CountersBy s held o → HasText held (next s counted) o
+text_of_answer held (Gives sets) _ fit (Answers answer c) = rw (answered _ _ fit.0 fit.1 answer c)
+text_of_answer held _ o fit has = has
+
+pub counters_text : (held : Option Held) (old new : SetWord) (o : Outcome) → CountersBy (named_sets held old new) held o
+    → HasText held (next (named_sets held old new) counted) o
+counters_text held old new o has = text_of_answer held (named_sets held old new) o (fit_sets held old new) has
 
 pub text_counters : (held : Option Held) (s : Step (Both Set)) (o : Outcome) → AreFit s → HasText held (next s counted) o → CountersBy s held o
 text_counters held (Gives sets) o fit has = rw has (Answers (computed sets.old sets.new) (computed_holds sets.old sets.new fit.0.well fit.1.well fit.1.heads))

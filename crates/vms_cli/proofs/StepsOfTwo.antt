@@ -1,8 +1,7 @@
 -- Two steps, one after the other, and the two steps of `convert`.
-use Rattle.vms_cli.proofs.{Facade.sees_as, Facade.ConvertGives, RowLemmas.write_quiet}
-use Rattle.vms_cli.proofs.Facade.{ConvertsBy, agrees, newest, ◌≡◌, ℕ, ◌<◌, ◌^◌, Bool, List, Ok, Err, Option, Some, ◌+◌, ◌≤◌, refl, ap, arith, Looks, Intake}
-use Rattle.vms_cli.proofs.Facade.{Outlet, Stock, Ending, EndsAs, Outcome, StepAs, TextEnds, Both, Gives, HasText, Step, both, next, Untold, Ends, HasBy}
-use Rattle.vms_cli.proofs.Facade.{quiet_same, err_text, first_err, text_ends, then_as, then_text, WritesBy, Held, most_given, Set, IsGiven, SeenAs, WithGiven}
+use Rattle.vms_cli.proofs.Facade.{sees_as, ConvertGives, ConvertsBy, agrees, newest, ◌≡◌, ℕ, List, Ok, Err, Option, ◌+◌, ◌≤◌, refl, ap, arith, Intake, Outlet}
+use Rattle.vms_cli.proofs.Facade.{Stock, Ending, Outcome, StepAs, Both, Gives, Step, both, next, Untold, Ends, HasBy, first_err, then_as, Held, most_given, Set}
+use Rattle.vms_cli.proofs.Facade.{IsGiven, SeenAs, WithGiven}
 
 -- ---- Two steps, one after the other: what is said of the first that ends the command, or of what both give.
 
@@ -18,18 +17,6 @@ module _ {A T U : Type 0} (m : T → A) (n : U → Both A) where
   two_of s r t v u is h k =
       then_as m n (λ a. next r (λ b. Gives (record { old = a; new = b }))) s t (Ok u) h
       (then_as m n (λ b. Gives (record { old = m t; new = b })) r v (Ok u) k is)
-
-module _ {A T : Type 0} (m : T → A) (f : A → Step (List ℕ)) (step : Step A) (i : Intake) (o : Outlet) (s s' : Stock) (few : i.given < 2 ^ 64)
-    (looks : Looks s s') (x : Outcome) (has : HasText s.held (next step f) x) where
-  -- where it gave something
-  pub had_text : (o' : Outlet) (t : T) (e : Option Ending) (asks compares : Bool) → StepAs m step (Ok t) → WritesBy asks compares o o' e
-      → TextEnds (f (m t)) o o' e → EndsAs i i o o' s s' e x
-  had_text o' t e asks compares h w k =
-      text_ends (next step f) i o o' s s' e x few looks.held (write_quiet asks compares o o' e w.cause) (then_text m f o o' e step t h k) has
-
-  -- where it ended the command
-  pub lacks_text : (e : Ending) → StepAs {A = A} {T = T} m step (Err e) → EndsAs i i o o s s' (Some e) x
-  lacks_text e h = text_ends (next step f) i o o s s' (Some e) x few looks.held (quiet_same o (Some e)) (err_text m f o o e step h) has
 
 -- ---- `convert`, by the step that gives its set and the one that compares it.
 

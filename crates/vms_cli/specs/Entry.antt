@@ -9,3 +9,7 @@ pub record Entry : Type 1 where
   pub task : Task
   pub words : Type 0
   pub needs : Option (List ℕ) → Option Held → Type 0
+
+-- The entry of a command whose arguments ensure nothing.
+abbrev pub plain_entry : Task → (Option (List ℕ) → Option Held → Type 0) → Entry
+plain_entry task needs = record { task = task; words = Unit {0}; needs = needs }

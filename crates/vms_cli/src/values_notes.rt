@@ -1,6 +1,6 @@
 // The line of a refused values text.
 ghost use Rattle.std.specs.Prelude.{◌≡◌, IfOk, string_bytes};
-ghost use Rattle.vms_cli.specs.ValuesLines.{values_line, values_reason_text};
+ghost use Rattle.vms_cli.specs.ValuesLines.{values_line};
 
 use std::alloc::Global;
 use vms_io::NoMemory;
@@ -14,19 +14,13 @@ pub(crate) fn values_line(
 ) -> Result<String, NoMemory>
     ensures { IfOk result (λ text. string_bytes text ≡ values_line line reason) }
 {
-    let reason = values_reason_text(reason);
-    Ok(format!(in alloc; "values line {line}: {reason}\n")?)
-}
-
-fn values_reason_text(reason: ValuesReason) -> &'static str
-    ensures { result.now ≡ values_reason_text reason }
-{
-    match reason {
+    let word = match reason {
         ValuesReason::Form => "Form",
         ValuesReason::Number => "Number",
         ValuesReason::Count => "Count",
         ValuesReason::Absent => "Absent",
         ValuesReason::Invalid => "Invalid",
         ValuesReason::Needed => "Needed",
-    }
+    };
+    Ok(format!(in alloc; "values line {line}: {word}\n")?)
 }

@@ -1,5 +1,5 @@
 -- How a command ends, by its steps.
-use Rattle.std.proofs.Common.{◌≡◌, ℕ, Bool, true, false, List, [], ◌∷◌, refl, ◌∙◌, arith, Option, Some, None}
+use Rattle.std.proofs.Common.{◌≡◌, ℕ, Bool, true, false, List, [], ◌∷◌, refl, ap, ◌∙◌, arith, Option, Some, None}
 use Rattle.std.proofs.KnownBytes.{Keeps-refl}
 use Rattle.std.specs.Io.KnownBytes.{Keeps}
 use Rattle.vms_io.proofs.ShelvingLemmas.{looks_reaches, reaches_both, reaches_none}
@@ -87,8 +87,8 @@ writes_end text o o' (Some WriteFault) w = stops_prefix w
 writes_end text o o' e w = absurd w
 
 -- standard output is unchanged unless the command succeeded or it failed
-pub so_quiet : {i i' : Intake} {o o' : Outlet} {s s' : Stock} {statuses takes stores : List ℕ} {asks : Bool} (e : Option Ending)
-    → EndsSo i i' o o' s s' (record { statuses = statuses; writes = 0 ∷ 6 ∷ []; takes = takes; stores = stores; asks = asks }) e → Quiet o o' e
-so_quiet None g = tt
-so_quiet (Some WriteFault) g = tt
-so_quiet e g = g.out refl
+pub so_quiet : {i i' : Intake} {o o' : Outlet} {s s' : Stock} {course : Course} (e : Option Ending) → course.writes ≡ 0 ∷ 6 ∷ []
+    → EndsSo i i' o o' s s' course e → Quiet o o' e
+so_quiet None writes g = tt
+so_quiet (Some WriteFault) writes g = tt
+so_quiet e writes g = g.out (ap (λ l. is_among l (status_of e)) writes)

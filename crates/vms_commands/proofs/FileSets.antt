@@ -3,7 +3,7 @@ use Rattle.std.proofs.{Common.arith, lemmas.Bool.leb-true}
 use Rattle.std.proofs.Common.{◌≡◌, ℕ, zero, suc, ◌+◌, ◌≤◌, Bool, true, false, nat_le, if◌then◌else◌, List, [], ◌∷◌, Option, Some, None, codes, refl, subst}
 use Rattle.std.specs.{List.slice_get, Option.option_and_then}
 use Rattle.serde_json.specs.{Data.Data, Data.Items, Data.no_items, Data.item, Find.get, Find.as_array, Find.as_number, Find.as_u64}
-use Rattle.vms_spec.specs.{Sets.Formula, Sets.Desc, Sets.Sub, Sets.Device, Sets.Set, WellFormed.SetFault, WellFormed.first_fault, Good.IsFit}
+use Rattle.vms_spec.specs.{Sets.Desc, Sets.Sub, Sets.Device, Sets.Set, WellFormed.SetFault, WellFormed.first_fault, Good.IsFit}
 use Rattle.vms_io.specs.Shelves.{Held}
 use Rattle.vms_commands.proofs.KindSets.{fit_kind}
 use Rattle.vms_commands.specs.Fetching.{SetText, Number, Text, fetched_set, said_set, set_in, word_set}
@@ -13,7 +13,7 @@ use Rattle.vms_json.specs.{Keys.fits, Names.Names, Names.Scope, Names.names_if}
 use Rattle.vms_json.specs.Answers.{Answer, good, bad, under, next, changed, each_from, each_of, list_of}
 use Rattle.vms_json.specs.Members.{judged, at as member_at, at_or, member_of, member_or, text_of, up_to, u32_of}
 use Rattle.vms_descfile.specs.{Descs.device_of, Descs.set_in as set_said, Descs.set_of, Descs.parts_of, Tests.test_of}
-use Rattle.vms_descfile.specs.Descs.{Head, Whole, desc_needs, desc_allows, head_of, desc_as, rest_of, struct_of, sub_in, sub_of, whole_in, whole_of, device_in}
+use Rattle.vms_descfile.specs.Descs.{Head, Whole, desc_needs, desc_allows, head_of, rest_of, struct_of, sub_in, sub_of, whole_in, whole_of, device_in}
 use Rattle.vms_descfile.specs.Files.{Said, Parts, Syntax, Shape, IllFormed, judged_said, parts_said, value_said, value_in, file_said}
 
 -- what a good answer says has this property
@@ -25,18 +25,21 @@ abbrev Each : {A : Type 0} → (A → Type 0) → List A → Type 0
 Each P xs = (i : ℕ) (x : _) → slice_get xs i ≡ Some x → P x
 
 module _ {A B : Type 0} (P : B → Type 0) where
-  says_next : (x : Answer A) (f : A → Answer B) → ((a : A) → x ≡ good a → Says P (f a)) → Says P (next x f)
-  says_next (good a) f h = h a refl
+  -- whatever the first answer says
+  says_next : (x : Answer A) (f : A → Answer B) → ((a : A) → Says P (f a)) → Says P (next x f)
+  says_next (good a) f h = h a
   says_next (bad path) f h = tt
 
-  says_changed : (f : A → B) (x : Answer A) → ((a : A) → x ≡ good a → P (f a)) → Says P (changed f x)
-  says_changed f (good a) h = h a refl
-  says_changed f (bad path) h = tt
+  -- by what it says
+  says_then : (Q : A → Type 0) (x : Answer A) (f : A → Answer B) → Says Q x → ((a : A) → Q a → Says P (f a)) → Says P (next x f)
+  says_then Q (good a) f q h = h a q
+  says_then Q (bad path) f q h = tt
+
+  says_changed : (Q : A → Type 0) (f : A → B) (x : Answer A) → Says Q x → ((a : A) → Q a → P (f a)) → Says P (changed f x)
+  says_changed Q f (good a) q h = h a q
+  says_changed Q f (bad path) q h = tt
 
 module _ {A : Type 0} (P : A → Type 0) where
-  says_so : (x : Answer A) (a : A) → Says P x → x ≡ good a → P a
-  says_so x a h e = subst (Says P) e h
-
   says_judged : (b : Bool) (x : Answer A) → Says P x → Says P (judged b x)
   says_judged true x h = h
   says_judged false x h = tt
@@ -69,10 +72,8 @@ module _ {A : Type 0} (P : A → Type 0) where
   says_each : (says : Data → Answer A) (i : ℕ) (ds : Items) → ((e : Data) → Says P (says e)) → Says (Each P) (each_from says i ds)
   says_each says i no_items h = none_each
   says_each says i (item d ds) h =
-      says_next (Each P) (under _ (says d)) _ (λ a e.
-      says_changed (Each P) (λ list. a ∷ list) (each_from says (i + 1) ds) (λ list f.
-      each_cons a list (says_so (under _ (says d)) a (says_under _ (says d) (h d)) e)
-      (subst (Says (Each P)) f (says_each says (i + 1) ds h))))
+      says_then (Each P) P (under _ (says d)) _ (says_under _ (says d) (h d)) (λ a p.
+      says_changed (Each P) (Each P) (λ list. a ∷ list) (each_from says (i + 1) ds) (says_each says (i + 1) ds h) (λ list each. each_cons a list p each))
 
   says_items : (says : Data → Answer A) (o : Option Items) → ((e : Data) → Says P (says e)) → Says (Each P) (each_of says o)
   says_items says None h = tt
@@ -114,102 +115,55 @@ SmallDevice d = Small d.instance × SmallDesc d.desc × Each SmallSub d.subs
 abbrev SmallSet : Set → Type 0
 SmallSet set = Each SmallDevice set.devices
 
-abbrev validate_said : Names → Data → Answer (List Formula)
-validate_said names d = at_or [] (list_of (test_of (record { own = names; parent = None }))) (codes "validate") d
-
-abbrev version_said : Data → Answer ℕ
-version_said d = member_at u32_of (codes "version") d
+-- by what is under a key
+at_then : {A B : Type 0} (P : B → Type 0) (Q : A → Type 0) (says : Data → Answer A) (key : List ℕ) (d : Data) (f : A → Answer B)
+    → ((e : Data) → Says Q (says e)) → ((a : A) → Q a → Says P (f a)) → Says P (next (member_at says key d) f)
+at_then P Q says key d f q h = says_then P Q (member_at says key d) f (says_at Q says key d q) h
 
 rest_small : (names : Names) (head : Head) (d : Data) → Says SmallDesc (rest_of names head d)
 rest_small names head d =
-    says_next SmallDesc (validate_said names d) (λ validate. next (version_said d) (λ version. good (desc_as head validate version))) (λ validate e.
-    says_next SmallDesc (version_said d) (λ version. good (desc_as head validate version)) (λ version f.
-    says_so Small (version_said d) version (says_at Small u32_of (codes "version") d small_u32) f))
-
--- the parts of a subsection
-abbrev sub_with : Scope → Head → Data → Formula → Answer Sub
-sub_with scope head d needed = changed (λ desc. record { desc = desc; needed = needed }) (rest_of scope.own head d)
-
-abbrev needed_said : Scope → Data → Answer Formula
-needed_said scope d = member_at (test_of scope) (codes "needed") d
+    says_next SmallDesc (at_or [] (list_of (test_of (record { own = names; parent = None }))) (codes "validate") d) _ (λ validate.
+    at_then SmallDesc Small u32_of (codes "version") d _ small_u32 (λ version small. small))
 
 sub_in_small : (scope : Scope) (d : Data) → Says SmallSub (sub_in scope d)
 sub_in_small scope d =
-    says_next SmallSub (head_of scope.own d) (λ head. next (needed_said scope d) (sub_with scope head d)) (λ head e.
-    says_next SmallSub (needed_said scope d) (sub_with scope head d) (λ needed f.
-    says_changed SmallSub (λ desc. record { desc = desc; needed = needed }) (rest_of scope.own head d) (λ desc g.
-    says_so SmallDesc (rest_of scope.own head d) desc (rest_small scope.own head d) g)))
+    says_next SmallSub (head_of scope.own d) _ (λ head. says_next SmallSub (member_at (test_of scope) (codes "needed") d) _ (λ needed.
+    says_changed SmallSub SmallDesc _ (rest_of scope.own head d) (rest_small scope.own head d) (λ desc small. small)))
 
 sub_small : (asks : Bool) (parent : Names) (d : Data) → Says SmallSub (sub_of asks parent d)
 sub_small asks parent d =
     let scope : Scope = record { own = names_if asks d; parent = Some parent } in
     says_judged SmallSub (fits (codes "needed" ∷ desc_needs) desc_allows d) (sub_in scope d) (sub_in_small scope d)
 
--- those of a device
-abbrev whole_with : Names → Head → Data → List Sub → Answer Whole
-whole_with names head d subs = changed (λ desc. record { desc = desc; subs = subs }) (rest_of names head d)
-
-abbrev subs_said : Bool → Names → Data → Answer (List Sub)
-subs_said asks names d = at_or [] (list_of (sub_of asks names)) (codes "subsections") d
-
-subs_small : (asks : Bool) (names : Names) (d : Data) → Says (Each SmallSub) (subs_said asks names d)
-subs_small asks names d =
-    says_at_or (Each SmallSub) [] (list_of (sub_of asks names)) (codes "subsections") d (none_each SmallSub)
-    (λ e. says_list SmallSub (sub_of asks names) e (sub_small asks names))
-
 whole_in_small : (asks : Bool) (names : Names) (d : Data) → Says SmallWhole (whole_in asks names d)
 whole_in_small asks names d =
-    says_next SmallWhole (head_of names d) (λ head. next (subs_said asks names d) (whole_with names head d)) (λ head e.
-    says_next SmallWhole (subs_said asks names d) (whole_with names head d) (λ subs f.
-    says_changed SmallWhole (λ desc. record { desc = desc; subs = subs }) (rest_of names head d) (λ desc g. (
-      says_so SmallDesc (rest_of names head d) desc (rest_small names head d) g,
-      says_so (Each SmallSub) (subs_said asks names d) subs (subs_small asks names d) f,
-    ))))
+    says_next SmallWhole (head_of names d) _ (λ head.
+    says_then SmallWhole (Each SmallSub) (at_or [] (list_of (sub_of asks names)) (codes "subsections") d) _
+    (says_at_or (Each SmallSub) [] (list_of (sub_of asks names)) (codes "subsections") d (none_each SmallSub)
+    (λ e. says_list SmallSub (sub_of asks names) e (sub_small asks names))) (λ subs small.
+    says_changed SmallWhole SmallDesc _ (rest_of names head d) (rest_small names head d) (λ desc s. (s, small))))
 
 whole_small : (asks : Bool) (d : Data) → Says SmallWhole (whole_of asks d)
 whole_small asks d =
     says_judged SmallWhole (fits desc_needs (codes "subsections" ∷ desc_allows) d) (whole_in asks (names_if asks d) d)
     (whole_in_small asks (names_if asks d) d)
 
-abbrev desc_said : Bool → Data → Answer Whole
-desc_said asks d = member_at (whole_of asks) (codes "desc") d
-
-abbrev instance_said : Data → Answer ℕ
-instance_said d = member_at u32_of (codes "instance") d
-
-abbrev device_with : Data → Whole → Answer Device
-device_with d whole = changed (λ instance. record { instance = instance; desc = whole.desc; subs = whole.subs }) (instance_said d)
-
 device_in_small : (asks : Bool) (d : Data) → Says SmallDevice (device_in asks d)
 device_in_small asks d =
-    says_next SmallDevice (desc_said asks d) (device_with d) (λ whole e.
-    let w : SmallWhole whole = says_so SmallWhole (desc_said asks d) whole (says_at SmallWhole (whole_of asks) (codes "desc") d (whole_small asks)) e in
-    says_changed SmallDevice (λ instance. record { instance = instance; desc = whole.desc; subs = whole.subs }) (instance_said d) (λ instance f.
-    (says_so Small (instance_said d) instance (says_at Small u32_of (codes "instance") d small_u32) f, w.0, w.1)))
+    at_then SmallDevice SmallWhole (whole_of asks) (codes "desc") d _ (whole_small asks) (λ whole w.
+    says_changed SmallDevice Small _ (member_at u32_of (codes "instance") d) (says_at Small u32_of (codes "instance") d small_u32)
+    (λ instance small. (small, w.0, w.1)))
 
 device_small : (asks : Bool) (d : Data) → Says SmallDevice (device_of asks d)
 device_small asks d = says_judged SmallDevice (fits (codes "desc" ∷ codes "instance" ∷ []) [] d) (device_in asks d) (device_in_small asks d)
 
 -- ---- sets
 
-abbrev devices_said : Bool → Data → Answer (List Device)
-devices_said asks d = member_at (list_of (device_of asks)) (codes "devices") d
-
-abbrev structs_with : Bool → Data → List Device → List (List ℕ) → Answer Set
-structs_with asks d devices machines =
-    next (member_at (list_of (struct_of asks)) (codes "structs") d) (λ structs. good (record { machines = machines; structs = structs; devices = devices }))
-
-abbrev machines_with : Bool → Data → List Device → Answer Set
-machines_with asks d devices = next (member_at (list_of text_of) (codes "machines") d) (structs_with asks d devices)
-
 set_in_small : (asks : Bool) (d : Data) → Says SmallSet (set_said asks d)
 set_in_small asks d =
-    says_next SmallSet (devices_said asks d) (machines_with asks d) (λ devices e.
-    let small : Each SmallDevice devices = says_so (Each SmallDevice) (devices_said asks d) devices
-    (says_at (Each SmallDevice) (list_of (device_of asks)) (codes "devices") d (λ x. says_list SmallDevice (device_of asks) x (device_small asks))) e in
-    says_next SmallSet (member_at (list_of text_of) (codes "machines") d) (structs_with asks d devices) (λ machines f.
-    says_next SmallSet (member_at (list_of (struct_of asks)) (codes "structs") d)
-    (λ structs. good (record { machines = machines; structs = structs; devices = devices })) (λ structs g. small)))
+    at_then SmallSet (Each SmallDevice) (list_of (device_of asks)) (codes "devices") d _ (λ x. says_list SmallDevice (device_of asks) x (device_small asks))
+    (λ devices small. says_next SmallSet (member_at (list_of text_of) (codes "machines") d) _ (λ machines.
+    says_next SmallSet (member_at (list_of (struct_of asks)) (codes "structs") d) _ (λ structs. small)))
 
 set_small : (asks : Bool) (d : Data) → Says SmallSet (set_of asks d)
 set_small asks d = says_judged SmallSet (fits (codes "devices" ∷ codes "machines" ∷ codes "structs" ∷ []) [] d) (set_said asks d) (set_in_small asks d)
@@ -218,7 +172,7 @@ set_small asks d = says_judged SmallSet (fits (codes "devices" ∷ codes "machin
 
 parts_small : (d : Data) → Says SmallSet (parts_of d)
 unfolding parts_of
-parts_small d = says_next SmallSet (set_of false d) (λ unasked. set_of true d) (λ unasked e. set_small true d)
+parts_small d = says_next SmallSet (set_of false d) (λ unasked. set_of true d) (λ unasked. set_small true d)
 
 abbrev FitSaid : Said → Type 0
 FitSaid (Parts set) = IsFit set

@@ -54,21 +54,14 @@ module _ {A B T U : Type 0} (m : T → A) (n : U → B) (f : A → Step B) where
 
 -- ---- texts for out
 
-shelf_text : (s : Step (List ℕ)) (o o' : Outlet) → TextEnds s o o' (Some ShelfFault)
-shelf_text Untold o o' = tt
-shelf_text (Gives text) o o' = tt
-shelf_text (Ends status line) o o' = tt
-
-memory_text : (s : Step (List ℕ)) (o o' : Outlet) → TextEnds s o o' (Some NoMemory)
-memory_text Untold o o' = tt
-memory_text (Gives text) o o' = tt
-memory_text (Ends status line) o o' = tt
-
 -- a failure of the shelf and a lack of memory end any step
 free_text : (s : Step (List ℕ)) (o o' : Outlet) (e : Option Ending) → IsFree e → TextEnds s o o' e
-free_text s o o' (Some ShelfFault) h = shelf_text s o o'
-free_text s o o' (Some NoMemory) h = memory_text s o o'
-free_text s o o' e h = absurd h
+free_text Untold o o' e h = tt
+free_text (Gives text) o o' (Some ShelfFault) h = h
+free_text (Gives text) o o' (Some NoMemory) h = h
+free_text (Ends status line) o o' (Some ShelfFault) h = h
+free_text (Ends status line) o o' (Some NoMemory) h = h
+free_text _ o o' e h = absurd h
 
 module _ {A T : Type 0} (m : T → A) (f : A → Step (List ℕ)) (o o' : Outlet) where
   -- a step ended the command

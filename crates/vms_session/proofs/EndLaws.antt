@@ -2,7 +2,7 @@
 use Rattle.vms_session.proofs.{SessionLaws.line_level, SoundLaws.sessions_stay_sound}
 use Rattle.vms_session.proofs.Facade.{◌≡◌, ℕ, ◌≤◌, Bool, true, false, if◌then◌else◌, List, [], ◌∷◌, length, Option, Some, None, nat_lt, arith, refl}
 use Rattle.vms_session.proofs.Facade.{subst, ◌∙◌, bytes_eq, bytes_eq-Decides, nat_tests, NEWEST, IsSound, State, step, shipped_set, Held, PutsUnder, IsLine}
-use Rattle.vms_session.proofs.Facade.{AreLines, ScriptLine, Happens, Saves, is_set_of, trace_line, streams_come_back, bytes_are_one, Restore, Back, Refused}
+use Rattle.vms_session.proofs.Facade.{AreLines, ScriptLine, Happens, Saves, is_set_of, trace_line, isa_laws, Restore, Back, Refused}
 use Rattle.vms_session.proofs.Facade.{Restores, saved_stream, part_of, HoldsBytes, HasAnEnd, SessionsEnd, saved_line, restored_line, missing_line}
 use Rattle.vms_session.proofs.Facade.{too_large_line, refused_line, Session, IsTooLarge, IsLoaded, Does, longest_file, isa, MaySaveIn}
 use Rattle.vms_script.specs.Lines.{Restores as Loads}
@@ -23,7 +23,7 @@ HeldComes level (Some bytes) = Comes level bytes
 
 held-comes : (level : ℕ) (held : Option (List ℕ)) → HoldsBytes held → HeldComes level held
 held-comes level None h = tt
-held-comes level (Some bytes) h = bytes_are_one.some level bytes h
+held-comes level (Some bytes) h = isa_laws.one.some level bytes h
 
 -- with bytes under a name
 abbrev put : Held → List ℕ → List ℕ → Held
@@ -89,7 +89,7 @@ may_save m set e = record { level_le_set = grind (arith, nat_tests, e); set_le_n
 saved-ends : (set : ℕ) (name : List ℕ) (old : Session) → MaySaveIn isa old.board set → IsSound old.board → still old.board.level old.held
     → LineEnds (Saves set name) old
 saved-ends set name old may s held =
-    let back = streams_come_back.stream set old.board s may in
+    let back = isa_laws.come_back.stream set old.board s may in
     record {
       text = saved_line (length (saved_stream isa set old.board));
       new = record old { held = put old.held name (saved_stream isa set old.board) };

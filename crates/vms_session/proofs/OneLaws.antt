@@ -1,6 +1,6 @@
 -- What bytes are to a restore is one thing, and what a line does is one thing.
 use Rattle.vms_session.proofs.Facade.{◌≡◌, ◌≢◌, ℕ, Bool, true, false, List, Option, Some, None, arith, refl, sym, ap, ◌∙◌, bytes_eq, bytes_eq-Decides, State}
-use Rattle.vms_session.proofs.Facade.{step, Held, PutsUnder, ScriptLine, Happens, Saves, trace_line, IsBytes, bytes_are_one, Restore, Back, Refused, HoldsBytes}
+use Rattle.vms_session.proofs.Facade.{step, Held, PutsUnder, ScriptLine, Happens, Saves, trace_line, IsBytes, isa_laws, Restore, Back, Refused, HoldsBytes}
 use Rattle.vms_session.proofs.Facade.{ReadsBytes, LinesAreOne, IsOneEnd, Session, Leaves, ComesTo, IsTooLarge, IsLoaded, LoadsBytes, LoadsHeld, Does}
 use Rattle.vms_script.specs.Lines.{Restores as Loads}
 
@@ -34,7 +34,7 @@ same-bytes bytes old text text' new new' ok (IsTooLarge long a) (IsTooLarge long
 same-bytes bytes old text text' new new' ok (IsTooLarge long a) (IsLoaded r few restores b) = absurd (omega arith)
 same-bytes bytes old text text' new new' ok (IsLoaded r few restores a) (IsTooLarge long b) = absurd (omega arith)
 same-bytes bytes old text text' new new' ok (IsLoaded r few restores a) (IsLoaded r' few' restores' b) =
-    come r' (rw (bytes_are_one.one old.board.level bytes ok r r' restores restores') at a) b
+    come r' (rw (isa_laws.one.one old.board.level bytes ok r r' restores restores') at a) b
   where
     come : (x : Restore State) → ComesTo x old text new → ComesTo x old text' new' → IsOneEnd text text' new new'
     come (Back m taken) a b = same-left _ _ text text' new new' a b

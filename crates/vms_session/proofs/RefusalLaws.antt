@@ -1,6 +1,6 @@
 -- Streams on the shelf: the result of a save or a load, and what a refused stream leaves.
 use Rattle.vms_session.proofs.Facade.{◌≡◌, ℕ, ◌≤◌, List, [], ◌∷◌, append-nil, length, Option, Some, Result, Ok, Err, arith, sym, ap, ◌∙◌, ◌<◌, NEWEST, State}
-use Rattle.vms_session.proofs.Facade.{Restore, Refused, Restores, shipped_set, Outlet, Stock, isa, bytes_are_one, refused_line, too_large_line, Session}
+use Rattle.vms_session.proofs.Facade.{Restore, Refused, Restores, shipped_set, Outlet, Stock, isa, isa_laws, refused_line, too_large_line, Session}
 use Rattle.vms_session.proofs.Facade.{ComesTo, IsTooLarge, IsLoaded, LoadsBytes, Leaves, Does, longest_file, ScriptLine, IsBytes, Reason, LinesEnd, WritesText}
 use Rattle.vms_session.proofs.Facade.{part_of, Plays, PlayFault, WriteFault, Part, BringsNone, IsMissing, IsLarge, IsRefused, GoesOnWithout, RefusalsLeave}
 use Rattle.vms_script.specs.Lines.{Restores as Loads}
@@ -12,7 +12,7 @@ pub comes : (bytes : List ℕ) (old : Session) (text : List ℕ) (new : Session)
     → Restores isa old.board.level bytes r
     → LoadsBytes bytes old text new → ComesTo r old text new
 comes bytes old text new r ok few restores (IsTooLarge long left) = absurd (omega arith)
-comes bytes old text new r ok few restores (IsLoaded other some others left) = rw (bytes_are_one.one old.board.level bytes ok other r others restores) at left
+comes bytes old text new r ok few restores (IsLoaded other some others left) = rw (isa_laws.one.one old.board.level bytes ok other r others restores) at left
 
 -- a line's text is written once the line is done
 pub line_ends : (line : ScriptLine) (text mark : List ℕ) (new : Session) (o o' : Outlet) (s s' : Stock) (m : State) (r : Result Unit PlayFault) → mark ≡ text
@@ -35,7 +35,7 @@ refused-leaves : (bytes : List ℕ) (place : ℕ) (section : Option ℕ) (reason
     → Leaves (refused_line (shipped_set NEWEST) place section reason) old said new
 refused-leaves bytes place section reason old said new ok few refused (IsTooLarge far left) = absurd (omega arith)
 refused-leaves bytes place section reason old said new ok few refused (IsLoaded restore some restores left) =
-    rw (bytes_are_one.one old.board.level bytes ok restore (Refused place section reason) restores refused) at left
+    rw (isa_laws.one.one old.board.level bytes ok restore (Refused place section reason) restores refused) at left
 
 leaves-so : (name : List ℕ) (old : Session) (text said : List ℕ) (new : Session) → BringsNone name old text → Does (Loads name) old said new
     → Leaves text old said new

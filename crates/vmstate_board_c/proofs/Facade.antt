@@ -16,7 +16,7 @@ pub use Rattle.vmstate_board_c.specs.{Kinds.now_of, Kinds.step_of, declared.answ
 pub use Rattle.vmstate_board_c.specs.Answers.{IsAccess, Reaches, acts, acts_after, event_at, said, time_to}
 pub use Rattle.vmstate_board_c.specs.declared.kinds.AnyBoard.TheVariants.{Clock, Isa}
 pub use base.Fml.{flft, fsep, ftrue}
-pub use base.Logic.{SProp, emp, ent, fst∗, id⊢, never}
+pub use base.Logic.{SProp, emp, fst∗, id⊢, never}
 pub use contract.BorrowLft.{◌⊑◌}
 pub use contract.Monad.{Fun, fact}
 pub use contract.Running.{tables}
@@ -33,9 +33,8 @@ pub use denote.Struct.Tuple.{Tuple}
 pub use denote.Triple.Call.{calls_at, calls_at_last}
 pub use denote.Triple.Clauses.{Clauses, Ended}
 pub use denote.Triple.Spec.{triple_of}
-pub use denote.Triple.Statement.{Contract, Triple}
-pub use denote.Triple.Table.{entered}
-pub use denote.Triple.Walked.{Goes-dropped, Stays, ends_at, says, stay_dropped, walk_Meets, walk_of}
+pub use denote.Triple.Statement.{Contract}
+pub use denote.Triple.Walked.{Goes-dropped, Stays, ends_at, says, stay_dropped, walk_of}
 pub use lib.Dec.{T}
 pub use mathlib.Core.List.{List, [], ◌++◌, ◌∷◌}
 pub use mathlib.Core.Path.{refl, subst, sym, ◌≡◌}
@@ -44,11 +43,11 @@ pub use mir.Syntax.{Args, Body, Dict, Fn, a_type, assign, copy, dcons, dnil, imp
 pub use mir.Val.{Val, WT, has_ty, of_list, vcons, vnil, vptr, vstruct}
 pub use prog.Memory.{Memory}
 pub use prog.Routine.{Routine}
-pub use prog.Wp.{Tables, WpFn}
+pub use prog.Wp.{WpFn}
 pub use seplogic.Ra.Ura.{Ura}
-pub use sound.WpLaws.{WpFn-mono, fm_of}
+pub use sound.WpLaws.{fm_of}
 pub use types.ByLocal.{alloc_all, env, free_all, get, get_in, lands_as, lands_last, look_at, pass_all, sets}
-pub use types.Kit.{ !, Item, at_ret, await, by, done, drop, feq_i, feq_l, fjoin, fpack, fpick, fsplit, join, later, move, pick, qed, raw, rewrite, some, split}
+pub use types.Kit.{ !, Item, at_ret, await, done, drop, feq_i, feq_l, fjoin, fpack, fpick, fsplit, join, later, move, pick, qed, raw, rewrite, some, split}
 pub use types.Kit.{split3, suffices, use1, ‵, ◌$◌, ◌∵◌, ◌⊛◌}
 pub use types.Logic.{Logic, sem}
 pub use types.Part.{agg, sub, whole}

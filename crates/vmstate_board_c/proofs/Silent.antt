@@ -80,7 +80,7 @@ pub at_reached : (moment : ℕ) (event : Event) (old reached new : AnyBoard) (an
 at_reached moment event old reached new answer h (inl r) e = at_now moment event old new answer h r.0 (e ∙ ap (step_of event) r.1)
 at_reached moment event old reached new answer h (inr r) e = at_later moment event old reached new r.2.0 answer h r.1 r.0 r.2.1 e
 
--- what a wait that may have passed comes to
+-- the result of a wait that may have passed
 pub reached_by : (moment : ℕ) (old new : AnyBoard) (o : Option Bool) → (moment == now_of old) ≡ false
     → MatchOption o (new ≡ old) (λ int. (saying None int, new) ≡ step_of (Wait (moment - now_of old)) old) → IfSome o (λ int. now_of old ≤ moment)
     → is_some o ≡ true → Reaches moment old new

@@ -1,7 +1,7 @@
 -- `analyze` has one outcome, and what can be listed is.
-use Rattle.vms_cli.proofs.Facade.{ℕ, List, Option, Some, None, refl, inl, inr, Held, Text, analyze_entry}
+use Rattle.vms_cli.proofs.Facade.{ℕ, List, Option, Some, None, refl, inl, Held, Text, analyze_entry}
 use Rattle.vms_cli.proofs.AnalyzeLemmas.{has_listing, only_listing}
-use Rattle.vms_cli.proofs.RowFacts.{IsDone, IsRow, spares_none, spares_text}
+use Rattle.vms_cli.proofs.RowFacts.{IsDone, IsRow, text_fits}
 
 listed : (input : Option (List ℕ)) (held : Option Held) → analyze_entry.needs input held → IsDone analyze_entry.task input held
 listed None held can = absurd can
@@ -9,7 +9,7 @@ listed (Some bytes) held can = record { outcome = _; is = record { listing = Tex
 
 pub analyze_row : IsRow analyze_entry
 analyze_row = record {
-  fits = record { statuses = refl; writes = inl refl; takes = inl refl; stores = inr refl; unwritten = spares_text; unstored = spares_none };
+  fits = text_fits _ refl (inl refl) refl refl;
   one = λ input held ok holds words.
       let one = has_listing input _ in
       record { outcome = one.0; is = one.1; only = λ other p. only_listing input _ other one.0 p one.1 };

@@ -1,22 +1,21 @@
 -- `convert` has one outcome, and what can be converted is.
-use Rattle.vms_cli.proofs.Facade.{◌≡◌, ◌⊎◌, ℕ, ◌+◌, List, Option, Some, None, inl, inr, refl, sym, subst, arith, none-some, Held, IsBytes, IsFit}
-use Rattle.vms_cli.proofs.Facade.{Image, Set, Answer, Taken, Faulty, Takes, either_holds, taken_kept, Compatible, first_mismatch, Mismatch, IsStreamFor}
-use Rattle.vms_cli.proofs.Facade.{LosesFirst, word_set, refused_line, done, ended, SetWord, Step, Untold, Gives, Ends, next, FitStep, fit_word, IsSound}
-use Rattle.vms_cli.proofs.Facade.{sound_next, sound_word_set, ConvertsBy, Rewrites, WouldLose, agreed, agrees, lost_line, newest, target, CanBeConverted}
-use Rattle.vms_cli.proofs.Facade.{HasOne, convert_entry}
-use Rattle.vms_cli.specs.Commands.ConvertCommand.{Refuses}
 use Rattle.vms_cli.proofs.ConvertLemmas.{is_answered, newest_fit, agreed_gives, converts_same}
-use Rattle.vms_cli.proofs.RowFacts.{IsDone, IsRow, spares_none, spares_text}
+use Rattle.vms_cli.proofs.Facade.{◌≡◌, ◌⊎◌, ℕ, ◌+◌, List, Option, Some, None, inl, inr, refl, subst, arith, Held, IsBytes, IsFit, Image, Set, Answer, Taken}
+use Rattle.vms_cli.proofs.Facade.{Faulty, Takes, either_holds, taken_kept, Compatible, first_mismatch, Mismatch, IsStreamFor, LosesFirst, word_set}
+use Rattle.vms_cli.proofs.Facade.{refused_line, done, ended, SetWord, Step, Untold, Gives, Ends, next, FitStep, fit_word, IsSound, sound_next, sound_word_set}
+use Rattle.vms_cli.proofs.Facade.{ConvertsBy, Rewrites, WouldLose, agreed, agrees, lost_line, newest, target, CanBeConverted, HasOne, Converts, convert_entry}
+use Rattle.vms_cli.proofs.RowFacts.{IsDone, IsRow, one_by, text_fits}
+use Rattle.vms_cli.specs.Commands.ConvertCommand.{Refuses}
 
-abbrev OneConverted : Step Set → List ℕ → Held → Type 0
-OneConverted step input held = HasOne (λ o. ConvertsBy step (Some input) (Some held) o)
+abbrev OneConverted : Set → List ℕ → Held → Type 0
+OneConverted to input held = HasOne (λ o. Converts to input (Some held) o)
 
 -- whether the input begins with a stream or is invalid
 module _ (to : Set) (fit : IsFit to) (compatible : Compatible to newest) (input : List ℕ) (held : Held) (ok : IsBytes input) where
   of_taken : (n : ℕ) (machine : Option (List ℕ)) (images : List Image) → Takes newest newest.machines input n machine images
       → ((bytes : List ℕ) × IsStreamFor to newest machine images bytes)
       ⊎ ((section : Option ℕ) × (cell : Option ℕ) × LosesFirst to newest machine images section cell)
-      → OneConverted (Gives to) input held
+      → OneConverted to input held
   of_taken n machine images takes (inl stream) = record {
     outcome = done stream.0 (Some held) n;
     is = Rewrites n machine images stream.0 takes stream.1;
@@ -28,7 +27,7 @@ module _ (to : Set) (fit : IsFit to) (compatible : Compatible to newest) (input 
     only = λ other p. converts_same to fit compatible input _ ok _ other (WouldLose n machine images lost.0 lost.1 takes lost.2) p;
   }
 
-  one_answered : Answer newest newest.machines input → OneConverted (Gives to) input held
+  one_answered : Answer newest newest.machines input → OneConverted to input held
   one_answered (Taken n machine images takes) =
       of_taken n machine images takes (is_answered to fit compatible machine images (taken_kept newest newest.machines input n machine images takes))
   one_answered (Faulty place section reason size fault) = record {
@@ -60,12 +59,6 @@ sound_agreed held to (Some m) = omega arith
 sound_target : (held : Option Held) (word : SetWord) → IsSound held (target held word)
 sound_target held word = sound_next held (word_set held word) agrees (sound_word_set held word) (λ to. sound_agreed held to _)
 
-one_by : (s : Step Set) (input : List ℕ) (held : Held) → IsBytes input → IsSound (Some held) s → Suits s → OneConverted s input held
-one_by Untold input held ok sound suits = absurd (none-some {A = Held} held (sym sound))
-one_by (Gives to) input held ok sound suits =
-    one_answered to suits.0 suits.1 input held ok (either_holds newest newest.machines newest_fit.well newest_fit.heads input ok)
-one_by (Ends status line) input held ok sound suits = record { outcome = ended status line 0; is = refl; only = λ other e. e }
-
 pub target_gives : (held : Option Held) (word : SetWord) (to : Set) → word_set held word ≡ Gives to → Compatible to newest → target held word ≡ Gives to
 target_gives held word to there compatible = cc (agreed_gives to compatible)
 
@@ -94,8 +87,9 @@ converted word input held can =
 
 pub convert_row : (word : SetWord) → IsRow (convert_entry word)
 convert_row word = record {
-  fits = record { statuses = refl; writes = inl refl; takes = inl refl; stores = inr refl; unwritten = spares_text; unstored = spares_none };
-  one = λ input held ok holds words.
-      one_by _ input held ok (sound_target _ word) (suits_next _ (fit_word (Some held) word));
+  fits = text_fits _ refl (inl refl) refl refl;
+  one = λ input held ok holds words. one_by (λ to o. Converts to input (Some held) o) held (target (Some held) word) (sound_target _ word) (λ to is.
+      let suits = subst Suits is (suits_next _ (fit_word (Some held) word)) in
+      one_answered to suits.0 suits.1 input held ok (either_holds newest newest.machines newest_fit.well newest_fit.heads input ok));
   done = λ input held octets words can. converted word input held can;
 }

@@ -1,7 +1,6 @@
 -- `counter` has one outcome, and two sets have an answer.
-use Rattle.vms_cli.proofs.Facade.{ℕ, List, Option, Some, refl, subst, inl, inr, Held, named_sets, done, SetWord, Gives, next, one_text}
-use Rattle.vms_cli.proofs.Facade.{computed, counted, counter_text, counter_entry}
-use Rattle.vms_cli.proofs.RowFacts.{IsDone, IsRow, spares_none, spares_text}
+use Rattle.vms_cli.proofs.{Facade.counter_text, Facade.counter_entry, RowFacts.IsDone, RowFacts.IsRow, RowFacts.text_fits}
+use Rattle.vms_cli.proofs.Facade.{ℕ, List, Option, Some, refl, subst, inr, Held, named_sets, done, SetWord, Gives, next, one_text, computed, counted}
 use Rattle.vms_cli.proofs.ShowLemmas.{AreFit, counters_text, fit_sets, sound_counter, text_counters}
 
 found : (old new : SetWord) (input : Option (List ℕ)) (held : Option Held) → (counter_entry old new).needs input held
@@ -16,15 +15,14 @@ found old new input held can =
 
 pub counter_row : (old new : SetWord) → IsRow (counter_entry old new)
 counter_row old new = record {
-  fits = record { statuses = refl; writes = inl refl; takes = inr refl; stores = inr refl; unwritten = spares_text; unstored = spares_none };
+  fits = text_fits _ refl (inr refl) refl refl;
   one = λ input held ok holds words.
       let step = named_sets (Some held) old new in
-      let fit = fit_sets (Some held) old new in
       let one = one_text held (next step counted) (sound_counter (Some held) old new) in
       record {
         outcome = one.outcome;
-        is = text_counters (Some held) step one.outcome fit one.is;
-        only = λ other has. one.only other (counters_text (Some held) step other fit has);
+        is = text_counters (Some held) step one.outcome (fit_sets (Some held) old new) one.is;
+        only = λ other has. one.only other (counters_text (Some held) old new other has);
       };
   done = λ input held octets words can. found old new input held can;
 }

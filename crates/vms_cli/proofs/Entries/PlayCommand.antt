@@ -1,19 +1,7 @@
 -- `play` has one outcome, and a script that can be read is played.
-use Rattle.vms_cli.proofs.Facade.{ℕ, List, Option, Some, None, IfSome, refl, sym, inl, inr, none-some, Held, HoldsAll, ended, Step}
-use Rattle.vms_cli.proofs.Facade.{Untold, Gives, Ends, IsSound, AreStepLines, script_gives, scripted_lines, sound_script, IsLevel, has_end, one_outcome}
-use Rattle.vms_cli.proofs.Facade.{PlaysBy, scripted, reads_exactly, ScriptLine, HasOne, play_entry}
-use Rattle.vms_cli.proofs.RowFacts.{IsDone, IsRow, spares_play}
-
-abbrev OnePlays : ℕ → Step (List ScriptLine) → Held → Type 0
-OnePlays level step held = HasOne (λ o. PlaysBy level step (Some held) o)
-
-one_plays : (level : ℕ) (s : Step (List ScriptLine)) (held : Held) → AreStepLines (Some level) s → IsLevel level → HoldsAll held → IsSound (Some held) s
-    → OnePlays level s held
-one_plays level Untold held are is holds sound = absurd (none-some {A = Held} held (sym sound))
-one_plays level (Ends status line) held are is holds sound = record { outcome = ended status line 0; is = refl; only = λ other e. e }
-one_plays level (Gives lines) held are is holds sound =
-    let end = has_end level lines held is are holds in
-    record { outcome = end.0; is = end.1; only = λ other p. one_outcome level lines held is are holds end.0 other end.1 p }
+use Rattle.vms_cli.proofs.Facade.{ℕ, List, Option, Some, None, IfSome, refl, inl, inr, Held, HoldsAll, AreStepLines, script_gives, scripted_lines, sound_script}
+use Rattle.vms_cli.proofs.Facade.{IsLevel, has_end, one_outcome, PlaysAll, subst, scripted, reads_exactly, play_entry}
+use Rattle.vms_cli.proofs.RowFacts.{IsDone, IsRow, one_by, spares_play}
 
 played : (level : ℕ) (script : List ℕ) (input : Option (List ℕ)) (held : Option Held) → IfSome held HoldsAll → IsLevel level
     → (play_entry level script).needs input held → IsDone (play_entry level script).task input held
@@ -31,7 +19,10 @@ pub play_row : (level : ℕ) (script : List ℕ) → IsRow (play_entry level scr
 play_row level script = record {
   fits = record { statuses = refl; writes = inl refl; takes = inr refl; stores = inl refl; unwritten = spares_play; unstored = spares_play };
   one = λ input held ok holds is.
-      one_plays level (scripted (Some level) (Some held) script) held (scripted_lines (Some level) (Some held) script) is holds
-      (sound_script (Some level) (Some held) script);
+      let step = scripted (Some level) (Some held) script in
+      one_by (λ lines o. PlaysAll level lines held o) held step (sound_script (Some level) (Some held) script) (λ lines gives.
+      let are = subst (AreStepLines (Some level)) gives (scripted_lines (Some level) (Some held) script) in
+      let end = has_end level lines held is are holds in
+      record { outcome = end.0; is = end.1; only = λ other p. one_outcome level lines held is are holds end.0 other end.1 p });
   done = λ input held octets is can. played level script input held octets is can;
 }

@@ -1,16 +1,13 @@
 -- `show` has one outcome, and what can be shown is.
-use Rattle.vms_cli.proofs.Facade.{ℕ, ◌+◌, List, Option, Some, None, refl, sym, inl, inr, none-some, Held, IsBytes, values_text, Set, IsFit, Answer}
-use Rattle.vms_cli.proofs.Facade.{Taken, Faulty, either_holds, refused_line, done, ended, SetWord, Step, Untold, Gives, Ends, FitStep, fit_word}
-use Rattle.vms_cli.proofs.Facade.{IsSound, sound_word_set, CanBeShown, ShowsBy, Refuses, HasOne, show_entry}
+use Rattle.vms_cli.proofs.Facade.{ℕ, ◌+◌, List, Option, Some, None, refl, inl, Held, IsBytes, values_text, Set, IsFit, Answer, Taken, Faulty, either_holds}
+use Rattle.vms_cli.proofs.Facade.{refused_line, done, ended, SetWord, FitStep, fit_word, sound_word_set, CanBeShown, Refuses, Shows, HasOne, show_entry, subst}
+use Rattle.vms_cli.proofs.RowFacts.{IsDone, IsRow, one_by, text_fits}
+use Rattle.vms_cli.proofs.ShowLemmas.{shows_same, shows_under}
 use Rattle.vms_cli.specs.Commands.ShowCommand.{Values as Printed}
-use Rattle.vms_cli.proofs.RowFacts.{IsDone, IsRow, spares_none, spares_text}
-use Rattle.vms_cli.proofs.ShowLemmas.{shows_same}
-
-abbrev OneShown : Step Set → List ℕ → Held → Type 0
-OneShown step input held = HasOne (λ o. ShowsBy step (Some input) (Some held) o)
 
 -- whether the input begins with a stream or is invalid
-one_answered : (set : Set) → IsFit set → (input : List ℕ) (held : Held) → IsBytes input → Answer set set.machines input → OneShown (Gives set) input held
+one_answered : (set : Set) → IsFit set → (input : List ℕ) (held : Held) → IsBytes input → Answer set set.machines input
+    → HasOne (λ o. Shows set input (Some held) o)
 one_answered set fit input held ok (Taken n machine images takes) = record {
   outcome = done (values_text set machine images) (Some held) n;
   is = Printed n machine images takes;
@@ -22,11 +19,6 @@ one_answered set fit input held ok (Faulty place section reason size fault) = re
   only = λ other shows. shows_same set fit input (Some held) _ other ok (Refuses place section reason size fault) shows;
 }
 
-one_by : (s : Step Set) (input : List ℕ) (held : Held) → IsBytes input → IsSound (Some held) s → FitStep s → OneShown s input held
-one_by Untold input held ok sound fit = absurd (none-some {A = Held} held (sym sound))
-one_by (Gives set) input held ok sound fit = one_answered set fit input held ok (either_holds set set.machines fit.well fit.heads input ok)
-one_by (Ends status line) input held ok sound fit = record { outcome = ended status line 0; is = refl; only = λ other e. e }
-
 shown : (word : SetWord) (input : Option (List ℕ)) (held : Option Held) → CanBeShown word input held → IsDone (show_entry word).task input held
 shown word None held can = absurd can.2
 shown word (Some bytes) held can =
@@ -36,7 +28,9 @@ shown word (Some bytes) held can =
 
 pub show_row : (word : SetWord) → IsRow (show_entry word)
 show_row word = record {
-  fits = record { statuses = refl; writes = inl refl; takes = inl refl; stores = inr refl; unwritten = spares_text; unstored = spares_none };
-  one = λ input held ok holds words. one_by _ input held ok (sound_word_set _ word) (fit_word (Some held) word);
+  fits = text_fits _ refl (inl refl) refl refl;
+  one = λ input held ok holds words. one_by (shows_under (Some input) (Some held)) held (word_set (Some held) word) (sound_word_set _ word) (λ set is.
+      let fit = subst FitStep is (fit_word (Some held) word) in
+      one_answered set fit input held ok (either_holds set set.machines fit.well fit.heads input ok));
   done = λ input held octets words can. shown word input held can;
 }

@@ -12,9 +12,9 @@ use Rattle.vms_commands.specs.Courses.{Course, text_course}
 use Rattle.vms_commands.specs.Outcomes.{Outcome, done, ended}
 use Rattle.vms_commands.specs.declared.ending.Ending.{Ending}
 use Rattle.vms_commands.specs.declared.ending.Ending.TheVariants as endings
-use Rattle.vms_cli.specs.Entry.{Entry}
+use Rattle.vms_cli.specs.Entry.{Entry, plain_entry}
 
--- The name of a reason.
+-- The word for the reason why an input can't be listed.
 abbrev pub analyze_reason_name : AnalyzeReason → List ℕ
 analyze_reason_name reasons.TooLong = codes "TooLong"
 analyze_reason_name reasons.NoDescription = codes "NoDescription"
@@ -62,13 +62,10 @@ analyze_course = text_course (0 ∷ 1 ∷ 5 ∷ 6 ∷ 10 ∷ []) (0 ∷ 1 ∷ 5 
 
 -- The command `analyze`. It needs an input that has a listing.
 abbrev pub analyze_entry : Entry
-analyze_entry = record {
-  task = record {
-    has = λ input held o. IsSomeAnd input (λ bytes. IsListing held bytes o);
-    sees = λ held bytes o. IsListing held bytes o;
-    gives = λ held i i'. GivesListed i.given i'.given;
-    course = analyze_course;
-  };
-  words = Unit {0};
-  needs = λ input held. IsSomeAnd input (λ bytes. (text : List ℕ) × Lists bytes (Text text));
-}
+analyze_entry =
+    plain_entry (record {
+      has = λ input held o. IsSomeAnd input (λ bytes. IsListing held bytes o);
+      sees = λ held bytes o. IsListing held bytes o;
+      gives = λ held i i'. GivesListed i.given i'.given;
+      course = analyze_course;
+    }) (λ input held. IsSomeAnd input (λ bytes. (text : List ℕ) × Lists bytes (Text text)))

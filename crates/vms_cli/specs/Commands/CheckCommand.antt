@@ -10,7 +10,7 @@ use Rattle.vms_commands.specs.Fetching.{named_sets, is_on_shelf}
 use Rattle.vms_commands.specs.SetLines.{mismatch_line}
 use Rattle.vms_commands.specs.Steps.{Step, Untold, Gives, Ends, next, Both}
 use Rattle.vms_board_commands.specs.Runs.{text_task}
-use Rattle.vms_cli.specs.Entry.{Entry}
+use Rattle.vms_cli.specs.Entry.{Entry, plain_entry}
 
 -- The text of compatible sets.
 abbrev pub compatible_text : List ℕ
@@ -45,8 +45,6 @@ check_course asks = text_course (0 ∷ 4 ∷ 6 ∷ 10 ∷ []) [] asks
 
 -- The command `check OLD NEW`. It needs two compatible sets.
 abbrev pub check_entry : (old new : SetWord) → Entry
-check_entry old new = record {
-  task = text_task (λ held. checked held old new) (check_course (asks_shelf old new));
-  words = Unit {0};
-  needs = λ input held. (sets : Both Set) × (named_sets held old new ≡ Gives sets) × Compatible sets.old sets.new;
-}
+check_entry old new =
+    plain_entry (text_task (λ held. checked held old new) (check_course (asks_shelf old new)))
+    (λ input held. (sets : Both Set) × (named_sets held old new ≡ Gives sets) × Compatible sets.old sets.new)

@@ -30,13 +30,13 @@ use Rattle.vms_commands.specs.Lines.{refused_line, section_text}
 use Rattle.vms_commands.specs.Outcomes.{Outcome, done, ended}
 use Rattle.vms_commands.specs.SetLines.{mismatch_line}
 use Rattle.vms_commands.specs.SetWords.{SetOf, SetWord, Shipped, OnShelf}
-use Rattle.vms_commands.specs.Steps.{Step, Gives, Ends, HasBy, next}
+use Rattle.vms_commands.specs.Steps.{Step, Gives, Ends, next}
 use Rattle.vms_commands.specs.declared.ending.Ending.{Ending}
 use Rattle.vms_commands.specs.declared.kinds.BoardKind.TheVariants.{Isa}
 use Rattle.vms_commands.specs.declared.ending.Ending.TheVariants as endings
 use Rattle.vms_board_commands.specs.Seen.{WithGiven}
-use Rattle.vms_board_commands.specs.Runs.{RunsBehind}
-use Rattle.vms_cli.specs.Entry.{Entry}
+use Rattle.vms_board_commands.specs.Runs.{ReadsBy, RunsBehind, read_task}
+use Rattle.vms_cli.specs.Entry.{Entry, plain_entry}
 
 -- A set that `convert` takes: a shipped one of the boards isa-1 to isa-4, or a file on the shelf.
 abbrev pub convertible : Option SetWord → Option SetWord
@@ -93,7 +93,7 @@ pub data Converts (to : Set) (input : List ℕ) (held : Option Held) : Outcome �
 
 -- The outcome under the set that a step gives, or the end of that step, before any input is read.
 abbrev pub ConvertsBy : Step Set → Option (List ℕ) → Option Held → Outcome → Type 0
-ConvertsBy step input held o = HasBy (λ to x. IsSomeAnd input (λ bytes. Converts to bytes held x)) step o
+ConvertsBy step input held o = ReadsBy Converts step input held o
 
 -- The most bytes that the input gives: those of a stream of the newest set, and none if there is no set.
 abbrev pub ConvertGives : Step Set → Intake → Intake → Type 0
@@ -122,16 +122,8 @@ CanBeConverted word input held =
 
 -- The command `convert SET`.
 abbrev pub convert_entry : SetWord → Entry
-convert_entry word = record {
-  task = record {
-    has = λ input held o. ConvertsBy (target held word) input held o;
-    sees = λ held bytes o. ConvertsWith (target held word) held bytes o;
-    gives = λ held i i'. ConvertGives (target held word) i i';
-    course = convert_course (is_on_shelf word);
-  };
-  words = Unit {0};
-  needs = λ input held. CanBeConverted word input held;
-}
+convert_entry word =
+    plain_entry (read_task (λ held. target held word) Converts ConvertsWell ConvertGives (convert_course (is_on_shelf word))) (CanBeConverted word)
 
 -- ---- how it ends, and why, also where the contents are unknown
 

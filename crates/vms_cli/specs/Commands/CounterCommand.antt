@@ -14,7 +14,7 @@ use Rattle.vms_commands.specs.SetWords.{SetWord}
 use Rattle.vms_commands.specs.Steps.{Step, Gives, Both, HasBy}
 use Rattle.vms_board_commands.specs.Runs.{unread_task}
 use Rattle.vms_cli.specs.Commands.CheckCommand.{asks_shelf, compatible_text}
-use Rattle.vms_cli.specs.Entry.{Entry}
+use Rattle.vms_cli.specs.Entry.{Entry, plain_entry}
 
 -- The text if no state is found.
 abbrev pub no_state : List ℕ
@@ -46,8 +46,6 @@ counter_course asks = text_course (0 ∷ 6 ∷ 10 ∷ []) [] asks
 
 -- The command `counter OLD NEW`. It needs two sets.
 abbrev pub counter_entry : (old new : SetWord) → Entry
-counter_entry old new = record {
-  task = unread_task (λ held o. CountersBy (named_sets held old new) held o) (counter_course (asks_shelf old new));
-  words = Unit {0};
-  needs = λ input held. (sets : Both Set) × (named_sets held old new ≡ Gives sets);
-}
+counter_entry old new =
+    plain_entry (unread_task (λ held o. CountersBy (named_sets held old new) held o) (counter_course (asks_shelf old new)))
+    (λ input held. (sets : Both Set) × (named_sets held old new ≡ Gives sets))

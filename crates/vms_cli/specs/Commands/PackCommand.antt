@@ -12,7 +12,7 @@ use Rattle.vms_commands.specs.SetWords.{SetWord}
 use Rattle.vms_commands.specs.Steps.{Step, Gives, Ends, next}
 use Rattle.vms_board_commands.specs.Causes.{save_course}
 use Rattle.vms_board_commands.specs.Runs.{text_task}
-use Rattle.vms_cli.specs.Entry.{Entry}
+use Rattle.vms_cli.specs.Entry.{Entry, plain_entry}
 use Rattle.vms_cli.specs.ValuesLines.{values_line}
 use Rattle.vms_cli.specs.declared.commands.pack.PackParts.{PackParts}
 
@@ -64,11 +64,8 @@ pub record CanBePacked (word : SetWord) (name : List ℕ) (map : Held) : Type 0 
 
 -- The command `pack SET VALUES`. It has the course of `save`.
 abbrev pub pack_entry : SetWord → List ℕ → Entry
-pack_entry word name = record {
-  task = text_task (λ held. packs held word name) save_course;
-  words = Unit {0};
-  needs = λ input held. IsSomeAnd held (λ map. CanBePacked word name map);
-}
+pack_entry word name =
+    plain_entry (text_task (λ held. packs held word name) save_course) (λ input held. IsSomeAnd held (λ map. CanBePacked word name map))
 
 -- ---- the code's types
 

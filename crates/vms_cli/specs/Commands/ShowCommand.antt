@@ -15,12 +15,11 @@ use Rattle.vms_commands.specs.Fetching.{is_on_shelf, word_set}
 use Rattle.vms_commands.specs.Lines.{refused_line}
 use Rattle.vms_commands.specs.Outcomes.{Outcome, done, ended}
 use Rattle.vms_commands.specs.SetWords.{SetWord}
-use Rattle.vms_commands.specs.Steps.{Step, Untold, Gives, Ends, HasBy}
+use Rattle.vms_commands.specs.Steps.{Step, Untold, Gives, Ends}
 use Rattle.vms_commands.specs.declared.ending.Ending.{Ending}
 use Rattle.vms_board_commands.specs.Causes.{stream_course}
-use Rattle.vms_board_commands.specs.Seen.{WithGiven}
-use Rattle.vms_board_commands.specs.Runs.{RunsBehind}
-use Rattle.vms_cli.specs.Entry.{Entry}
+use Rattle.vms_board_commands.specs.Runs.{ReadsBy, RunsBehind, read_task}
+use Rattle.vms_cli.specs.Entry.{Entry, plain_entry}
 
 -- The values text of the stream at the front of the input; or where and why the input is refused, up to the end of
 -- the offending unit. The shelf holds the same as before.
@@ -32,7 +31,7 @@ pub data Shows (set : Set) (input : List ℕ) (held : Option Held) : Outcome →
 
 -- The outcome under the set that a step gives, or the end of that step, before any input is read.
 abbrev pub ShowsBy : Step Set → Option (List ℕ) → Option Held → Outcome → Type 0
-ShowsBy step input held o = HasBy (λ set x. IsSomeAnd input (λ bytes. Shows set bytes held x)) step o
+ShowsBy step input held o = ReadsBy Shows step input held o
 
 -- The most bytes that the input gives: those of a stream of the set; those of a stream of some well-formed set, or
 -- none, if the set is unknown; and none if there is no set.
@@ -45,10 +44,6 @@ GivesWithin (Ends status line) input input' = input' ≡ input
 -- The outcome under a set that is well formed.
 abbrev pub ShowsWell : Option Held → Set → List ℕ → Outcome → Type 0
 ShowsWell held set bytes o = WellFormed set × Shows set bytes held o
-
--- The outcome of these bytes under the set that the step gave, or may have given if it is unknown.
-abbrev pub ShowsWith : Step Set → Option Held → List ℕ → Outcome → Type 0
-ShowsWith step held = WithGiven step (ShowsWell held)
 
 -- What the command guarantees once the set is known.
 pub record ShowsStream (set : Set) (i i' : Intake) (o o' : Outlet) (e : Option Ending) : Type 0 where
@@ -67,13 +62,5 @@ CanBeShown word input held =
 
 -- The command `show SET`.
 abbrev pub show_entry : SetWord → Entry
-show_entry word = record {
-  task = record {
-    has = λ input held o. ShowsBy (word_set held word) input held o;
-    sees = λ held bytes o. ShowsWith (word_set held word) held bytes o;
-    gives = λ held i i'. GivesWithin (word_set held word) i i';
-    course = show_course (is_on_shelf word);
-  };
-  words = Unit {0};
-  needs = λ input held. CanBeShown word input held;
-}
+show_entry word =
+    plain_entry (read_task (λ held. word_set held word) Shows ShowsWell GivesWithin (show_course (is_on_shelf word))) (CanBeShown word)

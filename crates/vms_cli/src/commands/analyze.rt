@@ -3,7 +3,7 @@ ghost use Rattle.std.specs.Prelude.{◌≡◌, Err, Some};
 ghost use Rattle.vms_io.specs.Told.{Stock, intake, outlet};
 ghost use Rattle.vms_commands.specs.Endings.{ending_of};
 ghost use Rattle.vms_board_commands.specs.Runs.{Runs, moment};
-ghost use Rattle.vms_cli.specs.Commands.AnalyzeCommand.{EndsLike, analyze_reason_name, unlisted_line};
+ghost use Rattle.vms_cli.specs.Commands.AnalyzeCommand.{EndsLike, unlisted_line};
 ghost use Rattle.vms_cli.specs.Commands.{Analyze, doing};
 
 use arrayvec::ArrayVec;
@@ -46,22 +46,17 @@ fn fault_ending(fault: AnalyzeFault) -> Ending
 fn unlisted_line(at: u64, reason: AnalyzeReason) -> NoteLine
     ensures { result.items ≡ unlisted_line at reason }
 {
-    let mut line = ArrayVec::new();
-    append(&mut line, b"refused at ");
-    append_number(&mut line, at);
-    append(&mut line, b" in -: ");
-    append(&mut line, reason_name(reason).as_bytes());
-    append(&mut line, b"\n");
-    line
-}
-
-fn reason_name(reason: AnalyzeReason) -> &'static str
-    ensures { result.now ≡ analyze_reason_name reason }
-{
-    match reason {
+    let word = match reason {
         AnalyzeReason::TooLong => "TooLong",
         AnalyzeReason::NoDescription => "NoDescription",
         AnalyzeReason::Shape => "Shape",
         AnalyzeReason::Mismatch => "Mismatch",
-    }
+    };
+    let mut line = ArrayVec::new();
+    append(&mut line, b"refused at ");
+    append_number(&mut line, at);
+    append(&mut line, b" in -: ");
+    append(&mut line, word.as_bytes());
+    append(&mut line, b"\n");
+    line
 }

@@ -1,5 +1,4 @@
-use Rattle.vms_board.proofs.Facade.{described}
-use Rattle.vms_board.proofs.Imaging.{Refilled}
+use Rattle.vms_board.proofs.{Facade.described, Imaging.Refilled}
 use Rattle.vms_board.proofs.images.refill.Given as goal
 
 abbrev pub invariant-loop-device : goal.invariant-loop-device

@@ -1,10 +1,14 @@
-use Rattle.vms_board_commands.proofs.{PlayLemmas.ends_since, CourseLemmas.play_asks, CourseLemmas.unset_so}
-use Rattle.vms_board_commands.proofs.Facade.{List, Some, refl, true, IsSomeAnd, Global, Vec, outlet, stock, quiet_same, ended_by, ending_passed, had_by}
-use Rattle.vms_board_commands.proofs.Facade.{Outcome, ScriptLine, lines_view, Line, so_since, wrong, play_course, PlaysAll, ending_of}
+use Rattle.vms_board_commands.proofs.{PlayLemmas.ends_since, CourseLemmas.play_asks, RunLemmas.lacks_runs}
+use Rattle.vms_board_commands.proofs.Facade.{ℕ, List, Option, Some, refl, IsSomeAnd, Global, Vec, Held, outlet, stock, ending_passed, had_by}
+use Rattle.vms_board_commands.proofs.Facade.{Outcome, ScriptLine, lines_view, Line, scripted, so_since, wrong, PlaysAll, ending_of}
 use Rattle.vms_board_commands.proofs.play.play_board.Goals as goal
 
 abbrev view : Vec Line Global → List ScriptLine
 view v = lines_view v.items
+
+-- the outcome once the script has been read
+abbrev all_played : ℕ → Option Held → List ScriptLine → Outcome → Type 0
+all_played level held lines x = IsSomeAnd held (λ map. PlaysAll level lines map x)
 
 pub returns : goal.returns
 returns g c = λ input few.
@@ -16,7 +20,7 @@ returns g c = λ input few.
     let played = c.play_lines.ensures input few in
     record {
       content = λ o has.
-          let plays = had_by view (λ (lines : List ScriptLine) (x : Outcome). IsSomeAnd held (λ map. PlaysAll level lines map x)) _ _ o had.read has in
+          let plays = had_by view (all_played level held) _ _ o had.read has in
           ends_since input input (outlet g.O.Sink c.args.out.now) (outlet g.O.Sink c.play_lines.new.out) shelf (stock g.H.Shelf c.session_of.new.shelf) (stock g.H.Shelf c.play_lines.new.shelf) had.asks.looks.held had.asks.looks.later o e
           (played.content o (rw had.asks.looks.held (rw c.deref.ensures.value plays)));
       so = so_since e refl had.asks.looks played.so;
@@ -28,12 +32,6 @@ pub returns-in_err-lines : goal.returns-in_err-lines
 returns-in_err-lines g c = rw (ending_passed _ c.from_residual.ensures.1) (λ input few.
     let held = g.H.Shelf.held c.args.shelf.now in
     let level = c.args.asked.number in
-    let out = outlet g.O.Sink c.args.out.now in
     let had = c.in_err-lines.ensures in
-    let e = c.in_err-lines.field-0.0 in
-    record {
-      content = λ o has. ended_by view (λ (lines : List ScriptLine) (x : Outcome). IsSomeAnd held (λ map. PlaysAll level lines map x)) _ input out out _ _ e o few had.asks.looks.held (quiet_same out (Some e)) had.read has;
-      so = unset_so play_course true play_asks input out had.asks.looks (λ f. absurd (wrong f)) (Some e) had.asks.cause;
-      given = tt;
-      seen = λ reads. cc;
-    })
+    lacks_runs view (all_played level held) (scripted (Some level) held c.args.asked.script.now) play_asks few had.asks.looks (λ f. absurd (wrong f))
+    had.asks.cause had.read (λ x has. has) tt)
