@@ -2,11 +2,11 @@
 use Rattle.vms_write.proofs.{Facade.subs_fine, StepsFine.IsBelow, StepsFine.fine_parts, StepsFine.desc_below}
 use Rattle.vms_write.proofs.Facade.{⊎_elim, OnTrue_from, OnFalse_from, get_or_from_slice_get, slice_get_within, ◌≡◌, ℕ, zero, suc, ◌+◌, ◌<◌, ◌≤◌, List, [], ◌∷◌, ◌++◌}
 use Rattle.vms_write.proofs.Facade.{length, length-append, get_or, map, Option, Some, None, ℤ, pos, refl, sym, ap, ◌∙◌, subst, arith, Bool, true, false, not}
-use Rattle.vms_write.proofs.Facade.{◌&&◌, ◌||◌, ◌==◌, OnTrue, OnFalse, flat_map, slice_get, and_parts, leb-true, eqb-true, eq-eqb, and_from, slice_get-get_or}
-use Rattle.vms_write.proofs.Facade.{same_number, Set, Device, Sub, Desc, AtLeast, Cell, no_cell, no_desc, Slot, Number, Constant, Filler, Rule, meanings}
+use Rattle.vms_write.proofs.Facade.{◌&&◌, ◌||◌, ◌==◌, OnTrue, OnFalse, flat_map, slice_get, leb-true, slice_get-get_or}
+use Rattle.vms_write.proofs.Facade.{same_number, Set, Device, Sub, Desc, AtLeast, Cell, no_cell, no_desc, Slot, Number, Constant, Rule, meanings}
 use Rattle.vms_write.proofs.Facade.{desc_cells, desc_slots, struct_cells, device_cells, Image, has_cell, own_cells, own_slots, sub_slots, came_slots}
-use Rattle.vms_write.proofs.Facade.{image_slots, AreVersionsOf, FitsCell, RulesHold, is_needed, IsReady, come_as_needed, in_range, counts_well, AreCells}
-use Rattle.vms_write.proofs.Facade.{IsGood, DefaultsFit, IsAbove, above_none, above_append, above_less, desc_above, meanings_above, cells_first, meanings_are}
+use Rattle.vms_write.proofs.Facade.{image_slots, AreVersionsOf, RulesHold, is_needed, IsReady, come_as_needed}
+use Rattle.vms_write.proofs.Facade.{IsGood, IsAbove, above_none, above_append, above_less, desc_above, meanings_above, cells_first, meanings_are}
 use Rattle.vms_write.proofs.Facade.{constants_append, own_constants, part_constants, image_are, named_fits, parts_together, same_number_is, ranged}
 use Rattle.vms_write.proofs.Facade.{counted_well, is_same, needed_are, are_needed, AreConstants, fit_slots, FitSlots, ranges, within, or_second, and_swap}
 use Rattle.vms_write.proofs.Facade.{form_of, CellForm, device_at, is_well_formed, sub_at, device_clean, sub_clean, no_form, are_fit, settle, is_fine, sub_size}
@@ -37,14 +37,15 @@ settle_decides slots forms n from zero = (λ e c le lt bare. absurd (omega arith
 settle_decides slots forms n from (suc k) =
     let z = get_or n from (pos 0) in
     let default = (get_or forms from no_form).default in
-    Decides-like _ (λ h c le lt bare. ⊎_elim (λ (same : c ≡ from). rw same (h.0 (rw same at bare)))
-    (λ (ne : c ≡ from → ⊥). h.1 c (omega arith) (omega arith) bare) (cases_eq c from))
-    (λ h. (λ bare. h from (omega arith) (omega arith) bare, λ c le lt bare. h c (omega arith) (omega arith) bare))
-    (Decides-and _ _ (
+    let here : Decides (has_cell slots from || same_number z default) (has_cell slots from ≡ false → z ≡ default) = (
       λ e bare. same_number_is z default (or_second (has_cell slots from) (same_number z default) e bare),
       λ h. ⊎_elim (λ (t : has_cell slots from ≡ true). rw t refl) (λ (f : has_cell slots from ≡ false). rw f (is_same z default (h f)))
           (cases_Bool (has_cell slots from)),
-    ) (settle_decides slots forms n (from + 1) k))
+    ) in
+    Decides-like _ (λ h c le lt bare. ⊎_elim (λ (same : c ≡ from). rw same (h.0 (rw same at bare)))
+    (λ (ne : c ≡ from → ⊥). h.1 c (omega arith) (omega arith) bare) (cases_eq c from))
+    (λ h. (λ bare. h from (omega arith) (omega arith) bare, λ c le lt bare. h c (omega arith) (omega arith) bare))
+    (Decides-and _ _ here (settle_decides slots forms n (from + 1) k))
 
 -- ---- the subsections
 
