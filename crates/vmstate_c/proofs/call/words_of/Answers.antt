@@ -1,7 +1,7 @@
-use Rattle.std.proofs.{lemmas.Str.is_utf8-from_IsUtf8, lemmas.List.map_more, lemmas.List.Folds.list_all_at, lemmas.List.Folds.list_all_more}
-use Rattle.std.proofs.Common.{◌∙◌, ap, refl, sym, Bool, List, ℕ, [], ◌∷◌, ◌++◌, map, take}
+use Rattle.std.proofs.{lemmas.Str.is_utf8-from_IsUtf8, lemmas.List.map_more, lemmas.List.Folds.list_all_at}
+use Rattle.std.proofs.Common.{◌∙◌, ap, sym, Bool, List, ℕ, [], ◌∷◌, ◌++◌, map, take}
 use Rattle.std.specs.{Str.is_utf8}
-use Rattle.vmstate_c.proofs.WordLemmas.{not_utf8}
+use Rattle.vmstate_c.proofs.WordLemmas.{all-more, not_utf8}
 use Rattle.vmstate_c.specs.declared.request.Bytes.{Bytes}
 use Rattle.vmstate_c.proofs.call.words_of.Goals as goal
 
@@ -25,5 +25,5 @@ loop-word-preserved c =
       words =
           c.in_ok-push-in-Ok.ensures.ok ∙ ap (λ (ws : List (List ℕ)). ws ++ c.in-Ok.word.now ∷ []) c.loop-word.invariant.words
           ∙ ap (λ (w : List ℕ). map text (take i words) ++ w ∷ []) c.in-Ok.ensures.cases.0 ∙ sym (map_more text words i _ c.loop-word-test.true);
-      good = rw (list_all_more good words i _ c.loop-word-test.true, c.loop-word.invariant.good, one) refl;
+      good = all-more good words i _ c.loop-word-test.true c.loop-word.invariant.good one;
     }
