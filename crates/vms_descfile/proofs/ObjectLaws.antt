@@ -53,8 +53,8 @@ pub found_behind : (keys : List (List ℕ)) (k j : List ℕ) (o : Option Data) (
 found_behind keys k j o table known other = by (bytes_eq k j) refl
   where
     by : (same : Bool) → bytes_eq k j ≡ same → found k ((j, o) ∷ table) ≡ found k table
-    by true is = let e = (bytes_eq-Decides k j).0 is in absurd (cc)
-    by false is = rw is
+    by true is = absurd (false≢true (sym other ∙ ap (is_one_of keys) (sym ((bytes_eq-Decides k j).0 is)) ∙ known))
+    by false is = ap (λ b. if b then or o (found k table) else found k table) is
 
 pub has_is : (k : List ℕ) (table : Table) (o : Option Data) → found k table ≡ o → has k (object_of table) ≡ is_some o
 has_is k table o is = ap is_some (got k table o is)

@@ -40,7 +40,7 @@ sub_back asks n j d s found_above c fits =
     let rules = sub_rules d j s in
     let few = and_parts (has_few s.desc) (is_small_test s.needed) c.own.1.1.1.1.1.1.0 in
     let found = all_found asks n s.desc rules c few.0 in
-    let has : HasDesc s.desc o = has_behind s.desc (codes "needed") _ refl in
+    let has : HasDesc s.desc o = has_behind s.desc (codes "needed") (Some (test_file own parent s.needed)) refl in
     ap (λ (ms : Members). sub_of asks (asked asks parent) (object (put (codes "needed") (test_file own parent s.needed) ms))) (desc_tabled s.desc)
     ∙ judged_good (keys_fit (codes "needed" ∷ desc_needs) desc_allows o) _ (good (sub_shown asks s))
     (table_fits (codes "needed" ∷ desc_needs) desc_allows (sub_table parent s) refl refl)
@@ -67,7 +67,7 @@ module _ (asks : Bool) (n : ℕ) (d : Device) (rules : List Bool) (c : Clean n d
       let o = object_of (whole_table d) in
       let found = all_found asks n d.desc rules c few in
       let subs = sub_file own in
-      let has : HasDesc d.desc o = has_behind d.desc (codes "subsections") _ refl in
+      let has : HasDesc d.desc o = has_behind d.desc (codes "subsections") (listed subs d.subs) refl in
       let tabled : whole_file d ≡ o =
       ap object (list_if (codes "subsections") subs d.subs (desc_members d.desc) ∙ ap (put_if (codes "subsections") (listed subs d.subs)) (desc_tabled d.desc)) in
       ap (whole_of asks) tabled

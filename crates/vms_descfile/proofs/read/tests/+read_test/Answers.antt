@@ -45,7 +45,8 @@ returns-in-Ok t c =
 
 pub returns-in-Err : goal.returns-in-Err
 returns-in-Err t c =
-    let d = view c.args.value.now in
     let join = c.in-Two.join in
-    by_form c.args.depth (scope_seen c.args.scope) d (forms.Two join) (Err c.in-Err.fault) (omega arith) c.in-Two.ensures
-    (refused_next (at two_of (key_of join) d) _ c.in-Err.fault (subst (λ k. Refuses (at two_of k d) c.in-Err.fault) c.key.ensures c.in-Err.ensures))
+    let inner = test_within (c.args.depth - 1) (scope_seen c.args.scope) in
+    by_form c.args.depth (scope_seen c.args.scope) (view c.args.value.now) (forms.Two join) (Err c.in-Err.fault) (omega arith) c.in-Two.ensures
+    (refused_next (at two_of (key_of join) (view c.args.value.now)) (λ p. under (key_of join) (both (joined join) (inner p.first) (inner p.second)))
+    c.in-Err.fault (subst (λ k. Refuses (at two_of k (view c.args.value.now)) c.in-Err.fault) c.key.ensures c.in-Err.ensures))
