@@ -26,7 +26,7 @@ unfoldable pub use Rattle.vms_board_commands.specs.DrillProgress.{after_save, ca
 pub use Rattle.vms_board_streams.proofs.{BytesLaws.bytes_come, BytesLaws.no_fault, BytesLaws.one_restore, IsaBytes.streams_are_short, IsaStreams.isa_laws}
 pub use Rattle.vms_board_streams.specs.{Streams.after_events, Streams.answers_to, Streams.trace_of, declared.memory.TheConstants.STREAM_ROOM}
 pub use Rattle.vms_commands.proofs.{CourseLemmas.writes_serve, StepLemmas.first_err, StepLemmas.had_by, StepLemmas.mapped_by, StepLemmas.sound_fetch}
-pub use Rattle.vms_commands.proofs.CourseLemmas.{wrong, asked, draws_none, draws_took, looked_so, same_so, so_quiet, so_since, unshelved_so, writes_end}
+pub use Rattle.vms_commands.proofs.CourseLemmas.{wrong, asked, draws_none, draws_took, looked_so, same_so, so_since, unshelved_so, writes_end}
 pub use Rattle.vms_commands.proofs.EndLemmas.{comes_to_nothing, quiet_same, takes_nothing, text_written}
 pub use Rattle.vms_commands.proofs.StepLemmas.{sound_next, text_ends, then_as, then_text, ended_by, ending_mapped, ending_passed, fetched_gives}
 pub use Rattle.vms_commands.specs.{Fetching.fetched, Lines.refused_line, declared.ending.Ending.Ending, declared.ending.Ending.TheVariants.WouldLose}

@@ -3,10 +3,10 @@ use Rattle.vms_board_commands.proofs.CourseLemmas.{MayAsk, unread_so, unset_so}
 use Rattle.vms_board_commands.proofs.Facade.{◌≡◌, ℕ, ◌<◌, ◌^◌, Bool, true, false, List, [], ◌∷◌, Option, Some, Err, refl, sym, ap, subst, ◌∙◌, IfSome}
 use Rattle.vms_board_commands.proofs.Facade.{IsSomeAnd, Keeps-refl, IsBytes, Held, Intake, Outlet, Stock, Looks, Rose, Course, Draws, EndsSo, is_among}
 use Rattle.vms_board_commands.proofs.Facade.{SetCause, Ending, ReadFault, Outcome, Seen, SeenAs, StepAs, Step, TextEnds, Untold, next, comes_to_nothing}
-use Rattle.vms_board_commands.proofs.Facade.{ended_by, quiet_same, so_quiet, so_since, stream_course, text_ends, then_text, wrong}
+use Rattle.vms_board_commands.proofs.Facade.{ended_by, quiet_same, so_since, status_of, None, WriteFault, stream_course, text_ends, then_text, wrong}
 use Rattle.vms_board_commands.proofs.SeenLemmas.{content_seen, other_seen, sees_as, set_other}
 use Rattle.vms_board_commands.specs.Runs.{Runs, RunsBehind, Task, moment, unread_task}
-use Rattle.vms_commands.specs.Steps.{HasBy, HasText}
+use Rattle.vms_commands.specs.{Endings.Quiet, Steps.HasBy, Steps.HasText}
 
 -- ---- a step before the work ended the command
 
@@ -37,12 +37,19 @@ lacks_text m f step {Has} {course} {asks} {i} {o} {s} may few looks same cause h
 
 -- ---- a text is written
 
+-- standard output is unchanged unless the command succeeded or it failed
+quiet_by : {i i' : Intake} {o o' : Outlet} {s s' : Stock} {course : Course} (e : Option Ending) → course.writes ≡ 0 ∷ 6 ∷ []
+    → EndsSo i i' o o' s s' course e → Quiet o o' e
+quiet_by None writes so = tt
+quiet_by (Some WriteFault) writes so = tt
+quiet_by e writes so = so.out (ap (λ l. is_among l (status_of e)) writes)
+
 -- by a course that writes only then and reads nothing
 pub text_runs : (text : Step (List ℕ)) {Has : Option Held → Outcome → Type 0} {course : Course} {i : Intake} {o o' : Outlet} {s s' : Stock} {e : Option Ending}
     → i.given < 2 ^ 64 → s'.held ≡ s.held → TextEnds text o o' e → EndsSo i i o o' s s' course e → (course.writes ≡ 0 ∷ 6 ∷ []) × (course.takes ≡ [])
     → ((x : Outcome) → Has s.held x → HasText s.held text x) → Runs (unread_task Has course) (moment i o s) (moment i o' s') e
 text_runs text {Has} {course} {i} {o} {o'} {s} {s'} {e} few held ends so lists has = record {
-  content = λ x h. text_ends text i o o' s s' e x few held (so_quiet e lists.0 so) ends (has x h);
+  content = λ x h. text_ends text i o o' s s' e x few held (quiet_by e lists.0 so) ends (has x h);
   so = so;
   given = tt;
   seen = λ reads. absurd (wrong (sym reads ∙ ap (λ l. is_among l 0) lists.1));

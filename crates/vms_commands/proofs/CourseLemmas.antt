@@ -1,11 +1,11 @@
 -- How a command ends, by its steps.
-use Rattle.std.proofs.Common.{◌≡◌, ℕ, Bool, true, false, List, [], ◌∷◌, refl, ap, ◌∙◌, arith, Option, Some, None}
+use Rattle.std.proofs.Common.{◌≡◌, ℕ, Bool, true, false, List, refl, ◌∙◌, arith, Option, Some, None}
 use Rattle.std.proofs.KnownBytes.{Keeps-refl}
 use Rattle.std.specs.Io.KnownBytes.{Keeps}
 use Rattle.vms_io.proofs.ShelvingLemmas.{looks_reaches, reaches_both, reaches_none}
 use Rattle.vms_io.proofs.WritingLemmas.{serves_none, stops_prefix}
 use Rattle.vms_io.specs.{Reading.Takes, Shelving.Looks, Told.Intake, Told.Outlet, Told.Stock, Writing.Serves}
-use Rattle.vms_commands.specs.{Endings.Quiet, Endings.WritesAs, Endings.status_of, StepEndings.TextEnds, Steps.Gives, declared.ending.Ending.Ending}
+use Rattle.vms_commands.specs.{Endings.WritesAs, Endings.status_of, StepEndings.TextEnds, Steps.Gives, declared.ending.Ending.Ending}
 use Rattle.vms_commands.specs.Courses.{Course, Draws, EndsSo, Risen, is_among}
 use Rattle.vms_commands.specs.declared.ending.Ending.TheVariants.{ReadFault, WriteFault, ShelfFault}
 
@@ -85,10 +85,3 @@ pub writes_end : (text : List ℕ) (o o' : Outlet) (e : Option Ending) → Write
 writes_end text o o' None w = w.told
 writes_end text o o' (Some WriteFault) w = stops_prefix w
 writes_end text o o' e w = absurd w
-
--- standard output is unchanged unless the command succeeded or it failed
-pub so_quiet : {i i' : Intake} {o o' : Outlet} {s s' : Stock} {course : Course} (e : Option Ending) → course.writes ≡ 0 ∷ 6 ∷ []
-    → EndsSo i i' o o' s s' course e → Quiet o o' e
-so_quiet None writes g = tt
-so_quiet (Some WriteFault) writes g = tt
-so_quiet e writes g = g.out (ap (λ l. is_among l (status_of e)) writes)
