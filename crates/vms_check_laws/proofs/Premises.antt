@@ -8,7 +8,7 @@ use Rattle.vms_check_laws.proofs.Facade.{names_match, Cell, no_cell, times, defa
 use Rattle.vms_check_laws.proofs.Facade.{Meaning, no_meaning, names_well, nobody, is_one, no_comparer, Carrier, no_carrier, Holds, FitsAt, Carries, Aligns}
 use Rattle.vms_check_laws.proofs.Facade.{FieldsBelow, Slot, is_earlier_in, Num, Filler, Fixed, Kind, One, cells_from, elements_of, entry_of, field_cells, here}
 use Rattle.vms_check_laws.proofs.Facade.{is_there, item_slots, kind_of, presence, present_from, residue, same_kind, slots_from, width, zeroed, no_field}
-use Rattle.vms_check_laws.proofs.Facade.{field_slots, place_of, AllByRecursion, AllZip, flat_map}
+use Rattle.vms_check_laws.proofs.Facade.{field_slots, numbers_of, place_of, AllByRecursion, AllZip, flat_map}
 use Rattle.vms_check_laws.proofs.Presence.{NamedRest, constant_length, numbers_length, presence_there}
 use Rattle.vms_check_laws.proofs.Segments.{fits_at, fits_left, fits_right, one_on, at_first, from_zero}
 use Rattle.vms_spec.specs.Images.{FitCells as AreFit}
