@@ -46,7 +46,7 @@ pub use Rattle.vms_elements.specs.Lines.{device_lines, devices_lines, machine_li
 pub use Rattle.vms_elements.specs.Parts.{elements_in, is_number, slot_of, slots_of}
 pub use Rattle.vms_elements.specs.Reading.{AreAtVersions, AreFine, AreShaped, IsMachineOf, IsShaped}
 pub use Rattle.vms_analyze.specs.{declared.elements.TheConstants.LONGEST_PATH, declared.fault.AnalyzeFault.AnalyzeFault, declared.input.NoInput.NoInput}
-pub use Rattle.vms_analyze.specs.{declared.stop.Stop.Stop, declared.told.Element.Element, declared.walk.Walk.Walk}
+pub use Rattle.vms_analyze.specs.{declared.members.Unread.Unread, declared.told.Element.Element, declared.walk.Stop.Stop, declared.walk.Walk.Walk}
 pub use Rattle.vms_analyze.specs.Calls.{IsListed, IsTooMuch, ListsAs, ListsTaken, ShowsAs}
 pub use Rattle.vms_analyze.specs.Inputs.{Appended, HasMore, IsWhole, TakesInput, TakesPiece}
 pub use Rattle.vms_analyze.specs.Laws.{HasListing, LongestLaw, OneLaw, ReadBackLaw, ShownLaw, TotalLaw}
@@ -58,7 +58,7 @@ pub use Rattle.vms_analyze.specs.Sorted.{AreOrdered, AreSorted, HoldSorted, IsBe
 pub use Rattle.vms_analyze.specs.Telling.{told, told_device_of, told_devices, told_part, told_sub_of, told_subs, told_what, tolds}
 pub use Rattle.vms_analyze.specs.Told.{Fixed, Kept, Sent, Skipped, Told, ToldDevice, ToldSub, fits_four, is_good, is_good_device, is_good_sub, is_kept, is_path}
 pub use Rattle.vms_analyze.specs.Told.{is_path_byte, told_device, told_entry, told_sub, told_tree}
-pub use Rattle.vms_analyze.specs.Typed.{ReadsAs, device_of, sub_of, told_of, want_of, wants_of_device, wants_of_sub}
+pub use Rattle.vms_analyze.specs.Typed.{ReadsAs, device_of, devices_wants, element_wants, sub_of, subs_wants, told_of}
 pub use Rattle.vms_analyze.specs.Walking.{AtStart, Goes, IsInside, Prints, Stops, Walks, WhyNone, WhyStopped, left}
 pub use Rattle.vms_analyze.specs.Wanted.{Any, Bytes, Differs, Foot, Found, Head, Line, Lines, Machine, Number, Took, Want, behind, device_wants, element_want}
 pub use Rattle.vms_analyze.specs.Wanted.{found, found_after, is_machine, kept_line, machine_line, number_line, only_if, section_line, sent_line, start_wants}

@@ -5,12 +5,13 @@ use Rattle.vms_analyze.proofs.Facade.{append_assoc, ⊎_elim, eq-eqb, cases_lt, 
 use Rattle.vms_analyze.proofs.Facade.{IsPlace, IsLastPlace, longest_input, Listing, Refused, listing_of, Lists, IsTooLong, HasNone, HasNoShape, IsRead, Text}
 use Rattle.vms_analyze.proofs.Facade.{Intake, takes_both, takes_as, breaks_more, nothing_follows, Takes, Appended, IsWhole, TakesPiece, TakesInput, HasMore}
 use Rattle.vms_analyze.proofs.Facade.{NoInput, AnalyzeFault, ListsAs, IsListed, IsTooMuch, ListsTaken, ShowsAs, Found, Lines, Differs, Want, behind, found}
-use Rattle.vms_analyze.proofs.Facade.{text_of, Walk, left, Goes, WhyStopped, AtStart, WhyNone, Stop, Data, Items, no_items, item, next, each, ReadsAs}
+use Rattle.vms_analyze.proofs.Facade.{text_of, Walk, left, Goes, WhyStopped, AtStart, WhyNone, Stop, Data, Items, no_items, item, next, each, ReadsAs, Unread}
 use Rattle.std.proofs.lemmas.List.{length-take}
 use Rattle.vms_analyze.specs.declared.input.NoInput.TheVariants as none
 use Rattle.vms_analyze.specs.declared.fault.AnalyzeFault.TheVariants as faults
 use Rattle.vms_analyze.specs.declared.fault.AnalyzeReason.TheVariants as reasons
-use Rattle.vms_analyze.specs.declared.stop.Stop.TheVariants as whys
+use Rattle.vms_analyze.specs.declared.walk.Stop.TheVariants as whys
+use Rattle.vms_analyze.specs.declared.members.Unread.TheVariants as unread
 
 -- ---- The places of an input below a byte that was found from the end.
 
@@ -180,9 +181,9 @@ pub goes_on : {A T : Type 0} (m : T → A) (says : Data → Option A) (now rest 
 goes_on m says now rest d whole done t e is said = rw (e, is, said, before_one (map m done) (m t) (each says rest), map-append m done (t ∷ [])) refl
 
 pub stops : {A T U : Type 0} (m : T → A) (n : U → List A) (says : Data → Option A) (now rest : Items) (d : Data) (whole : Option (List A)) (done : List A)
-    → (why : Stop) → whole ≡ before done (each says now) → now ≡ item d rest → ReadsAs m (says d) (Err why) → ReadsAs n whole (Err why)
-stops m n says now rest d whole done whys.Differs e is said = rw (e, is, said) refl
-stops m n says now rest d whole done whys.NoMemory e is said = tt
+    → (why : Unread) → whole ≡ before done (each says now) → now ≡ item d rest → ReadsAs m (says d) (Err why) → ReadsAs n whole (Err why)
+stops m n says now rest d whole done unread.Shape e is said = rw (e, is, said) refl
+stops m n says now rest d whole done unread.NoMemory e is said = tt
 
 pub ends : {A : Type 0} (says : Data → Option A) (now : Items) (whole : Option (List A)) (done : List A)
     → whole ≡ before done (each says now) → now ≡ no_items → whole ≡ Some done

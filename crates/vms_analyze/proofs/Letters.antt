@@ -2,7 +2,7 @@
 use Rattle.vms_analyze.proofs.Facade.{decimal_all, ◌≡◌, ℕ, ◌+◌, ◌<◌, ◌≤◌, Bool, true, ◌&&◌, nat_le, List, [], ◌∷◌, ◌++◌}
 use Rattle.vms_analyze.proofs.Facade.{elements_each, what_of, length, length-append, refl, ap, ◌∙◌, arith, get_or, ℤ, list_all, AllByRecursion}
 use Rattle.vms_analyze.proofs.Facade.{and_parts, leb-true, le-leb, and_from, list_all-append, Count, One}
-use Rattle.vms_analyze.proofs.Facade.{is_name_byte, is_name, is_sub_name, index_text, What, Filler, Rule, is_path_byte, is_path, sub_name_is, Item}
+use Rattle.vms_analyze.proofs.Facade.{is_name_byte, is_name, is_sub_name, index_text, What, Constant, Filler, Rule, is_path_byte, is_path, sub_name_is, Item}
 use Rattle.vms_analyze.proofs.Facade.{Num, Unused, MOST_UNUSED, in_range, defaults_well, is_small_item, Field, Desc, Set, no_desc, elements_in}
 use Rattle.std.specs.Fmt.{decimal}
 use Rattle.vms_elements.specs.Elements.{Number, Element, behind}
@@ -72,8 +72,9 @@ index_bytes _ e = every_both (91 ∷ decimal e) (93 ∷ []) (decimal_bytes e) re
 
 abbrev pub IsGoodWhat : What → Type 0
 IsGoodWhat (Number cell) = in_range cell.kind cell.default ≡ true
+IsGoodWhat (Constant kind z) = Unit {0}
 IsGoodWhat (Filler n) = (nat_le 1 n && nat_le n MOST_UNUSED) ≡ true
-IsGoodWhat what = Unit {0}
+IsGoodWhat (Rule holds) = Unit {0}
 
 -- an end has no path for itself
 abbrev pub HasPath : What → List ℕ → Type 0

@@ -78,6 +78,8 @@ all_left l d ms (k ∷ keys) h e =
 pub just_keys : (keys : List (List ℕ)) (ms : Members) → AreOrdered keys → AreOrdered (keys_of ms) → has_no_others keys ms ≡ true
     → has_all keys (object ms) ≡ true → keys_of ms ≡ keys
 just_keys [] no_members h g e f = refl
+just_keys [] (member l d ms) h g e f = cc
+just_keys (k ∷ keys) no_members h g e f = cc
 just_keys (k ∷ keys) (member l d ms) h g e f = go (slice_cmp nat_cmp k l) refl (λ a b. just_keys keys ms h.1 g.1 a b)
   where
     p : (is_one_of (k ∷ keys) l ≡ true) × (has_no_others (k ∷ keys) ms ≡ true)
@@ -97,7 +99,6 @@ just_keys (k ∷ keys) (member l d ms) h g e f = go (slice_cmp nat_cmp k l) refl
     go Equal is more =
         let same : k ≡ l = exact_bytes k l is in
         rw (sym same, more (others_left k keys ms (rw same g.0) p.1) (all_left l d ms keys (rw same at h.0) q.1))
-just_keys _ _ h g e f = cc
 
 -- ---- their values
 

@@ -118,7 +118,9 @@ all_fine sent (x ∷ xs) h =
 
 one_good : (t : Told) → IsFine t → length (path_of t) ≤ LONGEST_PATH → is_good t ≡ true
 one_good (Sent path kind) h le = named_path LONGEST_PATH path (record { some = h.some; few = le; bytes = h.bytes })
-one_good _ h le = and_from _ _ (named_path LONGEST_PATH _ (record { some = h.some; few = le; bytes = h.bytes })) h.shape
+one_good (Kept path kind z) h le = and_from _ _ (named_path LONGEST_PATH path (record { some = h.some; few = le; bytes = h.bytes })) h.shape
+one_good (Fixed path n) h le = and_from _ _ (named_path LONGEST_PATH path (record { some = h.some; few = le; bytes = h.bytes })) h.shape
+one_good (Skipped path n) h le = and_from _ _ (named_path LONGEST_PATH path (record { some = h.some; few = le; bytes = h.bytes })) h.shape
 
 each_told : (ts : List Told) → AreFine ts → AreLong 299 (map told_entry ts) → list_all is_good ts ≡ true
 each_told [] fine long = refl

@@ -43,6 +43,9 @@ machine_long id rest name u e =
     omega (arith, leb-true (length name) LONGEST_NAME (and_parts (nat_le (length name) LONGEST_NAME) (list_all is_name_byte name) p.1).0, only_long _ _ u e)
 
 taken_long : (w : Want) (id : ℕ) (rest : List ℕ) (u : Took) → taken w id rest ≡ Some u → u.long ≤ most_of w
+taken_long (Bytes bytes) id rest u e = omega (arith, only_long _ _ u e)
+taken_long (Any n) id rest u e = omega (arith, only_long _ _ u e)
+taken_long (Number path kind) id rest u e = omega (arith, only_long _ _ u e)
 taken_long Machine id rest u e = go (get_or rest 0 0 == 7) e
   where
     go : (b : Bool) → (if b then take_machine id rest (bytes_at (number_at 4 1 rest) 5 rest) else Some (took 0 id [])) ≡ Some u → u.long ≤ 260
@@ -50,8 +53,8 @@ taken_long Machine id rest u e = go (get_or rest 0 0 == 7) e
     go false e = omega (arith, only_long true (took 0 id []) u e)
 taken_long (Head name instance version) id rest u e =
     omega (arith, only_long _ _ u e, length-append (name ++ be32 instance) (be32 version), length-append name (be32 instance))
+taken_long Foot id rest u e = omega (arith, only_long _ _ u e)
 taken_long (Line line) id rest u e = omega (arith, only_long true (took 0 id (line ∷ [])) u e)
-taken_long _ id rest u e = omega (arith, only_long _ _ u e)
 
 abbrev IsBound : List Want → Type 0
 IsBound ws = (id place : ℕ) (rest : List ℕ) (lines : List (List ℕ)) → found ws id place rest ≡ Lines lines → length rest ≤ total ws
@@ -104,11 +107,12 @@ module _ (set : Set) where
 
   subs_long : (n : List ℤ) (at : ℕ) (subs : List Sub) (came : List (Option ℕ)) → AreGoodSubs set subs
       → total (flat_map sub_wants (told_subs set n at subs came)) ≤ MOST_UNUSED * subs_items sizes subs + 300 * length subs
+  subs_long n at [] came h = omega arith
+  subs_long n at (s ∷ subs) [] h = omega arith
   subs_long n at (s ∷ subs) (c ∷ came) h =
       let next = at + length (desc_cells (struct_cells set) s.desc) in
       let later = subs_long n next subs came h.1 in
       omega (arith, sub_long s h.0 c n at, total_append (sub_wants (told_sub_of set n at s c)) (flat_map sub_wants (told_subs set n next subs came)))
-  subs_long n at _ _ h = omega arith
 
   device_long : (d : Device) (image : Image) → IsGoodDevice set d
       → total (device_wants (told_device_of set d image)) ≤ MOST_UNUSED * (items_in sizes d.desc.fields + subs_items sizes d.subs) + 10000
@@ -121,10 +125,11 @@ module _ (set : Set) where
 
   pub devices_long : (devices : List Device) (images : List Image) → AreGoodDevices set devices
       → total (flat_map device_wants (told_devices set devices images)) ≤ MOST_UNUSED * devices_items sizes devices + 10000 * length devices
+  devices_long [] images h = omega arith
+  devices_long (d ∷ devices) [] h = omega arith
   devices_long (d ∷ devices) (image ∷ images) h =
       let later = devices_long devices images h.1 in
       omega (arith, device_long d image h.0, total_append (device_wants (told_device_of set d image)) (flat_map device_wants (told_devices set devices images)))
-  devices_long _ _ h = omega arith
 
 -- ---- what is written
 

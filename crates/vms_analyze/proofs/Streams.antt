@@ -25,6 +25,7 @@ use Rattle.vms_spec.specs.declared.Part.TheVariants as parts
 abbrev pub IsSaidAs : Bool → What → Bool → Bool → ℤ → Type 0
 IsSaidAs sent (Number cell) counted present z =
     ((sent && present) ≡ true → (counted ≡ true) × InRange cell.kind z) × (counted ≡ true → (sent && present) ≡ false → z ≡ cell.default)
+IsSaidAs sent (Constant kind y) counted present z = Unit {0}
 IsSaidAs sent _ counted present z = Unit {0}
 
 abbrev pub IsSaid : Bool → List ℤ → Element → Type 0
@@ -200,8 +201,9 @@ module _ (set : Set) (d : Device) (image : Image) (short : AreShort image.number
 
 -- the section that is open after them
 abbrev pub last : ℕ → ℕ → List Device → List Image → ℕ
+last old id [] images = old
+last old id (d ∷ devices) [] = old
 last old id (d ∷ devices) (image ∷ images) = last id (suc id) devices images
-last old id devices images = old
 
 pub devices_follow : (set : Set) (old id : ℕ) (devices : List Device) (images : List Image) → id + length devices ≤ 2 ^ 32 → AreShaped set devices images
     → AreFine (devices_entries set devices images) → AreGood set (devices_entries set devices images)
@@ -242,8 +244,9 @@ no_machine id rest e = rw e
 
 section_first : (set : Set) (id : ℕ) (devices : List Device) (images : List Image)
     → (get_or (written_sections set id devices images ++ end_mark) 0 0 == 7) ≡ false
+section_first set id [] images = refl
+section_first set id (d ∷ devices) [] = refl
 section_first set id (d ∷ devices) (image ∷ images) = refl
-section_first set id _ _ = refl
 
 -- what comes after the stream head
 module _ (set : Set) (well : WellFormed set) (images : List Image) (us : List Want) (sections : List ℕ) (f : Found) where

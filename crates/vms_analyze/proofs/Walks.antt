@@ -5,12 +5,12 @@ use Rattle.vms_analyze.proofs.Facade.{flat_map-append, and_parts, leb-true, flat
 use Rattle.vms_analyze.proofs.Facade.{length-append, length-drop, ◌-◌, take_all, Kind, code, InRange, text_of, Want, Number, Line, number_line, behind, found}
 use Rattle.vms_analyze.proofs.Facade.{Bytes, Machine, Head, Foot, element_want, sub_wants, device_wants, start_wants, wants, left, IsInside, Goes, Stops}
 use Rattle.vms_analyze.proofs.Facade.{Prints, WhyStopped, Walks, Walk, text_append, Stop, LONGEST_NAME, end_mark, is_path, is_path_byte, told_of, sub_of}
-use Rattle.vms_analyze.proofs.Facade.{device_of, want_of, wants_of_sub, wants_of_device, Element, number_at, bytes_at, is_name_byte, begins_with}
+use Rattle.vms_analyze.proofs.Facade.{device_of, element_wants, subs_wants, devices_wants, Element, number_at, bytes_at, is_name_byte, begins_with}
 use Rattle.vms_analyze.proofs.Facade.{configuration, section_head, is_machine, machine_line, taken, found_after, begun}
 use Rattle.vms_analyze.proofs.Following.{Takes, one_follows, takes_line, takes_number, behind_both, takes_head}
 use Rattle.vms_analyze.proofs.Streams.{takes_machine, no_machine}
 use Rattle.vms_analyze.specs.declared.told.Device.{Device}
-use Rattle.vms_analyze.specs.declared.stop.Stop.TheVariants as stops
+use Rattle.vms_analyze.specs.declared.walk.Stop.TheVariants as stops
 
 -- ---- One step of a walk, by what is taken.
 
@@ -87,19 +87,17 @@ line_goes line old new inside p = record {
 
 -- ---- A walk over what is required, one thing after the other.
 
--- one more of a list
-pub more_of : {X Y : Type 0} (one : X → List Y) (xs : List X) (i : ℕ) (d : X) → i < length xs
-    → flat_map one (take (i + 1) xs) ≡ flat_map one (take i xs) ++ one (get_or xs i d)
-more_of one xs i d lt = cc (take_more xs i d lt, flat_map-append one (take i xs) (get_or xs i d ∷ []), append-nil (one (get_or xs i d)))
-
 module _ {X : Type 0} (one : X → List Want) where
+  pub more_of : (xs : List X) (i : ℕ) (d : X) → i < length xs → flat_map one (take (i + 1) xs) ≡ flat_map one (take i xs) ++ one (get_or xs i d)
+  more_of xs i d lt = cc (take_more xs i d lt, flat_map-append one (take i xs) (get_or xs i d ∷ []), append-nil (one (get_or xs i d)))
+
   pub one_stops : (xs : List X) (i : ℕ) (d : X) (a b c : Walk) (stop : Stop) → i < length xs → Goes (flat_map one (take i xs)) a b
       → WhyStopped (one (get_or xs i d)) b c stop → WhyStopped (flat_map one xs) a c stop
   one_stops xs i d a b c stops.Differs lt g s =
       let front = flat_map one (take (i + 1) xs) in
       let whole : front ++ flat_map one (drop (i + 1) xs) ≡ flat_map one xs =
       cc (flat_map-append one (take (i + 1) xs) (drop (i + 1) xs), take-append-drop (i + 1) xs) in
-      rw whole at (stops_before front (flat_map one (drop (i + 1) xs)) a c (rw (more_of one xs i d lt) (stops_then g s)))
+      rw whole at (stops_before front (flat_map one (drop (i + 1) xs)) a c (rw (more_of xs i d lt) (stops_then g s)))
   one_stops xs i d a b c stops.NoMemory lt g s = tt
 
 -- one after the other, whatever the stop
@@ -134,7 +132,7 @@ all_good [] = refl
 all_good (x ∷ xs) = all_good xs
 
 -- what is required
-pub elements_are : (es : List Element) → flat_map want_of es ≡ map element_want (map told_of es)
+pub elements_are : (es : List Element) → element_wants es ≡ map element_want (map told_of es)
 elements_are es = cc (flat_map_single (λ e. element_want (told_of e)) es, map-map element_want told_of es)
 
 -- ---- a device
@@ -144,51 +142,55 @@ head_of d = Head d.name.now d.instance d.version ∷ []
 
 module _ (d : Device) where
   abbrev elements : List Want
-  elements = flat_map want_of d.elements.items
+  elements = element_wants d.elements.items
 
   abbrev subs : List Want
-  subs = flat_map wants_of_sub d.subs.items
+  subs = subs_wants d.subs.items
 
   abbrev all : List Want
   all = device_wants (device_of d)
 
-  device_as : head_of d ++ elements ++ subs ++ Foot ∷ [] ≡ all
+  device_as : ((head_of d ++ elements) ++ subs) ++ (Foot ∷ []) ≡ all
   device_as = rw (elements_are d.elements.items, sym (flat_map-map sub_wants sub_of d.subs.items))
 
   pub head_stops : (a b : Walk) (stop : Stop) → WhyStopped (head_of d) a b stop → WhyStopped all a b stop
-  head_stops a b stop w = rw device_as at (why_before (head_of d) (elements ++ subs ++ Foot ∷ []) a b stop w)
+  head_stops a b stop w =
+      rw device_as at (why_before ((head_of d ++ elements) ++ subs) (Foot ∷ []) a b stop
+      (why_before (head_of d ++ elements) subs a b stop (why_before (head_of d) elements a b stop w)))
 
   pub elements_stop : {a b : Walk} (c : Walk) (stop : Stop) → Goes (head_of d) a b → WhyStopped elements b c stop → WhyStopped all a c stop
-  elements_stop {b = b} c stop g w = rw device_as at (why_then _ c stop g (why_before elements (subs ++ Foot ∷ []) b c stop w))
+  elements_stop {a = a} c stop g w =
+      rw device_as at (why_before ((head_of d ++ elements) ++ subs) (Foot ∷ []) a c stop
+      (why_before (head_of d ++ elements) subs a c stop (why_then elements c stop g w)))
 
   pub subs_stop : {a b c : Walk} (e : Walk) (stop : Stop) → Goes (head_of d) a b → Goes elements b c → WhyStopped subs c e stop → WhyStopped all a e stop
-  subs_stop {c = c} e stop g h w = rw device_as at (why_then _ e stop g (why_then _ e stop h (why_before subs (Foot ∷ []) c e stop w)))
+  subs_stop {a = a} e stop g h w = rw device_as at (why_before ((head_of d ++ elements) ++ subs) (Foot ∷ []) a e stop (why_then subs e stop (goes_then g h) w))
 
   pub device_walks : {a b c e : Walk} (f : Walk) (r : Result (Unit {0}) Stop) → Goes (head_of d) a b → Goes elements b c → Goes subs c e
       → Walks (Foot ∷ []) e f r → Walks all a f r
-  device_walks f r g h i w = rw device_as at (walks_then _ f r g (walks_then _ f r h (walks_then _ f r i w)))
+  device_walks {a = a} f r g h i w = rw device_as at (walks_then (Foot ∷ []) f r (goes_then (goes_then g h) i) w)
 
 -- ---- a stream
 
 module _ (ds : List Device) where
-  abbrev devices : List Want
-  devices = flat_map wants_of_device ds
-
   abbrev whole : List Want
   whole = wants (map device_of ds)
 
-  stream_as : start_wants ++ devices ++ Bytes end_mark ∷ [] ≡ whole
+  stream_as : (start_wants ++ devices_wants ds) ++ (Bytes end_mark ∷ []) ≡ whole
   stream_as = rw (sym (flat_map-map device_wants device_of ds))
 
   pub start_stops : (a b : Walk) (stop : Stop) → WhyStopped start_wants a b stop → WhyStopped whole a b stop
-  start_stops a b stop w = rw stream_as at (why_before start_wants (devices ++ Bytes end_mark ∷ []) a b stop w)
+  start_stops a b stop w =
+      rw stream_as at (why_before (start_wants ++ devices_wants ds) (Bytes end_mark ∷ []) a b stop
+      (why_before start_wants (devices_wants ds) a b stop w))
 
-  pub devices_stop : {a b : Walk} (c : Walk) (stop : Stop) → Goes start_wants a b → WhyStopped devices b c stop → WhyStopped whole a c stop
-  devices_stop {b = b} c stop g w = rw stream_as at (why_then _ c stop g (why_before devices (Bytes end_mark ∷ []) b c stop w))
+  pub devices_stop : {a b : Walk} (c : Walk) (stop : Stop) → Goes start_wants a b → WhyStopped (devices_wants ds) b c stop → WhyStopped whole a c stop
+  devices_stop {a = a} c stop g w =
+      rw stream_as at (why_before (start_wants ++ devices_wants ds) (Bytes end_mark ∷ []) a c stop (why_then (devices_wants ds) c stop g w))
 
-  pub stream_walks : {a b c : Walk} (d : Walk) (r : Result (Unit {0}) Stop) → Goes start_wants a b → Goes devices b c → Walks (Bytes end_mark ∷ []) c d r
-      → Walks whole a d r
-  stream_walks d r g h w = rw stream_as at (walks_then _ d r g (walks_then _ d r h w))
+  pub stream_walks : {a b c : Walk} (d : Walk) (r : Result (Unit {0}) Stop) → Goes start_wants a b → Goes (devices_wants ds) b c
+      → Walks (Bytes end_mark ∷ []) c d r → Walks whole a d r
+  stream_walks {a = a} d r g h w = rw stream_as at (walks_then (Bytes end_mark ∷ []) d r (goes_then g h) w)
 
 -- past it
 passed : (front : List ℕ) (old mid : Walk) → IsInside old → begins_with front (left old) ≡ true → mid.place ≡ old.place + length front → mid.text ≡ old.text

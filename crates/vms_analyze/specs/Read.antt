@@ -131,14 +131,16 @@ elements_in d = next (list_at (codes "fields") d) (each element_in)
 abbrev pub sub_keys : List (List ℕ)
 sub_keys = codes "fields" ∷ codes "name" ∷ codes "sent" ∷ codes "version" ∷ []
 
--- A subsection.
-abbrev pub sub_in : Data → Option ToldSub
-sub_in d =
-    if fits sub_keys [] d then
+-- A subsection whose keys are there.
+abbrev pub sub_from : Data → Option ToldSub
+sub_from d =
     next (path_at LONGEST_NAME (codes "name") d) (λ name. next (flag_at (codes "sent") d) (λ sent. next (four_at (codes "version") d) (λ version.
     next (elements_in d) (λ elements.
     only (sent || list_all is_kept elements) (record { name = name; sent = sent; version = version; elements = elements })))))
-    else None
+
+-- A subsection.
+abbrev pub sub_in : Data → Option ToldSub
+sub_in d = if fits sub_keys [] d then sub_from d else None
 
 -- The subsections of a device.
 abbrev pub subs_in : Data → Option (List ToldSub)
@@ -150,14 +152,16 @@ subs_in d = next (list_at (codes "subsections") d) (each sub_in)
 abbrev pub device_keys : List (List ℕ)
 device_keys = codes "fields" ∷ codes "instance_id" ∷ codes "name" ∷ codes "subsections" ∷ codes "version" ∷ []
 
--- A device.
-abbrev pub device_in : Data → Option ToldDevice
-device_in d =
-    if fits device_keys [] d then
+-- A device whose keys are there.
+abbrev pub device_from : Data → Option ToldDevice
+device_from d =
     next (path_at LONGEST_NAME (codes "name") d) (λ name. next (four_at (codes "instance_id") d) (λ instance. next (four_at (codes "version") d) (λ version.
     next (elements_in d) (λ elements. next (subs_in d) (λ subs.
     Some (record { name = name; instance = instance; version = version; elements = elements; subs = subs }))))))
-    else None
+
+-- A device.
+abbrev pub device_in : Data → Option ToldDevice
+device_in d = if fits device_keys [] d then device_from d else None
 
 -- The devices of a description.
 abbrev pub devices_in : Data → Option (List ToldDevice)

@@ -3,7 +3,7 @@ use Rattle.std.specs.Prelude.{◌≡◌, ℕ, List, [], ◌∷◌}
 use Rattle.std.specs.declared.cmp.Ordering.TheVariants.{Less}
 use Rattle.std.specs.Ordering.{nat_cmp}
 use Rattle.std.specs.Cmp.Lexicographic.{slice_cmp}
-use Rattle.serde_json.specs.Data.{Data, array, object, Items, no_items, item, Members, no_members, member}
+use Rattle.serde_json.specs.Data.{Data, null, boolean, number, string, array, object, Items, no_items, item, Members, no_members, member}
 
 -- One key is less than another.
 abbrev pub IsLess : List ℕ → List ℕ → Type 0
@@ -27,9 +27,12 @@ keys_of (member k d ms) = k ∷ keys_of ms
 -- The keys are in order in this value and in all that it holds.
 abbrev mutual
   pub IsSorted : Data → Type 0
+  IsSorted null = Unit {0}
+  IsSorted (boolean b) = Unit {0}
+  IsSorted (number n) = Unit {0}
+  IsSorted (string s) = Unit {0}
   IsSorted (array ds) = AreSorted ds
   IsSorted (object ms) = AreOrdered (keys_of ms) × HoldSorted ms
-  IsSorted d = Unit {0}
 
   pub AreSorted : Items → Type 0
   AreSorted no_items = Unit {0}

@@ -80,8 +80,10 @@ is_good (Skipped path n) = is_path LONGEST_PATH path && (nat_le 1 n && nat_le n 
 
 -- Whether an element isn't in the stream.
 abbrev pub is_kept : Told → Bool
+is_kept (Sent path kind) = false
 is_kept (Kept path kind z) = true
-is_kept t = false
+is_kept (Fixed path n) = false
+is_kept (Skipped path n) = false
 
 -- Whether a subsection has the required shape. If it isn't sent, no element of it is in the stream.
 abbrev pub is_good_sub : ToldSub → Bool

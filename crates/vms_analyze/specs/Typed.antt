@@ -1,5 +1,6 @@
 -- What the code's devices say, and what the code returns for a value.
 use Rattle.std.specs.Prelude.{◌≡◌, List, [], ◌∷◌, map, Option, Some, None, Result, Ok, Err, codes}
+use Rattle.std.specs.List.{flat_map}
 use Rattle.serde_json.specs.Data.{Data, object, member, no_members}
 use Rattle.serde_json.specs.Find.{as_str}
 use Rattle.vms_json.specs.Nodes.{view}
@@ -13,8 +14,8 @@ use Rattle.vms_analyze.specs.declared.told.Element.{Element}
 use Rattle.vms_analyze.specs.declared.told.Element.TheVariants as typed
 use Rattle.vms_analyze.specs.declared.told.Sub.{Sub}
 use Rattle.vms_analyze.specs.declared.told.Device.{Device}
-use Rattle.vms_analyze.specs.declared.stop.Stop.{Stop}
-use Rattle.vms_analyze.specs.declared.stop.Stop.TheVariants as stops
+use Rattle.vms_analyze.specs.declared.members.Unread.{Unread}
+use Rattle.vms_analyze.specs.declared.members.Unread.TheVariants as unread
 
 -- What an element says.
 abbrev pub told_of : Element → Told
@@ -64,11 +65,23 @@ wants_of_sub s = sub_wants (sub_of s)
 abbrev pub wants_of_device : Device → List Want
 wants_of_device d = device_wants (device_of d)
 
+-- What elements require.
+abbrev pub element_wants : List Element → List Want
+element_wants es = flat_map want_of es
+
+-- What subsections require.
+abbrev pub subs_wants : List Sub → List Want
+subs_wants ss = flat_map wants_of_sub ss
+
+-- What devices require.
+abbrev pub devices_wants : List Device → List Want
+devices_wants ds = flat_map wants_of_device ds
+
 -- ---- what is read of a value
 
 -- This is read, where `m` says what the code's value means; or nothing, if the shape is another. Memory may
 -- run out in any case.
-abbrev pub ReadsAs : {A T : Type 0} → (T → A) → Option A → Result T Stop → Type 0
+abbrev pub ReadsAs : {A T : Type 0} → (T → A) → Option A → Result T Unread → Type 0
 ReadsAs m said (Ok t) = said ≡ Some (m t)
-ReadsAs m said (Err stops.Differs) = said ≡ None
-ReadsAs m said (Err stops.NoMemory) = Unit {0}
+ReadsAs m said (Err unread.Shape) = said ≡ None
+ReadsAs m said (Err unread.NoMemory) = Unit {0}

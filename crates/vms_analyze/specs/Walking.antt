@@ -8,8 +8,8 @@ use Rattle.vms_analyze.specs.declared.fault.AnalyzeReason.TheVariants as reasons
 use Rattle.vms_analyze.specs.Listing.{Listing, Refused, Text}
 use Rattle.vms_analyze.specs.Wanted.{Want, Differs, behind, found, is_machine}
 use Rattle.vms_analyze.specs.declared.walk.Walk.{Walk}
-use Rattle.vms_analyze.specs.declared.stop.Stop.{Stop}
-use Rattle.vms_analyze.specs.declared.stop.Stop.TheVariants as stops
+use Rattle.vms_analyze.specs.declared.walk.Stop.{Stop}
+use Rattle.vms_analyze.specs.declared.walk.Stop.TheVariants as stops
 
 -- The rest of the stream.
 abbrev pub left : Walk → List ℕ

@@ -2,11 +2,10 @@
 ghost use Rattle.std.specs.Prelude.{map, Option};
 ghost use Rattle.serde_json.specs.Data.{Data};
 ghost use Rattle.vms_json.specs.Nodes.{items_left, view};
-ghost use Rattle.vms_analyze.specs.Read.{each, list_at, next};
+ghost use Rattle.vms_analyze.specs.Read.{each};
 ghost use Rattle.vms_analyze.specs.Typed.{ReadsAs};
 
-use crate::members::list_at;
-use crate::stop::Stop;
+use crate::members::Unread;
 use std::alloc::Global;
 use vms_json::{Items, Node};
 
@@ -24,38 +23,29 @@ pub(crate) trait Reads<'a>: Drop {
     ///
     /// # Errors
     ///
-    /// - [`Stop::Differs`]: the value has another shape.
-    /// - [`Stop::NoMemory`]: out of memory.
-    fn read(alloc: Global, value: &Node<'_, 'a>) -> Result<Self, Stop>
+    /// - [`Unread::Shape`]: the value has another shape.
+    /// - [`Unread::NoMemory`]: out of memory.
+    fn read(alloc: Global, value: &Node<'_, 'a>) -> Result<Self, Unread>
         ensures { ReadsAs means (says (view value.now)) result };
 }
 
-/// Returns what all items of the list under `key` say.
+/// Returns what all items say.
 ///
 /// # Errors
 ///
-/// - [`Stop::Differs`]: there is no list, or an item has another shape.
-/// - [`Stop::NoMemory`]: out of memory.
-pub(crate) fn each_at<'a, T: Reads<'a>>(
+/// - [`Unread::Shape`]: an item has another shape.
+/// - [`Unread::NoMemory`]: out of memory.
+pub(crate) fn each<'a, T: Reads<'a>>(
     alloc: Global,
-    value: &Node<'_, 'a>,
-    key: &str,
-) -> Result<Vec<T>, Stop>
-    ensures { let said = next (list_at key.now (view value.now)) (each T.says) in
-        ReadsAs (λ v. map T.means v.items) said result }
-{
-    each(alloc, list_at(value, key)?)
-}
-
-// Returns what all items say.
-fn each<'a, T: Reads<'a>>(alloc: Global, mut items: Items<'_, 'a>) -> Result<Vec<T>, Stop>
+    mut items: Items<'_, 'a>,
+) -> Result<Vec<T>, Unread>
     ensures { ReadsAs (λ v. map T.means v.items) (each T.says (items_left items.entry)) result }
 {
     let mut list = Vec::with_capacity(alloc, items.count())?;
     while let Some(item) = items.next() {
         match T::read(alloc, &item) {
             Ok(one) => list.push(one)?,
-            Err(stop) => return Err(stop),
+            Err(unread) => return Err(unread),
         }
     }
     Ok(list)

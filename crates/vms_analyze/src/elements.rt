@@ -3,13 +3,14 @@ ghost use Rattle.std.specs.Prelude.{◌≡◌, ◌||◌, ◌==◌, map, Some, If
 ghost use Rattle.std.specs.List.{list_all};
 ghost use Rattle.vms_json.specs.Nodes.{view};
 ghost use Rattle.vms_analyze.specs.Told.{Told, is_kept};
-ghost use Rattle.vms_analyze.specs.Read.{element_in, kept_in, sent_as, sent_in, unprinted};
+ghost use Rattle.vms_analyze.specs.Read.{element_in, elements_in, kept_in, sent_as, sent_in, unprinted};
 ghost use Rattle.vms_words.specs.Words.{kind_named};
 ghost use Rattle.vms_analyze.specs.Typed.{ReadsAs, in_order_said, in_order_seen, told_of};
 
-use crate::each::Reads;
-use crate::members::{natural_at, natural_of, path_at, path_of, text_at, text_of, whole_at};
-use crate::stop::Stop;
+use crate::each::{Reads, each};
+use crate::members::{
+    Unread, list_at, natural_at, natural_of, path_at, path_of, text_at, text_of, whole_at,
+};
 use crate::told::Element;
 use std::alloc::Global;
 use vms_json::{Node, fits};
@@ -19,6 +20,21 @@ use vms_words::kind_named;
 /// The most bytes of a path.
 const LONGEST_PATH: usize = 300;
 
+/// Returns the elements of a device or a subsection.
+///
+/// # Errors
+///
+/// - [`Unread::Shape`]: the value has another shape.
+/// - [`Unread::NoMemory`]: out of memory.
+pub(crate) fn elements_in<'a>(
+    alloc: Global,
+    value: &Node<'_, 'a>,
+) -> Result<Vec<Element<'a>>, Unread>
+    ensures { ReadsAs (λ v. map told_of v.items) (elements_in (view value.now)) result }
+{
+    each(alloc, list_at(value, "fields")?)
+}
+
 impl<'a> Reads<'a> for Element<'a> {
     ghost Meaning = { Told };
 
@@ -27,7 +43,7 @@ impl<'a> Reads<'a> for Element<'a> {
     ghost says = { element_in };
 
     // The keys decide which kind of element it is.
-    fn read(_: Global, value: &Node<'_, 'a>) -> Result<Self, Stop> {
+    fn read(_: Global, value: &Node<'_, 'a>) -> Result<Self, Unread> {
         if let Some(members) = in_order(value) {
             return sent_by(&members);
         }
@@ -36,7 +52,7 @@ impl<'a> Reads<'a> for Element<'a> {
         } else if fits(value, &["name", "size", "type", "value"], &[]) {
             kept_in(value)
         } else {
-            Err(Stop::Differs)
+            Err(Unread::Shape)
         }
     }
 }
@@ -64,7 +80,7 @@ fn in_order<'t, 'a>(value: &Node<'t, 'a>) -> Option<InOrder<'t, 'a>>
 }
 
 // Reads an element that is in the stream, by its members.
-fn sent_by<'a>(members: &InOrder<'_, 'a>) -> Result<Element<'a>, Stop>
+fn sent_by<'a>(members: &InOrder<'_, 'a>) -> Result<Element<'a>, Unread>
     ensures { ReadsAs told_of (in_order_said members.now) result }
 {
     let text = text_of(&members.name)?;
@@ -75,7 +91,7 @@ fn sent_by<'a>(members: &InOrder<'_, 'a>) -> Result<Element<'a>, Stop>
 }
 
 // Reads the same by its keys, in any order.
-fn sent_in<'a>(value: &Node<'_, 'a>) -> Result<Element<'a>, Stop>
+fn sent_in<'a>(value: &Node<'_, 'a>) -> Result<Element<'a>, Unread>
     ensures { ReadsAs told_of (sent_in (view value.now)) result }
 {
     let path = path_at(value, "name", LONGEST_PATH)?;
@@ -85,18 +101,18 @@ fn sent_in<'a>(value: &Node<'_, 'a>) -> Result<Element<'a>, Stop>
 }
 
 // Returns an element that is in the stream, by its type.
-fn sent_as<'a>(path: &'a str, size: u64, word: &str) -> Result<Element<'a>, Stop>
+fn sent_as<'a>(path: &'a str, size: u64, word: &str) -> Result<Element<'a>, Unread>
     ensures { ReadsAs told_of (sent_as path.now size word.now (kind_named word.now)) result }
 {
     match kind_named(word) {
         Some(kind) if size == kind.width() as u64 => Ok(Element::Sent { path, kind }),
-        Some(_) => Err(Stop::Differs),
+        Some(_) => Err(Unread::Shape),
         None => unprinted(path, size, word),
     }
 }
 
 // Reads an element that is in the stream and isn't printed.
-fn unprinted<'a>(path: &'a str, size: u64, word: &str) -> Result<Element<'a>, Stop>
+fn unprinted<'a>(path: &'a str, size: u64, word: &str) -> Result<Element<'a>, Unread>
     ensures { ReadsAs told_of (unprinted path.now size word.now) result }
 {
     if word == "equal" {
@@ -112,11 +128,11 @@ fn unprinted<'a>(path: &'a str, size: u64, word: &str) -> Result<Element<'a>, St
             bytes: size as usize,
         });
     }
-    Err(Stop::Differs)
+    Err(Unread::Shape)
 }
 
 // Reads a number that isn't in the stream.
-fn kept_in<'a>(value: &Node<'_, 'a>) -> Result<Element<'a>, Stop>
+fn kept_in<'a>(value: &Node<'_, 'a>) -> Result<Element<'a>, Unread>
     ensures { ReadsAs told_of (kept_in (view value.now)) result }
 {
     let path = path_at(value, "name", LONGEST_PATH)?;
@@ -125,7 +141,7 @@ fn kept_in<'a>(value: &Node<'_, 'a>) -> Result<Element<'a>, Stop>
     let value = whole_at(value, "value")?;
     match kind_named(word) {
         Some(kind) if size == 0 && kind.in_range(value) => Ok(Element::Kept { path, kind, value }),
-        _ => Err(Stop::Differs),
+        _ => Err(Unread::Shape),
     }
 }
 

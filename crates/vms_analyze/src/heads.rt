@@ -3,12 +3,11 @@ ghost use Rattle.std.specs.Prelude.{◌≡◌, ◌≤◌, ◌+◌, ◌<◌, ◌�
 ghost use Rattle.vms_spec.specs.declared.TheConstants.{LONGEST_NAME};
 ghost use Rattle.vms_spec.specs.Lookup.{number_at};
 ghost use Rattle.vms_spec.specs.Spelling.{begins_with};
-ghost use Rattle.vms_analyze.specs.Wanted.{Foot as TheFoot, Head, Machine, section_line};
+ghost use Rattle.vms_analyze.specs.Wanted.{Foot as TheFoot, Head, Machine, machine_line, section_line};
 ghost use Rattle.vms_analyze.specs.Walking.{HasNoMachine, IsInside, IsMachineName, Prints, Walks, left};
-ghost use Rattle.vms_analyze.specs.declared.stop.Stop.TheVariants as stops;
+ghost use Rattle.vms_analyze.specs.declared.walk.Stop.TheVariants as stops;
 
-use crate::stop::Stop;
-use crate::walk::Walk;
+use crate::walk::{Stop, Walk};
 use byteorder::{BigEndian, ByteOrder};
 use itoa::Buffer;
 use vms_marks::{CONFIGURATION_FRONT, Foot, Mark};
@@ -37,7 +36,7 @@ impl<'a> Walk<'a> {
             return Err(Stop::Differs);
         }
         self.place += spelled.len();
-        self.print_line(&[b"machine ", name])
+        self.print_machine(name)
     }
 
     /// Reads the head of a section with any id; the section is open then.
@@ -124,14 +123,31 @@ impl<'a> Walk<'a> {
         }
     }
 
+    fn print_machine(&mut self, name: &[u8]) -> Result<(), Stop>
+        ensures ok { OnOk result (Prints self.old self.new (machine_line name.now)) }
+        ensures err { IfErr result (λ e. e ≡ stops.NoMemory) }
+    {
+        self.text.extend_from_slice(b"machine ")?;
+        self.text.extend_from_slice(name)?;
+        self.text.extend_from_slice(b"\n")?;
+        Ok(())
+    }
+
     fn print_section(&mut self, name: &str, instance: u32, version: u32) -> Result<(), Stop>
         ensures ok { OnOk result
             (Prints self.old self.new (section_line name.now instance version)) }
         ensures err { IfErr result (λ e. e ≡ stops.NoMemory) }
     {
-        let (mut digits, mut number) = (Buffer::new(), Buffer::new());
-        let instance = digits.format(instance).as_bytes();
-        let version = number.format(version).as_bytes();
-        self.print_line(&[b"section ", name.as_bytes(), b" ", instance, b" v", version])
+        let mut digits = Buffer::new();
+        self.text.extend_from_slice(b"section ")?;
+        self.text.extend_from_slice(name.as_bytes())?;
+        self.text.extend_from_slice(b" ")?;
+        self.text
+            .extend_from_slice(digits.format(instance).as_bytes())?;
+        self.text.extend_from_slice(b" v")?;
+        self.text
+            .extend_from_slice(digits.format(version).as_bytes())?;
+        self.text.extend_from_slice(b"\n")?;
+        Ok(())
     }
 }

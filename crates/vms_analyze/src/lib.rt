@@ -14,7 +14,6 @@ mod list;
 mod members;
 mod place;
 mod sections;
-mod stop;
 mod told;
 mod walk;
 

@@ -11,10 +11,10 @@ ghost use Rattle.vms_analyze.specs.Calls.{ListsAs, ShowsAs};
 
 use crate::devices::devices_in;
 use crate::fault::{AnalyzeFault, AnalyzeReason};
+use crate::members::Unread;
 use crate::place::last_place;
-use crate::stop::Stop;
 use crate::told::Device;
-use crate::walk::Walk;
+use crate::walk::{Stop, Walk};
 use json::Scratch;
 use std::alloc::Global;
 use vms_json::{NoNode, read_bytes};
@@ -48,11 +48,11 @@ fn list_at(alloc: Global, input: &[u8], place: usize) -> Result<Vec<u8>, Analyze
     let mut scratch = Scratch::new(alloc);
     match described(alloc, &input[place + DESCRIPTION_FRONT..], &mut scratch) {
         Ok(devices) => show(alloc, &input[..place], &devices),
-        Err(Stop::Differs) => Err(AnalyzeFault::Refused {
+        Err(Unread::Shape) => Err(AnalyzeFault::Refused {
             at: place as u64,
             reason: AnalyzeReason::Shape,
         }),
-        Err(Stop::NoMemory) => Err(AnalyzeFault::NoMemory),
+        Err(Unread::NoMemory) => Err(AnalyzeFault::NoMemory),
     }
 }
 
@@ -62,13 +62,13 @@ fn described<'a>(
     alloc: Global,
     text: &'a [u8],
     scratch: &'a mut Scratch,
-) -> Result<Vec<Device<'a>>, Stop>
+) -> Result<Vec<Device<'a>>, Unread>
     ensures { ReadsAs (λ v. map device_of v.items) (next (value_in text.now) devices_in) result }
 {
     match read_bytes(alloc, text, scratch) {
         Ok(value) => devices_in(alloc, &value.root()),
-        Err(NoNode::Syntax) => Err(Stop::Differs),
-        Err(NoNode::NoMemory) => Err(Stop::NoMemory),
+        Err(NoNode::Syntax) => Err(Unread::Shape),
+        Err(NoNode::NoMemory) => Err(Unread::NoMemory),
     }
 }
 

@@ -1,4 +1,4 @@
-// The members of JSON objects. If there is no such member, the fault is [`Stop::Differs`].
+// The members of JSON objects. If there is no such member, the fault is [`Unread::Shape`].
 ghost use Rattle.std.specs.Prelude.{◌≡◌};
 ghost use Rattle.std.specs.List.{list_all};
 ghost use Rattle.serde_json.specs.Find.{as_bool, as_str};
@@ -8,38 +8,73 @@ ghost use Rattle.vms_analyze.specs.Told.{is_path, is_path_byte};
 ghost use Rattle.vms_analyze.specs.Read.{flag_at, four_at, list_at, natural_at, natural_of, path_at, path_of, text_at, whole_at, whole_of};
 ghost use Rattle.vms_analyze.specs.Typed.{ReadsAs};
 
-use crate::stop::Stop;
 use serde_json::Number;
+use std::alloc::{AllocError, AllocFailed};
 use vms_json::{Items, Node};
 use vms_words::is_name_byte;
 
+/// Why a value isn't read.
+#[derive(Clone, Copy, Drop)]
+pub(crate) enum Unread {
+    /// It has another shape.
+    Shape,
+    /// Out of memory.
+    NoMemory,
+}
+
+impl From<AllocError> for Unread {
+    ghost use Rattle.vms_analyze.specs.declared.members.Unread.TheVariants.{NoMemory};
+
+    ghost from_gives = { λ _ e. e ≡ NoMemory };
+
+    fn from(_: AllocError) -> Self {
+        Unread::NoMemory
+    }
+}
+
+impl<T: Drop> From<AllocFailed<T>> for Unread {
+    ghost use Rattle.vms_analyze.specs.declared.members.Unread.TheVariants.{NoMemory};
+
+    ghost from_gives = { λ _ e. e ≡ NoMemory };
+
+    fn from(_: AllocFailed<T>) -> Self {
+        Unread::NoMemory
+    }
+}
+
 /// Returns the text of `value`.
-pub(crate) fn text_of<'a>(value: &Node<'_, 'a>) -> Result<&'a str, Stop>
+pub(crate) fn text_of<'a>(value: &Node<'_, 'a>) -> Result<&'a str, Unread>
     ensures { ReadsAs (λ t. t.now) (as_str (view value.now)) result }
 {
-    value.as_str().ok_or(Stop::Differs)
+    match value.as_str() {
+        Some(text) => Ok(text),
+        None => Err(Unread::Shape),
+    }
 }
 
 /// Returns the text under `key`.
-pub(crate) fn text_at<'a>(value: &Node<'_, 'a>, key: &str) -> Result<&'a str, Stop>
+pub(crate) fn text_at<'a>(value: &Node<'_, 'a>, key: &str) -> Result<&'a str, Unread>
     ensures { ReadsAs (λ t. t.now) (text_at key.now (view value.now)) result }
 {
-    value.get(key).and_then(Node::as_str).ok_or(Stop::Differs)
+    match value.get(key).and_then(Node::as_str) {
+        Some(text) => Ok(text),
+        None => Err(Unread::Shape),
+    }
 }
 
 /// Returns `text`, if it is a path or name of 1 to `most` bytes.
-pub(crate) fn path_of(text: &str, most: usize) -> Result<&str, Stop>
+pub(crate) fn path_of(text: &str, most: usize) -> Result<&str, Unread>
     ensures { ReadsAs (λ t. t.now) (path_of most text.now) result }
 {
     if is_path(text, most) {
         Ok(text)
     } else {
-        Err(Stop::Differs)
+        Err(Unread::Shape)
     }
 }
 
 /// Returns the path or name under `key`, of 1 to `most` bytes.
-pub(crate) fn path_at<'a>(value: &Node<'_, 'a>, key: &str, most: usize) -> Result<&'a str, Stop>
+pub(crate) fn path_at<'a>(value: &Node<'_, 'a>, key: &str, most: usize) -> Result<&'a str, Unread>
     ensures { ReadsAs (λ t. t.now) (path_at most key.now (view value.now)) result }
 {
     let text = text_at(value, key)?;
@@ -47,51 +82,65 @@ pub(crate) fn path_at<'a>(value: &Node<'_, 'a>, key: &str, most: usize) -> Resul
 }
 
 /// Returns the number without a sign of `value`.
-pub(crate) fn natural_of(value: &Node) -> Result<u64, Stop>
+pub(crate) fn natural_of(value: &Node) -> Result<u64, Unread>
     ensures { ReadsAs (λ n. n) (natural_of (view value.now)) result }
 {
-    value.as_u64().ok_or(Stop::Differs)
+    match value.as_u64() {
+        Some(number) => Ok(number),
+        None => Err(Unread::Shape),
+    }
 }
 
 /// Returns the number without a sign under `key`.
-pub(crate) fn natural_at(value: &Node, key: &str) -> Result<u64, Stop>
+pub(crate) fn natural_at(value: &Node, key: &str) -> Result<u64, Unread>
     ensures { ReadsAs (λ n. n) (natural_at key.now (view value.now)) result }
 {
-    value.get(key).and_then(Node::as_u64).ok_or(Stop::Differs)
+    match value.get(key).and_then(Node::as_u64) {
+        Some(number) => Ok(number),
+        None => Err(Unread::Shape),
+    }
 }
 
 /// Returns the number of four bytes under `key`.
-pub(crate) fn four_at(value: &Node, key: &str) -> Result<u32, Stop>
+pub(crate) fn four_at(value: &Node, key: &str) -> Result<u32, Unread>
     ensures { ReadsAs (λ n. n) (four_at key.now (view value.now)) result }
 {
     let number = natural_at(value, key)?;
     if number <= u32::MAX as u64 {
         Ok(number as u32)
     } else {
-        Err(Stop::Differs)
+        Err(Unread::Shape)
     }
 }
 
 /// Returns the whole number under `key`.
-pub(crate) fn whole_at(value: &Node, key: &str) -> Result<i128, Stop>
+pub(crate) fn whole_at(value: &Node, key: &str) -> Result<i128, Unread>
     ensures { ReadsAs (λ z. z) (whole_at key.now (view value.now)) result }
 {
-    let number = value.get(key).and_then(Node::as_number);
-    number.and_then(whole_of).ok_or(Stop::Differs)
+    match value.get(key).and_then(Node::as_number).and_then(whole_of) {
+        Some(number) => Ok(number),
+        None => Err(Unread::Shape),
+    }
 }
 
 /// Returns whether the flag under `key` is set.
-pub(crate) fn flag_at(value: &Node, key: &str) -> Result<bool, Stop>
+pub(crate) fn flag_at(value: &Node, key: &str) -> Result<bool, Unread>
     ensures { ReadsAs (λ b. b) (flag_at key.now (view value.now)) result }
 {
-    value.get(key).and_then(Node::as_bool).ok_or(Stop::Differs)
+    match value.get(key).and_then(Node::as_bool) {
+        Some(flag) => Ok(flag),
+        None => Err(Unread::Shape),
+    }
 }
 
 /// Returns the items of the list under `key`.
-pub(crate) fn list_at<'t, 'a>(value: &Node<'t, 'a>, key: &str) -> Result<Items<'t, 'a>, Stop>
+pub(crate) fn list_at<'t, 'a>(value: &Node<'t, 'a>, key: &str) -> Result<Items<'t, 'a>, Unread>
     ensures { ReadsAs (λ v. items_left v) (list_at key.now (view value.now)) result }
 {
-    value.get(key).and_then(Node::as_list).ok_or(Stop::Differs)
+    match value.get(key).and_then(Node::as_list) {
+        Some(items) => Ok(items),
+        None => Err(Unread::Shape),
+    }
 }
 
 // Returns a whole number: one without a sign, or one below 0.

@@ -4,15 +4,14 @@ ghost use Rattle.std.specs.List.{list_all};
 ghost use Rattle.vms_spec.specs.declared.TheConstants.{LONGEST_NAME};
 ghost use Rattle.vms_spec.specs.Streams.{sub_head};
 ghost use Rattle.vms_analyze.specs.Told.{is_good_device, is_good_sub};
-ghost use Rattle.vms_analyze.specs.Wanted.{Bytes, Line, kept_line, sent_line, found, start_wants, sub_head_wants, wants};
-ghost use Rattle.vms_analyze.specs.Typed.{device_of, sub_of, wants_of_device, wants_of_sub};
+ghost use Rattle.vms_analyze.specs.Wanted.{Bytes, Line, device_wants, kept_line, sent_line, found, start_wants, sub_head_wants, sub_wants, wants};
+ghost use Rattle.vms_analyze.specs.Typed.{device_of, devices_wants, sub_of, subs_wants, wants_of_device, wants_of_sub};
 ghost use Rattle.vms_analyze.specs.Listing.{listing_of};
 ghost use Rattle.vms_analyze.specs.Walking.{AtStart, Goes, IsInside, Prints, Shows, Walks};
-ghost use Rattle.vms_analyze.specs.declared.stop.Stop.TheVariants as stops;
+ghost use Rattle.vms_analyze.specs.declared.walk.Stop.TheVariants as stops;
 
-use crate::stop::Stop;
 use crate::told::{Device, Sub};
-use crate::walk::{Sought, Walk};
+use crate::walk::{Sought, Stop, Walk};
 use itoa::Buffer;
 use vms_marks::Mark;
 use vms_write::sub_head;
@@ -23,16 +22,7 @@ impl Sought for Device<'_> {
     ghost is_good = { λ d. is_good_device (device_of d) };
 
     fn seek(&self, walk: &mut Walk) -> Result<(), Stop> {
-        if let Err(stop) = walk.head(self.name, self.instance, self.version) {
-            return Err(stop);
-        }
-        if let Err(stop) = walk.each(&self.elements) {
-            return Err(stop);
-        }
-        if let Err(stop) = walk.each(&self.subs) {
-            return Err(stop);
-        }
-        walk.foot()
+        walk.device(self)
     }
 }
 
@@ -42,10 +32,7 @@ impl Sought for Sub<'_> {
     ghost is_good = { λ s. is_good_sub (sub_of s) };
 
     fn seek(&self, walk: &mut Walk) -> Result<(), Stop> {
-        if let Err(stop) = walk.sub_head(self) {
-            return Err(stop);
-        }
-        walk.each(&self.elements)
+        walk.sub(self)
     }
 }
 
@@ -79,7 +66,7 @@ impl Walk<'_> {
         if let Err(stop) = self.start() {
             return Err(stop);
         }
-        if let Err(stop) = self.each(devices) {
+        if let Err(stop) = self.devices(devices) {
             return Err(stop);
         }
         self.bytes(&[Mark::End.byte()])
@@ -97,6 +84,50 @@ impl Walk<'_> {
             return Err(stop);
         }
         self.machine()
+    }
+
+    fn devices(&mut self, devices: &[Device]) -> Result<(), Stop>
+        requires inside { IsInside self.old }
+        requires good { list_all is_good_device (map device_of devices.now) ≡ true }
+        ensures { Walks (devices_wants devices.now) self.old self.new result }
+    {
+        self.each(devices)
+    }
+
+    fn device(&mut self, device: &Device) -> Result<(), Stop>
+        requires inside { IsInside self.old }
+        requires good { is_good_device (device_of device.now) ≡ true }
+        ensures { Walks (device_wants (device_of device.now)) self.old self.new result }
+    {
+        if let Err(stop) = self.head(device.name, device.instance, device.version) {
+            return Err(stop);
+        }
+        if let Err(stop) = self.elements(&device.elements) {
+            return Err(stop);
+        }
+        if let Err(stop) = self.subs(&device.subs) {
+            return Err(stop);
+        }
+        self.foot()
+    }
+
+    fn subs(&mut self, subs: &[Sub]) -> Result<(), Stop>
+        requires inside { IsInside self.old }
+        requires good { list_all is_good_sub (map sub_of subs.now) ≡ true }
+        ensures { Walks (subs_wants subs.now) self.old self.new result }
+    {
+        self.each(subs)
+    }
+
+    fn sub(&mut self, sub: &Sub) -> Result<(), Stop>
+        requires inside { IsInside self.old }
+        requires good { is_good_sub (sub_of sub.now) ≡ true }
+        ensures { Walks (sub_wants (sub_of sub.now)) self.old self.new result }
+    {
+        if let Err(stop) = self.sub_head(sub) {
+            return Err(stop);
+        }
+        self.elements(&sub.elements)
     }
 
     // Reads the head of a subsection that was sent, and prints its line.
@@ -131,7 +162,7 @@ impl Walk<'_> {
         ensures ok { OnOk result (Goes (Line (kept_line name.now) ∷ []) self.old self.new) }
         ensures err { IfErr result (λ e. e ≡ stops.NoMemory) }
     {
-        self.print_line(&[b"sub ", name.as_bytes(), b" -"])?;
+        self.print_kept(name)?;
         Ok(())
     }
 
@@ -140,7 +171,23 @@ impl Walk<'_> {
         ensures err { IfErr result (λ e. e ≡ stops.NoMemory) }
     {
         let mut digits = Buffer::new();
-        let version = digits.format(version).as_bytes();
-        self.print_line(&[b"sub ", name.as_bytes(), b" v", version])
+        self.text.extend_from_slice(b"sub ")?;
+        self.text.extend_from_slice(name.as_bytes())?;
+        self.text.extend_from_slice(b" v")?;
+        self.text
+            .extend_from_slice(digits.format(version).as_bytes())?;
+        self.text.extend_from_slice(b"\n")?;
+        Ok(())
+    }
+
+    fn print_kept(&mut self, name: &str) -> Result<(), Stop>
+        ensures ok { OnOk result (Prints self.old self.new (kept_line name.now)) }
+        ensures err { IfErr result (λ e. e ≡ stops.NoMemory) }
+    {
+        self.text.extend_from_slice(b"sub ")?;
+        self.text.extend_from_slice(name.as_bytes())?;
+        self.text.extend_from_slice(b" -")?;
+        self.text.extend_from_slice(b"\n")?;
+        Ok(())
     }
 }

@@ -1,14 +1,14 @@
 // Compares a stream with what is required, piece by piece.
 ghost use Rattle.std.specs.Prelude.{◌≡◌, ◌∷◌, [], Bool, List, true, OnOk, IfErr};
 ghost use Rattle.std.specs.List.{flat_map, list_all};
-ghost use Rattle.vms_analyze.specs.Wanted.{Want, Bytes, Any, Number, Line, number_line};
-ghost use Rattle.vms_analyze.specs.Typed.{want_of};
-ghost use Rattle.vms_analyze.specs.declared.stop.Stop.TheVariants as stops;
+ghost use Rattle.vms_analyze.specs.Wanted.{Want, Bytes, Any, Number, Line, number_line, element_want};
+ghost use Rattle.vms_analyze.specs.Typed.{told_of, element_wants, want_of};
+ghost use Rattle.vms_analyze.specs.declared.walk.Stop.TheVariants as stops;
 ghost use Rattle.vms_analyze.specs.Walking.{IsInside, Goes, Prints, Walks};
 
-use crate::stop::Stop;
 use crate::told::Element;
 use itoa::Buffer;
+use std::alloc::AllocError;
 use vms_kinds::Kind;
 
 /// A stream, the offset up to which it is as required, the id of the open section, and the lines
@@ -19,6 +19,25 @@ pub(crate) struct Walk<'a> {
     pub(crate) place: usize,
     pub(crate) id: u32,
     pub(crate) text: Vec<u8>,
+}
+
+/// Why a walk ends early.
+#[derive(Clone, Copy, Drop)]
+pub(crate) enum Stop {
+    /// What is at the offset isn't as required.
+    Differs,
+    /// Out of memory.
+    NoMemory,
+}
+
+impl From<AllocError> for Stop {
+    ghost use Rattle.vms_analyze.specs.declared.walk.Stop.TheVariants.{NoMemory};
+
+    ghost from_gives = { λ _ e. e ≡ NoMemory };
+
+    fn from(_: AllocError) -> Self {
+        Stop::NoMemory
+    }
 }
 
 /// What is sought in a stream.
@@ -40,12 +59,7 @@ impl Sought for Element<'_> {
     ghost is_good = { λ _. true };
 
     fn seek(&self, walk: &mut Walk) -> Result<(), Stop> {
-        match *self {
-            Element::Sent { path, kind } => walk.number(path, kind),
-            Element::Kept { path, value, .. } => walk.kept(path, value),
-            Element::Fixed { bytes, .. } => walk.any(bytes),
-            Element::Skipped { bytes, .. } => walk.any(bytes),
-        }
+        walk.element(self)
     }
 }
 
@@ -112,6 +126,27 @@ impl Walk<'_> {
         }
     }
 
+    /// Reads an element.
+    pub(crate) fn element(&mut self, element: &Element) -> Result<(), Stop>
+        requires { IsInside self.old }
+        ensures { Walks (element_want (told_of element.now) ∷ []) self.old self.new result }
+    {
+        match *element {
+            Element::Sent { path, kind } => self.number(path, kind),
+            Element::Kept { path, value, .. } => self.kept(path, value),
+            Element::Fixed { bytes, .. } => self.any(bytes),
+            Element::Skipped { bytes, .. } => self.any(bytes),
+        }
+    }
+
+    /// Reads elements one after the other.
+    pub(crate) fn elements(&mut self, elements: &[Element]) -> Result<(), Stop>
+        requires { IsInside self.old }
+        ensures { Walks (element_wants elements.now) self.old self.new result }
+    {
+        self.each(elements)
+    }
+
     // Prints a number that the description gives.
     fn kept(&mut self, path: &str, value: i128) -> Result<(), Stop>
         requires { IsInside self.old }
@@ -119,19 +154,6 @@ impl Walk<'_> {
         ensures err { IfErr result (λ e. e ≡ stops.NoMemory) }
     {
         self.print(path, value)?;
-        Ok(())
-    }
-
-    /// Prints the line that consists of `pieces`.
-    pub(crate) fn print_line(&mut self, pieces: &[&[u8]]) -> Result<(), Stop>
-        ensures ok { OnOk result
-            (Prints self.old self.new (flat_map (λ piece. piece.now) pieces.now)) }
-        ensures err { IfErr result (λ e. e ≡ stops.NoMemory) }
-    {
-        for piece in pieces {
-            self.text.extend_from_slice(piece)?;
-        }
-        self.text.extend_from_slice(b"\n")?;
         Ok(())
     }
 

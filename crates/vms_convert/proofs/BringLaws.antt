@@ -1,9 +1,9 @@
 -- The parts of a device, as the code walks over them by number.
-use Rattle.vms_convert.proofs.Facade.{changed_append, step_of, add-one, ◌≡◌, ℕ, ◌+◌, ◌<◌, ◌≤◌, true, List, length, Option, Some, None, ℤ, refl, arith, get_or}
+use Rattle.vms_convert.proofs.{Facade.changed_append, Facade.step_of, TakeLaws.first_slots, TakeLaws.first_next, TakeLaws.one_slots}
+use Rattle.vms_convert.proofs.Facade.{add-one, ◌≡◌, ℕ, ◌+◌, ◌<◌, ◌≤◌, Bool, true, false, List, length, Option, Some, None, ℤ, refl, sym, ap, ◌∙◌, arith, get_or}
 use Rattle.vms_convert.proofs.Facade.{append-nil, slice_get-get_or, slice_get, take_all, map-append, Sub, Device, Set, device_cells, own_slots, Image}
-use Rattle.vms_convert.proofs.Facade.{image_slots, device_at, is_well_formed, sub_at, few_cells, own_inside_device, sub_inside, HasSpot, spot_slots, steps_of}
-use Rattle.vms_convert.proofs.Facade.{part_of, part_slots, sub_slots_at, changed, part_place, give_step}
-use Rattle.vms_convert.proofs.TakeLaws.{first_slots, first_next, one_slots}
+use Rattle.vms_convert.proofs.Facade.{image_slots, needed_at, device_at, is_well_formed, sub_at, few_cells, own_inside_device, sub_inside, Typed, HasSpot}
+use Rattle.vms_convert.proofs.Facade.{spot_slots, steps_of, SettlesBy, SettlesSub, part_of, part_slots, sub_slots_at, changed, part_place, give_step}
 use Rattle.vms_spec.specs.declared.Part.TheVariants as parts
 
 module _ (set : Set) (i : ℕ) (lt : i < length set.devices) where
@@ -24,6 +24,12 @@ module _ (set : Set) (i : ℕ) (lt : i < length set.devices) where
       few = omega (arith, few_cells set well i);
       room = omega (arith, sub_inside set i j less);
     }
+
+  pub settle_rest : (a b : Typed) (j : ℕ) → SettlesSub set i j a b → b ≡ record a { numbers = b.numbers }
+  settle_rest a b j s = go (needed_at set i j a.numbers) s where
+    go : (t : Bool) → SettlesBy t set i j a b → b ≡ record a { numbers = b.numbers }
+    go true s = s ∙ ap (λ (x : Typed). record a { numbers = x.numbers }) (sym s)
+    go false s = s.1
 
 -- ---- What is given, part by part.
 

@@ -56,7 +56,7 @@ pub use Rattle.vms_convert.specs.{Rooms.AreRoutes, Rooms.IsRoute, Takes.put_keep
 pub use Rattle.vms_convert.specs.{declared.pairing.Elements.Elements, declared.pairing.Start.Start, declared.returns.LostCell.LostCell}
 pub use Rattle.vms_convert.specs.{declared.room.Route.Route, Calls.ConvertsKept, Calls.IsStreamFor, Calls.PutsStream}
 pub use Rattle.vms_convert.specs.Back.{AreSettled, AreTaken, IsBack, taken, whole}
-pub use Rattle.vms_convert.specs.Bringing.{ArePut, ArePutAt, part_of, part_slots, sub_slots_at}
+pub use Rattle.vms_convert.specs.Bringing.{ArePut, ArePutAt, SettlesBy, SettlesSub, part_of, part_slots, sub_slots_at}
 pub use Rattle.vms_convert.specs.Converted.{AreBack, IsConverted, IsPairAt, recast_each}
 pub use Rattle.vms_convert.specs.Laws.{AnswerLaw, AreRecastOf, BackLaw, ComesBackLaw, Converts, MayBeWritten, OneBackLaw, OneLostLaw, RecastOfLaw}
 pub use Rattle.vms_convert.specs.Losing.{AreWritable, FirstInvalid, Judges, KeepsMachine, KeepsName, first_cell_at, first_of, stream_of}

@@ -4,7 +4,8 @@ use Rattle.vms_convert.proofs.Facade.{◌<◌, ◌≤◌, false, pos, sym, if◌
 use Rattle.vms_convert.proofs.Facade.{Parent, Formula, Not, And, Or, Field, Desc, Sub, Device, Set, truth, place_of, numbers_of, desc_cells, struct_cells}
 use Rattle.vms_convert.proofs.Facade.{no_cell, device_cells, Image, own_cells, is_needed, is_steady, is_steady_in, names_well, WellFormed, IsEarlier, place_up}
 use Rattle.vms_convert.proofs.Facade.{place_below, place_end, sub_size, sub_place_up, places_apart, part_place, SameIn, earlier, sub_clean, bare, needed_from}
-use Rattle.vms_convert.proofs.Facade.{IsCellOf, AreSettled, whole, IsBack, same_lists, IsAtVersions, device_at, needed_at, sub_at, ArePutAt}
+use Rattle.vms_convert.proofs.Facade.{IsCellOf, AreSettled, whole, IsBack, same_lists, IsAtVersions, device_at, needed_at, sub_at, ArePutAt, Typed, SettlesSub}
+use Rattle.vms_convert.proofs.Facade.{SettlesBy}
 use Rattle.vms_spec.specs.{Sets.Cell, Layout.Cell as OneCell}
 
 -- a test that names only fields of these numbers
@@ -76,8 +77,7 @@ module _ (set : Set) (well : WellFormed set) (k : ℕ) (lt : k < length set.devi
       (record { same = λ c low lt. h.left j s c (omega arith) (record { is = e; low = low; high = lt }) })
 
   -- it is needed, so nothing changes
-  pub settled_needed : (now : List ℤ) (j : ℕ) → j < length d.subs → SettledTo set d j before now → needed_at set k j now ≡ true
-      → SettledTo set d (j + 1) before now
+  settled_needed : (now : List ℤ) (j : ℕ) → j < length d.subs → SettledTo set d j before now → needed_at set k j now ≡ true → SettledTo set d (j + 1) before now
   settled_needed now j less h n =
       let e : slice_get d.subs j ≡ Some (sub_at d j) = slice_get-get_or d.subs j _ less in
       record {
@@ -91,7 +91,7 @@ module _ (set : Set) (well : WellFormed set) (k : ℕ) (lt : k < length set.devi
       }
 
   -- it isn't, and its cells are put to their defaults
-  pub settled_bare : (now next : List ℤ) (j : ℕ) → j < length d.subs → SettledTo set d j before now → needed_at set k j now ≡ false → ArePutAt set k j now next
+  settled_bare : (now next : List ℤ) (j : ℕ) → j < length d.subs → SettledTo set d j before now → needed_at set k j now ≡ false → ArePutAt set k j now next
       → SettledTo set d (j + 1) before next
   settled_bare now next j less h n p =
       let s = sub_at d j in
@@ -110,6 +110,13 @@ module _ (set : Set) (well : WellFormed set) (k : ℕ) (lt : k < length set.devi
         left = λ i t c le x.
             p.above c (omega (arith, places_apart set (own_cells set d) d.subs j i s e (omega arith))) ∙ h.left i t c (omega arith) x;
       }
+
+  pub settled_next : (a b : Typed) (j : ℕ) → j < length d.subs → SettledTo set d j before a.numbers → SettlesSub set k j a b
+      → SettledTo set d (j + 1) before b.numbers
+  settled_next a b j less h s = go (needed_at set k j a.numbers) refl s where
+    go : (t : Bool) → needed_at set k j a.numbers ≡ t → SettlesBy t set k j a b → SettledTo set d (j + 1) before b.numbers
+    go true e s = rw s (settled_needed _ j less h e)
+    go false e s = settled_bare _ _ j less h e s.0
 
 pub all_settled : (set : Set) (d : Device) (before now : List ℤ) (j : ℕ) → j ≡ length d.subs → SettledTo set d j before now → AreSettled set d before now
 all_settled set d before now j end h = record {

@@ -1,14 +1,15 @@
 -- The parts of a device, as they are walked over, and their slots.
-use Rattle.std.specs.Prelude.{◌≡◌, ℕ, ◌+◌, ◌<◌, ◌≤◌, List, [], length, get_or, Some, None, Option, ℤ, pos}
+use Rattle.std.specs.Prelude.{◌≡◌, ℕ, ◌+◌, ◌<◌, ◌≤◌, Bool, true, false, List, [], length, get_or, slice_set, Some, None, Option, ℤ, pos}
 use Rattle.vms_spec.specs.declared.Part.{Part}
 use Rattle.vms_spec.specs.declared.Part.TheVariants as parts
 use Rattle.vms_spec.specs.Sets.{Set}
 use Rattle.vms_spec.specs.Layout.{Slot, no_cell, device_cells}
 use Rattle.vms_spec.specs.Images.{Image, sub_slots}
 use Rattle.vms_spec.specs.Places.{own_cell_count}
-use Rattle.vms_desc.specs.Asks.{first_cell}
+use Rattle.vms_desc.specs.Asks.{first_cell, needed_at}
 use Rattle.vms_desc.specs.Described.{device_at}
 use Rattle.vms_desc.specs.Parts.{desc_at, sub_at}
+use Rattle.vms_image.specs.Typed.{Typed}
 use Rattle.vms_walk.specs.declared.fields.PartAt.{PartAt}
 
 -- A part at the version of its set.
@@ -36,3 +37,17 @@ sub_slots_at set i j (Some v) numbers = sub_slots set (sub_at (device_at set i) 
 -- The slots of subsection j of device i in an image.
 abbrev pub part_slots : Set → ℕ → ℕ → Image → List Slot
 part_slots set i j image = sub_slots_at set i j (get_or image.came j None) image.numbers
+
+-- Subsection j is settled: its cells are put to their defaults, unless it is needed.
+abbrev pub SettlesBy : Bool → Set → ℕ → ℕ → Typed → Typed → Type 0
+SettlesBy true set i j before now = now ≡ before
+SettlesBy false set i j before now = ArePutAt set i j before.numbers now.numbers × (now ≡ record before { numbers = now.numbers })
+
+-- The same, where the image's numbers say whether it is needed.
+abbrev pub SettlesSub : Set → ℕ → ℕ → Typed → Typed → Type 0
+SettlesSub set i j before now = SettlesBy (needed_at set i j before.numbers) set i j before now
+
+-- Subsection j is marked as present at its version, if it is needed.
+abbrev pub marked_by : Bool → Set → ℕ → ℕ → List (Option ℕ) → List (Option ℕ)
+marked_by true set i j came = slice_set came j (Some (sub_at (device_at set i) j).desc.version)
+marked_by false set i j came = came

@@ -2,6 +2,7 @@
 use Rattle.std.specs.Prelude.{◌≡◌, ℕ, ◌<◌, List, length, get_or, map, slice_set, Option, None, ℤ}
 use Rattle.vms_spec.specs.Images.{image_slots}
 use Rattle.vms_spec.specs.Layout.{no_cell, device_cells}
+use Rattle.vms_desc.specs.Asks.{needed_at}
 use Rattle.vms_desc.specs.Described.{described, device_at}
 use Rattle.vms_desc.specs.declared.set.DescSet.{DescSet}
 use Rattle.vms_image.specs.Typed.{IsImageOf, Typed, default_at, state_of}
@@ -10,7 +11,7 @@ use Rattle.vms_walk.specs.declared.fields.PartAt.{PartAt}
 use Rattle.vms_walk.specs.declared.step.WalkStep.{WalkStep}
 use Rattle.dev_images.specs.Images.{bare, needed_from}
 use Rattle.vms_convert.specs.Back.{AreSettled, AreTaken, IsBack}
-use Rattle.vms_convert.specs.Bringing.{ArePutAt, part_slots}
+use Rattle.vms_convert.specs.Bringing.{ArePutAt, SettlesSub, marked_by, part_slots}
 use Rattle.vms_convert.specs.Changes.{Changes}
 use Rattle.vms_convert.specs.Giving.{MayGive, give_step}
 use Rattle.vms_convert.specs.Putting.{AreSources}
@@ -77,6 +78,10 @@ module _ (set : DescSet) (i : ℕ) where
     pub settled : AreSettled (described set) (device_at (described set) i) before.numbers now.numbers
     pub rest : now ≡ record before { numbers = now.numbers }
 
+  -- This is so for subsection j.
+  abbrev pub SettlesOne : ℕ → Typed → Typed → Type 0
+  SettlesOne j before now = SettlesSub (described set) i j before now
+
   -- The cells of subsection j are at their defaults, and nothing else has changed.
   pub record PutsDefaults (j : ℕ) (before now : Typed) : Type 0 where
     pub puts : ArePutAt (described set) i j before.numbers now.numbers
@@ -95,6 +100,12 @@ module _ (set : DescSet) (i : ℕ) where
   MarksAll before now =
       let d = device_at (described set) i in
       now ≡ record before { came = needed_from (described set) d (bare d before.numbers) 0 d.subs }
+
+  -- Subsection j is present at its version, if it is needed.
+  abbrev pub MarksOne : ℕ → Typed → Typed → Type 0
+  MarksOne j before now =
+      let needed = needed_at (described set) i j before.numbers in
+      now ≡ record before { came = marked_by needed (described set) i j before.came }
 
 -- ---- the numbers of an older device, which an image of the newer set receives
 

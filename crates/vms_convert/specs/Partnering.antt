@@ -156,6 +156,15 @@ module _ (s t : Side) where
     pub few : HasFew s k
     pub start : IsStart t a
 
+  -- The same, where field k is present, and the start is at a present field or the end.
+  pub record CanPairPresent (k : ℕ) (a : Start) : Type 0 where
+    pub old : IsSide s
+    pub new : IsSide t
+    pub field : k < length (desc_on s).fields
+    pub there : is_absent s.version (get_or (desc_on s).fields k no_field) ≡ false
+    pub few : HasFew s k
+    pub found : IsNextStart t a a
+
 -- Element i is one of the older ones, and the newer cells from it on are within the limit.
 pub record CanPairElement (a : Arrays) (i at : ℕ) : Type 0 where
   pub arrays : AreArrays a

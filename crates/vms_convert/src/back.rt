@@ -4,7 +4,7 @@ ghost use Rattle.vms_desc.specs.Described.{described};
 ghost use Rattle.vms_desc.specs.Parts.{HasPart};
 ghost use Rattle.vms_convert.specs.Bringing.{part_of};
 ghost use Rattle.vms_convert.specs.OneDevice.{CanTake, ComesBack, HasBareImage, HasCell, HasCellImage, HasImage, HasSubImage};
-ghost use Rattle.vms_convert.specs.OneDevice.{MarksAll, PutsDefault, PutsDefaults, SettlesAll, TakesAll, default_in};
+ghost use Rattle.vms_convert.specs.OneDevice.{MarksAll, MarksOne, PutsDefault, PutsDefaults, SettlesAll, SettlesOne, TakesAll, default_in};
 
 use crate::taking::take_part;
 use vms_desc::{DescSet, Part};
@@ -60,9 +60,17 @@ fn settle(set: &DescSet, device: u32, image: &mut Image)
     ensures { SettlesAll set.now device image.old image.new }
 {
     for sub in 0..set.sub_count(device) {
-        if !set.is_needed(device, sub, image) {
-            put_defaults(set, device, sub, image);
-        }
+        settle_sub(set, device, sub, image);
+    }
+}
+
+// Does this for one subsection.
+fn settle_sub(set: &DescSet, device: u32, sub: u32, image: &mut Image)
+    requires { HasSubImage set.now device sub image.old }
+    ensures { SettlesOne set.now device sub image.old image.new }
+{
+    if !set.is_needed(device, sub, image) {
+        put_defaults(set, device, sub, image);
     }
 }
 
@@ -101,9 +109,17 @@ fn mark(set: &DescSet, device: u32, image: &mut Image)
     ensures { MarksAll set.now device image.old image.new }
 {
     for sub in 0..set.sub_count(device) {
-        if set.is_needed(device, sub, image) {
-            let version = set.desc(Part::Sub(device, sub)).version;
-            image.mark(sub, Some(version));
-        }
+        mark_sub(set, device, sub, image);
+    }
+}
+
+// Marks one subsection, if the numbers need it.
+fn mark_sub(set: &DescSet, device: u32, sub: u32, image: &mut Image)
+    requires { HasSubImage set.now device sub image.old }
+    ensures { MarksOne set.now device sub image.old image.new }
+{
+    if set.is_needed(device, sub, image) {
+        let version = set.desc(Part::Sub(device, sub)).version;
+        image.mark(sub, Some(version));
     }
 }

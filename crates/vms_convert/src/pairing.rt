@@ -3,7 +3,7 @@ ghost use Rattle.std.specs.Prelude.{◌≡◌, ◌++◌, ◌<◌, length, replic
 ghost use Rattle.vms_desc.specs.Described.{described, device_at};
 ghost use Rattle.vms_check.specs.Partners.{device_partners};
 ghost use Rattle.vms_convert.specs.Partnering.{AreArrays, HasRoom, IsBehind, IsNextStart, PairsElement, PairsField};
-ghost use Rattle.vms_convert.specs.Partnering.{AtField, AtStart, CanPair, CanPairElement, CanPairField, CanPairItems};
+ghost use Rattle.vms_convert.specs.Partnering.{AtField, AtStart, CanPair, CanPairElement, CanPairField, CanPairItems, CanPairPresent};
 ghost use Rattle.vms_convert.specs.Partnering.{CanPairSub, HasField, HaveFields};
 ghost use Rattle.vms_convert.specs.Partnering.{arrays_on, elements_left, elements_on, items_in, partners_on, sub_on};
 
@@ -130,8 +130,7 @@ fn pair_descs(
     Ok(())
 }
 
-// Pairs one field, if it is present, with the newer side's first present field from `start` on, if
-// there is one. Returns the start after that.
+// Pairs one field with the newer side's first present field from `start` on. Returns the start after that.
 #[cycle(pairing)]
 fn pair_field(
     old: Side,
@@ -146,18 +145,37 @@ fn pair_field(
         IfOk result (λ next. PairsField old.entry new.entry number start next before after) }
 {
     if is_present(&fields_of(old)[number as usize], old.version) {
-        let found = next_start(new, start);
-        if found.field < new.set.field_count(new.part) {
-            let arrays = arrays_of(old, number, new, found.field);
-            pair_arrays(arrays, found.cell, partners)?;
-            Ok(behind(new, found))
-        } else {
-            put_unpaired(old.set.field_cells(old.part, number), partners)?;
-            Ok(found)
-        }
+        pair_present(old, number, new, next_start(new, start), partners)
     } else {
         put_unpaired(old.set.field_cells(old.part, number), partners)?;
         Ok(start)
+    }
+}
+
+// Pairs one present field with a present field of the newer side, or with none.
+#[cycle(pairing)]
+fn pair_present(
+    old: Side,
+    number: u32,
+    new: Side,
+    found: Start,
+    partners: &mut Vec<Option<u32>>,
+) -> Result<Start, AllocError>
+    requires { CanPairPresent old new number found }
+    ensures { let before = partners.old.items in
+        let after = partners.new.items in
+        IfOk result (λ next. PairsField old.entry new.entry number found next before after) }
+{
+    if found.field < new.set.field_count(new.part) {
+        pair_arrays(
+            arrays_of(old, number, new, found.field),
+            found.cell,
+            partners,
+        )?;
+        Ok(behind(new, found))
+    } else {
+        put_unpaired(old.set.field_cells(old.part, number), partners)?;
+        Ok(found)
     }
 }
 

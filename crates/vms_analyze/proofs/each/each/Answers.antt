@@ -12,7 +12,7 @@ returns-in-Err g c =
     let l = c.loop-item in
     stops g.T.Reads.means (λ (v : Vec g.row.T.Denot Global). map g.T.Reads.means v.items) g.T.Reads.says (items_left l.items) (items_left c.next.new.self)
     (view c.in-Some.item)
-    (each g.T.Reads.says (items_left c.args.items)) (map g.T.Reads.means l.list.items) c.in-Err.stop l.invariant c.in-Some.ensures.value c.in-Err.ensures
+    (each g.T.Reads.says (items_left c.args.items)) (map g.T.Reads.means l.list.items) c.in-Err.unread l.invariant c.in-Some.ensures.value c.in-Err.ensures
 
 pub loop-item-preserved : goal.loop-item-preserved
 loop-item-preserved g c =

@@ -17,10 +17,10 @@ returns-in-Ok c =
     lists_as input (listing_of (found (wants (map device_of c.deref.result.now)) 0 0 (take place input))) c.show.result
     (IsRead place (map device_of c.deref.result.now) c.requires.few c.requires.last tells) c.show.ensures
 
-pub returns-in-Err-Differs : goal.returns-in-Err-Differs
-returns-in-Err-Differs c =
+pub returns-in-Err-Shape : goal.returns-in-Err-Shape
+returns-in-Err-Shape c =
     let input = c.args.input.now in
     let place = c.args.place in
     let none : next (value_in (drop (place + 5) input)) devices_in ≡ None =
-    rw (sym (text_behind input (place + 5))) ((rw c.in-Err-Differs.field-0-is at c.in-Err-Differs.ensures)) in
+    rw (sym (text_behind input (place + 5))) ((rw c.in-Err-Shape.field-0-is at c.in-Err-Shape.ensures)) in
     HasNoShape place c.requires.few c.requires.last (not_told input place none)

@@ -1,9 +1,6 @@
-use Rattle.vms_convert.proofs.Facade.{ℕ, List, Option, ap, ◌∙◌, arith, described, device_at, bare, few_cells}
+use Rattle.vms_convert.proofs.Facade.{ℕ, List, Option, ap, ◌∙◌, arith, described, device_at, bare}
 use Rattle.vms_convert.proofs.Settling.{all_marked}
 use Rattle.vms_convert.proofs.back.mark.Goals as goal
-
-pub is_needed-requires-clause-few : goal.is_needed-requires-clause-few
-is_needed-requires-clause-few c = omega (arith, few_cells (described c.args.set.now) c.args.set.now.well_formed c.args.device)
 
 pub returns : goal.returns
 returns c =

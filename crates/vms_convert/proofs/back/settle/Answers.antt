@@ -1,29 +1,19 @@
-use Rattle.vms_convert.proofs.Facade.{◌<◌, length, sym, arith, WellFormed, first_fault, described, device_at, few_cells, none_is}
-use Rattle.vms_convert.proofs.Settling.{all_settled, settled_bare, settled_needed}
+use Rattle.vms_convert.proofs.{BringLaws.settle_rest, Settling.settled_next, Settling.all_settled}
+use Rattle.vms_convert.proofs.Facade.{◌<◌, length, arith, WellFormed, first_fault, described, device_at, none_is}
 use Rattle.vms_convert.proofs.back.settle.Goals as goal
-
-pub is_needed-requires-clause-few : goal.is_needed-requires-clause-few
-is_needed-requires-clause-few c = omega (arith, few_cells (described c.args.set.now) c.args.set.now.well_formed c.args.device)
-
-pub loop-sub-preserved-then-not-is_needed : goal.loop-sub-preserved-then-not-is_needed
-loop-sub-preserved-then-not-is_needed c =
-    let set = described c.args.set.now in
-    let h = c.loop-sub.invariant in
-    let well : WellFormed set = none_is (first_fault set) c.args.set.now.well_formed in
-    let less : c.loop-sub.sub < length (device_at set c.args.device).subs = omega arith in
-    let put = c.put_defaults.ensures in
-    record {
-      rest = cc (put.rest, h.rest);
-      settled = settled_bare set well c.args.device c.requires.device _ c.loop-sub.image.numbers _ _ less h.settled (sym c.if-not-is_needed.ensures) put.puts;
-    }
 
 pub loop-sub-preserved : goal.loop-sub-preserved
 loop-sub-preserved c =
     let set = described c.args.set.now in
-    let h = c.loop-sub.invariant in
+    let k = c.args.device in
+    let j = c.loop-sub.sub in
     let well : WellFormed set = none_is (first_fault set) c.args.set.now.well_formed in
-    let less : c.loop-sub.sub < length (device_at set c.args.device).subs = omega arith in
-    record { rest = h.rest; settled = settled_needed set well c.args.device c.requires.device _ _ _ less h.settled (sym c.if-not-is_needed.ensures) }
+    let less : j < length (device_at set k).subs = omega arith in
+    record {
+      rest = cc (settle_rest set k c.requires.device c.loop-sub.image c.settle_sub.new.image j c.settle_sub.ensures, c.loop-sub.invariant.rest);
+      settled = settled_next set well k c.requires.device c.args.image.now.numbers c.loop-sub.image c.settle_sub.new.image j less c.loop-sub.invariant.settled
+          c.settle_sub.ensures;
+    }
 
 pub returns : goal.returns
 returns c = record {

@@ -1,7 +1,5 @@
-use Rattle.vms_convert.proofs.Facade.{ℕ, ◌+◌, ◌*◌, ◌<◌, ◌≤◌, List, ◌++◌, length, Option, refl, sym, ap, ◌∙◌, arith, rules, not-false, on_ok_weaker, ◌≡◌}
-use Rattle.vms_convert.proofs.Facade.{subst}
-use Rattle.vms_convert.proofs.Facade.{false, get_or, no_field, HasFew, field_of, item_on, ltb-true, described, found_field, reach, is_absent, desc_on}
-use Rattle.vms_convert.proofs.Facade.{partners_on}
+use Rattle.vms_convert.proofs.Facade.{ℕ, ◌+◌, ◌*◌, ◌<◌, ◌≤◌, List, ◌++◌, length, Option, refl, sym, ap, ◌∙◌, arith, rules, not-false, on_ok_weaker, ◌≡◌, subst}
+use Rattle.vms_convert.proofs.Facade.{false, HasFew, field_of, item_on, ltb-true, described, found_field, reach, is_absent, desc_on, partners_on}
 use Rattle.vms_convert.proofs.PartnerLaws.{depth, structs_paired}
 use Rattle.vms_convert.proofs.PartnerSteps.{absent_pairs, all_paired, alone_pairs, arrays_are, arrays_room, both_pair, element_alone_pairs, element_pairs}
 use Rattle.vms_convert.proofs.PartnerSteps.{elements_all, few_next, few_struct, field_depth, room_struct}
@@ -56,36 +54,32 @@ pair_field-returns-in_ok-put_unpaired t c =
     absent_pairs c.args.old c.args.new c.args.number c.requires.field c.requires.few c.args.partners.now.items c.put_unpaired.new.partners.items
     c.args.start c.requires.start (rw (← is) absent) (rw c.field_cells.ensures at c.in_ok-put_unpaired.ensures)
 
-pub pair_field-pair_arrays-requires : goal.pair_field-pair_arrays-requires
-pair_field-pair_arrays-requires t c =
+pub pair_present-pair_arrays-requires : goal.pair_present-pair_arrays-requires
+pair_present-pair_arrays-requires t c =
     let s = c.args.old in
     let r = c.args.new in
-    let found = c.next_start-found.result in
-    let inside : found.field < length (desc_on r).fields = omega arith in
-    let low : depth c.arrays_of-arrays.result.one.item ≤ reach (described s.set.now) s.part =
-    rw c.arrays_of-arrays.ensures (field_depth s c.args.number c.requires.old c.requires.field) in
-    let less : 5 * depth c.arrays_of-arrays.result.one.item + 2 < 5 * reach (described s.set.now) s.part + 3 = omega arith in (
+    let inside : c.args.found.field < length (desc_on r).fields = omega arith in
+    let low : depth c.arrays_of.result.one.item ≤ reach (described s.set.now) s.part =
+    rw c.arrays_of.ensures (field_depth s c.args.number c.requires.old c.requires.field) in
+    let less : 6 * depth c.arrays_of.result.one.item + 2 < 6 * reach (described s.set.now) s.part + 3 = omega arith in (
       search rules,
       (
-        rw c.arrays_of-arrays.ensures (arrays_are s r c.args.number found.field c.requires.old c.requires.new c.requires.field inside c.requires.few),
-        rw c.arrays_of-arrays.ensures (arrays_room s r c.args.number found inside c.next_start-found.ensures.start),
+        rw c.arrays_of.ensures (arrays_are s r c.args.number c.args.found.field c.requires.old c.requires.new c.requires.field inside c.requires.few),
+        rw c.arrays_of.ensures (arrays_room s r c.args.number c.args.found inside c.requires.found.start),
       ),
     )
 
-pub pair_field-returns-in_ok-pair_arrays : goal.pair_field-returns-in_ok-pair_arrays
-pair_field-returns-in_ok-pair_arrays t c =
+pub pair_present-returns-in_ok-pair_arrays : goal.pair_present-returns-in_ok-pair_arrays
+pair_present-returns-in_ok-pair_arrays t c =
     let r = c.args.new in
-    let there : is_absent c.args.old.version (get_or (desc_on c.args.old).fields c.args.number no_field) ≡ false = search rules in
-    let found = c.next_start-found.result in
-    both_pair c.args.old r c.args.number c.requires.field c.requires.few c.args.partners.now.items c.pair_arrays.new.partners.items c.args.start found
-    c.behind.result c.next_start-found.ensures (omega arith) c.behind.ensures there
-    (rw (c.arrays_of-arrays.ensures, elements_all c.args.old r c.args.number found.field found.cell) at c.in_ok-pair_arrays.ensures)
+    both_pair c.args.old r c.args.number c.requires.field c.requires.few c.args.partners.now.items c.pair_arrays.new.partners.items c.args.found c.args.found
+    c.behind.result c.requires.found (omega arith) c.behind.ensures c.requires.there
+    (rw (c.arrays_of.ensures, elements_all c.args.old r c.args.number c.args.found.field c.args.found.cell) at c.in_ok-pair_arrays.ensures)
 
-pub pair_field-returns-in_ok-put_unpaired-2 : goal.pair_field-returns-in_ok-put_unpaired-2
-pair_field-returns-in_ok-put_unpaired-2 t c =
-    let there : is_absent c.args.old.version (get_or (desc_on c.args.old).fields c.args.number no_field) ≡ false = search rules in
-    alone_pairs c.args.old c.args.new c.args.number c.requires.field c.requires.few c.args.partners.now.items c.put_unpaired.new.partners.items c.args.start
-    c.next_start-found.result c.next_start-found.ensures (omega arith) there (rw c.field_cells.ensures at c.in_ok-put_unpaired.ensures)
+pub pair_present-returns-in_ok-put_unpaired : goal.pair_present-returns-in_ok-put_unpaired
+pair_present-returns-in_ok-put_unpaired t c =
+    alone_pairs c.args.old c.args.new c.args.number c.requires.field c.requires.few c.args.partners.now.items c.put_unpaired.new.partners.items c.args.found
+    c.args.found c.requires.found (omega arith) c.requires.there (rw c.field_cells.ensures at c.in_ok-put_unpaired.ensures)
 
 -- structures
 pub pair_items-pair_descs-requires : goal.pair_items-pair_descs-requires
@@ -96,7 +90,7 @@ pair_items-pair_descs-requires t c =
     let newer = c.at_own_version-newer.ensures in
     let old = ltb-true m.in_old (length (described sets.old.now).structs) (rw m.is-0 at c.requires.one) in
     let new = ltb-true m.in_new (length (described sets.new.now).structs) (rw m.is-1 at c.requires.other) in
-    let less : 5 * reach (described c.at_own_version-older.result.set.now) c.at_own_version-older.result.part + 4 < 5 * depth c.args.one =
+    let less : 6 * reach (described c.at_own_version-older.result.set.now) c.at_own_version-older.result.part + 5 < 6 * depth c.args.one =
     rw (older, m.is-0) (omega arith) in (
       search rules,
       record {

@@ -3,19 +3,22 @@ use Rattle.vms_convert.proofs.PartnerLaws.{depth}
 use Rattle.vms_convert.proofs.pairing.+pairing.Given as goal
 
 abbrev pub decreases-pair_descs : goal.decreases-pair_descs
-decreases-pair_descs l = 5 * reach (described l.old.set.now) l.old.part + 4
+decreases-pair_descs l = 6 * reach (described l.old.set.now) l.old.part + 5
 
 abbrev pub decreases-pair_field : goal.decreases-pair_field
-decreases-pair_field l = 5 * reach (described l.old.set.now) l.old.part + 3
+decreases-pair_field l = 6 * reach (described l.old.set.now) l.old.part + 4
+
+abbrev pub decreases-pair_present : goal.decreases-pair_present
+decreases-pair_present l = 6 * reach (described l.old.set.now) l.old.part + 3
 
 abbrev pub decreases-pair_arrays : goal.decreases-pair_arrays
-decreases-pair_arrays l = 5 * depth l.arrays.one.item + 2
+decreases-pair_arrays l = 6 * depth l.arrays.one.item + 2
 
 abbrev pub decreases-pair_element : goal.decreases-pair_element
-decreases-pair_element l = 5 * depth l.arrays.one.item + 1
+decreases-pair_element l = 6 * depth l.arrays.one.item + 1
 
 abbrev pub decreases-pair_items : goal.decreases-pair_items
-decreases-pair_items l = 5 * depth l.one
+decreases-pair_items l = 6 * depth l.one
 
 abbrev pub invariant-pair_descs-loop-number : goal.invariant-pair_descs-loop-number
 invariant-pair_descs-loop-number l = record {

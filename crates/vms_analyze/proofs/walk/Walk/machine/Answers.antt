@@ -1,4 +1,4 @@
-use Rattle.vms_analyze.proofs.Facade.{append-nil, ◌≡◌, ◌+◌, length, true, refl, sym, ap, ◌∙◌, begins_with, configuration, left, Walk}
+use Rattle.vms_analyze.proofs.Facade.{◌≡◌, ◌+◌, length, true, refl, sym, ap, ◌∙◌, begins_with, configuration, left, Walk}
 use Rattle.vms_analyze.proofs.Walks.{machine_goes, machine_passes, prints_walk}
 use Rattle.vms_analyze.proofs.walk.Walk.machine.Goals as goal
 
@@ -13,7 +13,7 @@ returns c =
     let items : c.configuration-spelled.result.items ≡ configuration name = c.configuration-spelled.ensures in
     let begins : begins_with (configuration name) (left walk) ≡ true =
     ap (λ l. begins_with l (left walk)) (sym (c.as_slice.ensures.value ∙ items)) ∙ sym c.if-not-begins_with.ensures in
-    prints_walk c.print_line.result
-    (machine_goes walk mid c.print_line.new.self name c.in-Some.ensures.good begins refl c.requires
+    prints_walk c.print_machine.result
+    (machine_goes walk mid c.print_machine.new.self name c.in-Some.ensures.good begins refl c.requires
     (rw (c.len.ensures.value ∙ ap length items)) refl refl)
-    (rw (append-nil name) at c.print_line.ensures.ok) c.print_line.ensures.err
+    c.print_machine.ensures.ok c.print_machine.ensures.err
