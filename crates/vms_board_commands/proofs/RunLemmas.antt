@@ -1,6 +1,6 @@
 -- The run of a command, from the steps before its work and from the work itself.
 use Rattle.vms_board_commands.proofs.CourseLemmas.{MayAsk, unread_so, unset_so}
-use Rattle.vms_board_commands.proofs.Facade.{◌≡◌, ℕ, ◌<◌, ◌^◌, Bool, true, false, List, [], ◌∷◌, Option, Some, Err, refl, sym, ap, subst, ◌∙◌, IfSome}
+use Rattle.vms_board_commands.proofs.Facade.{◌≡◌, ℕ, ◌<◌, ◌^◌, Bool, true, false, List, [], ◌∷◌, Option, Some, Ok, Err, refl, sym, ap, subst, ◌∙◌, IfSome}
 use Rattle.vms_board_commands.proofs.Facade.{IsSomeAnd, Keeps-refl, IsBytes, Held, Intake, Outlet, Stock, Looks, Rose, Course, Draws, EndsSo, is_among}
 use Rattle.vms_board_commands.proofs.Facade.{SetCause, Ending, ReadFault, Outcome, Seen, SeenAs, StepAs, Step, TextEnds, Untold, next, comes_to_nothing}
 use Rattle.vms_board_commands.proofs.Facade.{ended_by, quiet_same, so_since, status_of, None, WriteFault, stream_course, text_ends, then_text, wrong}
