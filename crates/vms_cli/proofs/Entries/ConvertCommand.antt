@@ -88,8 +88,8 @@ converted word input held can =
 pub convert_row : (word : SetWord) → IsRow (convert_entry word)
 convert_row word = record {
   fits = text_fits _ refl (inl refl) refl refl;
-  one = λ input held ok holds words. one_by (λ to o. Converts to input (Some held) o) held (target (Some held) word) (sound_target _ word) (λ to is.
-      let suits = subst Suits is (suits_next _ (fit_word (Some held) word)) in
+  one = λ input held ok holds words. one_by (λ to o. Converts to input (Some held) o) held (target (Some held) word) (sound_target (Some held) word) (λ to is.
+      let suits = subst Suits is (suits_next (word_set (Some held) word) (fit_word (Some held) word)) in
       one_answered to suits.0 suits.1 input held ok (either_holds newest newest.machines newest_fit.well newest_fit.heads input ok));
   done = λ input held octets words can. converted word input held can;
 }

@@ -1,6 +1,6 @@
 -- `show` has one outcome, and what can be shown is.
 use Rattle.vms_cli.proofs.Facade.{ℕ, ◌+◌, List, Option, Some, None, refl, inl, Held, IsBytes, values_text, Set, IsFit, Answer, Taken, Faulty, either_holds}
-use Rattle.vms_cli.proofs.Facade.{refused_line, done, ended, SetWord, FitStep, fit_word, sound_word_set, CanBeShown, Refuses, Shows, HasOne, show_entry, subst}
+use Rattle.vms_cli.proofs.Facade.{refused_line, done, ended, SetWord, FitStep, fit_word, sound_word_set, CanBeShown, Refuses, Shows, HasOne, show_entry, subst, word_set}
 use Rattle.vms_cli.proofs.RowFacts.{IsDone, IsRow, one_by, text_fits}
 use Rattle.vms_cli.proofs.ShowLemmas.{shows_same, shows_under}
 use Rattle.vms_cli.specs.Commands.ShowCommand.{Values as Printed}
@@ -29,7 +29,7 @@ shown word (Some bytes) held can =
 pub show_row : (word : SetWord) → IsRow (show_entry word)
 show_row word = record {
   fits = text_fits _ refl (inl refl) refl refl;
-  one = λ input held ok holds words. one_by (shows_under (Some input) (Some held)) held (word_set (Some held) word) (sound_word_set _ word) (λ set is.
+  one = λ input held ok holds words. one_by (shows_under (Some input) (Some held)) held (word_set (Some held) word) (sound_word_set (Some held) word) (λ set is.
       let fit = subst FitStep is (fit_word (Some held) word) in
       one_answered set fit input held ok (either_holds set set.machines fit.well fit.heads input ok));
   done = λ input held octets words can. shown word input held can;
