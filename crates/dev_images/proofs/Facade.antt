@@ -6,7 +6,7 @@ pub use Rattle.std.proofs.lemmas.Bool.{and_from, and_parts, eq-eqb, eqb-true, le
 pub use Rattle.std.specs.{List.AllByRecursion, List.flat_map, List.slice_get, Prelude.bit_and, Prelude.codes, Prelude.nat_le, Prelude.nat_lt}
 pub use Rattle.vms_kinds.specs.{Codes.InRange, Codes.residue, declared.Item.TheVariants.Num, declared.Kind.Kind}
 pub use Rattle.vms_kinds.specs.declared.Kind.TheVariants.{I8, Timer, U16, U8}
-pub use Rattle.vms_spec.proofs.{ListLaws.or_second, NumberLaws.same_number_is, WellFormedLaws.within}
+pub use Rattle.vms_spec.proofs.{ListsAndNumbers.or_second, ListsAndNumbers.same_number_is, WellFormedLaws.within}
 pub use Rattle.vms_spec.specs.Lookup.{find_device, index}
 pub use Rattle.vms_spec.specs.{Images.own_slots, Images.sub_slots, Numbers.same_number, Rules.counts_well, Sets.Desc, Sets.Device, Sets.Set, Sets.Sub}
 pub use Rattle.vms_spec.specs.Images.{AreVersionsOf, FitCells, Image, IsNormal, IsValid, IsVersionOf, RulesHold, came_slots, has_cell, image_slots, own_cells}

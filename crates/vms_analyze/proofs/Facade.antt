@@ -20,9 +20,8 @@ unfoldable pub use Rattle.std.specs.{Fmt.digits, Str.chars, Str.is_utf8}
 pub use Rattle.vms_kinds.specs.{Codes.InRange, Codes.highest, Codes.lowest, Codes.width, declared.Item.Item, declared.Kind.Kind, declared.Kind.TheVariants.U64}
 pub use Rattle.vms_kinds.specs.declared.Item.TheVariants.{Num, Unused}
 unfoldable pub use Rattle.vms_kinds.specs.Codes.{code}
-pub use Rattle.vms_spec.proofs.{NameBytes.name_byte_low, NumberLaws.same_number_is, ListLaws.either_of}
-pub use Rattle.vms_spec.proofs.Faultless.{all_true, every_one, few_devices, machine_short, or_else_none}
-pub use Rattle.vms_spec.proofs.KindLaws.{be32_read, length-code, value_code, width_small}
+pub use Rattle.vms_spec.proofs.ListsAndNumbers.{name_byte_low, same_number_is, either_of, be32_read, length-code, value_code, width_small}
+pub use Rattle.vms_spec.proofs.WellFormedLaws.{all_true, every_one, few_devices, machine_short, or_else_none}
 pub use Rattle.vms_spec.specs.{Heads.FitsHeads, Lookup.bytes_at, Lookup.number_at, Spelling.begins_with, Values.values_text, declared.Count.Count}
 pub use Rattle.vms_spec.specs.{declared.Count.TheVariants.One, declared.Part.Part, declared.TheConstants.LONGEST_NAME, declared.TheConstants.MOST_UNUSED}
 pub use Rattle.vms_spec.specs.Images.{Image, own_cells, sub_slots, zeroed}

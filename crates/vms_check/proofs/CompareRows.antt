@@ -3,7 +3,7 @@ use Rattle.vms_check.proofs.Facade.{◌≡◌, ℕ, List, [], ◌∷◌, Option,
 use Rattle.vms_check.proofs.Facade.{Lt, Own, Set, Desc, Field, Sub, Formula, Below, Cell, And, first, here, in_field, Mismatch, first_mismatch, carried, set_0}
 use Rattle.vms_check.proofs.Facade.{set_1, set_3, number, box, box_set, counted_set, subsection_set, tested_set, empty_set}
 use Rattle.vms_spec.specs.declared.Part.TheVariants as parts
-use Rattle.vms_spec.proofs.Boxes.{sub_of}
+use Rattle.vms_spec.proofs.Examples.{sub_of}
 
 unfoldable compared : Set → Set → Option Mismatch
 unfolding first_mismatch

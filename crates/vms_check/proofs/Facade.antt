@@ -12,10 +12,10 @@ pub use Rattle.std.specs.Prelude.{if◌then◌else◌, is_none, nat_lt, not, ◌
 pub use Rattle.vms_kinds.specs.{declared.Item.Item, declared.TheConstants.NEWEST_SET}
 pub use Rattle.vms_kinds.specs.declared.Item.TheVariants.{Equal, Num, Struct, Unused}
 pub use Rattle.vms_kinds.specs.declared.Kind.TheVariants.{I8, U16, U8}
-pub use Rattle.vms_spec.proofs.{Faultless.answers_none, Faultless.or_else_none, ListLaws.all_right, ListLaws.both_none, ListLaws.found_inside}
-pub use Rattle.vms_spec.proofs.{NumberLaws.same_number_itself, ShippedSets.each, Tables.first_at, Tables.first_long}
-pub use Rattle.vms_spec.proofs.Boxes.{box, box_set, counted_set, empty_set, number, subsection_set, tested_set}
-pub use Rattle.vms_spec.proofs.WellFormedLaws.{Clean, beyond, device_found, device_parts, struct_clean, sub_clean, sub_found, untested}
+pub use Rattle.vms_spec.proofs.{WellFormedLaws.sub_found, ShippedSets.each, Tables.first_at, Tables.first_long}
+pub use Rattle.vms_spec.proofs.Examples.{box, box_set, counted_set, empty_set, number, subsection_set, tested_set}
+pub use Rattle.vms_spec.proofs.ListsAndNumbers.{same_number_itself, all_right, both_none, found_inside}
+pub use Rattle.vms_spec.proofs.WellFormedLaws.{untested, answers_none, or_else_none, Clean, beyond, device_found, device_parts, struct_clean, sub_clean}
 pub use Rattle.vms_spec.specs.{Lists.first_answer, Lists.or_else, Lists.position, Lookup.find_device, Lookup.find_sub, Lookup.index, Readiness.is_version_of}
 pub use Rattle.vms_spec.specs.{Rules.nodes, Rules.test_names_well, Rules.uses_below, Shipped.set_0, Shipped.set_1, Shipped.set_3, Shipped.shipped_sets}
 pub use Rattle.vms_spec.specs.{Streams.is_one_of, Tests.truth, declared.Count.Count, declared.Part.Part, declared.Place.Place, declared.Rel.Rel}

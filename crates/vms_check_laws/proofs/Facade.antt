@@ -12,12 +12,11 @@ pub use Rattle.byteorder.specs.Endian.{big_number}
 pub use Rattle.vms_kinds.specs.{Codes.InRange, Codes.code, Codes.highest, Codes.residue, Codes.width, declared.Item.Item, declared.Kind.Kind}
 pub use Rattle.vms_kinds.specs.declared.Item.TheVariants.{Equal, Num, Struct, Unused}
 pub use Rattle.vms_kinds.specs.declared.Kind.TheVariants.{U16, U32, U8}
-pub use Rattle.vms_spec.proofs.{NumberLaws.same_number_is, ListLaws.all_right, ListLaws.either_of, Tables.first_at, Tables.first_long}
-pub use Rattle.vms_spec.proofs.Faultless.{AllTrue, answers_none, every_one, few_devices, machine_short, or_else_none}
-pub use Rattle.vms_spec.proofs.KindLaws.{code_read, length-code}
-pub use Rattle.vms_spec.proofs.Prefixes.{FieldsBelow, ItemBelow, desc_cells_same, first_same, item_below, struct_cells_at, struct_slots}
-pub use Rattle.vms_spec.proofs.Sizes.{elements_fit, field_size, size_same}
-pub use Rattle.vms_spec.proofs.WellFormedLaws.{Clean, device_found, device_parts, ranges, struct_clean, sub_clean, sub_found, within}
+pub use Rattle.vms_spec.proofs.ListsAndNumbers.{same_number_is, all_right, either_of, code_read, length-code}
+pub use Rattle.vms_spec.proofs.Tables.{first_at, first_long, elements_fit, field_size, size_same, FieldsBelow, ItemBelow, desc_cells_same, first_same}
+pub use Rattle.vms_spec.proofs.Tables.{item_below, struct_cells_at, struct_slots}
+pub use Rattle.vms_spec.proofs.WellFormedLaws.{AllTrue, answers_none, every_one, few_devices, machine_short, or_else_none, Clean, device_found, device_parts}
+pub use Rattle.vms_spec.proofs.WellFormedLaws.{ranges, struct_clean, sub_clean, sub_found, within}
 pub use Rattle.vms_spec.specs.{Lists.first_answer, Lookup.find_device, Lookup.find_sub, Lookup.index, Readiness.is_version_of, Tests.is_there, Tests.truth}
 pub use Rattle.vms_spec.specs.{declared.Count.Count, declared.Part.Part, declared.Rel.Rel, declared.Whose.TheVariants.Own, declared.Whose.TheVariants.Parent}
 pub use Rattle.vms_spec.specs.Images.{own_slots, sub_place, sub_slots, zeroed, AreVersionsOf, FitCells, FitsCell, Image, IsVersionOf, RulesHold, Spells}

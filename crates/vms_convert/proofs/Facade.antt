@@ -11,9 +11,9 @@ pub use Rattle.std.proofs.lemmas.Option.{get_or_from_slice_get, slice_get-get_or
 pub use Rattle.std.specs.{Borrow.Bor, Cmp.signed_Decides, Int.w128, List.flat_map, List.list_any, List.range_with_len, List.slice_get, Ordering.int_eq}
 pub use Rattle.vms_kinds.specs.{Codes.InRange, declared.Item.Item, declared.Kind.Kind, declared.Kind.TheVariants.U8}
 pub use Rattle.vms_kinds.specs.declared.Item.TheVariants.{Num, Struct, Unused}
-pub use Rattle.vms_spec.proofs.{Faultless.answers_none, NumberLaws.within_all, Sizes.field_size, Tables.first_at, Tables.one_more}
-pub use Rattle.vms_spec.proofs.Prefixes.{FieldsBelow, ItemBelow, all_below}
-pub use Rattle.vms_spec.proofs.WellFormedLaws.{device_found, device_parts, earlier, sub_clean, well_good}
+pub use Rattle.vms_spec.proofs.ListsAndNumbers.{within_all}
+pub use Rattle.vms_spec.proofs.Tables.{field_size, first_at, one_more, FieldsBelow, ItemBelow, all_below}
+pub use Rattle.vms_spec.proofs.WellFormedLaws.{answers_none, device_found, device_parts, earlier, sub_clean, well_good}
 pub use Rattle.vms_spec.specs.{Good.IsFit, Good.IsGood, Heads.FitsHeads, Images.sub_place, Lists.at_option, Numbers.exceeds, Places.own_cell_count}
 pub use Rattle.vms_spec.specs.{Tests.is_there, Tests.truth, declared.Count.TheVariants.Counted, declared.Count.TheVariants.One, declared.Part.Part}
 pub use Rattle.vms_spec.specs.{declared.TheConstants.MOST_ITEMS, declared.Whose.TheVariants.Own, declared.Whose.TheVariants.Parent}

@@ -5,7 +5,7 @@ pub use Rattle.std.proofs.Common.{slice_set, subst, sym, true, ℕ, ◌*◌, ◌
 pub use Rattle.std.proofs.lemmas.List.{drop_more, length-map, length-set, map-append, map-set}
 pub use Rattle.std.specs.{List.slice_get}
 pub use Rattle.vms_kinds.specs.{Bytes.IsBytes, declared.Item.Item, declared.Item.TheVariants.Struct}
-pub use Rattle.vms_spec.proofs.{Faultless.machine_short}
+pub use Rattle.vms_spec.proofs.WellFormedLaws.{machine_short}
 pub use Rattle.vms_spec.specs.{Images.Image, Layout.capacity_of, Layout.counted, Layout.no_desc, Lists.at_option, Rules.counts_well, Sets.Set, Sets.Sub}
 pub use Rattle.vms_spec.specs.{Streams.configuration, Streams.is_one_of, Streams.optional, Streams.written, declared.TheConstants.LONGEST_NAME}
 unfoldable pub use Rattle.vms_spec.specs.Layout.{first}

@@ -8,9 +8,9 @@ pub use Rattle.vms_kinds.proofs.{ByteLemmas.bytes_rest}
 pub use Rattle.vms_kinds.specs.{Bytes.IsBytes, Codes.InRange, declared.Item.Item, declared.Item.TheVariants.Equal, declared.Item.TheVariants.Struct}
 pub use Rattle.vms_kinds.specs.{declared.Kind.Kind, declared.Kind.TheVariants.U16, declared.Kind.TheVariants.U8}
 unfoldable pub use Rattle.vms_kinds.specs.Codes.{code}
-pub use Rattle.vms_spec.proofs.{KindLaws.be32_read, KindLaws.value_code, Tables.one_more, WellFormedLaws.device_found, WellFormedLaws.well_good}
-pub use Rattle.vms_spec.proofs.Boxes.{box, box_set, counted_set, number, sub_of, subsection_set}
-pub use Rattle.vms_spec.proofs.Faultless.{few_devices, machine_short}
+pub use Rattle.vms_spec.proofs.{Tables.one_more, ListsAndNumbers.be32_read, ListsAndNumbers.value_code}
+pub use Rattle.vms_spec.proofs.Examples.{box, box_set, counted_set, number, sub_of, subsection_set}
+pub use Rattle.vms_spec.proofs.WellFormedLaws.{device_found, well_good, few_devices, machine_short}
 pub use Rattle.vms_spec.specs.{Good.ConstantFits, Good.ConstantsFit, Heads.FitsHeads, Lists.first_answer, Lists.or_else, Lookup.find_device}
 pub use Rattle.vms_spec.specs.{Lookup.index, Numbers.same_number, Readiness.is_version_of, Shipped.set_1, Shipped.set_3, Units.Magic}
 pub use Rattle.vms_spec.specs.{Units.Version, declared.Count.TheVariants.Counted, declared.Part.Part, declared.Place.Place, declared.Reason.Reason}

@@ -8,7 +8,7 @@ use Rattle.vms_desc.proofs.Facade.{own_cells, sub_place, no_desc, no_field, no_p
 use Rattle.vms_desc.proofs.Facade.{has_no_test, is_steady, is_steady_in, is_earlier_in, is_counting, names_well, nobody, test_names_well, count_names_well}
 use Rattle.vms_desc.proofs.Facade.{device_at, field_of, desc_of, sub_of, device_of, form_of, get_map_at, Scope, own_numbers, HasCells, is_well_formed}
 use Rattle.vms_desc.proofs.Facade.{fields_in, number_of, IsScope, HasPart, desc_at, sub_at, is_number, is_number_in, is_placed}
-pub use Rattle.vms_spec.proofs.ListLaws.{sub_first}
+pub use Rattle.vms_spec.proofs.ListsAndNumbers.{sub_first}
 use Rattle.vms_parts.specs.{declared.types.Desc.Desc as CodeDesc, declared.types.Device.Device as CodeDevice, declared.types.Field.Field as CodeField}
 use Rattle.vms_parts.specs.{declared.types.Sub.Sub as CodeSub}
 use Rattle.vms_spec.specs.declared.Part.TheVariants as parts

@@ -5,7 +5,7 @@ use Rattle.vms_desc.proofs.Facade.{[], flat_map, and_parts, leb-true, length-map
 use Rattle.vms_desc.proofs.Facade.{no_desc, capacity_of, desc_cells, struct_cells, device_cells, first_fault, items_in, struct_items, subs_items, devices_items}
 use Rattle.vms_desc.proofs.Facade.{IsFit, IsGood, FitsHeads, first_long, well_good, Cells, Items, in_u32, size_of, fields_size, sizes_to, form_of, layout_of}
 pub use Rattle.vms_spec.proofs.ShippedSets.{none_is}
-use Rattle.vms_spec.proofs.Faultless.{set_clean}
+use Rattle.vms_spec.proofs.WellFormedLaws.{set_clean}
 
 -- ---- no fault at the set
 

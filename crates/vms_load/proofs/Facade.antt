@@ -12,8 +12,8 @@ pub use Rattle.std.specs.{Int.w128, Io.KnownBytes.IsAtEnd, List.slice_get, Str.b
 pub use Rattle.vms_kinds.proofs.{ByteLemmas.bytes_both}
 pub use Rattle.vms_kinds.specs.{Bytes.IsBytes, Codes.code, Codes.value_of, Codes.width, declared.Item.Item, declared.Kind.Kind, declared.Kind.TheVariants.U8}
 pub use Rattle.vms_kinds.specs.declared.Item.TheVariants.{Equal, Num, Struct, Unused}
-pub use Rattle.vms_spec.proofs.{NumberLaws.same_number_is, Sizes.elements_fit, Tables.first_long, KindLaws.length-code, KindLaws.width_small}
-pub use Rattle.vms_spec.proofs.ListLaws.{found_inside, none_left}
+pub use Rattle.vms_spec.proofs.ListsAndNumbers.{same_number_is, length-code, width_small, found_inside, none_left}
+pub use Rattle.vms_spec.proofs.Tables.{elements_fit, first_long}
 pub use Rattle.vms_spec.proofs.WellFormedLaws.{Clean, device_parts, struct_clean, sub_clean}
 pub use Rattle.vms_spec.specs.{Good.IsGood, Heads.FitsHeads, Layout.meanings, Layout.no_cell, Layout.no_desc, Layout.no_meaning, Layout.no_parent}
 pub use Rattle.vms_spec.specs.{Lists.at_option, Lists.position, Places.own_cell_count, Rules.is_small_item, Rules.is_small_optional, Sound.AreSound}

@@ -11,9 +11,8 @@ pub use Rattle.std.specs.{Bool.Decides, List.AllByRecursion, List.list_all, List
 pub use Rattle.vms_kinds.specs.{Codes.InRange, declared.Item.Item, declared.Kind.Kind}
 pub use Rattle.vms_kinds.specs.declared.Item.TheVariants.{Equal, Num, Struct, Unused}
 pub use Rattle.vms_kinds.specs.declared.Kind.TheVariants.{U16, U32, U8}
-pub use Rattle.vms_spec.proofs.{ListLaws.both_none, NumberLaws.same_number_is, Faultless.AllTrue, Faultless.set_clean}
-pub use Rattle.vms_spec.proofs.Tables.{first_at, first_long, two_more}
-pub use Rattle.vms_spec.proofs.WellFormedLaws.{Clean, device_parts, ranges, struct_clean, sub_clean, untested, within}
+pub use Rattle.vms_spec.proofs.{ListsAndNumbers.both_none, ListsAndNumbers.same_number_is, Tables.first_at, Tables.first_long, Tables.two_more}
+pub use Rattle.vms_spec.proofs.WellFormedLaws.{AllTrue, set_clean, Clean, device_parts, ranges, struct_clean, sub_clean, untested, within}
 pub use Rattle.vms_spec.specs.{Lists.first_answer, Numbers.same_number, Streams.is_one_of, declared.Count.Count, declared.Part.Part, declared.Place.Place}
 pub use Rattle.vms_spec.specs.{declared.TheConstants.MOST_UNUSED, Images.default_image, Images.own_cells}
 pub use Rattle.vms_spec.specs.Layout.{all_hold, capacity_of, counted, desc_cells, no_desc, numbers_of, struct_cells, field_cells}

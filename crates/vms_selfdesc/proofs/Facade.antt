@@ -15,10 +15,10 @@ unfoldable pub use Rattle.std.specs.Fmt.{digits}
 pub use Rattle.vms_kinds.specs.{Codes.highest, Codes.lowest, Codes.width, declared.Item.Item, declared.Kind.Kind, declared.Kind.TheVariants.U8}
 pub use Rattle.vms_kinds.specs.declared.Item.TheVariants.{Equal, Num, Struct, Unused}
 unfoldable pub use Rattle.vms_kinds.specs.Codes.{code}
-pub use Rattle.vms_spec.proofs.{Faultless.AllTrue, KindLaws.width_small, ListLaws.versions_long, Tables.first_at, Tables.first_long}
-pub use Rattle.vms_spec.proofs.Boxes.{constant_set, counted_set, mixed_set, subsection_set, tested_set}
-pub use Rattle.vms_spec.proofs.Prefixes.{FieldsBelow, ItemBelow, all_below, desc_cells_same, field_cells_same, first_same, item_cells_same, own_same, row_same}
-pub use Rattle.vms_spec.proofs.Sizes.{elements_fit, field_size, one_fits, room_for_less}
+pub use Rattle.vms_spec.proofs.{WellFormedLaws.AllTrue, ListsAndNumbers.width_small, ListsAndNumbers.versions_long}
+pub use Rattle.vms_spec.proofs.Examples.{constant_set, counted_set, mixed_set, subsection_set, tested_set}
+pub use Rattle.vms_spec.proofs.Tables.{first_at, first_long, FieldsBelow, ItemBelow, all_below, desc_cells_same, field_cells_same, first_same, item_cells_same}
+pub use Rattle.vms_spec.proofs.Tables.{own_same, row_same, elements_fit, field_size, one_fits, room_for_less}
 pub use Rattle.vms_spec.specs.{Heads.FitsHeads, Images.Image, Images.own_cells, Layout.numbers_of, Shipped.set_0, Shipped.shipped_sets, Streams.AreReady}
 pub use Rattle.vms_spec.specs.{Streams.longest_text, Streams.written, Tests.is_there, WellFormed.struct_items, declared.Count.Count, declared.Part.Part}
 pub use Rattle.vms_spec.specs.{Names.is_name, Names.is_name_byte, Names.is_sub_name, declared.TheConstants.MOST_ITEMS, declared.TheConstants.MOST_UNUSED}

@@ -5,7 +5,7 @@ pub use Rattle.std.proofs.Common.{Bool, Err, List, None, Ok, Option, Result, Som
 pub use Rattle.std.proofs.Common.{inl, inr, length, length-append, map, nat_lt, refl, subst, suc, sym, take, true, zero, ℕ, ◌++◌, ◌+◌, ◌<◌, ◌∙◌, ◌∷◌, ◌≡◌, ◌≢◌}
 pub use Rattle.std.specs.{Io.KnownBytes.Appends, List.slice_get, Prelude.slice_set, Str.bytes_eq}
 pub use Rattle.vms_kinds.specs.Bytes.{IsBytes}
-pub use Rattle.vms_spec.proofs.{ListLaws.none_left}
+pub use Rattle.vms_spec.proofs.ListsAndNumbers.{none_left}
 pub use Rattle.vms_spec.specs.{Images.Image, Images.IsNormal, Sets.Device, Sets.Set, Streams.EachOnce, declared.Reason.Reason}
 pub use Rattle.vms_stream.specs.Streams.{HasSection, SectionsSpell}
 pub use Rattle.vms_board.specs.{Family.Family, Family.MaySaveIn, Isa.isa, Saving.saved_stream}

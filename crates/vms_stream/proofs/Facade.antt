@@ -1,9 +1,8 @@
 -- The names of other crates, and of this crate's `specs`, that the proofs use.
-pub use Rattle.vms_spec.proofs.{ListLaws.sub_first, ListLaws.versions_long, NameBytes.name_byte_low, Faultless.every_one, Faultless.set_clean}
-pub use Rattle.vms_spec.proofs.Boxes.{bare_set, box, constant_set, counted_set, mixed_set, number, subsection_set, tested_set}
-pub use Rattle.vms_spec.proofs.KindLaws.{be32_read, length-code, value_code}
-pub use Rattle.vms_spec.proofs.Rows.{box_end, box_head, head, hex, lines, smallest}
-pub use Rattle.vms_spec.proofs.WellFormedLaws.{device_parts, sub_clean, well_good}
+pub use Rattle.vms_spec.proofs.Examples.{lines, smallest, bare_set, box, constant_set, counted_set, mixed_set, number, subsection_set, tested_set, box_end}
+pub use Rattle.vms_spec.proofs.Examples.{box_head, head, hex}
+pub use Rattle.vms_spec.proofs.ListsAndNumbers.{sub_first, versions_long, name_byte_low, be32_read, length-code, value_code}
+pub use Rattle.vms_spec.proofs.WellFormedLaws.{every_one, set_clean, device_parts, sub_clean, well_good}
 pub use Rattle.vms_spec.specs.{Good.IsGood, Images.own_slots, Lists.at_option, Lists.position, Sound.AreSound, Sound.IsSound, Values.values_text}
 pub use Rattle.vms_spec.specs.{declared.Reason.Reason, declared.TheConstants.LONGEST_NAME, Sets.Desc, Sets.Device, Sets.Set, Sets.Sub, WellFormed.WellFormed}
 pub use Rattle.vms_spec.specs.Images.{sub_place, sub_slots, zeroed, AreVersionsOf, Image, IsNormal, IsValid, IsVersionOf, Spells, default_image, own_cells}

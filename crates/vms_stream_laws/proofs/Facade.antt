@@ -11,8 +11,9 @@ pub use Rattle.std.specs.{List.flat_map, List.list_any, List.slice_get, Option.o
 pub use Rattle.vms_kinds.proofs.ByteLemmas.{bytes_both, bytes_first}
 pub use Rattle.vms_kinds.specs.{Bytes.IsBytes, Codes.InRange, declared.Item.Item, declared.Item.TheVariants.Struct, declared.Kind.Kind}
 pub use Rattle.vms_kinds.specs.{declared.Kind.TheVariants.U8}
-pub use Rattle.vms_spec.proofs.{Faultless.AllTrue, Faultless.all_true, Faultless.or_else_none, ListLaws.both_none, NumberLaws.is_below, NumberLaws.not_above}
-pub use Rattle.vms_spec.proofs.{NumberLaws.same_number_itself, Sizes.elements_fit, Tables.one_more, WellFormedLaws.device_parts, WellFormedLaws.well_good}
+pub use Rattle.vms_spec.proofs.ListsAndNumbers.{both_none, is_below, not_above, same_number_itself}
+pub use Rattle.vms_spec.proofs.Tables.{elements_fit, one_more}
+pub use Rattle.vms_spec.proofs.WellFormedLaws.{AllTrue, all_true, or_else_none, device_parts, well_good}
 pub use Rattle.vms_spec.specs.{Good.IsGood, Heads.FitsHeads, Layout.no_meaning, Layout.no_parent, Lookup.raw, Rules.is_small_test, Sets.Desc, Sets.Device}
 pub use Rattle.vms_spec.specs.{Sets.Field, Sets.Set, Sets.Sub, SoFar.slots_of_sub, Streams.AllCame, Streams.magic, Tests.is_there, declared.Part.Part}
 pub use Rattle.vms_spec.specs.{Numbers.exceeds, Numbers.is_above, Numbers.is_truth, Images.Image, Images.default_image, Images.own_cells, Images.sub_place}

@@ -13,9 +13,9 @@ pub use Rattle.std.specs.{Borrow.Bor, Fmt.decimal, Fmt.signed_decimal, Int.w128,
 pub use Rattle.std.specs.List.{flat_map, list_all, slice_get}
 pub use Rattle.vms_kinds.specs.{Codes.InRange, declared.Item.Item, declared.Kind.Kind, declared.Kind.TheVariants.U8}
 pub use Rattle.vms_kinds.specs.declared.Item.TheVariants.{Num, Struct}
-pub use Rattle.vms_spec.proofs.{ListLaws.drop_on, ListLaws.natural_up, Prefixes.item_cells_same, Prefixes.own_same, Prefixes.readers_cells, Sizes.elements_fit}
-pub use Rattle.vms_spec.proofs.{Sizes.field_size, Sizes.one_fits, Sizes.room_for_less, Sizes.size_same, Tables.first_at, Tables.one_more, WellFormedLaws.ranges}
-pub use Rattle.vms_spec.proofs.Prefixes.{row_same, struct_cells_at, FieldsBelow, ItemBelow, all_below, field_cells_same, first_cells, first_same}
+pub use Rattle.vms_spec.proofs.{ListsAndNumbers.drop_on, ListsAndNumbers.natural_up, WellFormedLaws.ranges}
+pub use Rattle.vms_spec.proofs.Tables.{item_cells_same, own_same, readers_cells, elements_fit, field_size, one_fits, room_for_less, size_same, first_at}
+pub use Rattle.vms_spec.proofs.Tables.{one_more, row_same, struct_cells_at, FieldsBelow, ItemBelow, all_below, field_cells_same, first_cells, first_same}
 pub use Rattle.vms_spec.specs.{Heads.FitsHeads, Numbers.exceeds, Numbers.same_number, Places.own_cell_count, Readiness.rules_are_true, Rules.in_range}
 pub use Rattle.vms_spec.specs.{Rules.uses_below, Sets.AtLeast, Sets.Desc, Sets.Device, Sets.Field, Sets.Set, Sets.Sub, Tests.is_there, declared.Count.Count}
 pub use Rattle.vms_spec.specs.{declared.Count.TheVariants.One, declared.Part.Part, declared.TheConstants.MOST_ITEMS, declared.ValuesReason.ValuesReason}

@@ -12,10 +12,9 @@ pub use Rattle.std.proofs.lemmas.Option.{get_or_from_slice_get, same_Some, some_
 pub use Rattle.std.specs.{Fmt.decimal, Fmt.signed_decimal, Str.bytes_eq, List.AllByRecursion, List.flat_map, List.list_all, List.slice_get}
 pub use Rattle.vms_kinds.specs.declared.Item.{Item, TheVariants.Num, TheVariants.Struct}
 pub use Rattle.vms_kinds.specs.declared.Kind.{Kind, TheVariants.I64, TheVariants.U64, TheVariants.U8}
-pub use Rattle.vms_spec.proofs.{ListLaws.either_of, ListLaws.or_second, NameBytes.name_byte_high, Prefixes.readers_cells, Sizes.elements_fit, Sizes.field_size}
-pub use Rattle.vms_spec.proofs.{Tables.first_long, Tables.two_more, NumberLaws.not_exceeds, NumberLaws.same_number_is, NumberLaws.within_all}
-pub use Rattle.vms_spec.proofs.Faultless.{few_devices, machine_short, or_else_none}
-pub use Rattle.vms_spec.proofs.WellFormedLaws.{Clean, device_parts, get_none, ranges, struct_clean, sub_clean, well_good}
+pub use Rattle.vms_spec.proofs.{WellFormedLaws.struct_clean, Tables.readers_cells, Tables.elements_fit, Tables.field_size, Tables.first_long, Tables.two_more}
+pub use Rattle.vms_spec.proofs.ListsAndNumbers.{name_byte_high, either_of, or_second, not_exceeds, same_number_is, within_all}
+pub use Rattle.vms_spec.proofs.WellFormedLaws.{sub_clean, well_good, few_devices, machine_short, or_else_none, Clean, device_parts, get_none, ranges}
 pub use Rattle.vms_spec.specs.{Images.own_cells, Numbers.exceeds, Numbers.same_number, Readiness.rules_are_true, Rules.in_range, Sets.Desc, Sets.Device}
 pub use Rattle.vms_spec.specs.{Sets.Field, Sets.Set, Sets.Sub, Spelling.begins_with, Spelling.first_line, Spelling.number_spelled, Streams.optional}
 pub use Rattle.vms_spec.specs.{Values.values_text, Values.version_text, declared.Count.Count, declared.Place.Place, declared.ValuesReason.ValuesReason}

@@ -11,8 +11,8 @@ pub use Rattle.std.proofs.Common.{true, zero, ℕ, ℤ, ◌*◌, ◌++◌, ◌+�
 pub use Rattle.std.proofs.lemmas.Bool.{eq-eqb, lt-ltb, ltb-false, ltb-true, ne_eqb, or_parts}
 pub use Rattle.std.specs.{Prelude.IsErrAnd}
 pub use Rattle.vms_kinds.specs.{declared.Item.Item, declared.Kind.Kind, declared.Item.TheVariants.Num, declared.Item.TheVariants.Struct}
-pub use Rattle.vms_spec.proofs.{ListLaws.same_tests, Sizes.elements_fit, Sizes.field_size, Sizes.one_fits, Sizes.room_for_less, Tables.one_more}
-pub use Rattle.vms_spec.proofs.Prefixes.{FieldsBelow, all_below, struct_cells_at, struct_slots}
+pub use Rattle.vms_spec.proofs.ListsAndNumbers.{same_tests}
+pub use Rattle.vms_spec.proofs.Tables.{elements_fit, field_size, one_fits, room_for_less, one_more, FieldsBelow, all_below, struct_cells_at, struct_slots}
 pub use Rattle.vms_spec.specs.{Good.IsGood, Images.has_cell, Layout.numbers_of, Layout.place_of, Numbers.exceeds, Numbers.is_above, Rules.uses_below, Sets.Desc}
 pub use Rattle.vms_spec.specs.{Sets.Field, Sets.Set, Tests.is_there, declared.Part.Part, declared.TheConstants.MOST_ITEMS}
 pub use Rattle.vms_spec.specs.Layout.{slots_from, struct_cells, times, Meaning, Rule, Slot, all_hold, capacity_of, cells_from, counted, desc_cells, desc_slots}

@@ -8,8 +8,8 @@ pub use Rattle.std.proofs.lemmas.List.{drop_more, get_or-map, length-map, length
 pub use Rattle.std.proofs.lemmas.Option.{get_or_from_slice_get, slice_get-get_or, slice_get_within}
 pub use Rattle.std.specs.{Bool.OnFalse, Bool.OnTrue, List.flat_map, List.slice_get, Option.option_copied, Prelude.Result}
 pub use Rattle.vms_kinds.specs.declared.Kind.{Kind, TheVariants.U8}
-pub use Rattle.vms_spec.proofs.{ListLaws.and_swap, ListLaws.both_below, ListLaws.or_second}
-pub use Rattle.vms_spec.proofs.{ListLaws.versions_long, NumberLaws.same_number_is, WellFormedLaws.ranges, WellFormedLaws.within}
+pub use Rattle.vms_spec.proofs.ListsAndNumbers.{and_swap, both_below, or_second, versions_long, same_number_is}
+pub use Rattle.vms_spec.proofs.WellFormedLaws.{ranges, within}
 pub use Rattle.vms_spec.specs.{Good.DefaultsFit, Good.IsGood, Heads.FitsHeads, Images.zeroed, Layout.struct_cells, Lists.at_option}
 pub use Rattle.vms_spec.specs.{Names.is_name, Numbers.same_number, Places.own_cell_count, Readiness.come_as_needed}
 pub use Rattle.vms_spec.specs.{Rules.counts_well, Rules.in_range, Rules.int_le, Sets.AtLeast, Sets.Desc, Sets.Device, Sets.Set, Sets.Sub}

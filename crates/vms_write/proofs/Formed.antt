@@ -2,7 +2,7 @@
 use Rattle.vms_write.proofs.Facade.{AllPass-from_list_all, ◌≡◌, ℕ, zero, suc, ◌+◌, ◌<◌, ◌≤◌, List, [], ◌∷◌, length, length-drop, get_or, drop, sym, arith, true}
 use Rattle.vms_write.proofs.Facade.{map, ℤ, pos, refl, ap, ◌∙◌, and_parts, length-map, Set, is_name, first_fault, is_well_formed, device_at, sub_at, none_is}
 use Rattle.vms_write.proofs.Facade.{device_clean, sub_clean, Kind, Cell, device_cells, form_of, Held, defaults_at, no_form, formed_of, formed, forms_of}
-use Rattle.vms_spec.proofs.Faultless.{name_short, set_clean}
+use Rattle.vms_spec.proofs.WellFormedLaws.{name_short, set_clean}
 use Rattle.vms_parts.specs.Devices.{device_at as device_in}
 
 module _ (set : Set) (well : is_well_formed set ≡ true) where
