@@ -12,7 +12,7 @@ pub use Rattle.vms_spec.specs.Layout.{counted, desc_cells, no_desc, struct_cells
 pub use Rattle.vms_spec.specs.Streams.{IsConfiguration, is_one_of, written}
 unfoldable pub use Rattle.vms_spec.specs.Layout.{first}
 pub use Rattle.vms_stream.proofs.Stated.{either_holds, never_both_holds, one_fault_holds, one_stream_holds}
-pub use Rattle.vms_stream.proofs.WrittenBytes.{AllParts, AllSubs, AreBytes, EachPart, all_parts, bytes_at, is_named, parts_named, written_are_bytes}
+pub use Rattle.vms_stream.proofs.Written.{AllParts, AllSubs, AreBytes, EachPart, all_parts, bytes_at, is_named, parts_named, written_are_bytes}
 pub use Rattle.vms_stream.specs.{StreamLaws.Answer, StreamLaws.Faulty, StreamLaws.IsWholeStream, StreamLaws.Taken, Streams.Takes}
 pub use Rattle.vms_elements.proofs.Members.{all_both, all_from, elements_each}
 pub use Rattle.vms_elements.specs.Elements.{Constant, Element, Filler, Number, Rule, What, index_text}

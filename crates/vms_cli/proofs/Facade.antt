@@ -16,7 +16,7 @@ pub use Rattle.vms_spec.specs.Images.{Image, default_image}
 pub use Rattle.vms_spec.specs.Streams.{AreReady, IsConfiguration, configuration, end_mark, is_one_of, optional, stream_head, trailer, written, written_sections}
 pub use Rattle.vms_spec.specs.ValuesReading.{Bad, Values, ValuesRead, values_read}
 unfoldable pub use Rattle.vms_spec.specs.Layout.{first}
-pub use Rattle.vms_stream.proofs.{Further.further_holds, Stated.either_holds, Stated.never_both_holds, Stated.one_fault_holds, Stated.one_stream_holds}
+pub use Rattle.vms_stream.proofs.Stated.{further_holds, either_holds, never_both_holds, one_fault_holds, one_stream_holds}
 pub use Rattle.vms_stream.specs.{Faults.Fault, StreamLaws.Answer, StreamLaws.Faulty, StreamLaws.Taken, Streams.Takes}
 pub use Rattle.vms_elements.specs.{Parts.cell_name, Parts.device_elements, Parts.names_of, Reading.IsMachineOf}
 pub use Rattle.vms_analyze.proofs.{One.one_holds, Total.total_holds}

@@ -10,8 +10,7 @@ pub use Rattle.vms_spec.specs.{Images.Image, Layout.capacity_of, Layout.counted,
 pub use Rattle.vms_spec.specs.{Streams.configuration, Streams.is_one_of, Streams.optional, Streams.written, declared.TheConstants.LONGEST_NAME}
 unfoldable pub use Rattle.vms_spec.specs.Layout.{first}
 pub use Rattle.vms_bodies.proofs.{SpellLaws.at_set, PartLaws.at_other}
-pub use Rattle.vms_stream.proofs.{Stated.never_both_holds}
-pub use Rattle.vms_stream.proofs.WrittenBytes.{AllParts, AllSubs, EachPart, EachSub, all_parts}
+pub use Rattle.vms_stream.proofs.{Stated.never_both_holds, Written.AllParts, Written.AllSubs, Written.EachPart, Written.EachSub, Written.all_parts}
 pub use Rattle.vms_stream.specs.{Faults.Fault, Streams.Takes}
 pub use Rattle.vms_check.proofs.{SelfLaws.is_among}
 pub use Rattle.vms_check.specs.{Comparing.first_mismatch, Wholes.verdict_of, declared.mismatch.Mismatch.Mismatch}

@@ -37,9 +37,8 @@ pub use Rattle.vms_bodies.proofs.Places.{IsAbove, desc_above, meanings_above, Sa
 pub use Rattle.vms_bodies.proofs.SpellLaws.{one_unit, at_set, set_twice}
 pub use Rattle.vms_bodies.proofs.WalkLaws.{Leaves, desc_leaves, ComesTo, Gives, IsFrom, Keeping, Keeps, set_desc_comes, slot_keeps}
 pub use Rattle.vms_bodies.specs.{Cells.AreCells, Whole.reading_on}
-pub use Rattle.vms_stream.proofs.{Finding.Advancing.advances, Judging.Mirrors.solid, Judging.Mirrors.state_refuses}
-pub use Rattle.vms_stream.proofs.Bodies.Body.{IsUnit, after_read, body_read, by_tests, slot_seen, tested}
-pub use Rattle.vms_stream.proofs.Calls.Judged.{judged_holds, next_holds, seen_holds}
+pub use Rattle.vms_stream.proofs.{Finding.advances, Judging.solid, Judging.state_refuses, Calls.judged_holds, Calls.next_holds, Calls.seen_holds}
+pub use Rattle.vms_stream.proofs.Bodies.{IsUnit, after_read, body_read, by_tests, slot_seen, tested}
 pub use Rattle.vms_stream.proofs.Stated.{accepted_holds, never_both_holds, one_fault_holds, one_stream_holds}
 pub use Rattle.vms_stream.specs.{Faults.Cut, Faults.Fault, Faults.Why, Faults.Wrong, Finding.Whole, Finding.needs, Finding.text_at, Judge.by_row, Judge.judge}
 pub use Rattle.vms_stream.specs.{Judged.ask, Judged.judge_seen, Seen.Bad, Seen.Good, Seen.Seen, Seen.Short, Seen.seen, Seen.seen_by, Seen.seen_in, SoFar.Known}

@@ -12,7 +12,7 @@ use Rattle.vms_stream_laws.proofs.Facade.{AtFiller, AtFoot, AtNext, due, due_fie
 use Rattle.vms_stream_laws.proofs.Facade.{passed, skipped, tail, reason_of, end_passes, foot_passes, head_passes, AreBytes, be32_bytes, bytes_at, code_bytes}
 use Rattle.vms_stream_laws.proofs.Facade.{foot_bytes, head_bytes, parts_named, zeros_bytes}
 use Rattle.vms_spec.proofs.WellFormedLaws.{beyond as is_beyond}
-use Rattle.vms_stream.proofs.WrittenBytes.{spelled as spelled_bytes}
+use Rattle.vms_stream.proofs.Written.{spelled as spelled_bytes}
 use Rattle.vms_stream_laws.proofs.Bounds.{bounded}
 use Rattle.vms_stream_laws.proofs.Units.{AllPassed, ANumber, AConstant, AFiller, Next, NoneWaits, OneWaits, Waits, constant_passes, constants_left, next_of, number_passes, raw_in, waiting, waits, zero_in}
 
