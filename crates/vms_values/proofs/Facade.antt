@@ -34,8 +34,8 @@ pub use Rattle.vms_spec.specs.ValuesReading.{rest_of, section_line, sub_fails, s
 unfoldable pub use Rattle.vms_spec.specs.{Layout.first, ValuesReading.values_read}
 pub use Rattle.vms_words.specs.{Lines.IsFirstLine, declared.line.NextLine.NextLine}
 pub use Rattle.vms_bodies.proofs.{Places.cells_first, PartLaws.cells_of_sub, WalkLaws.place_first}
-pub use Rattle.vms_elements.proofs.{Names.array_name, Names.names_absent, Tables.shapes_cells, Walk.item_walks, Walk.names_append}
-pub use Rattle.vms_elements.proofs.Walk.{names_long, names_map, walks, AreWalked, are_walked, desc_names_are, desc_walks, field_walks, fields_walk, is_dotted}
+pub use Rattle.vms_elements.proofs.{Walk.are_walked, Walk.desc_names_are, Walk.desc_walks, Walk.field_walks, Members.shapes_cells}
+pub use Rattle.vms_elements.proofs.Walk.{array_name, names_absent, fields_walk, is_dotted, item_walks, names_append, names_long, names_map, walks, AreWalked}
 pub use Rattle.vms_elements.specs.{Reading.Reads, Reading.Refused, Parts.absent, Parts.cell_name, Parts.elements_in, Parts.names_of, Parts.subs_elements}
 pub use Rattle.vms_elements.specs.Elements.{stand_of, Shape, desc_elements, dotted, elements_from, field_elements, item_elements, no_shape, shape, shapes}
 pub use Rattle.vms_desc.proofs.AskLaws.{few_cells, found_field, here_fields, own_inside_device, sub_first, sub_inside, sub_next}
