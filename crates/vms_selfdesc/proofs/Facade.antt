@@ -42,7 +42,7 @@ pub use Rattle.vms_desc.specs.{Formed.is_well_formed, Formed.shipped_set, Parts.
 pub use Rattle.vms_image.proofs.States.{state_at, states_long}
 pub use Rattle.vms_image.specs.Typed.{IsOfDevice, state_of}
 pub use Rattle.vms_parts.specs.Views.{field_of}
-pub use Rattle.vms_rules.proofs.StructLaws.{deepest_small}
+pub use Rattle.vms_rules.proofs.WalkLaws.{deepest_small}
 pub use Rattle.vms_selfdesc.specs.{Drafts.member_text, Needs.HasElements, Needs.HasPlace, Needs.item_levels, Needs.part_levels, Tree.entry_tree, Tree.list_tree}
 pub use Rattle.vms_selfdesc.specs.{Tree.natural, Tree.sent_members, declared.draft.Draft.Draft, declared.path.Path.Path, declared.text.Text.Text}
 pub use Rattle.vms_selfdesc.specs.Drafts.{texts, Adds, AreSound, Begins, Extends, IsEmpty, IsPlain, IsSound, Lays, Puts, absent_tail, after, cell_tail}
