@@ -62,7 +62,7 @@ pub use Rattle.vms_analyze.specs.Walking.{AtStart, Goes, IsInside, Prints, Stops
 pub use Rattle.vms_analyze.specs.Wanted.{Any, Bytes, Differs, Foot, Found, Head, Line, Lines, Machine, Number, Took, Want, behind, device_wants, element_want}
 pub use Rattle.vms_analyze.specs.Wanted.{found, found_after, is_machine, kept_line, machine_line, number_line, only_if, section_line, sent_line, start_wants}
 pub use Rattle.vms_analyze.specs.Wanted.{sub_wants, take_machine, take_number, taken, took, wants}
-pub use Rattle.vms_desc.proofs.{Bounds.few_items, Clean.device_clean, Clean.few_subs, Clean.field_sound, Clean.sub_clean}
+pub use Rattle.vms_desc.proofs.Clean.{few_items, device_clean, few_subs, field_sound, sub_clean}
 pub use Rattle.vms_desc.specs.{Described.device_at, Formed.is_well_formed, Parts.HasPart, Parts.desc_at, Parts.sub_at}
 pub use Rattle.vms_io.proofs.ReadingLemmas.{breaks_more, nothing_follows, takes_as, takes_both, takes_none}
 pub use Rattle.vms_io.specs.{Reading.Takes, Told.Intake, Told.intake}

@@ -28,7 +28,7 @@ pub use Rattle.vms_check.proofs.{SelfLaws.is_among, ShippedLaws.shipped_compatib
 pub use Rattle.vms_check.specs.{Comparing.Compatible}
 unfoldable pub use Rattle.vms_check.specs.Comparing.{first_mismatch}
 pub use Rattle.vms_check_laws.proofs.Streaming.{upgrade_stands}
-pub use Rattle.vms_desc.proofs.{Bounds.none_is, Formed.by_number, Formed.clock_formed, Formed.formed}
+pub use Rattle.vms_desc.proofs.Clean.{none_is, by_number, clock_formed, formed}
 pub use Rattle.vms_desc.specs.Formed.{clock_set, shipped_set}
 pub use Rattle.vms_load.proofs.StreamLengths.{devices_long, stream_le}
 pub use Rattle.vms_selfdesc.proofs.{Bounds.clock_holds, Bounds.shipped_holds, JsonBytes.decimal_good, JsonBytes.device_letters}

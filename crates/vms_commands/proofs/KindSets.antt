@@ -1,6 +1,6 @@
 -- The sets of each kind of boards are well formed, and their numbers fit the heads of a stream.
 use Rattle.std.specs.Prelude.{ℕ}
-use Rattle.vms_desc.proofs.{Bounds.none_is, ClockHeads.clock_heads, Formed.clock_formed, Formed.fit_number}
+use Rattle.vms_desc.proofs.Clean.{none_is, clock_heads, clock_formed, fit_number}
 use Rattle.vms_desc.specs.{Formed.clock_set}
 use Rattle.vms_spec.specs.{Good.IsFit, WellFormed.first_fault}
 use Rattle.vms_commands.specs.Kinds.{set_of}

@@ -63,9 +63,8 @@ pub use Rattle.vms_convert.specs.Partnering.{AreArrays, HasFew, HasRoom, IsBehin
 pub use Rattle.vms_convert.specs.Partnering.{elements_left, entries_at, item_on, partners_left, partners_on, struct_on, sub_on, table}
 pub use Rattle.vms_convert.specs.Recast.{is_port, is_ring, recast, wants, wants_arrays}
 pub use Rattle.vms_convert.specs.Returns.{ArePaired, AreReturned, AreReturnedTo, IsFirstLost, IsLostCell, IsRecastFor, carried_of}
-pub use Rattle.vms_desc.proofs.{Ranks.reach_whole, Ranks.uses_more, Bounds.few_machines, Bounds.fit_of, Bounds.good_of, Bounds.none_is}
 pub use Rattle.vms_desc.proofs.AskLaws.{device_is, few_cells, found_field, own_inside_device, sub_inside, sub_within}
-pub use Rattle.vms_desc.proofs.Clean.{few_fields, few_subs, field_clean, reach, struct_clean}
+pub use Rattle.vms_desc.proofs.Clean.{reach_whole, uses_more, few_machines, fit_of, good_of, none_is, few_fields, few_subs, field_clean, reach, struct_clean}
 pub use Rattle.vms_desc.specs.{Asks.needed_at, Described.described, Described.device_at, Formed.is_well_formed, Formed.newest_set, Names.IsNameAt}
 pub use Rattle.vms_desc.specs.{Parts.HasPart, Parts.desc_at, Parts.sub_at, Spots.kinds_at, declared.set.DescSet.DescSet}
 pub use Rattle.vms_image.proofs.States.{at_state, image_at}

@@ -18,7 +18,7 @@ pub use Rattle.vms_check.specs.{declared.mismatch.Verdict.TheVariants.Accepted}
 pub use Rattle.vms_counter.specs.{Found.HasRoom, Found.refusal_of, Room.devices_in, Room.subs_in, Trying.Tries}
 pub use Rattle.vms_counter_laws.specs.Candidates.{and_raised, default_images, lacking, machine_for, raised}
 pub use Rattle.vms_counter_laws.specs.Counters.{Agree, Counters, Finds, Here, IsFirst, Lacks, Later, NoState, Shows, State}
-pub use Rattle.vms_desc.proofs.{AskLaws.device_is, Bounds.few_machines}
+pub use Rattle.vms_desc.proofs.{AskLaws.device_is, Clean.few_machines}
 pub use Rattle.vms_desc.specs.{Described.described, Formed.is_well_formed, Parts.sub_at}
 pub use Rattle.vms_image.specs.Typed.{AreImagesOf, IsImageOf, Typed, state_of}
 pub use Rattle.vms_io.specs.Memory.{Supply, bytes_left}

@@ -48,7 +48,7 @@ pub use Rattle.vms_stream.specs.Dues.{AMagic, AVersion, AfterEnd, AfterFields, b
 pub use Rattle.vms_stream.specs.State.{slots_at, Before, Ended, Free, Headed, Inside, Spot, State, after, at_start, by_state, due_by, inside, known_at, open_at}
 unfoldable pub use Rattle.vms_stream.specs.{Finding.trailer_at, Judge.reading}
 pub use Rattle.vms_desc.proofs.AskLaws.{few_cells, own_inside_device, sub_inside}
-pub use Rattle.vms_desc.proofs.Bounds.{few_devices, few_items, few_machines, good_of, none_is}
+pub use Rattle.vms_desc.proofs.Clean.{few_devices, few_items, few_machines, good_of, none_is}
 pub use Rattle.vms_desc.specs.{Asks.first_cell, Described.described, Formed.is_well_formed, Parts.HasPart, Parts.desc_at, Parts.sub_at, Spots.kinds_at}
 pub use Rattle.vms_frames.specs.{Reads.IsLong, Reads.ReadsAs, Stands.Stand, declared.fault.FrameFault.FrameFault, declared.fault.Refusal.Refusal}
 pub use Rattle.vms_frames.specs.{declared.units.Between.Between, declared.units.Between.TheVariants.First, declared.units.Step.Step, declared.units.Tail.Tail}

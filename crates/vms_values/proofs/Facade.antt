@@ -39,9 +39,8 @@ pub use Rattle.vms_elements.proofs.Walk.{array_name, names_absent, fields_walk, 
 pub use Rattle.vms_elements.specs.{Reading.Reads, Reading.Refused, Parts.absent, Parts.cell_name, Parts.elements_in, Parts.names_of, Parts.subs_elements}
 pub use Rattle.vms_elements.specs.Elements.{stand_of, Shape, desc_elements, dotted, elements_from, field_elements, item_elements, no_shape, shape, shapes}
 pub use Rattle.vms_desc.proofs.AskLaws.{few_cells, found_field, here_fields, own_inside_device, sub_first, sub_inside, sub_next}
-pub use Rattle.vms_desc.proofs.Bounds.{few_devices, few_machines, few_structs, fit_of}
-pub use Rattle.vms_desc.proofs.Clean.{few_subs, field_clean, reach, struct_clean}
-pub use Rattle.vms_desc.proofs.Ranks.{item_rank, part_rank, rank_below, reach_whole, uses_more}
+pub use Rattle.vms_desc.proofs.Clean.{few_devices, few_machines, few_structs, fit_of, few_subs, field_clean, reach, struct_clean, item_rank, part_rank}
+pub use Rattle.vms_desc.proofs.Clean.{rank_below, reach_whole, uses_more}
 pub use Rattle.vms_desc.specs.{Described.described, Described.device_at, Formed.is_well_formed, Parts.HasPart, Parts.desc_at, Parts.sub_at, Spots.kinds_at}
 pub use Rattle.vms_desc.specs.Asks.{field_at, first_cell, own_numbers}
 pub use Rattle.vms_image.proofs.States.{state_at, states_long}

@@ -23,8 +23,8 @@ pub use Rattle.vms_bodies.proofs.Places.{desc_above, meanings_above, MeanCells, 
 pub use Rattle.vms_bodies.proofs.SettledLaws.{stands_behind, named_fits, constants_append, own_constants, part_constants, AreConstants, fit_slots, own_are}
 pub use Rattle.vms_bodies.proofs.Stated.{are_needed, counted_well, is_same, needed_are, ranged}
 pub use Rattle.vms_bodies.specs.{Cells.AreCells}
-pub use Rattle.vms_desc.proofs.{Bounds.good_of, Bounds.none_is, Clean.device_clean, Clean.sub_clean}
 pub use Rattle.vms_desc.proofs.AskLaws.{few_cells, own_inside_device, sub_first, sub_inside, sub_next}
+pub use Rattle.vms_desc.proofs.Clean.{good_of, none_is, device_clean, sub_clean}
 pub use Rattle.vms_desc.specs.{Asks.first_cell, Formed.is_well_formed, Parts.desc_at, Parts.sub_at, Spots.defaults_at, Spots.kinds_at}
 pub use Rattle.vms_desc.specs.Described.{described, device_at}
 pub use Rattle.vms_image.proofs.States.{at_state, image_at, state_at, states_long}
