@@ -24,7 +24,7 @@ unfoldable pub use Rattle.vms_board.specs.Saving.{saved_stream, stream_with}
 pub use Rattle.vms_board_streams.specs.Streams.{BoardsGoOn, BytesAreOne, HasRoomFor, IsContinued, StreamComesBack, StreamsAreBytes, StreamsAreShort}
 pub use Rattle.vms_board_streams.specs.Streams.{StreamsComeBack, StreamsStand, answers_to, images_carried, trace_of}
 pub use Rattle.vms_board_streams.specs.declared.memory.TheConstants.{STREAM_ROOM}
-pub use Rattle.vms_check.proofs.{SelfLaws.is_among, ShippedLaws.shipped_compatible}
+pub use Rattle.vms_check.proofs.{SelfLaws.is_among, CompareRows.shipped_compatible}
 pub use Rattle.vms_check.specs.{Comparing.Compatible}
 unfoldable pub use Rattle.vms_check.specs.Comparing.{first_mismatch}
 pub use Rattle.vms_check_laws.proofs.Streaming.{upgrade_stands}

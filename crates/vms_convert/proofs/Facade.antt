@@ -37,7 +37,7 @@ pub use Rattle.vms_bodies.proofs.SettledLaws.{its_above, its_below, its_in, its_
 pub use Rattle.vms_bodies.proofs.WalkLaws.{drop_next, place_first, zero_plus}
 pub use Rattle.vms_bodies.specs.{Cells.AreCells}
 pub use Rattle.vms_stream.specs.StreamLaws.{IsWholeStream}
-pub use Rattle.vms_check.proofs.{ListLaws.passes, WholeLaws.sub_in}
+pub use Rattle.vms_check.proofs.{PairLaws.passes, WholeLaws.sub_in}
 pub use Rattle.vms_check.specs.{Reducing.presence, Sides.IsSide, Sides.desc_on, Sides.own_side, declared.side.Side.Side}
 pub use Rattle.vms_check.specs.Carrying.{carried_at, carried_device, no_image}
 pub use Rattle.vms_check.specs.Comparing.{Compatible, Entry, entry_of, is_absent, is_in, is_nothing, present, present_from}
