@@ -44,9 +44,9 @@ pub use Rattle.vms_check.specs.Comparing.{Compatible, Entry, entry_of, is_absent
 pub use Rattle.vms_check.specs.Partners.{Pairer, array_partners, desc_partners, field_partners, fields_left, item_partners, named_partners, no_pairer}
 pub use Rattle.vms_check.specs.Partners.{pairer_of, partners_from, unpaired}
 unfoldable pub use Rattle.vms_check.specs.{Carrying.carried, Partners.device_partners}
-pub use Rattle.vms_check_laws.proofs.{GoesDevices.carried_stands, GoesFields.struct_is, PairDevices.device_paired, Wholes.at_map}
+pub use Rattle.vms_check_laws.proofs.{GoesDevices.carried_stands, GoesFields.struct_is, Wholes.at_map}
+pub use Rattle.vms_check_laws.proofs.PairDevices.{device_paired, one_number, one_part, own_or_sub}
 pub use Rattle.vms_check_laws.proofs.Streaming.{all_in, back, found_device, found_some, pair, upgrade_stands}
-pub use Rattle.vms_check_laws.proofs.SubParts.{one_number, one_part, own_or_sub}
 pub use Rattle.vms_check_laws.specs.{Carried.IsAtVersions, Carried.IsCarried, Pairing.AreOfKinds, Pairing.ArePartners, SubCells.IsCellOf}
 pub use Rattle.vms_convert.specs.{Changes.Changes, Changes.changed, Changes.changed_append, Giving.AreTargets, Giving.give_partner, Giving.give_step}
 pub use Rattle.vms_convert.specs.{Putting.AreSources, Putting.put_partner, Putting.put_step, Returning.FirstDifference, Returning.IsReturned, Rooms.AreFresh}

@@ -39,7 +39,7 @@ pub use Rattle.vms_check.specs.Comparing.{same_constant, same_count, same_item, 
 unfoldable pub use Rattle.vms_check.specs.Comparing.{first_mismatch}
 pub use Rattle.vms_check_laws.proofs.{Parts.devices_clash, Premises.Two, Premises.kinds_same, Wholes.at_map, Wholes.fits_whole, Wholes.saved}
 pub use Rattle.vms_check_laws.proofs.AlignedDescs.{Clash, Clashes, Differ}
-pub use Rattle.vms_check_laws.proofs.Segments.{RestAt, apart, at_first, fits_left, from_zero, one_on}
+pub use Rattle.vms_check_laws.proofs.Presence.{RestAt, apart, at_first, fits_left, from_zero, one_on}
 pub use Rattle.vms_check_laws.proofs.Streaming.{Pair, back, compared, device_stands, pair}
 pub use Rattle.vms_check_laws.specs.{Laws.ArePaired, Segments.FitsAt}
 pub use Rattle.vms_counter_laws.specs.Candidates.{candidates, default_images, lacking, machine_for}
