@@ -87,7 +87,7 @@ pub use Rattle.vms_convert.specs.{Laws.AreRecastOf, Recast.wants_arrays, declare
 pub use Rattle.vms_convert.specs.Converted.{AreBack, recast_each}
 pub use Rattle.vms_convert.specs.Lost.{KeepsAll, Loses, OfCell, OfDevice, OfMachine, first_cell, numbers_in}
 pub use Rattle.vms_counter.specs.{Found.answer_of, declared.finding.Finding.Finding}
-pub use Rattle.vms_counter_laws.proofs.{OneAnswer.machine_known, OneAnswer.one_answer_holds, Stated.always_holds, Stated.computed_holds, Stated.named_holds}
+pub use Rattle.vms_counter_laws.proofs.Stated.{machine_known, one_answer_holds, always_holds, computed_holds, named_holds}
 pub use Rattle.vms_counter_laws.specs.{Computed.computed, Counters.Counters, Counters.Finds}
 pub use Rattle.vms_desc.proofs.{AskLaws.few_cells, Clean.fit_of}
 pub use Rattle.vms_desc.specs.{Described.described, Described.device_at, Formed.is_well_formed}
