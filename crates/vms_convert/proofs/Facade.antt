@@ -74,7 +74,7 @@ pub use Rattle.vms_load.proofs.{HeadLemmas.device_below, SetFacts.well_of}
 pub use Rattle.vms_load.specs.{Good.AreKept, Lean.has, Lean.loads, Staging.name_of}
 pub use Rattle.vms_parts.specs.{Capacities.least_of, Sizes.in_u32, Views.device_of, Views.field_of, Views.sub_of}
 pub use Rattle.vms_spots.specs.Spots.{Held}
-pub use Rattle.vms_walk.proofs.{Least.exceeds_least, Local.has_step_of}
+pub use Rattle.vms_walk.proofs.{Spots.exceeds_least, Walking.has_step_of}
 pub use Rattle.vms_walk.specs.{Inside.Keeps, Steps.HasSpot, Steps.spot_slots, Steps.step_of, Steps.steps_of, declared.step.WalkStep.WalkStep}
 pub use Rattle.dev_base.specs.Cells.{AreOf}
 pub use Rattle.dev_images.proofs.{NormalSerial.port-of, ShippedDevices.serial_at_4}

@@ -76,7 +76,7 @@ pub use Rattle.vms_marks.specs.{declared.sub_head.TheConstants.LONGEST_SUB_HEAD}
 pub use Rattle.vms_parts.proofs.{Items.get_map_at}
 pub use Rattle.vms_parts.specs.{Devices.device_at, Views.device_of, Views.sub_of}
 pub use Rattle.vms_spots.specs.Spots.{put_from, values_of}
-pub use Rattle.vms_walk.proofs.{Least.exceeds_least, Local.part_sound, Runs.run_each, Runs.run_split, Walking.steps_append}
-pub use Rattle.vms_walk.proofs.Kept.{keeps_more, keeps_put, keeps_same}
+pub use Rattle.vms_walk.proofs.Spots.{exceeds_least, run_each, run_split}
+pub use Rattle.vms_walk.proofs.Walking.{part_sound, steps_append, keeps_more, keeps_put, keeps_same}
 pub use Rattle.vms_walk.specs.{Runs.run_of, declared.fields.PartAt.PartAt, declared.step.WalkStep.WalkStep}
 pub use Rattle.vms_walk.specs.Steps.{HasSpot, capacities_of, cells_in, spot_slots, step_of, steps_of, table}

@@ -62,8 +62,8 @@ pub use Rattle.vms_values.specs.SubsTaken.{IsAlike, SubReached, SubsReached, sai
 pub use Rattle.vms_values.specs.Taken.{AreKinds, ElementKinds, IsKept, element_cells, number_judged, part_cells, place_of, run_read}
 pub use Rattle.vms_values.specs.declared.line.TheConstants.{INDEX_ROOM, LONGEST_PATH, PART_ROOM}
 pub use Rattle.vms_values_laws.proofs.{SecondPass.or_bad_assoc, Stated.line_holds, Stated.read_holds}
-pub use Rattle.vms_walk.proofs.{Least.exceeds_least, Walking.fields_at, Walking.room_at}
-pub use Rattle.vms_walk.proofs.Spots.{cells_table, next_field, size_code, start_after, start_code, struct_size, width_code}
+pub use Rattle.vms_walk.proofs.Spots.{exceeds_least, cells_table, next_field, size_code, start_after, start_code, struct_size, width_code}
+pub use Rattle.vms_walk.proofs.Walking.{fields_at, room_at}
 pub use Rattle.vms_walk.specs.{declared.fields.PartAt.PartAt}
 pub use Rattle.vms_walk.specs.Steps.{HasSpot, capacities_of, cell_of, cells_in, size_in, spot_slots, steps_of, table}
 pub use Rattle.vms_write.specs.Fine.{no_form, settle}

@@ -34,7 +34,7 @@ pub use Rattle.vms_io.proofs.WritingLemmas.{stops_front, wrote_as, wrote_behind,
 pub use Rattle.vms_io.specs.{Told.Outlet, Told.outlet, Writing.Puts, Writing.Stops, Writing.Wrote}
 pub use Rattle.vms_parts.specs.{Capacities.least_from, Capacities.least_of, Capacities.lesser, Views.device_of, Views.form_of, declared.types.CellForm.CellForm}
 pub use Rattle.vms_spots.specs.Spots.{Held, codes_of}
-pub use Rattle.vms_walk.proofs.{Order.Ascends, Order.below_from, Order.desc_ascends, Order.from_end, Order.meanings_ascend, Runs.run_each}
+pub use Rattle.vms_walk.proofs.Spots.{Ascends, below_from, desc_ascends, from_end, meanings_ascend, run_each}
 pub use Rattle.vms_walk.specs.{Runs.run_of, declared.fields.PartAt.PartAt, declared.step.WalkStep.WalkStep}
 pub use Rattle.vms_walk.specs.Steps.{cells_in, spot_slots, steps_of, table}
 pub use Rattle.vms_write.specs.{Bytes.CanStep, Bytes.CanSteps, Bytes.CanWrite, Bytes.bytes_of, Judged.all_subs_fine, Judged.forms_of, Writing.written_sub}
