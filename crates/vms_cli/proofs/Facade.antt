@@ -98,7 +98,7 @@ pub use Rattle.vms_io.proofs.ReadingLemmas.{nothing_follows, reads_as}
 pub use Rattle.vms_io.specs.{Shelves.Held, Shelves.HoldsAll, Shelving.Looks, Writing.Serves, Causes.AppendsPrefix, Causes.KeepsPromise, Causes.Rose}
 pub use Rattle.vms_io.specs.Reading.{Course, Last, MayFollow, Reads}
 pub use Rattle.vms_io.specs.Told.{Intake, Outlet, Stock, intake, outlet, stock}
-pub use Rattle.vms_load.proofs.{ExactLoads.loads_kept, ExactLoads.taken_kept, ExactLoads.within, SetFacts.well_of}
+pub use Rattle.vms_load.proofs.{ExactLoads.loads_kept, ExactLoads.taken_kept, ExactLoads.within, StreamLengths.well_of}
 pub use Rattle.vms_load.specs.{Going.LoadReads, Good.AreKept, Lean.has, Lean.loads, Lean.taken_by}
 pub use Rattle.vms_load.specs.Staging.{AreShaped, IsMachine, accepted_of, most_given, name_of, no_image}
 pub use Rattle.vms_script.proofs.{GrammarOnly.reads_exactly}

@@ -70,7 +70,7 @@ pub use Rattle.vms_desc.specs.{Parts.HasPart, Parts.desc_at, Parts.sub_at, Spots
 pub use Rattle.vms_image.proofs.States.{at_state, image_at}
 pub use Rattle.vms_image.specs.Typed.{AreImagesOf, IsImageOf, Typed, default_at, state_of, typed}
 pub use Rattle.vms_io.specs.{Told.outlet, Writing.Puts, Writing.Stops}
-pub use Rattle.vms_load.proofs.{HeadLemmas.device_below, SetFacts.well_of}
+pub use Rattle.vms_load.proofs.{HeadLemmas.device_below, StreamLengths.well_of}
 pub use Rattle.vms_load.specs.{Good.AreKept, Lean.has, Lean.loads, Staging.name_of}
 pub use Rattle.vms_parts.specs.{Capacities.least_of, Sizes.in_u32, Views.device_of, Views.field_of, Views.sub_of}
 pub use Rattle.vms_spots.specs.Spots.{Held}

@@ -22,8 +22,8 @@ pub use Rattle.vms_desc.proofs.{AskLaws.device_is, Clean.few_machines}
 pub use Rattle.vms_desc.specs.{Described.described, Formed.is_well_formed, Parts.sub_at}
 pub use Rattle.vms_image.specs.Typed.{AreImagesOf, IsImageOf, Typed, state_of}
 pub use Rattle.vms_io.specs.Memory.{Supply, bytes_left}
-pub use Rattle.vms_load.proofs.{ExactLoads.content, SetFacts.most_small, SetFacts.well_of}
-pub use Rattle.vms_load.proofs.StreamLengths.{devices_long, stream_le, subs_long}
+pub use Rattle.vms_load.proofs.ExactLoads.{content}
+pub use Rattle.vms_load.proofs.StreamLengths.{most_small, well_of, devices_long, stream_le, subs_long}
 pub use Rattle.vms_load.specs.Bounds.{fields_bytes, item_bytes, struct_bytes}
 pub use Rattle.vms_load.specs.Kept.{kept, loads, taken_by}
 pub use Rattle.vms_load.specs.Staging.{devices_most, name_of, subs_bytes}
