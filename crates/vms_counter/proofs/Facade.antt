@@ -31,4 +31,4 @@ pub use Rattle.vms_marks.specs.{declared.stream_head.TheConstants.BESIDE_SECTION
 pub use Rattle.vms_parts.proofs.{Items.get_map_at, SizeLaws.capped_at, SizeLaws.capped_product, SizeLaws.sum_ends, SizeLaws.sum_goes}
 pub use Rattle.vms_parts.specs.{Devices.device_at, Sizes.in_u32, declared.types.Desc.Desc, declared.types.Device.Device, declared.types.Field.Field}
 pub use Rattle.vms_parts.specs.Views.{desc_of, device_of, field_of}
-pub use Rattle.vms_write.proofs.Formed.{device_short, sub_short}
+pub use Rattle.vms_write.proofs.Sections.{device_short, sub_short}
