@@ -103,7 +103,7 @@ pub use Rattle.vms_load.specs.{Going.LoadReads, Good.AreKept, Lean.has, Lean.loa
 pub use Rattle.vms_load.specs.Staging.{AreShaped, IsMachine, accepted_of, most_given, name_of, no_image}
 pub use Rattle.vms_script.proofs.{GrammarOnly.reads_exactly}
 pub use Rattle.vms_script.specs.{Lines.ScriptLine, Lines.is_set_of, Names.is_shelf_name}
-pub use Rattle.vms_selfdesc.proofs.Bounds.{short_holds}
+pub use Rattle.vms_selfdesc.proofs.Lengths.{short_holds}
 pub use Rattle.vms_selfdesc.specs.Tree.{described_text}
 pub use Rattle.vms_session.proofs.RunLemmas.{after_number, lines_are_events}
 pub use Rattle.vms_session.specs.Events.{events_of}
