@@ -19,7 +19,7 @@ unfoldable pub use Rattle.vms_spec.specs.Layout.{first}
 pub use Rattle.vms_stream.proofs.Stated.{further_holds, either_holds, never_both_holds, one_fault_holds, one_stream_holds}
 pub use Rattle.vms_stream.specs.{Faults.Fault, StreamLaws.Answer, StreamLaws.Faulty, StreamLaws.Taken, Streams.Takes}
 pub use Rattle.vms_elements.specs.{Parts.cell_name, Parts.device_elements, Parts.names_of, Reading.IsMachineOf}
-pub use Rattle.vms_analyze.proofs.{One.one_holds, Total.total_holds}
+pub use Rattle.vms_analyze.proofs.One.{one_holds, total_holds}
 pub use Rattle.vms_analyze.specs.{Laws.HasListing, declared.fault.AnalyzeFault.AnalyzeFault, declared.fault.AnalyzeReason.AnalyzeReason}
 pub use Rattle.vms_analyze.specs.Calls.{Analyzes, IsListed, IsTooMuch, ListsTaken}
 pub use Rattle.vms_analyze.specs.Listing.{HasNoShape, HasNone, IsRead, IsTooLong, Listing, Lists, Text, longest_input}
