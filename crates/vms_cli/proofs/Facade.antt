@@ -81,8 +81,8 @@ pub use Rattle.vms_commands.specs.StepEndings.{StepAs, TextEnds, WrittenAs, text
 pub use Rattle.vms_commands.specs.Steps.{Both, Ends, Gives, HasBy, HasText, Step, Untold, both, next}
 pub use Rattle.vms_commands.specs.declared.ending.Ending.TheVariants.{Refused, WriteFault, BadText, BadWords, NoMemory, NotCompatible, ReadFault}
 pub use Rattle.vms_commands.specs.declared.kinds.BoardKind.TheVariants.{Clock, Isa}
-pub use Rattle.vms_convert.proofs.{Answered.answered, Converts.converts_stand, Converts.ready, Converts.same_backs}
-pub use Rattle.vms_convert.proofs.RecastLaws.{newest_kinds, one_lost, recast_long}
+pub use Rattle.vms_convert.proofs.Answered.{answered}
+pub use Rattle.vms_convert.proofs.Converts.{converts_stand, ready, same_backs, newest_kinds, one_lost, recast_long}
 pub use Rattle.vms_convert.specs.{Laws.AreRecastOf, Recast.wants_arrays, declared.fault.ConvertFault.ConvertFault, Calls.IsStreamFor, Calls.LosesFirst}
 pub use Rattle.vms_convert.specs.Converted.{AreBack, recast_each}
 pub use Rattle.vms_convert.specs.Lost.{KeepsAll, Loses, OfCell, OfDevice, OfMachine, first_cell, numbers_in}
