@@ -1,6 +1,6 @@
 -- Units with which a stream can go on. Units without a fault go on to an end, if every validation
 -- holds.
-use Rattle.vms_stream_laws.proofs.{Bounds.bounded, WellFormed.still_fits, WellFormed.still_well, Parts.every_holds as all_hold, Parts.from_bare, Parts.to_bare}
+use Rattle.vms_stream_laws.proofs.{Parts.every_holds as all_hold, Parts.from_bare, Parts.to_bare, Facade.BeginningLaw, Facade.Begins, Facade.HoldsBefore}
 use Rattle.vms_stream_laws.proofs.Facade.{◌≡◌, ℕ, zero, suc, ◌+◌, ◌<◌, Bool, true, false, ◌&&◌, List, [], ◌∷◌, length, drop}
 use Rattle.vms_stream_laws.proofs.Facade.{slice_set, ℤ, pos, negsuc, Some, None, refl, ◌∙◌, arith, slice_get, le-ltb, ltb-false, InRange, Kind, U8}
 use Rattle.vms_stream_laws.proofs.Facade.{Slot, raw, exceeds, is_above, is_truth, Set, slots, AllCame, Number, Constant, is_below, not_above}
@@ -13,7 +13,7 @@ use Rattle.vms_stream_laws.proofs.Facade.{own_constants, part_constants, Due, AV
 use Rattle.vms_stream_laws.proofs.Facade.{AtFiller, AtFoot, AtNext, due, fits_four, holds, is_foot, Front, owes, Unknown, Footed, Bare, known, passed, tail}
 use Rattle.vms_stream_laws.proofs.Facade.{reason_of, end_passes, foot_passes, head_passes, AreBytes, be32_bytes, bytes_at, code_bytes, foot_bytes, head_bytes}
 use Rattle.vms_stream_laws.proofs.Facade.{parts_named, zeros_bytes, RefusedLaw, unruled, subst, append-nil, take-append_seam, bytes_first, Ends, units_hold}
-use Rattle.vms_stream_laws.proofs.Facade.{BeginningLaw, Begins, HoldsBefore}
+use Rattle.vms_stream_laws.proofs.WellFormed.{bounded, still_fits, still_well}
 use Rattle.vms_kinds.specs.declared.Kind.TheVariants.{Bool as Truth}
 use Rattle.vms_spec.proofs.WellFormedLaws.{beyond as is_beyond}
 use Rattle.vms_spec.specs.Layout.{Number as NumberSlot, Constant as ConstantSlot, Filler as FillerSlot, Rule as RuleSlot}
