@@ -9,7 +9,8 @@ pub use Rattle.std.proofs.lemmas.Nat.{and_le_l, and_le_r, or_of_16, or_of_8, pow
 pub use Rattle.std.proofs.lemmas.Nat.Bits.{bit_at_or, same_from_bits, same_from_bits_below, and_pow, bit_at-lt, bit_at-pow_other, bit_at-zero, bit_at_and}
 pub use Rattle.std.specs.Int.{bit_at, w16, w8}
 pub use Rattle.std.specs.Prelude.{IfSome, is_some, nat_le, nat_lt}
-pub use Rattle.dev_base.proofs.{CellLaws.long, CellLaws.of_more, CellLaws.of_none, Choices.either, RuleLaws.hook-ok, RuleLaws.judged-ok, RuleLaws.ok-hook}
+pub use Rattle.dev_base.proofs.CellLaws.{long, of_more, of_none}
+pub use Rattle.dev_base.proofs.RuleLaws.{either, hook-ok, judged-ok, ok-hook}
 pub use Rattle.dev_base.specs.{Bits.bits_where, Bits.has, Cells.AreOf, Levels.IsLevel, Levels.MayRestore, Levels.MaySave}
 pub use Rattle.dev_base.specs.declared.limits.TheConstants.{LAST_MOMENT, NEWEST}
 pub use Rattle.dev_board.specs.{Kept.IsCalm, Kept.calm_by, Kept.later, Laws.PortsAre, Laws.SoundStays, Laws.StaysAlike, Ports.read, Ports.write, Saved.pit_back}

@@ -6,7 +6,7 @@ pub use Rattle.vms_rtc.proofs.{CallLaws.version_stays, RuleLaws.same-chip, Saved
 pub use Rattle.vms_rtc.specs.{Cells.kinds, Saved.CanRestore, Saved.hook_restored, declared.limits.TheConstants.NEWEST_CLOCK, declared.rtc.Rtc.Rtc}
 pub use Rattle.vms_rtc.specs.Chip.{is_port, passed, read_of}
 unfoldable pub use Rattle.vms_rtc.specs.{Cells.saved_cells, Chip.line_of}
-pub use Rattle.dev_base.proofs.{Choices.either, RuleLaws.AllTrue, RuleLaws.hook-ok, RuleLaws.judged-ok, RuleLaws.none_failing, RuleLaws.ok-hook}
+pub use Rattle.dev_base.proofs.RuleLaws.{either, AllTrue, hook-ok, judged-ok, none_failing, ok-hook}
 pub use Rattle.dev_base.specs.{Bits.has, Bits.same, Cells.AreOf, Cells.number_at, Levels.IsLevel, Levels.IsUpTo}
 pub use Rattle.dev_base.specs.declared.limits.TheConstants.{LAST_MOMENT, NEWEST}
 pub use Rattle.dev_board.proofs.{AlikeLaws.stays-alike, WireLaws.wires_stay, RestoredLaws.chip-ok, RestoredLaws.device-ok}

@@ -6,7 +6,7 @@ pub use Rattle.std.proofs.lemmas.Option.{same_Some}
 pub use Rattle.std.specs.Prelude.{IfSome, is_some, nat_le, nat_lt}
 pub use Rattle.vms_rtc.specs.{Chip.ends_within, Ends.has_come, Ends.period_in, declared.rtc.Rtc.Rtc}
 unfoldable pub use Rattle.vms_rtc.specs.Chip.{passed}
-pub use Rattle.dev_base.proofs.{Choices.either}
+pub use Rattle.dev_base.proofs.RuleLaws.{either}
 pub use Rattle.dev_base.specs.{Bits.has, Bits.same, declared.limits.TheConstants.LAST_MOMENT}
 pub use Rattle.dev_board.proofs.{KeepLaws.loaded}
 pub use Rattle.dev_board.specs.{Sound.IsSound, State.State, Step.later_by, declared.event.Answer.Answer, declared.event.Event.Event}

@@ -6,7 +6,7 @@ use Rattle.vms_session.proofs.Facade.{AreLines, ScriptLine, Happens, Saves, is_s
 use Rattle.vms_session.proofs.Facade.{Restores, saved_stream, part_of, HoldsBytes, HasAnEnd, SessionsEnd, saved_line, restored_line, missing_line}
 use Rattle.vms_session.proofs.Facade.{too_large_line, refused_line, Session, IsTooLarge, IsLoaded, Does, longest_file, isa, MaySaveIn}
 use Rattle.vms_script.specs.Lines.{Restores as Loads}
-use Rattle.dev_base.proofs.Choices.{either}
+use Rattle.dev_base.proofs.RuleLaws.{either}
 use Rattle.std.proofs.lemmas.Bool.{false_from_ne_true}
 
 -- ---- what bytes restore
