@@ -32,10 +32,10 @@ unfoldable pub use Rattle.dev_board.specs.{Ports.read_at, Ports.target_of, Ports
 unfoldable pub use Rattle.dev_board.specs.Saved.{agreed, by_chip, by_device, carried, joined, lines_agree, saved, timed}
 unfoldable pub use Rattle.dev_board.specs.Step.{acted, after_act, after_by, answers_by, inputs_of, names_wire, settled, step, waited, wires_after}
 unfoldable pub use Rattle.dev_board.specs.Touch.{ack_touches, is_command, is_quiet, is_untouched, leaves_port}
-pub use Rattle.dev_pic.proofs.{LineLaws.lines_are_taken, PairLaws.steps_keep_registers, RestoredLaws.pair-sound, SavedLaws.saved_are_cells, SavedLaws.set-of}
+pub use Rattle.dev_pic.proofs.{LineLaws.lines_are_taken, SavedLaws.pair-same, SavedLaws.pair-told}
 pub use Rattle.dev_pic.proofs.BitLaws.{and-twice, each_input, has-and, has-one, has-one_other, has-or, level_inputs-lt, not_test, without_input-lt}
-pub use Rattle.dev_pic.proofs.SavedLaws.{slave_cells, carried-saved, fault-told, master_cells, pair-restored, pair-same, pair-told, saved-count}
-pub use Rattle.dev_pic.proofs.StepLaws.{Keeps, even-keeps, odd-keeps, winner-lt}
+pub use Rattle.dev_pic.proofs.SavedLaws.{pair-sound, saved-count, saved_are_cells, set-of, slave_cells, carried-saved, fault-told, master_cells, pair-restored}
+pub use Rattle.dev_pic.proofs.StepLaws.{steps_keep_registers, Keeps, even-keeps, odd-keeps, winner-lt}
 pub use Rattle.dev_pic.specs.{Cells.kinds, Cells.saved_cells, Chip.level_inputs_of, Pair.acked, Pair.from_slave, Pair.int_of, Pair.is_port, Pair.read_pair}
 pub use Rattle.dev_pic.specs.{Pair.with_cascade, Saved.hook_restored, Saved.pair_cells, Saved.restored_pair, Sound.IsSoundPair, Sound.PairHasRegisters}
 pub use Rattle.dev_pic.specs.{declared.chip.Chip.Chip, declared.fault.ChipFault.ChipFault, declared.pair.PicPair.PicPair}

@@ -5,7 +5,7 @@ use Rattle.dev_board.proofs.Facade.{pit_written, IsSoundPit, Pit, reads_keep_sou
 use Rattle.dev_board.proofs.Facade.{reads_keep_level, writes_keep_level, bytes_in_keep_level, advances_keep_level, read_of, written, came_in, advanced, Port}
 use Rattle.dev_board.proofs.Facade.{IsEvent, target_of, read_at, written_at, write, HasDevices, State, later_by, waited, acted, Event, Read, Write, Byte, Wait}
 use Rattle.dev_board.proofs.Facade.{Wire, Ack, Target, Pair, Counter, Register}
-use Rattle.dev_pic.proofs.PairLaws.{steps_keep_level as pair_keeps_level}
+use Rattle.dev_pic.proofs.StepLaws.{steps_keep_level as pair_keeps_level}
 use Rattle.dev_pit.proofs.SoundLaws.{steps_keep_level as pit_keeps_level}
 use Rattle.dev_serial.specs.Sound.{IsSound as IsSoundPort}
 

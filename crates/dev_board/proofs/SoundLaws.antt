@@ -5,7 +5,7 @@ use Rattle.dev_board.proofs.Facade.{served_of, winner_of, ready_among, chip_on, 
 use Rattle.dev_board.proofs.Facade.{out_of, new_pit, pit_out, power_on_is_sound, bits_where, interrupt, line_of, IsEvent, AreEvents, SoundStays, HasDevices}
 use Rattle.dev_board.proofs.Facade.{HasLines, IsSound, State, power_on, inputs_of, settled, after_act, step, acted, wires_after, after_all, after_by, AreWires}
 use Rattle.dev_board.proofs.WireBits.{names, wires_of-are, wires_after-are, one-lt, inputs-lt, inputs-out, inputs-serial}
-use Rattle.dev_pic.proofs.PairLaws.{steps_keep_level as pair_keeps_level}
+use Rattle.dev_pic.proofs.StepLaws.{steps_keep_level as pair_keeps_level}
 use Rattle.dev_pic.specs.Pair.{power_on as pair_on}
 use Rattle.dev_pit.proofs.SoundLaws.{steps_keep_level as pit_keeps_level}
 use Rattle.dev_serial.specs.Port.{power_on as serial_on}
