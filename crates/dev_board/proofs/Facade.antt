@@ -42,8 +42,8 @@ pub use Rattle.dev_pic.specs.{declared.chip.Chip.Chip, declared.fault.ChipFault.
 unfoldable pub use Rattle.dev_pic.specs.{Bits.but_not, Bits.without_input, Cells.requests_hold, Winner.ready_among, Winner.winner_of}
 unfoldable pub use Rattle.dev_pic.specs.Chip.{answered, cascaded, served_of, taken, winner_at}
 unfoldable pub use Rattle.dev_pic.specs.Pair.{acked_for, chip_on, lines_of, settled_pair, slave_int_of, written_pair}
-pub use Rattle.dev_pit.proofs.{Chips.at_step, Edges.edge_in_parts, RestoredLaw.pit-restored, SavedLaw.pit_of-saved, SoundLaws.sound_stays}
-pub use Rattle.dev_pit.proofs.CounterSteps.{read-goes_on, same}
+pub use Rattle.dev_pit.proofs.{EdgeLaws.edge_in_parts, SoundLaws.sound_stays, SavedLaws.pit-restored, SavedLaws.pit_of-saved}
+pub use Rattle.dev_pit.proofs.CallLaws.{at_step, read-goes_on, same}
 pub use Rattle.dev_pit.specs.{Cells.AreCellsOf, Cells.pit_cells, Count.period, Count.ticks, Counter.edge_since, GoesOn.GoesOn, Pit.IsLoadedBy, Pit.IsPort}
 pub use Rattle.dev_pit.specs.{Pit.counter_of, Pit.pit_written, Saved.pit_of, Saved.restored_pit, Saved.rules, Sound.IsSoundPit, Turns.AreTurns, Turns.IsTurn}
 pub use Rattle.dev_pit.specs.{declared.mode.Mode.Mode, declared.pit.Pit.Pit, declared.turns.Turns.Turns}

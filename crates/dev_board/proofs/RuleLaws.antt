@@ -7,7 +7,7 @@ use Rattle.dev_board.proofs.Facade.{slave_int_of, pit_of-saved, pit_out, rules, 
 use Rattle.dev_board.proofs.Facade.{lines_alike, restored-saved, Port, line_of, IsTold, SoundMeetsRules, HasLines, IsSound, PIT_DEVICE, SERIAL_DEVICE}
 use Rattle.dev_board.proofs.RestoredLaws.{IsMadeOf, made_of, chip-ok, device-ok, timed-ok, pair-back, pit-back}
 use Rattle.dev_pic.proofs.SavedLaws.{carried-saved as chip-carried}
-use Rattle.dev_pit.proofs.SavedLaw.{carried-saved as pit-carried}
+use Rattle.dev_pit.proofs.SavedLaws.{carried-saved as pit-carried}
 use Rattle.dev_serial.proofs.{CarriedCells.carried-saved as serial-carried, SoundRules.sound_meets_rules as port-meets}
 use Rattle.dev_serial.specs.{PortNumbers.saved as port-saved, Rules.restored as port-restored, Sound.IsSound as IsSoundPort}
 

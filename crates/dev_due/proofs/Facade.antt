@@ -18,7 +18,7 @@ pub use Rattle.dev_due.specs.Boards.{IsEnd, board_int, character_of, clock_int, 
 pub use Rattle.dev_due.specs.Due.{OneIsDue, shows}
 pub use Rattle.dev_due.specs.Search.{Finds, Found, FoundAt, FoundSend, FoundSends, IsBy, IsSegment, SameClock, SameLine, Shown, Tried}
 pub use Rattle.dev_due.specs.declared.boards.Board.{Board, TheVariants.Clock, TheVariants.Isa}
-pub use Rattle.dev_pit.proofs.{Moments.pit-later}
+pub use Rattle.dev_pit.proofs.CallLaws.{pit-later}
 pub use Rattle.dev_pit.specs.{Pit.IsLoadedBy, Pit.counter_of, Turns.AreTurns, Turns.IsTurn, declared.pit.Pit.Pit, declared.turns.Turns.Turns}
 pub use Rattle.dev_pit.specs.Counter.{LoadedBy, edge_of, out_of}
 unfoldable pub use Rattle.dev_pit.specs.Pit.{pit_edge, pit_out}

@@ -8,7 +8,7 @@ use Rattle.dev_images.proofs.Facade.{timer, i8259_at_4, i8254_at_2, AreOf, kind_
 use Rattle.dev_images.proofs.ReadyOf.{kind-of, count-of, has-none, before-none}
 use Rattle.vms_kinds.specs.declared.Kind.TheVariants.{Bool as Truth}
 use Rattle.dev_pic.specs.Cells.{kinds as pic_kinds}
-use Rattle.dev_pit.proofs.Chips.{each_of}
+use Rattle.dev_pit.proofs.CallLaws.{each_of}
 
 -- Cells that fit have their kinds.
 pub of-kinds : (cells : List Cell) (numbers : List ℤ) → FitCells cells numbers → AreOf (map (λ cell. cell.kind) cells) numbers

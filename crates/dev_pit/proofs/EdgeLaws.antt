@@ -1,8 +1,59 @@
--- An edge is a tick at which OUT turns high.
-use Rattle.dev_pit.proofs.{Facade.SoftwareStrobe, Facade.HardwareStrobe, Edges.period-pos, Edges.period-two}
-use Rattle.dev_pit.proofs.Facade.{◌≡◌, ℕ, ◌+◌, ◌-◌, ◌*◌, ◌/◌, ◌%◌, ◌<◌, ◌≤◌, ◌==◌, true, false, not, ◌&&◌, Option, Some, None, refl, arith, subst, sym, ⊎_elim}
-use Rattle.dev_pit.proofs.Facade.{cases_lt, cases_Bool, nat_tests, div-mul-le_self, div-lt_iff_lt-mul, le-div, mod-mul-add, div-add-mod', nat_lt, nat_le, rises}
-use Rattle.dev_pit.proofs.Facade.{out_at, period, high_part, ticks, edge_of, edge_since, EdgeTurnsHigh, Mode, TerminalCount, OneShot, RateGenerator, SquareWave}
+-- Edges of OUT in a span of time, and the ticks at which they are.
+use Rattle.dev_pit.proofs.Facade.{◌≡◌, ℕ, ◌+◌, ◌/◌, ◌<◌, ◌≤◌, ◌==◌, Bool, false, not, ◌&&◌, ◌||◌, Option, Some, None}
+use Rattle.dev_pit.proofs.Facade.{refl, arith, nat_tests, nat_lt, nat_le, grown, quotient_mono, rises, ticks, period, edge_of, edge_since, TicksGoOn}
+use Rattle.dev_pit.proofs.Facade.{SecondsHaveTicks, EdgeInParts, Mode, TerminalCount, RateGenerator, SquareWave, SoftwareStrobe, HardwareStrobe, ◌-◌}
+use Rattle.dev_pit.proofs.Facade.{◌*◌, ◌%◌, true, subst, sym, ⊎_elim, cases_lt, cases_Bool, div-mul-le_self, div-lt_iff_lt-mul, le-div, mod-mul-add}
+use Rattle.dev_pit.proofs.Facade.{div-add-mod', out_at, high_part, EdgeTurnsHigh, OneShot}
+
+-- ---- an edge in a span of time is one in a part of it
+
+-- Ticks never go back.
+pub ticks-mono : (load now later : ℕ) → now ≤ later → ticks load now ≤ ticks load later
+unfolding ticks
+ticks-mono load now later h = omega arith
+
+pub ticks_go_on : TicksGoOn
+ticks_go_on = ticks-mono
+
+pub seconds_have_ticks : SecondsHaveTicks
+unfolding ticks
+seconds_have_ticks load seconds = omega arith
+
+pub period-pos : (count : ℕ) → 0 < period count
+period-pos count = grind (arith, nat_tests)
+
+pub period-two : (count : ℕ) → (count == 1) ≡ false → 2 ≤ period count
+period-two count e = grind (arith, nat_tests)
+
+-- A threshold is passed in one of two parts.
+passed : (n a b c : ℕ) → a ≤ b → b ≤ c → (nat_lt a n && nat_le n c) ≡ ((nat_lt a n && nat_le n b) || (nat_lt b n && nat_le n c))
+passed n a b c h l = grind (arith, nat_tests)
+
+both : (x u v w : Bool) → u ≡ (v || w) → (x && u) ≡ ((x && v) || (x && w))
+both x u v w e = grind arith
+
+periods : (count a b c : ℕ) → a ≤ b → b ≤ c → (not (count == 1) && nat_lt (a / period count) (c / period count)) ≡ ((not (count == 1) && nat_lt (a / period count) (b / period count)) || (not (count == 1) && nat_lt (b / period count) (c / period count)))
+periods count a b c h l =
+    both (not (count == 1)) _ _ _ (grown _ _ _ (quotient_mono (period count) a b (period-pos count) h) (quotient_mono (period count) b c (period-pos count) l))
+
+rises-parts : (mode : Mode) (count a b c : ℕ) → a ≤ b → b ≤ c → rises mode count a c ≡ (rises mode count a b || rises mode count b c)
+unfolding rises
+rises-parts TerminalCount count a b c h l = passed (period count) a b c h l
+rises-parts RateGenerator count a b c h l = periods count a b c h l
+rises-parts SquareWave count a b c h l = periods count a b c h l
+rises-parts SoftwareStrobe count a b c h l = passed (period count + 1) a b c h l
+rises-parts _ count a b c h l = refl
+
+since-parts : (load : Option ℕ) (mode : Mode) (count from between to : ℕ) → from ≤ between → between ≤ to
+    → edge_since load mode count from to ≡ (edge_since load mode count from between || edge_since load mode count between to)
+since-parts None mode count from between to h l = refl
+since-parts (Some load) mode count from between to h l = rises-parts mode count _ _ _ (ticks-mono load from between h) (ticks-mono load between to l)
+
+pub edge_in_parts : EdgeInParts
+unfolding edge_of
+edge_in_parts counter from between to h l = since-parts counter.loaded_at counter.mode counter.count from between to h l
+
+-- ---- an edge is a tick at which OUT turns high
 
 -- OUT is low after tick - 1 ticks and high after tick, for some tick of the span
 record Turns (mode : Mode) (count before after : ℕ) : Type 0 where
