@@ -49,7 +49,7 @@ pub use Rattle.dev_pit.specs.{Pit.counter_of, Pit.pit_written, Saved.pit_of, Sav
 pub use Rattle.dev_pit.specs.{declared.mode.Mode.Mode, declared.pit.Pit.Pit, declared.turns.Turns.Turns}
 pub use Rattle.dev_pit.specs.declared.mode.Mode.TheVariants.{HardwareStrobe, OneShot, RateGenerator, SquareWave}
 unfoldable pub use Rattle.dev_pit.specs.{Count.rises, Counter.edge_of, Counter.out_of, Counter.powered_on, Pit.new_pit, Pit.pit_edge, Pit.pit_out, Pit.pit_read}
-pub use Rattle.dev_serial.proofs.{CarriedCells.numbers-back, SavedLaw.restored-saved, WaitLaws.still}
+pub use Rattle.dev_serial.proofs.{SavedCells.numbers-back, SavedLaws.restored-saved, WaitLaws.still}
 pub use Rattle.dev_serial.proofs.AlikeLaws.{advances_alike, alike_back, alike_itself, alike_on, bytes_in_alike, lines_alike, reads_alike, writes_alike}
 pub use Rattle.dev_serial.proofs.KeepLaws.{advances_keep_sound, bytes_in_keep_sound, power_on_is_sound, reads_keep_sound, writes_keep_sound}
 pub use Rattle.dev_serial.proofs.RegisterLaws.{advances_keep_level, bytes_in_keep_level, reads_keep_level, writes_keep_level}

@@ -4,7 +4,7 @@ use Rattle.dev_board.proofs.Facade.{IsLevel, MayRestore, LAST_MOMENT, steps_keep
 use Rattle.dev_board.proofs.Facade.{IsSoundPit, Pit, IsSoundAt, Port, AreBoardCells, moment_of, timed, by_chip, by_device, lines_agree, agreed, joined}
 use Rattle.dev_board.proofs.Facade.{numbers_back, pair_back, pit_back, serial_back, restored, RestoredIsSound, HasDevices, IsSound, State, BoardCells, Misfit}
 use Rattle.dev_board.proofs.Facade.{Unsound, LinesDisagree, TIMER_DEVICE, MASTER_DEVICE, PIT_DEVICE, SERIAL_DEVICE}
-use Rattle.dev_serial.proofs.RestoredLaw.{restored_is_sound as port-sound}
+use Rattle.dev_serial.proofs.RestoredLaws.{restored_is_sound as port-sound}
 use Rattle.dev_board.proofs.SavedLaws.{has-lines}
 
 -- The board is made of devices that were restored, and the lines agree.

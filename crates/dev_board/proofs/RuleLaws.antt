@@ -8,7 +8,7 @@ use Rattle.dev_board.proofs.Facade.{lines_alike, restored-saved, Port, line_of, 
 use Rattle.dev_board.proofs.RestoredLaws.{IsMadeOf, made_of, chip-ok, device-ok, timed-ok, pair-back, pit-back}
 use Rattle.dev_pic.proofs.SavedLaws.{carried-saved as chip-carried}
 use Rattle.dev_pit.proofs.SavedLaws.{carried-saved as pit-carried}
-use Rattle.dev_serial.proofs.{CarriedCells.carried-saved as serial-carried, SoundRules.sound_meets_rules as port-meets}
+use Rattle.dev_serial.proofs.{SavedCells.carried-saved as serial-carried, RestoredLaws.sound_meets_rules as port-meets}
 use Rattle.dev_serial.specs.{PortNumbers.saved as port-saved, Rules.restored as port-restored, Sound.IsSound as IsSoundPort}
 
 -- ---- the cells of a pair's two chips, separately and one after the other

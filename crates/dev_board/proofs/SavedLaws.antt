@@ -10,7 +10,7 @@ use Rattle.dev_base.specs.Bits.{same}
 use Rattle.dev_pic.specs.Cells.{kinds as pic_kinds, carried as pic_carried}
 use Rattle.dev_pit.proofs.SavedLaws.{saved_are_cells as pit-saved, saved_is_restored as pit-is-restored}
 use Rattle.dev_pit.specs.Cells.{carried as pit_carried}
-use Rattle.dev_serial.proofs.{SavedCells.saved_are_cells as serial-saved, CarriedCells.saved_comes_back as serial-comes-back}
+use Rattle.dev_serial.proofs.SavedCells.{saved_are_cells as serial-saved, saved_comes_back as serial-comes-back}
 use Rattle.dev_serial.specs.{Cells.carried as serial_carried, Laws.ComesBack as PortComesBack, Sound.Alike as AlikePorts}
 
 -- Two truth values are the same.

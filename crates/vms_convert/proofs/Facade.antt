@@ -83,5 +83,5 @@ pub use Rattle.dev_base.specs.Cells.{AreOf}
 pub use Rattle.dev_images.proofs.{NormalSerial.port-of, ShippedDevices.serial_at_4}
 pub use Rattle.dev_images.proofs.ReadyOf.{AreSubs, count-of, kind-of, needed, versions}
 pub use Rattle.dev_images.specs.Images.{bare, image_of, needed_from}
-pub use Rattle.dev_serial.proofs.{RecastKinds.recast_kinds, RecastLaws.recast_twice}
+pub use Rattle.dev_serial.proofs.RecastLaws.{recast_kinds, recast_twice}
 pub use Rattle.dev_serial.specs.{Cells.IsPortCells, Cells.kinds, Recast.recast_cells}

@@ -1,13 +1,16 @@
--- A port that is restored is sound.
-use Rattle.dev_serial.proofs.Facade.{◌≡◌, ℕ, true, Ok, ◌≤◌, Bool, List, [], ◌∷◌, length, Option, Some, refl, subst, ◌+◌, ◌<◌, ◌==◌, false, not, ◌&&◌, ◌||◌}
-use Rattle.dev_serial.proofs.Facade.{cond, None, sym, ◌∙◌, arith, ◌%◌, ℤ, false≢true, leb-true, ltb-true, and_parts, not-true, nat_le, nat_lt, is_some}
-use Rattle.dev_serial.proofs.Facade.{judged-ok, first_failing_is_first, hook-ok, Port, port_of, moment_of, shift_of, fifos_of, stored_bytes, registers_hold}
-use Rattle.dev_serial.proofs.Facade.{fcr_holds, status_holds, shift_holds, timeout_holds, latch_holds, rules, restored, unused_hold, id_holds, once_holds}
-use Rattle.dev_serial.proofs.Facade.{rings_hold, longest_timeout, is_unused, PortNumbers, first_failing, judged_by, IsFirstFailing, is_empty, IsShort, same}
-use Rattle.dev_serial.proofs.Facade.{has, AreBytes, IsShift, IsTimeout, IsSound, HasRegisters, IsReceiver, IsTransmitter, Trigger, LONGEST_CHARACTER, NEVER}
-use Rattle.dev_serial.proofs.Facade.{cell_at, number_at, IsLevel, U8, U16, number-lt, IsPortCells, bytes_at, array_at, ring_at, numbers_of, IsSoundAt}
-use Rattle.dev_serial.proofs.Facade.{RestoredIsSound, DIVISOR, THR_IPENDING, RX_COUNT, RX, TX_COUNT, TX, TIMEOUT_AT, RX_DATA, TX_DATA}
-use Rattle.dev_serial.proofs.StoredLaws.{in_arrays, ring-bytes, stored-empty, stored-short, stored-bytes, firsts-bytes, byte-at}
+-- A restored port is sound, and the rules hold of a sound port alone.
+use Rattle.dev_serial.proofs.{SavedLaws.unused-at, AlikeLaws.IsStatus, AlikeLaws.lsr-status}
+use Rattle.dev_serial.proofs.Facade.{◌≡◌, ℕ, true, Ok, ◌≤◌, Bool, List, [], ◌∷◌, length, Option, Some, refl, subst, ◌+◌, ◌<◌}
+use Rattle.dev_serial.proofs.Facade.{◌==◌, false, not, ◌&&◌, ◌||◌, cond, None, sym, ◌∙◌, arith, ◌%◌, ℤ, false≢true, leb-true}
+use Rattle.dev_serial.proofs.Facade.{ltb-true, and_parts, not-true, nat_le, nat_lt, is_some, judged-ok, first_failing_is_first, hook-ok, Port, port_of}
+use Rattle.dev_serial.proofs.Facade.{moment_of, shift_of, fifos_of, stored_bytes, registers_hold, fcr_holds, status_holds, shift_holds, timeout_holds}
+use Rattle.dev_serial.proofs.Facade.{latch_holds, rules, restored, unused_hold, id_holds, once_holds, rings_hold, longest_timeout, is_unused, PortNumbers}
+use Rattle.dev_serial.proofs.Facade.{first_failing, judged_by, IsFirstFailing, is_empty, IsShort, same, has, AreBytes, IsShift, IsTimeout, IsSound}
+use Rattle.dev_serial.proofs.Facade.{HasRegisters, IsReceiver, IsTransmitter, Trigger, LONGEST_CHARACTER, NEVER, cell_at, number_at, IsLevel, U8, U16}
+use Rattle.dev_serial.proofs.Facade.{number-lt, IsPortCells, bytes_at, array_at, ring_at, numbers_of, IsSoundAt, RestoredIsSound, DIVISOR, THR_IPENDING}
+use Rattle.dev_serial.proofs.Facade.{RX_COUNT, RX, TX_COUNT, TX, TIMEOUT_AT, RX_DATA, TX_DATA, eqb-true, LAST_MOMENT, lsr_of, SoundMeetsRules, saved}
+use Rattle.dev_serial.proofs.Facade.{fcr_number, moment_number, due_number, IsHeld, IsTold, IsByte, Shift}
+use Rattle.dev_serial.proofs.SavedLaws.{in_arrays, ring-bytes, stored-empty, stored-short, stored-bytes, firsts-bytes, byte-at, restored-saved, on, runs-same}
 
 -- ---- every rule holds for numbers that are restored
 
@@ -179,3 +182,83 @@ restored_is_sound numbers cells port can e =
       sound = sound numbers.level numbers.moment (numbers_of cells) can.pass.is_level (ranges-of cells can.port_cells) h.0;
       own_level = own-level numbers.level (numbers_of cells);
     })
+
+-- ---- a port is sound exactly if a stream can describe it and the rules hold for what is saved
+
+-- from sound to held
+told : (now : ℕ) (runs : Bool) (timeout : Option ℕ) → now ≤ LAST_MOMENT → IsTimeout now runs timeout → IsTold timeout
+told now runs None h t = tt
+told now runs (Some moment) h t = omega arith
+
+is-byte : (now : ℕ) (shift : Option Shift) → IsShift now shift → IsByte shift
+is-byte now None s = tt
+is-byte now (Some shift) s = s.byte
+
+held : (now : ℕ) (port : Port) → now ≤ LAST_MOMENT → IsSound now port → IsHeld port
+held now port h s =
+    let timeout = told now _ port.receiver.timeout h s.receiver.timeout in
+    let shift = is-byte now port.transmitter.shift s.transmitter.shift in
+    search
+
+-- and back, by the rules
+fifos-level : (level : ℕ) (fifos : Option Trigger) (rest : Bool) → ((fcr_number fifos == 0) || (nat_le 2 level && rest)) ≡ true → is_some fifos ≡ true → 2 ≤ level
+fifos-level level None rest h e = cc
+fifos-level level (Some trigger) rest h e = leb-true 2 level (and_parts _ _ (rw (on trigger) at h)).0
+
+shift-from : (now : ℕ) (shift : Option Shift) (idle empty five : Bool) → idle ≡ (empty && not (is_some shift)) → IsByte shift
+    → (same idle (due_number shift == NEVER) && cond idle five (nat_lt now (due_number shift) && nat_le (due_number shift) (now + LONGEST_CHARACTER))) ≡ true
+    → IsShift now shift
+shift-from now None idle empty five e b h = tt
+shift-from now (Some shift) true true five e b h = absurd (false≢true (sym e))
+shift-from now (Some shift) true false five e b h = cc
+shift-from now (Some shift) false empty five e b h =
+    let p = and_parts _ _ (and_parts _ _ h).1 in
+    record { byte = b; later = ltb-true _ _ p.0; in_time = leb-true _ _ p.1 }
+
+idle-from : (shift : Option Shift) (idle empty rest : Bool) → idle ≡ (empty && not (is_some shift)) → (same idle (due_number shift == NEVER) && rest) ≡ true
+    → is_some shift ≡ false → empty ≡ true
+idle-from None idle true rest e h n = refl
+idle-from _ _ _ rest e h n = cc
+
+timeout-from : (now : ℕ) (runs : Bool) (timeout : Option ℕ) → IsTold timeout → cond runs (not (moment_number timeout == NEVER) && nat_le (moment_number timeout) (now + longest_timeout)) (moment_number timeout == NEVER) ≡ true → IsTimeout now runs timeout
+timeout-from now true None t h = cc
+timeout-from now false None t h = refl
+timeout-from now true (Some moment) t h = record { runs_now = refl; in_time = leb-true _ _ (and_parts _ _ h).1 }
+timeout-from now false (Some moment) t h = absurd (let e = eqb-true moment NEVER h in omega arith)
+
+module _ (now : ℕ) (port : Port) (is : IsHeld port) (rules : Hold port.level now (saved 4 now port)) where
+  abbrev lsr : IsStatus (lsr_of port) (not (is_empty port.receiver.held)) port.receiver.overrun (is_empty port.transmitter.waiting)
+      (is_empty port.transmitter.waiting && not (is_some port.transmitter.shift))
+  lsr = lsr-status port
+
+  port-registers : HasRegisters port.level port.divisor port.ier port.lcr port.mcr port.scr (is_some port.fifos)
+  unfolding registers_hold fcr_holds saved
+  port-registers =
+      let low = and_parts _ _ rules.registers in
+      let ier : port.ier ≤ 15 = leb-true _ _ low.0 in
+      let mcr : port.mcr ≤ 31 = leb-true _ _ (and_parts _ _ low.1).0 in
+      let fifos = fifos-level port.level port.fifos _ rules.fcr in
+      search
+
+  port-timeout : IsTimeout now (nat_le 3 port.level && (is_some port.fifos && not (is_empty port.receiver.held))) port.receiver.timeout
+  unfolding timeout_holds saved
+  port-timeout =
+      timeout-from now (nat_le 3 port.level && (is_some port.fifos && not (is_empty port.receiver.held))) port.receiver.timeout is.timeout
+      (rw (unused-at 4 port.fifos port.receiver.held, runs-same port.fifos port.receiver.held) at rules.timeouts)
+
+  port-shift : IsShift now port.transmitter.shift
+  unfolding shift_holds saved
+  port-shift = shift-from now port.transmitter.shift (has (lsr_of port) 6) (is_empty port.transmitter.waiting) _ lsr.idle_bit is.shift rules.shifts
+
+  idle : is_some port.transmitter.shift ≡ false → is_empty port.transmitter.waiting ≡ true
+  unfolding shift_holds saved
+  idle = idle-from port.transmitter.shift (has (lsr_of port) 6) (is_empty port.transmitter.waiting) _ lsr.idle_bit rules.shifts
+
+  port-sound : IsSound now port
+  port-sound = search (port-registers, port-timeout, port-shift, idle)
+
+pub sound_meets_rules : SoundMeetsRules
+sound_meets_rules now port early = (
+  λ s. let r = restored-saved 4 now port early s in (held now port early s, (r.0, r.1)),
+  λ h. port-sound now port h.0 (hold port.level now (saved 4 now port) h.1.0 h.1.1).0,
+)
