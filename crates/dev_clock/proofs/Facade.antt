@@ -2,7 +2,7 @@
 pub use Rattle.std.proofs.Common.{Bool, Err, List, Ok, Result, [], ap, arith, cond, false, nat_le, refl, subst, sym, true, ℕ, ℤ, ◌*◌, ◌+◌, ◌<◌, ◌==◌, ◌∙◌, ◌∷◌}
 pub use Rattle.std.proofs.Common.{◌≡◌, ◌≤◌}
 pub use Rattle.vms_hooks.specs.Numbers.{Numbers}
-pub use Rattle.vms_rtc.proofs.{CallLaws.version_stays, RuleLaws.same-chip, SavedLaws.restored-own, SavedLaws.saved_is_restored, SoundLaws.calls_keep_sound}
+pub use Rattle.vms_rtc.proofs.{StepLaws.version_stays, StepLaws.calls_keep_sound, SavedLaws.same-chip, SavedLaws.restored-own, SavedLaws.saved_is_restored}
 pub use Rattle.vms_rtc.specs.{Cells.kinds, Saved.CanRestore, Saved.hook_restored, declared.limits.TheConstants.NEWEST_CLOCK, declared.rtc.Rtc.Rtc}
 pub use Rattle.vms_rtc.specs.Chip.{is_port, passed, read_of}
 unfoldable pub use Rattle.vms_rtc.specs.{Cells.saved_cells, Chip.line_of}

@@ -8,7 +8,7 @@ use Rattle.dev_clock.proofs.{SavedLaws.slave-bit, SoundLaws.newest-is}
 use Rattle.dev_board.proofs.RestoredLaws.{restored_is_sound as board-is-sound, made_of as board_made_of}
 use Rattle.dev_board.specs.Saved.{joined as board_joined, restored as board_restored}
 use Rattle.dev_pic.proofs.SavedLaws.{made_of as pair_made_of}
-use Rattle.vms_rtc.proofs.{RestoredLaws.restored_is_sound as clock-is-sound}
+use Rattle.vms_rtc.proofs.SavedLaws.{restored_is_sound as clock-is-sound}
 use Rattle.vms_rtc.specs.{Saved.restored as clock_restored, Sound.IsSound as IsSoundClock}
 
 -- ---- the devices that misfits of a board name

@@ -7,7 +7,7 @@ use Rattle.dev_clock.proofs.RestoredLaws.{IsMadeOf, made_of, IsLined, clock-line
 use Rattle.dev_board.proofs.{RuleLaws.sound_meets_rules as board-meets}
 use Rattle.dev_board.specs.{Saved.saved as board_saved, Saved.restored as board_restored, Sound.IsSound as IsSoundBoard}
 use Rattle.dev_pic.specs.Cells.{saved_cells as chip_cells}
-use Rattle.vms_rtc.proofs.{RuleLaws.sound_meets_rules as clock-meets}
+use Rattle.vms_rtc.proofs.SavedLaws.{sound_meets_rules as clock-meets}
 use Rattle.vms_rtc.specs.{Saved.rules, Saved.chip_of, Saved.restored as clock_restored, Sound.IsSound as IsSoundClock}
 
 -- The slave's line among the saved cells of a sound board.

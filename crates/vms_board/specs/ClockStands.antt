@@ -12,7 +12,7 @@ use Rattle.vms_desc.proofs.Bounds.{none_is}
 use Rattle.vms_desc.proofs.ClockHeads.{clock_heads}
 use Rattle.vms_desc.proofs.Formed.{clock_formed}
 use Rattle.vms_desc.specs.Formed.{clock_set}
-use Rattle.vms_rtc.proofs.CallLaws.{version_stays}
+use Rattle.vms_rtc.proofs.StepLaws.{version_stays}
 use Rattle.vms_rtc.specs.declared.limits.TheConstants.{NEWEST_CLOCK}
 use Rattle.vms_board.specs.Clock.{clock, clock_machine, AreTold}
 use Rattle.vms_board.specs.Family.{Stands}
