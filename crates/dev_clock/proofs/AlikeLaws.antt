@@ -2,7 +2,7 @@
 use Rattle.dev_clock.proofs.Facade.{◌≡◌, ℕ, ◌==◌, Bool, true, false, cond, refl, sym, ap, subst, ◌∙◌, stays-alike, State, Answer, Event, Read, Write, Byte}
 use Rattle.dev_clock.proofs.Facade.{Wait, Wire, Ack, is_port, passed, line_of, Rtc, AnswersAlike, AlikeStays, Alike, ClockState, on_board, waited, acted}
 use Rattle.dev_clock.proofs.Facade.{follows_line, step, CLOCK_INPUT}
-use Rattle.dev_board.proofs.{AlikeLaws.alike_stays as board_stays}
+use Rattle.dev_board.proofs.SavedLaws.{alike_stays as board_stays}
 use Rattle.dev_board.specs.{Sound.Alike as AlikeBoards, Step.step as board_step}
 
 -- Boards that are alike have the same moment.

@@ -1,7 +1,7 @@
 -- No event changes the version, and only a wait changes the moment.
 use Rattle.dev_clock.proofs.Facade.{◌≡◌, ℕ, ◌==◌, refl, ◌∙◌, either, moment_left, Answer, Event, Read, Write, Byte, Wait, Wire, Ack, int_of, version_stays}
 use Rattle.dev_clock.proofs.Facade.{is_port, line_of, AnswersTellInt, ClockGoesOn, ClockState, waited, acted, follows_line, step, CLOCK_INPUT}
-use Rattle.dev_board.proofs.ClockLaws.{answers_tell_int as board_tells_int, clock_goes_on as board_goes_on}
+use Rattle.dev_board.proofs.SoundLaws.{answers_tell_int as board_tells_int, clock_goes_on as board_goes_on}
 
 -- Devices at a moment and of a version.
 record IsAt (moment version : ℕ) (after : Answer × ClockState) : Type 0 where

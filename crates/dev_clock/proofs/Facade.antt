@@ -9,8 +9,8 @@ unfoldable pub use Rattle.vms_rtc.specs.{Cells.saved_cells, Chip.line_of}
 pub use Rattle.dev_base.proofs.RuleLaws.{either, AllTrue, hook-ok, judged-ok, none_failing, ok-hook}
 pub use Rattle.dev_base.specs.{Bits.has, Bits.same, Cells.AreOf, Cells.number_at, Levels.IsLevel, Levels.IsUpTo}
 pub use Rattle.dev_base.specs.declared.limits.TheConstants.{LAST_MOMENT, NEWEST}
-pub use Rattle.dev_board.proofs.{AlikeLaws.stays-alike, WireLaws.wires_stay, RestoredLaws.chip-ok, RestoredLaws.device-ok}
-pub use Rattle.dev_board.proofs.SavedLaws.{same-is, same-refl}
+pub use Rattle.dev_board.proofs.{WireLaws.wires_stay, RestoredLaws.chip-ok, RestoredLaws.device-ok}
+pub use Rattle.dev_board.proofs.SavedLaws.{stays-alike, same-is, same-refl}
 pub use Rattle.dev_board.specs.{Laws.AnswersAlike, Laws.AreEvents, Laws.IsEvent, Laws.moment_left, Saved.lines_agree, Saved.moment_of, State.State}
 pub use Rattle.dev_board.specs.{declared.cells.BoardCells.BoardCells, declared.event.Answer.Answer, declared.event.Event.Event, declared.misfit.Misfit.Misfit}
 pub use Rattle.dev_board.specs.declared.event.Event.TheVariants.{Ack, Byte, Read, Wait, Wire, Write}

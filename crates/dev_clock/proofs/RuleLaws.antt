@@ -4,7 +4,7 @@ use Rattle.dev_clock.proofs.{Facade.CLOCK_DEVICE, SavedLaws.line-kept, SavedLaws
 use Rattle.dev_clock.proofs.Facade.{◌≡◌, ℕ, Ok, sym, ap, subst, ◌∙◌, AllTrue, judged-ok, none_failing, has, NEWEST, State, lines_of, same-chip, restored-own}
 use Rattle.dev_clock.proofs.Facade.{saved_cells, line_of, NEWEST_CLOCK, saved, slave_line, clock_back, restored, IsTold, SoundMeetsRules, IsSound, ClockState}
 use Rattle.dev_clock.proofs.RestoredLaws.{IsMadeOf, made_of, IsLined, clock-lined}
-use Rattle.dev_board.proofs.{RuleLaws.sound_meets_rules as board-meets}
+use Rattle.dev_board.proofs.RestoredLaws.{sound_meets_rules as board-meets}
 use Rattle.dev_board.specs.{Saved.saved as board_saved, Saved.restored as board_restored, Sound.IsSound as IsSoundBoard}
 use Rattle.dev_pic.specs.Cells.{saved_cells as chip_cells}
 use Rattle.vms_rtc.proofs.SavedLaws.{sound_meets_rules as clock-meets}

@@ -3,7 +3,7 @@ use Rattle.dev_clock.proofs.Facade.{◌≡◌, ℕ, ◌<◌, ◌==◌, Bool, Lis
 use Rattle.dev_clock.proofs.Facade.{IsEvent, AreEvents, State, after_by, Answer, Event, Read, Write, Byte, Wait, Wire, Ack, chip_on, lines_of, calls_keep_sound}
 use Rattle.dev_clock.proofs.Facade.{is_port, read_of, passed, line_of, NEWEST_CLOCK, Rtc, SoundStays, HasDevices, IsSound, ClockState, power_on, on_board}
 use Rattle.dev_clock.proofs.Facade.{clock_read, clock_written, waited, acted, follows_line, step, after_all, CLOCK_INPUT}
-use Rattle.dev_board.proofs.{ClockLaws.clock_goes_on as board_goes_on, SoundLaws.sound_stays_on as board_stays}
+use Rattle.dev_board.proofs.SoundLaws.{clock_goes_on as board_goes_on, sound_stays_on as board_stays}
 use Rattle.dev_board.specs.{Sound.IsSound as IsSoundBoard, State.power_on as board_on, Step.step as board_step}
 use Rattle.dev_pic.specs.Pair.{power_on as pair_on}
 use Rattle.vms_rtc.specs.{Chip.power_on as clock_on, Sound.IsSound as IsSoundClock}

@@ -8,7 +8,7 @@ pub use Rattle.vms_rtc.specs.{Chip.ends_within, Ends.has_come, Ends.period_in, d
 unfoldable pub use Rattle.vms_rtc.specs.Chip.{passed}
 pub use Rattle.dev_base.proofs.RuleLaws.{either}
 pub use Rattle.dev_base.specs.{Bits.has, Bits.same, declared.limits.TheConstants.LAST_MOMENT}
-pub use Rattle.dev_board.proofs.{KeepLaws.loaded}
+pub use Rattle.dev_board.proofs.SoundLaws.{loaded}
 pub use Rattle.dev_board.specs.{Sound.IsSound, State.State, Step.later_by, declared.event.Answer.Answer, declared.event.Event.Event}
 pub use Rattle.dev_board.specs.{declared.event.Event.TheVariants.Wait}
 unfoldable pub use Rattle.dev_board.specs.{Step.acted, Step.after_act, Step.inputs_of, Step.settled, Step.step, Step.waited, Step.wires_after, Wires.wires_of}

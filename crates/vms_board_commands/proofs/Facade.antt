@@ -51,8 +51,8 @@ pub use Rattle.vms_session.specs.{Events.events_of, Events.trace_from, Parts.Pla
 pub use Rattle.vms_session.specs.Playing.{DoesSome, Goes, LinesEnd, session_of}
 pub use Rattle.arrayvec.specs.ArrayVec.{ArrayVec}
 pub use Rattle.dev_base.specs.{Levels.IsLevel, Levels.ReachesSet, declared.limits.TheConstants.NEWEST}
-pub use Rattle.dev_board.proofs.{AlikeLaws.alike_stays, AlikeLaws.likeness, ClockLaws.clock_goes_on, RestoredLaws.restored_is_sound, SavedLaws.saved_comes_back}
-pub use Rattle.dev_board.proofs.{SoundLaws.power_on-sound, SoundLaws.sound_stays_on, WireBits.names}
+pub use Rattle.dev_board.proofs.{RestoredLaws.restored_is_sound, WireLaws.names, SoundLaws.clock_goes_on, SoundLaws.power_on-sound, SoundLaws.sound_stays_on}
+pub use Rattle.dev_board.proofs.SavedLaws.{alike_stays, likeness, saved_comes_back}
 pub use Rattle.dev_board.specs.{Sound.Alike, Sound.IsSound, State.State, Step.after_all, Step.names_wire, Step.observe, Step.step, Wires.is_wire}
 pub use Rattle.dev_board.specs.{declared.event.Answer.Answer, declared.event.Event.Event, Laws.AreEvents, Laws.IsEvent}
 pub use Rattle.dev_board.specs.Saved.{MaySaveUnder, carried, restored, saved}

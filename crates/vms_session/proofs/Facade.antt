@@ -29,7 +29,7 @@ pub use Rattle.vms_session.specs.Playing.{DoesSome, Goes, HasPlayCause, LinesEnd
 pub use Rattle.vms_session.specs.Session.{ComesTo, Does, IsLoaded, IsTooLarge, Leaves, LoadsBytes, LoadsHeld, Session}
 pub use Rattle.vms_session.specs.declared.line.PlayFault.TheVariants.{NoMemory, ShelfFault, WriteFault}
 pub use Rattle.dev_base.specs.{Levels.IsLevel, declared.limits.TheConstants.NEWEST}
-pub use Rattle.dev_board.proofs.{ClockLaws.clock_goes_on, RestoredLaws.restored_is_sound, SoundLaws.sound_stays_on, WireBits.names}
+pub use Rattle.dev_board.proofs.{SoundLaws.clock_goes_on, SoundLaws.sound_stays_on, RestoredLaws.restored_is_sound, WireLaws.names}
 pub use Rattle.dev_board.specs.{Saved.AreBoardCells, Sound.IsSound, State.State, Step.step, declared.event.Event.Event, Laws.AreEvents, Laws.IsEvent}
 pub use Rattle.dev_board.specs.declared.event.Event.TheVariants.{Byte, Read, Wire, Write}
 unfoldable pub use Rattle.dev_board.specs.Step.{after_by, answers_by}
