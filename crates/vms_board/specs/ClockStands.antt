@@ -1,8 +1,7 @@
 -- The family of the boards clk-1 and clk-2 has the properties that code needs.
 use Rattle.std.proofs.Common.{◌≡◌, ℕ, zero, suc, ◌-◌, ◌≤◌, Some, refl, arith}
 use Rattle.std.specs.List.{slice_get}
-use Rattle.dev_clock.proofs.ClockLaws.{answers_tell_int, clock_goes_on}
-use Rattle.dev_clock.proofs.RestoredLaws.{restored_is_sound}
+use Rattle.dev_clock.proofs.{StepLaws.answers_tell_int, StepLaws.clock_goes_on, SavedLaws.restored_is_sound}
 use Rattle.dev_clock.specs.Sound.{IsSound}
 use Rattle.dev_clock.specs.State.{power_on}
 use Rattle.dev_clock_images.proofs.ClockReady.{saved_are_ready}

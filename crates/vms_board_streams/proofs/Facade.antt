@@ -38,7 +38,7 @@ pub use Rattle.vms_selfdesc.specs.Tree.{described_text, described_tree, device_t
 pub use Rattle.dev_base.specs.declared.limits.TheConstants.{NEWEST}
 unfoldable pub use Rattle.dev_board.specs.Step.{answers_by}
 pub use Rattle.dev_board.specs.{declared.event.Event.Event, declared.misfit.Misfit.Misfit}
-pub use Rattle.dev_clock.proofs.AlikeLaws.{alike_stays}
+pub use Rattle.dev_clock.proofs.StepLaws.{alike_stays}
 pub use Rattle.dev_clock.specs.Sound.{Alike, IsSound}
 pub use Rattle.dev_clock_images.proofs.{ClockCarried.images_come_back, ClockSets.sets_are_compatible}
 pub use Rattle.dev_clock_images.specs.{Images.saved_images}

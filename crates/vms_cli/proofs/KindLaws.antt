@@ -2,7 +2,7 @@
 use Rattle.std.proofs.Common.{◌≡◌, ℕ, suc, ◌+◌, ◌-◌, ◌≤◌, List, ℤ, refl, arith}
 use Rattle.dev_board.proofs.{SoundLaws.sound_stays_on}
 use Rattle.dev_board.specs.{Laws.AreEvents, Sound.Alike, declared.event.Event.Event}
-use Rattle.dev_clock.proofs.SoundLaws.{sound_stays_on as clock_stays_on}
+use Rattle.dev_clock.proofs.StepLaws.{sound_stays_on as clock_stays_on}
 use Rattle.dev_clock.specs.Sound.{Alike as AlikeClocks}
 use Rattle.vms_board.specs.{Clock.AreTold as AreToldClocks, ClockStands.clock_stands, Family.IsNumber, Family.Stands, Isa.AreTold, IsaStands.isa_stands}
 use Rattle.vms_board_streams.proofs.{ClockStreams.clock_laws, IsaStreams.isa_laws}
