@@ -7,7 +7,7 @@ use Rattle.dev_clock_images.proofs.Facade.{carried_device, clock_set, kinds, sav
 use Rattle.dev_clock_images.proofs.Facade.{Set, Device, newest_set, cells_in, SavedIsCarried, ImagesComeBack}
 use Rattle.dev_board.specs.Saved.{saved as board_saved, carried as board_carried}
 use Rattle.dev_clock.specs.Saved.{carried as clock_carried}
-use Rattle.dev_images.proofs.BoardCarried.{saved_is_carried as board-is-carried}
+use Rattle.dev_images.proofs.Carried.{saved_is_carried as board-is-carried}
 use Rattle.dev_images.specs.Images.{lists_of as board_lists, cells_in as board_cells_in}
 use Rattle.vms_rtc.specs.Cells.{carried as chip_carried}
 use Rattle.dev_clock_images.proofs.ChipReady.{flag_place, flag_in}

@@ -2,7 +2,7 @@
 use Rattle.dev_clock_images.proofs.Facade.{◌≡◌, ℕ, suc, Some, None, List, [], ◌∷◌, ℤ, if◌then◌else◌, refl, ap, ◌∙◌, Option, length, arith, slice_get, Image}
 use Rattle.dev_clock_images.proofs.Facade.{IsNormal, Sub, Device, Set, newest_set, IsReady, is_needed, needed_from, bare, image_of, images_of, AreOf, AreClockCells}
 use Rattle.dev_clock_images.proofs.Facade.{of-kinds, kinds, clock_2, mc146818_at_2, first, device_cells, cells_in, NormalMayBeRestored}
-use Rattle.dev_images.proofs.NormalBoard.{normal_may_be_restored as board-may-be}
+use Rattle.dev_images.proofs.NormalCells.{normal_may_be_restored as board-may-be}
 
 -- ---- images of the devices after the first of a set: these devices, and the structures, are those of the newest shipped set
 

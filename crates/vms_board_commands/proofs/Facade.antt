@@ -58,4 +58,4 @@ pub use Rattle.dev_board.specs.{declared.event.Answer.Answer, declared.event.Eve
 pub use Rattle.dev_board.specs.Saved.{MaySaveUnder, carried, restored, saved}
 pub use Rattle.dev_board.specs.declared.event.Event.TheVariants.{Ack, Byte, Read, Wait, Wire, Write}
 unfoldable pub use Rattle.dev_board.specs.{State.power_on, Step.after_by, Step.answers_by}
-pub use Rattle.dev_images.proofs.BoardCarried.{saved_is_carried}
+pub use Rattle.dev_images.proofs.Carried.{saved_is_carried}

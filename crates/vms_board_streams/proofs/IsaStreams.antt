@@ -4,7 +4,7 @@ use Rattle.vms_board_streams.proofs.Facade.{◌≡◌, ℕ, ◌≤◌, Bool, tru
 use Rattle.vms_board_streams.proofs.Facade.{Compatible, first_mismatch, shipped_set, shipped_holds, first, isa, StreamsStand, isa_stands}
 use Rattle.dev_board.proofs.SavedLaws.{alike_stays}
 use Rattle.dev_board.specs.Sound.{IsSound, Alike}
-use Rattle.dev_images.proofs.BoardCarried.{images_come_back}
+use Rattle.dev_images.proofs.Carried.{images_come_back}
 use Rattle.dev_images.specs.Images.{saved_images}
 use Rattle.vms_board_streams.proofs.FamilyLaws as family
 

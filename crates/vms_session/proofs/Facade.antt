@@ -33,5 +33,5 @@ pub use Rattle.dev_board.proofs.{SoundLaws.clock_goes_on, SoundLaws.sound_stays_
 pub use Rattle.dev_board.specs.{Saved.AreBoardCells, Sound.IsSound, State.State, Step.step, declared.event.Event.Event, Laws.AreEvents, Laws.IsEvent}
 pub use Rattle.dev_board.specs.declared.event.Event.TheVariants.{Byte, Read, Wire, Write}
 unfoldable pub use Rattle.dev_board.specs.Step.{after_by, answers_by}
-pub use Rattle.dev_images.proofs.NormalBoard.{normal_may_be_restored}
+pub use Rattle.dev_images.proofs.NormalCells.{normal_may_be_restored}
 pub use Rattle.dev_images.specs.Images.{cells_in}
