@@ -4,8 +4,7 @@ use Rattle.std.specs.List.{slice_get}
 use Rattle.dev_clock.proofs.{StepLaws.answers_tell_int, StepLaws.clock_goes_on, SavedLaws.restored_is_sound}
 use Rattle.dev_clock.specs.Sound.{IsSound}
 use Rattle.dev_clock.specs.State.{power_on}
-use Rattle.dev_clock_images.proofs.ClockReady.{saved_are_ready}
-use Rattle.dev_clock_images.proofs.NormalClock.{normal_may_be_restored}
+use Rattle.dev_clock_images.proofs.ClockImages.{saved_are_ready, normal_may_be_restored}
 use Rattle.dev_clock_images.specs.Images.{cells_of}
 use Rattle.vms_desc.proofs.Bounds.{none_is}
 use Rattle.vms_desc.proofs.ClockHeads.{clock_heads}

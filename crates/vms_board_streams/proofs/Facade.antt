@@ -40,6 +40,6 @@ unfoldable pub use Rattle.dev_board.specs.Step.{answers_by}
 pub use Rattle.dev_board.specs.{declared.event.Event.Event, declared.misfit.Misfit.Misfit}
 pub use Rattle.dev_clock.proofs.StepLaws.{alike_stays}
 pub use Rattle.dev_clock.specs.Sound.{Alike, IsSound}
-pub use Rattle.dev_clock_images.proofs.{ClockCarried.images_come_back, ClockSets.sets_are_compatible}
+pub use Rattle.dev_clock_images.proofs.ClockImages.{images_come_back, sets_are_compatible}
 pub use Rattle.dev_clock_images.specs.{Images.saved_images}
 pub use Rattle.serde_json.specs.View.{items_of}

@@ -113,6 +113,6 @@ pub use Rattle.vms_values_laws.specs.Rounds.{ShowsAs}
 pub use Rattle.arrayvec.specs.ArrayVec.{ArrayVec}
 pub use Rattle.dev_base.specs.{Levels.IsLevel, Levels.ReachesSet, declared.limits.TheConstants.NEWEST}
 pub use Rattle.dev_board.specs.{Laws.AreEvents, State.State, declared.event.Event.Event}
-pub use Rattle.dev_clock_images.proofs.ClockSets.{sets_are_compatible}
+pub use Rattle.dev_clock_images.proofs.ClockImages.{sets_are_compatible}
 pub use Rattle.dev_serial.proofs.RecastLaws.{recast_restores}
 pub use Rattle.dev_serial.specs.Recast.{recast_cells}
