@@ -42,7 +42,7 @@ pub use Rattle.vms_io.specs.{Causes.Rose, Reading.Last, Reading.Reads, Reading.T
 pub use Rattle.vms_io.specs.Told.{Intake, Outlet, Stock, intake, outlet, stock}
 pub use Rattle.vms_load.proofs.{ExactLoads.fault_within}
 pub use Rattle.vms_load.specs.{Going.LoadReads, Staging.most_given}
-pub use Rattle.vms_script.proofs.{GrammarOnly.reads_exactly}
+pub use Rattle.vms_script.proofs.GrammarLaws.{reads_exactly}
 pub use Rattle.vms_script.specs.{Grammar.AreLines, Lines.ScriptLine, Script.Reading, Script.script_read, Views.ReadsLines, Views.event_lines, Views.lines_view}
 pub use Rattle.vms_script.specs.{declared.line.Line.Line, declared.line.ScriptFault.ScriptFault}
 pub use Rattle.vms_session.proofs.{CourseLemmas.rose_since, EndLaws.sessions_end, PartLemmas.begun_whole, ScriptLaws.sessions_are_one}

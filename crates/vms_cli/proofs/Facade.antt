@@ -101,7 +101,7 @@ pub use Rattle.vms_io.specs.Told.{Intake, Outlet, Stock, intake, outlet, stock}
 pub use Rattle.vms_load.proofs.{ExactLoads.loads_kept, ExactLoads.taken_kept, ExactLoads.within, SetFacts.well_of}
 pub use Rattle.vms_load.specs.{Going.LoadReads, Good.AreKept, Lean.has, Lean.loads, Lean.taken_by}
 pub use Rattle.vms_load.specs.Staging.{AreShaped, IsMachine, accepted_of, most_given, name_of, no_image}
-pub use Rattle.vms_script.proofs.{GrammarOnly.reads_exactly}
+pub use Rattle.vms_script.proofs.GrammarLaws.{reads_exactly}
 pub use Rattle.vms_script.specs.{Lines.ScriptLine, Lines.is_set_of, Names.is_shelf_name}
 pub use Rattle.vms_selfdesc.proofs.Bounds.{short_holds}
 pub use Rattle.vms_selfdesc.specs.Tree.{described_text}
