@@ -8,7 +8,7 @@ pub use Rattle.vms_kinds.specs.Bytes.{IsBytes}
 pub use Rattle.vms_spec.specs.{Heads.FitsHeads, Images.Image, Sets.Set, WellFormed.WellFormed, declared.Reason.Reason}
 pub use Rattle.vms_stream.proofs.Stated.{one_fault_holds}
 pub use Rattle.vms_stream.specs.Faults.{Fault}
-pub use Rattle.vms_board.proofs.{Restored.within}
+pub use Rattle.vms_board.proofs.Restoring.{within}
 pub use Rattle.vms_board.specs.{Family.Family, Isa.isa, Standing.Standing, declared.save.SaveFault.SaveFault, Comes.IsRefused, Comes.RestoreReads}
 pub use Rattle.vms_board.specs.Restoring.{Back, IsFaultAt, IsMisfitAt, Restore, Restores}
 pub use Rattle.vms_board.specs.Saving.{Saves, saved_stream}
