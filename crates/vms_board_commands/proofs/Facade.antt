@@ -23,7 +23,8 @@ pub use Rattle.vms_board_commands.specs.Drills.{Drill, drill_begun, drill_on, dr
 pub use Rattle.vms_board_commands.specs.Load.{Faulty, LoadGives, Loads, Traces, Unfit}
 unfoldable pub use Rattle.vms_board_commands.specs.{DrillEvents.event_by, DrillEvents.event_of, DrillEvents.next_number, Drills.bytes_after, Drills.taken_after}
 unfoldable pub use Rattle.vms_board_commands.specs.DrillProgress.{after_save, came_back, is_save_due, set_of}
-pub use Rattle.vms_board_streams.proofs.{BytesLaws.bytes_come, BytesLaws.no_fault, BytesLaws.one_restore, IsaBytes.streams_are_short, IsaStreams.isa_laws}
+pub use Rattle.vms_board_streams.proofs.BoardStreams.{isa_are_short as streams_are_short, isa_laws}
+pub use Rattle.vms_board_streams.proofs.FamilyLaws.{bytes_come, no_fault, one_restore}
 pub use Rattle.vms_board_streams.specs.{Streams.after_events, Streams.answers_to, Streams.trace_of, declared.memory.TheConstants.STREAM_ROOM}
 pub use Rattle.vms_commands.proofs.{CourseLemmas.writes_serve, StepLemmas.first_err, StepLemmas.had_by, StepLemmas.mapped_by, StepLemmas.sound_fetch}
 pub use Rattle.vms_commands.proofs.CourseLemmas.{wrong, asked, draws_none, draws_took, looked_so, same_so, so_since, unshelved_so, writes_end}

@@ -5,7 +5,7 @@ use Rattle.dev_board.specs.{Laws.AreEvents, Sound.Alike, declared.event.Event.Ev
 use Rattle.dev_clock.proofs.StepLaws.{sound_stays_on as clock_stays_on}
 use Rattle.dev_clock.specs.Sound.{Alike as AlikeClocks}
 use Rattle.vms_board.specs.{Clock.AreTold as AreToldClocks, ClockStands.clock_stands, Family.IsNumber, Family.Stands, Isa.AreTold, IsaStands.isa_stands}
-use Rattle.vms_board_streams.proofs.{ClockStreams.clock_laws, IsaStreams.isa_laws}
+use Rattle.vms_board_streams.proofs.BoardStreams.{clock_laws, isa_laws}
 use Rattle.vms_board_streams.specs.Streams.{BoardsGoOn, after_events}
 use Rattle.vms_commands.specs.Kinds.{first_set, newest_of, set_of}
 use Rattle.vms_commands.specs.declared.kinds.BoardKind.{BoardKind, TheVariants.Isa, TheVariants.Clock}

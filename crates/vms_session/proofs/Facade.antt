@@ -10,7 +10,7 @@ pub use Rattle.vms_spec.specs.{Images.Image, Images.IsNormal, Sets.Device, Sets.
 pub use Rattle.vms_stream.specs.Streams.{HasSection, SectionsSpell}
 pub use Rattle.vms_board.specs.{Family.Family, Family.MaySaveIn, Isa.isa, Saving.saved_stream}
 pub use Rattle.vms_board.specs.Restoring.{Back, Refused, Restore, Restores, TakesBoard}
-pub use Rattle.vms_board_streams.proofs.{IsaBytes.streams_are_bytes, IsaStreams.isa_laws}
+pub use Rattle.vms_board_streams.proofs.BoardStreams.{isa_are_bytes as streams_are_bytes, isa_laws}
 pub use Rattle.vms_board_streams.specs.{Sets.AreOf, Streams.after_events}
 pub use Rattle.vms_commands.specs.Fetching.{longest_file}
 pub use Rattle.vms_commands.specs.Outcomes.{FailsToStore, HoldsBut, Part, held_after, stored_next, text_begun, text_of}
