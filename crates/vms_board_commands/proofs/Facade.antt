@@ -26,10 +26,10 @@ unfoldable pub use Rattle.vms_board_commands.specs.DrillProgress.{after_save, ca
 pub use Rattle.vms_board_streams.proofs.BoardStreams.{isa_are_short as streams_are_short, isa_laws}
 pub use Rattle.vms_board_streams.proofs.FamilyLaws.{bytes_come, no_fault, one_restore}
 pub use Rattle.vms_board_streams.specs.{Streams.after_events, Streams.answers_to, Streams.trace_of, declared.memory.TheConstants.STREAM_ROOM}
-pub use Rattle.vms_commands.proofs.{CourseLemmas.writes_serve, StepLemmas.first_err, StepLemmas.had_by, StepLemmas.mapped_by, StepLemmas.sound_fetch}
-pub use Rattle.vms_commands.proofs.CourseLemmas.{wrong, asked, draws_none, draws_took, looked_so, same_so, so_since, unshelved_so, writes_end}
+pub use Rattle.vms_commands.proofs.EndLemmas.{writes_serve, wrong, asked, draws_none, draws_took, looked_so, same_so, so_since, unshelved_so, writes_end}
 pub use Rattle.vms_commands.proofs.EndLemmas.{comes_to_nothing, quiet_same, takes_nothing, text_written}
-pub use Rattle.vms_commands.proofs.StepLemmas.{sound_next, text_ends, then_as, then_text, ended_by, ending_mapped, ending_passed, fetched_gives}
+pub use Rattle.vms_commands.proofs.StepLemmas.{first_err, had_by, mapped_by, sound_fetch, sound_next, text_ends, then_as, then_text, ended_by, ending_mapped}
+pub use Rattle.vms_commands.proofs.StepLemmas.{ending_passed, fetched_gives}
 pub use Rattle.vms_commands.specs.{Fetching.fetched, Lines.refused_line, declared.ending.Ending.Ending, declared.ending.Ending.TheVariants.WouldLose}
 pub use Rattle.vms_commands.specs.Courses.{Course, Draws, EndsSo, Risen, is_among, of_shelf, text_course}
 pub use Rattle.vms_commands.specs.Endings.{DoneAs, EndsAs, EndsWith, SetCause, WritesAs, ending_of, status_of}

@@ -63,11 +63,10 @@ pub use Rattle.vms_cli.specs.Rows.{CanAnswer, ComesSeen, DoesSeen, HasCause}
 pub use Rattle.vms_cli.specs.States.{AlwaysNamedLaw, Prints, RefusesSo, StateLaw}
 pub use Rattle.vms_cli.specs.Upgrade.{IsWritten, Upgrade, UpgradesTo, shown_newer}
 unfoldable pub use Rattle.vms_cli.specs.Commands.{pair_of, single_of, triple_of}
-pub use Rattle.vms_commands.proofs.CourseLemmas.{draws_none, draws_took, writes_end, writes_serve, wrong}
-pub use Rattle.vms_commands.proofs.EndLemmas.{around, comes_to_nothing, ends_with, kept_none, outcome_so, same_keeps}
-pub use Rattle.vms_commands.proofs.FileSets.{FitStep, fit_text, fit_word}
-pub use Rattle.vms_commands.proofs.StepLemmas.{IsSound, ending_passed, fetched_gives, first_err, had_by, one_text, sound_fetch, sound_next}
-pub use Rattle.vms_commands.proofs.StepLemmas.{sound_set, sound_sets, sound_word, sound_word_set, then_as}
+pub use Rattle.vms_commands.proofs.{EndLemmas.ends_with, EndLemmas.kept_none, NamedSets.FitStep, NamedSets.fit_text, NamedSets.fit_word}
+pub use Rattle.vms_commands.proofs.EndLemmas.{outcome_so, same_keeps, draws_none, draws_took, writes_end, writes_serve, wrong, around, comes_to_nothing}
+pub use Rattle.vms_commands.proofs.StepLemmas.{IsSound, ending_passed, fetched_gives, first_err, had_by, one_text, sound_fetch, sound_next, sound_set}
+pub use Rattle.vms_commands.proofs.StepLemmas.{sound_sets, sound_word, sound_word_set, then_as}
 pub use Rattle.vms_commands.specs.{Asks.set_asked, SetLines.mismatch_line, declared.ending.Ending.Ending, SetWords.set_word, declared.kinds.BoardKind.BoardKind}
 pub use Rattle.vms_commands.specs.Courses.{EndsSo, Risen, Stands, is_among, of_shelf, text_course}
 pub use Rattle.vms_commands.specs.Endings.{Caused, EndsAs, Tells, WritesAs, ending_of, line_of, status_of}
