@@ -46,8 +46,8 @@ pub use Rattle.vms_load.specs.{Going.LoadReads, Staging.most_given}
 pub use Rattle.vms_script.proofs.GrammarLaws.{reads_exactly}
 pub use Rattle.vms_script.specs.{Grammar.AreLines, Lines.ScriptLine, Script.Reading, Script.script_read, Views.ReadsLines, Views.event_lines, Views.lines_view}
 pub use Rattle.vms_script.specs.{declared.line.Line.Line, declared.line.ScriptFault.ScriptFault}
-pub use Rattle.vms_session.proofs.{CourseLemmas.rose_since, EndLaws.sessions_end, PartLemmas.begun_whole, ScriptLaws.sessions_are_one}
-pub use Rattle.vms_session.proofs.RunLemmas.{are_events, events_back}
+pub use Rattle.vms_session.proofs.CourseLemmas.{rose_since, begun_whole, are_events, events_back}
+pub use Rattle.vms_session.proofs.EndLaws.{sessions_end, sessions_are_one}
 pub use Rattle.vms_session.specs.{Events.events_of, Events.trace_from, Parts.Plays, Session.Session, declared.line.PlayFault.PlayFault}
 pub use Rattle.vms_session.specs.Playing.{DoesSome, Goes, LinesEnd, session_of}
 pub use Rattle.arrayvec.specs.ArrayVec.{ArrayVec}

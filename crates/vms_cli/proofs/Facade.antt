@@ -104,7 +104,7 @@ pub use Rattle.vms_script.proofs.GrammarLaws.{reads_exactly}
 pub use Rattle.vms_script.specs.{Lines.ScriptLine, Lines.is_set_of, Names.is_shelf_name}
 pub use Rattle.vms_selfdesc.proofs.Bounds.{short_holds}
 pub use Rattle.vms_selfdesc.specs.Tree.{described_text}
-pub use Rattle.vms_session.proofs.RunLemmas.{after_number, lines_are_events}
+pub use Rattle.vms_session.proofs.CourseLemmas.{after_number, lines_are_events}
 pub use Rattle.vms_session.specs.Events.{events_of}
 pub use Rattle.vms_values.specs.{Printing.AreOf, Printing.IsOf, Printing.machine_of, Reading.ReadsAs}
 pub use Rattle.vms_values_laws.proofs.Stated.{accepted_holds, packed_holds, printed_holds, shown_holds, written_only}
