@@ -26,11 +26,10 @@ pub use Rattle.vms_analyze.specs.Listing.{HasNoShape, HasNone, IsRead, IsTooLong
 pub use Rattle.vms_board.specs.{Isa.isa, IsaStands.isa_stands, Restoring.Back, Restoring.Restores, Saving.stream_with}
 pub use Rattle.vms_board.specs.Family.{Family, IsNumber, images_saved, lists_in}
 unfoldable pub use Rattle.vms_board.specs.Saving.{saved_stream}
-pub use Rattle.vms_board_commands.proofs.{LoadOutcome.loads_one, PlayOutcome.has_end, PlayOutcome.one_outcome, SeenLemmas.other_seen, SeenLemmas.reads_all}
-pub use Rattle.vms_board_commands.proofs.CourseLemmas.{among_left, kept_so, wrote_so, refused_so, save_asks, shelf_has, stream_asks, text_asks, traced_so}
-pub use Rattle.vms_board_commands.proofs.RunLemmas.{behind_runs, lacks_runs, lacks_text, seen_runs, then_runs, unread_runs}
-pub use Rattle.vms_board_commands.proofs.ScriptSteps.{AreStepLines, script_gives, scripted_lines, sound_saved, sound_script}
-pub use Rattle.vms_board_commands.proofs.SeenLemmas.{seen_given, seen_lost, seen_refused, seen_written, sees_as, TakesSo, content_seen, load_seen}
+pub use Rattle.vms_board_commands.proofs.RunLemmas.{other_seen, reads_all, among_left, kept_so, wrote_so, refused_so, save_asks, shelf_has, stream_asks}
+pub use Rattle.vms_board_commands.proofs.RunLemmas.{text_asks, traced_so, behind_runs, lacks_runs, lacks_text, seen_runs, then_runs, unread_runs, seen_given}
+pub use Rattle.vms_board_commands.proofs.RunLemmas.{seen_lost, seen_refused, seen_written, sees_as, TakesSo, content_seen, load_seen}
+pub use Rattle.vms_board_commands.proofs.ScriptCommands.{loads_one, has_end, one_outcome, AreStepLines, script_gives, scripted_lines, sound_saved, sound_script}
 pub use Rattle.vms_board_commands.specs.{Causes.save_course, Drill.drill_line, Play.PlaysAll, Save.saved_after, Scripts.scripted, Runs.Frame, Runs.Runs}
 pub use Rattle.vms_board_commands.specs.{Runs.Task, Runs.moment, Seen.IsGiven, Seen.Seen, Seen.SeenAs, Seen.Sees, Seen.WithGiven}
 pub use Rattle.vms_board_commands.specs.Load.{Loads, LoadsBy, Traces, Unfit}
