@@ -1,21 +1,136 @@
--- What `convert` answers, and how it ends.
-use Rattle.vms_cli.proofs.Facade.{kept_so, wrote_so, draws_none, draws_took, ◌≡◌, ◌⊎◌, ℕ, zero, suc, ◌<◌, List, [], ◌∷◌, length, get_or, Option, Some, None, ℤ}
-use Rattle.vms_cli.proofs.Facade.{inl, inr, refl, sym, ap, ◌∙◌, arith, ◌+◌, ◌^◌, Bool, false, Result, Ok, Err, IfSome, length-map, slice_get-get_or}
-use Rattle.vms_cli.proofs.Facade.{string_bytes, IsFit, Image, device_cells, Set, written, device_at, AreKept, described_text, carried, Compatible}
+-- The commands that write a stream: `pack` and `convert`.
+use Rattle.vms_cli.proofs.Facade.{◌≡◌, ℕ, ◌<◌, List, length, map, Option, Some, None, Ok, refl, subst, arith, [], ForSome, slice_get-get_or, Held}
+use Rattle.vms_cli.proofs.Facade.{Outlet, at_option, Set, AreReady, IsFit, ValuesRead, Values, Bad, values_read, state_of, machine_of, ReadsAs, accepted_holds}
+use Rattle.vms_cli.proofs.Facade.{Ending, SetText, fetched, fetched_set, longest_file, set_in, word_set, SetWord, TextEnds, WrittenAs, Step, Gives, next}
+use Rattle.vms_cli.proofs.Facade.{IsSound, sound_fetch, sound_next, sound_set, sound_word, described_stream, named_parts, packed, packed_by, packed_parts}
+use Rattle.vms_cli.proofs.Facade.{packs, with_values, sees_as, ConvertGives, ConvertsBy, agrees, newest, Err, ◌+◌, ◌≤◌, ap, Intake, Stock, Outcome}
+use Rattle.vms_cli.proofs.Facade.{StepAs, Both, both, Untold, Ends, HasBy, first_err, then_as, most_given, IsGiven, SeenAs, WithGiven, kept_so, wrote_so}
+use Rattle.vms_cli.proofs.Facade.{draws_none, draws_took, ◌⊎◌, zero, suc, ◌∷◌, get_or, ℤ, inl, inr, sym, ◌∙◌, ◌^◌, Bool, false, Result}
+use Rattle.vms_cli.proofs.Facade.{IfSome, length-map, string_bytes, Image, device_cells, written, device_at, AreKept, described_text, carried, Compatible}
 use Rattle.vms_cli.proofs.Facade.{first_mismatch, IsStreamFor, LosesFirst, AreBack, recast_each, KeepsAll, Loses, OfCell, OfDevice, OfMachine, first_cell}
-use Rattle.vms_cli.proofs.Facade.{numbers_in, answered, same_backs, one_lost, newest_kinds, recast_long, fit_word, Isa, SetOf, Shipped, IsInNewest, newest}
-use Rattle.vms_cli.proofs.Facade.{Converts, ConvertGives, ConvertsBy, ConvertsStream, ConvertsWith, IsDone, IsLost, IsMismatch, LacksLine, LacksMemory}
-use Rattle.vms_cli.proofs.Facade.{NamesCell, Rewrites, WouldLose, agreed, agrees, lost_line, ArrayVec, Held, Intake, Outlet, Stock, reads_as, IsBytes, Refusal}
-use Rattle.vms_cli.proofs.Facade.{LoadReads, name_of, loads_kept, Mismatch, ConvertFault, Ending, EndsSo, is_among, EndsAs, WritesAs, status_of, refused_line}
-use Rattle.vms_cli.proofs.Facade.{Outcome, done, ended, mismatch_line, Step, Gives, Ends, wrong, comes_to_nothing, ends_with, same_keeps, Seen, SeenAs}
-use Rattle.vms_cli.proofs.Facade.{content_seen, load_seen, other_seen, seen_lost, seen_written, sees_as, convert_course}
-use Rattle.vms_cli.proofs.ShowLemmas.{Front, HasFront, Invalid, Stream, one_front}
+use Rattle.vms_cli.proofs.Facade.{numbers_in, answered, same_backs, one_lost, newest_kinds, recast_long, fit_word, Isa, SetOf, Shipped, IsInNewest, Converts}
+use Rattle.vms_cli.proofs.Facade.{ConvertsStream, ConvertsWith, IsDone, IsLost, IsMismatch, LacksLine, LacksMemory, NamesCell, Rewrites, WouldLose, agreed}
+use Rattle.vms_cli.proofs.Facade.{lost_line, ArrayVec, reads_as, IsBytes, Refusal, LoadReads, name_of, loads_kept, Mismatch, ConvertFault, EndsSo, is_among}
+use Rattle.vms_cli.proofs.Facade.{EndsAs, WritesAs, status_of, refused_line, done, ended, mismatch_line, wrong, comes_to_nothing, ends_with, same_keeps, Seen}
+use Rattle.vms_cli.proofs.Facade.{content_seen, load_seen, other_seen, seen_lost, seen_written, convert_course}
+use Rattle.vms_cli.proofs.TextCommands.{Front, HasFront, Invalid, Stream, one_front}
 use Rattle.vms_cli.specs.Commands.ConvertCommand.{EndsLike, FailsReading, FailsWriting, IsRefused, Refuses}
+use Rattle.vms_values.specs.declared.fault.Values.{Values as Given}
 use Rattle.std.specs.{declared.alloc.Global.Global, declared.string.String.String}
 use Rattle.vms_convert.specs.Calls.{Converts as Calls}
 use Rattle.vms_load.specs.declared.fault.LoadFault.TheVariants as loads
 use Rattle.vms_convert.specs.declared.fault.ConvertFault.TheVariants as faults
 use Rattle.vms_commands.specs.declared.ending.Ending.TheVariants as endings
+
+-- ---- from what a reading and a write say to how `pack` ends
+
+ready_of : (set : Set) → IsFit set → (text : List ℕ) (r : ValuesRead) (v : Given) → values_read set text ≡ r → ReadsAs set r (Ok v)
+    → AreReady set (map state_of v.images.items)
+ready_of set fit text (Values machine images) v e reads = rw reads.0 (accepted_holds set text machine images fit e).ready
+ready_of set fit text (Bad line reason) v e reads = absurd reads
+
+-- the images of a text that was read are ready
+pub read_ready : (set : Set) → IsFit set → (text : List ℕ) (v : Given) → ReadsAs set (values_read set text) (Ok v) → AreReady set (map state_of v.images.items)
+read_ready set fit text v reads = ready_of set fit text _ v refl reads
+
+-- the machine of a number
+pub named : (set : Set) (machine : Option ℕ) → ForSome machine (λ m. m < length set.machines) → at_option set.machines machine ≡ machine_of set machine
+named set None h = refl
+named set (Some m) h = slice_get-get_or set.machines m [] (h m refl)
+
+-- a text that was read, and a write of its stream
+read_by : (set : Set) (r : ValuesRead) (v : Given) (o o' : Outlet) (e : Option Ending) → ReadsAs set r (Ok v)
+    → WrittenAs (described_stream set (at_option set.machines v.machine) (map state_of v.images.items)) o o' e → TextEnds (packed_by set r) o o' e
+read_by set (Values machine images) v o o' e reads w = subst (λ l. WrittenAs l o o' e) (cc (named set _ reads.2)) w
+read_by set (Bad line reason) v o o' e reads w = absurd reads
+
+module _ (set : Set) (text : List ℕ) (o o' : Outlet) where
+  pub packs_read : (v : Given) (e : Option Ending) → ReadsAs set (values_read set text) (Ok v)
+      → WrittenAs (described_stream set (at_option set.machines v.machine) (map state_of v.images.items)) o o' e → TextEnds (packed set text) o o' e
+  packs_read v e reads w = read_by set _ v o o' e reads w
+
+-- ---- what the words name
+
+module _ (held : Option Held) (word : SetWord) (name : List ℕ) (set : Set) (text stream : List ℕ) where
+  gives_by : (t : Step SetText) → next t set_in ≡ Gives set → fetched longest_file held name ≡ Gives text → packed set text ≡ Gives stream
+      → next (next t (with_values held name)) packed_parts ≡ Gives stream
+  gives_by (Gives t) there values reads = cc
+  gives_by _ there values reads = absurd (cc)
+
+  pub pack_gives : word_set held word ≡ Gives set → fetched longest_file held name ≡ Gives text → packed set text ≡ Gives stream
+      → packs held word name ≡ Gives stream
+  pack_gives there values reads = gives_by _ there values reads
+
+sound_read : (held : Option Held) (set : Set) (r : ValuesRead) → IsSound held (packed_by set r)
+sound_read held set (Values machine images) = tt
+sound_read held set (Bad line reason) = omega arith
+
+pub sound_pack : (held : Option Held) (word : SetWord) (name : List ℕ) → IsSound held (packs held word name)
+sound_pack held word name =
+    sound_next held (named_parts held word name) _
+    (sound_next held (fetched_set held word) _ (sound_word held word)
+    (λ t. sound_next held (fetched longest_file held name) _ (sound_fetch held _ name)
+    (λ values. sound_next held (set_in t) _ (sound_set held t) (λ set. tt)))) (λ parts. sound_read held parts.set (values_read parts.set parts.values))
+
+-- ---- two steps, one after the other, and the two steps of `convert`
+
+-- ---- Two steps, one after the other: what is said of the first that ends the command, or of what both give.
+
+module _ {A T U : Type 0} (m : T → A) (n : U → Both A) where
+  -- the second ended it
+  pub second_of : (s r : Step A) (t : T) (e : Ending) → StepAs m s (Ok t) → StepAs {A = A} {T = T} m r (Err e)
+      → StepAs {A = Both A} {T = U} n (both s r) (Err e)
+  second_of s r t e h k =
+      then_as m n (λ a. next r (λ b. Gives (record { old = a; new = b }))) s t (Err e) h (first_err m n (λ b. Gives (record { old = m t; new = b })) r e k)
+
+  -- both gave something
+  pub two_of : (s r : Step A) (t v : T) (u : U) → n u ≡ record { old = m t; new = m v } → StepAs m s (Ok t) → StepAs m r (Ok v) → StepAs n (both s r) (Ok u)
+  two_of s r t v u is h k =
+      then_as m n (λ a. next r (λ b. Gives (record { old = a; new = b }))) s t (Ok u) h
+      (then_as m n (λ b. Gives (record { old = m t; new = b })) r v (Ok u) k is)
+
+-- ---- `convert`, by the step that gives its set and the one that compares it.
+
+-- the outcome once the set is there
+abbrev pub converts_after : Option (List ℕ) → Option Held → Set → Outcome → Type 0
+converts_after input held to x = ConvertsBy (agrees to) input held x
+
+-- the outcome after both steps is that after the second one, by the first
+pub converts_next : (input : Option (List ℕ)) (held : Option Held) (s : Step Set) (x : Outcome) → ConvertsBy (next s agrees) input held x
+    → HasBy (converts_after input held) s x
+converts_next input held Untold x h = h
+converts_next input held _ x h = h
+
+module _ {A B T : Type 0} (m : T → A) (f : A → Step B) where
+  -- what the second step gave, both gave
+  given_next : (s : Step A) (t : T) (b : B) → StepAs m s (Ok t) → IsGiven (f (m t)) b → IsGiven (next s f) b
+  given_next Untold t b h g = tt
+  given_next (Gives a) t b h g = rw h at g
+  given_next (Ends status line) t b h g = absurd h
+
+  pub seen_next : (P : B → List ℕ → Outcome → Type 0) {i i' : Intake} {o o' : Outlet} {shelf shelf' : Stock} (e : Option Ending) (s : Step A) (t : T)
+      → StepAs m s (Ok t) → SeenAs (WithGiven (f (m t)) P) i i' o o' shelf shelf' e → SeenAs (WithGiven (next s f) P) i i' o o' shelf shelf' e
+  seen_next P e s t h seen = λ among.
+      sees_as {P = WithGiven (f (m t)) P} {Q = WithGiven (next s f) P} (λ bytes x p. (p.0, given_next s t p.0 h p.1, p.2)) (seen among)
+
+-- ---- how many bytes the input gives
+
+pub gives_none : (step : Step Set) (i : Intake) → ConvertGives step i i
+gives_none Untold i = omega arith
+gives_none (Gives to) i = omega arith
+gives_none (Ends status line) i = refl
+
+gives_few : (step : Step Set) (i i' : Intake) → ConvertGives step i i' → i'.given ≤ i.given + most_given newest
+gives_few (Ends status line) i i' h = omega (arith, ap (λ x. x.given) h)
+gives_few _ i i' h = h
+
+pub gives_next : {A T : Type 0} (m : T → A) (f : A → Step Set) (s : Step A) (t : T) (i i' : Intake) → StepAs m s (Ok t) → ConvertGives (f (m t)) i i'
+    → ConvertGives (next s f) i i'
+gives_next m f Untold t i i' h g = gives_few _ i i' g
+gives_next {A} m f (Gives a) t i i' h g = rw h at g
+gives_next m f (Ends status line) t i i' h g = absurd h
+
+-- ---- what `convert` answers, and how it ends
 
 -- ---- One thing is answered of a machine and images of the newest set: a stream, or what would be lost first.
 
