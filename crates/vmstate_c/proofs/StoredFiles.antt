@@ -1,16 +1,57 @@
--- The files that a call stored, as they are found entry by entry.
-use Rattle.std.proofs.{lemmas.Bool.Decides.not_from_Decides, lemmas.Str.is_utf8-from_IsUtf8, lemmas.Map.Text.is_eq-slice_cmp, lemmas.Slice.Eq.bytes_eq-Decides}
-use Rattle.std.proofs.Common.{◌≡◌, ◌≢◌, ◌∙◌, refl, sym, ap, ℕ, zero, suc, ◌+◌, ◌<◌, Bool, true, false, ◌&&◌, cond, if◌then◌else◌, List, [], ◌∷◌, ◌++◌}
-use Rattle.std.proofs.Common.{length, map, reverse, take, get_or, Option, Some, None, arith}
-use Rattle.std.proofs.lemmas.List.{append-nil, reverse-append, take_more, Elements.All-cons, Elements.All-contains}
-use Rattle.std.specs.{List.All, List.AllByRecursion, List.Contains, List.find, List.Sorted.IsStrictlySortedBy, Bool.Decides, Option.option_map, Ordering.is_eq}
-use Rattle.std.specs.{Ordering.nat_cmp, Cmp.Lexicographic.slice_cmp, Str.IsUtf8, Str.is_utf8, Str.bytes_eq, String.string_bytes, String.string_cmp, Map.keys_of}
-use Rattle.std.specs.{Map.lookup, declared.string.String.String, declared.alloc.Global.Global, declared.cmp.Ordering.TheVariants.Less}
-use Rattle.std.specs.BTreeMap.{BTreeMap, IsOrdered, get, is_at}
-use Rattle.vms_io.specs.Shelves.{Held}
-use Rattle.vmstate_c.specs.{Folders.held_in, declared.folder.Content.Content, declared.request.File.File, declared.request.Stored.Stored}
-use Rattle.vmstate_c.specs.Calls.{file_of, is_named}
+-- The files that a call stored, entry by entry.
+use Rattle.std.proofs.{lemmas.Bool.and_from, lemmas.Bool.Decides.not_from_Decides, lemmas.Slice.Eq.bytes_eq-Decides, lemmas.Map.Text.is_eq-slice_cmp}
+use Rattle.std.proofs.Common.{◌≡◌, ◌∙◌, refl, ℕ, ◌+◌, ◌<◌, Bool, true, false, List, length, take, get_or, ◌≢◌, sym, ap, subst}
+use Rattle.std.proofs.Common.{◌&&◌, if◌then◌else◌, Some, zero, suc, cond, [], ◌∷◌, ◌++◌, map, reverse, Option, None, arith}
+use Rattle.std.proofs.lemmas.List.{append-nil, reverse-append, take_more, Folds.list_all_more, Elements.All-cons, Elements.All-contains}
+use Rattle.std.proofs.lemmas.Str.{IsUtf8-from_is_utf8, is_utf8-from_IsUtf8}
+use Rattle.std.specs.{Str.IsUtf8, Str.is_utf8, Str.bytes_eq, Bool.Decides, Option.option_map, Ordering.is_eq, Ordering.nat_cmp, Cmp.Lexicographic.slice_cmp}
+use Rattle.std.specs.{String.string_bytes, String.string_cmp, Map.keys_of, Map.lookup, declared.string.String.String, declared.alloc.Global.Global}
+use Rattle.std.specs.{declared.cmp.Ordering.TheVariants.Less, BTreeMap.BTreeMap, BTreeMap.IsOrdered, BTreeMap.get, BTreeMap.is_at}
+use Rattle.std.specs.List.{list_all, All, AllByRecursion, Contains, find, Sorted.IsStrictlySortedBy}
+use Rattle.vms_io.specs.Shelves.{Held, PutsUnder}
+use Rattle.vmstate_c.specs.{declared.request.File.File, Folders.held_in, declared.folder.Content.Content, declared.request.Stored.Stored}
+use Rattle.vmstate_c.specs.Calls.{file_over, file_of, is_named}
 use Rattle.vmstate_c.specs.Storing.{Entry, IsStored, bytes_of, is_just, is_lent, places}
+
+-- ---- whether all words so far pass a test, and which words are UTF-8
+
+pub all-more : {A : Type 0} (p : A → Bool) (xs : List A) (i : ℕ) (d : A) → i < length xs → list_all p (take i xs) ≡ true → p (get_or xs i d) ≡ true → list_all p (take (i + 1) xs) ≡ true
+all-more p xs i d lt all one = list_all_more p xs i d lt ∙ and_from (list_all p (take i xs)) (p (get_or xs i d)) all one
+
+pub not_utf8 : (bytes : List ℕ) → ¬ (IsUtf8 bytes) → is_utf8 bytes ≡ false
+not_utf8 bytes bad = by (is_utf8 bytes) refl
+  where
+    by : (b : Bool) → is_utf8 bytes ≡ b → is_utf8 bytes ≡ false
+    by true e = absurd (bad (IsUtf8-from_is_utf8 bytes e))
+    by false e = e
+
+-- ---- the files held after one was added to a shelf
+
+-- a file under a name that is UTF-8
+pub held-put : (file : File) (old new : Held) → IsUtf8 file.name.now → PutsUnder old new file.name.now file.bytes.now → (name : List ℕ) → new name ≡ file_over file old name
+held-put file old new utf8 puts name = by (bytes_eq file.name.now name) refl
+  where
+    by : (b : Bool) → bytes_eq file.name.now name ≡ b → new name ≡ (if b && is_utf8 name then Some file.bytes.now else old name)
+    by true e =
+        let same : file.name.now ≡ name = (bytes_eq-Decides file.name.now name).0 e in
+        let text : is_utf8 name ≡ true = subst (λ (n : List ℕ). is_utf8 n ≡ true) same (is_utf8-from_IsUtf8 file.name.now utf8) in
+        subst (λ (n : List ℕ). new n ≡ Some file.bytes.now) same puts.there ∙ ap (λ (b : Bool). if b then Some file.bytes.now else old name) (sym text)
+    by false e =
+        let other : name ≢ file.name.now = λ same. not_from_Decides (bytes_eq file.name.now name) (bytes_eq-Decides file.name.now name) e (sym same) in
+        puts.others name other
+
+-- a file whose name isn't UTF-8 has no name that a text equals
+pub held-other : (file : File) (held : Held) → ¬ (IsUtf8 file.name.now) → (name : List ℕ) → held name ≡ file_over file held name
+held-other file held bad name = by (bytes_eq file.name.now name) (is_utf8 name) refl refl
+  where
+    by : (b c : Bool) → bytes_eq file.name.now name ≡ b → is_utf8 name ≡ c → held name ≡ (if b && c then Some file.bytes.now else held name)
+    by true true e f =
+        let same : file.name.now ≡ name = (bytes_eq-Decides file.name.now name).0 e in
+        absurd (bad (subst IsUtf8 (sym same) (IsUtf8-from_is_utf8 name f)))
+    by true false e f = refl
+    by false c e f = refl
+
+-- ---- the files that a call stored, as they are found entry by entry
 
 abbrev Pair : Type 0
 Pair = String Global × Content
