@@ -15,7 +15,7 @@ pub use Rattle.vms_spec.specs.Shipped.{divider, divisor, fcr, fifo, i8254_at_1, 
 pub use Rattle.vms_spec.specs.Shipped.{set_2, set_3, thr_ipending, timeout, timer}
 pub use Rattle.vms_spec.specs.Streams.{AreReady, ComeAsNeeded, IsReady, is_needed}
 unfoldable pub use Rattle.vms_spec.specs.Layout.{first}
-pub use Rattle.vms_bodies.proofs.{Names.has_left, Names.has_right, ReadyLaws.counted_well, ReadyLaws.is_same, SpellLaws.rules_append}
+pub use Rattle.vms_bodies.proofs.{Places.has_left, Places.has_right, Stated.counted_well, Stated.is_same, SpellLaws.rules_append}
 pub use Rattle.vms_check.specs.{Carrying.Carrier, Carrying.carried_at, Carrying.carried_device, Carrying.carried_sub, Carrying.no_image, Carrying.carriers, Carrying.carry_items, Carrying.no_carrier, Comparing.same_kind}
 unfoldable pub use Rattle.vms_check.specs.Carrying.{carried}
 pub use Rattle.vms_desc.proofs.Formed.{by_list}

@@ -35,7 +35,7 @@ pub use Rattle.vms_spec.specs.WellFormed.{WellFormed, deepest, devices_items, fa
 unfoldable pub use Rattle.vms_spec.specs.WellFormed.{first_fault}
 pub use Rattle.vms_words.proofs.{Lines.begun, WordLaws.tells_kind, WordLaws.word_named}
 pub use Rattle.vms_words.specs.Words.{kind_named, kind_word}
-pub use Rattle.vms_bodies.proofs.{BodyOnly.front_drop, BodyOnly.front_take, ReadyLaws.ranged}
+pub use Rattle.vms_bodies.proofs.{BodyOnly.front_drop, BodyOnly.front_take, Stated.ranged}
 pub use Rattle.vms_elements.proofs.{LinesOf.text_append, SlotsOf.elements_slots, Stated.text_law, Walk.AreCounted, Walk.IsCounted, Walk.walks}
 pub use Rattle.vms_elements.proofs.Members.{Each, all_both, all_parts, decimal_all, elements_each, what_of}
 pub use Rattle.vms_elements.specs.Elements.{Constant, Filler, Rule, What, index_text, shapes}

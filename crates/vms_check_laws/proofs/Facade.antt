@@ -31,13 +31,11 @@ pub use Rattle.vms_spec.specs.Streams.{written_sections, written_subs, AllCame, 
 pub use Rattle.vms_spec.specs.Streams.{SubSpells, SubsSpell, configuration, is_one_of, longest_text, optional, sub_head, trailer, written, written_section}
 pub use Rattle.vms_spec.specs.WellFormed.{WellFormed, here, in_field}
 pub use Rattle.vms_spec.specs.declared.Count.TheVariants.{Counted, Fixed, One}
-pub use Rattle.vms_bodies.proofs.{BodyLaws.at_set, ReadyLaws.version_decides, SectionLaws.defaults_at, SectionLaws.defaults_long, SettledLaws.cells_in}
-pub use Rattle.vms_bodies.proofs.{SpellLaws.rules_append, SpellLaws.spells_append, SubsOnly.rules_split}
-pub use Rattle.vms_bodies.proofs.AboveLaws.{IsAbove, MeanAbove, field_above, item_above, meanings_above}
-pub use Rattle.vms_bodies.proofs.AgreeLaws.{its_below, its_in, named_inside, skip_long, stands_behind}
-pub use Rattle.vms_bodies.proofs.CellLaws.{MeanCells, cells_first, field_are, item_are, meanings_are}
-pub use Rattle.vms_bodies.proofs.Names.{has_left, has_right, names_append, none_in_both}
+pub use Rattle.vms_bodies.proofs.{Stated.version_decides, BodyOnly.rules_split, SpellLaws.at_set, SpellLaws.rules_append, SpellLaws.spells_append}
 pub use Rattle.vms_bodies.proofs.PartLaws.{at_other, cells_of_sub, part_apart, parts_together, places_apart, sub_place_up, sub_size}
+pub use Rattle.vms_bodies.proofs.Places.{IsAbove, MeanAbove, field_above, item_above, meanings_above, MeanCells, cells_first, field_are, item_are, meanings_are}
+pub use Rattle.vms_bodies.proofs.Places.{has_left, has_right, names_append, none_in_both}
+pub use Rattle.vms_bodies.proofs.SettledLaws.{defaults_at, defaults_long, cells_in, its_below, its_in, named_inside, skip_long, stands_behind}
 pub use Rattle.vms_bodies.specs.{Cells.AreCells}
 pub use Rattle.vms_stream.proofs.Stated.{trailed}
 pub use Rattle.vms_stream.specs.Streams.{HasSection, IsSection, IsStream, SectionsSpell}

@@ -30,12 +30,10 @@ pub use Rattle.vms_spec.specs.Sound.{AreSound, AreSoundFields, IsEarlier, IsSoun
 pub use Rattle.vms_spec.specs.Streams.{AreReady, IsReady, is_needed, is_one_of, longest_text, written}
 pub use Rattle.vms_spec.specs.WellFormed.{WellFormed, first_fault, here}
 unfoldable pub use Rattle.vms_spec.specs.Layout.{first}
-pub use Rattle.vms_bodies.proofs.{ComeLaws.same_lists, FineLaws.image_are, FineLaws.part_place, Names.names_append, Names.none_in_both, Stated.shipped_holds}
-pub use Rattle.vms_bodies.proofs.AboveLaws.{MeanAbove, field_above, meanings_above}
-pub use Rattle.vms_bodies.proofs.AgreeLaws.{its_above, its_below, its_in, its_same}
-pub use Rattle.vms_bodies.proofs.PartLaws.{at_other, part_apart, parts_together, places_apart, sub_place_up, sub_size}
-pub use Rattle.vms_bodies.proofs.Places.{SameBelow, elements_same, place_below, place_end, place_next, place_up, there_same}
-pub use Rattle.vms_bodies.proofs.SettledLaws.{SameIn, cells_in, in_less, own_in}
+pub use Rattle.vms_bodies.proofs.{Stated.shipped_holds, Places.place_next, Places.place_up, Places.there_same}
+pub use Rattle.vms_bodies.proofs.PartLaws.{same_lists, image_are, part_place, at_other, part_apart, parts_together, places_apart, sub_place_up, sub_size}
+pub use Rattle.vms_bodies.proofs.Places.{names_append, none_in_both, MeanAbove, field_above, meanings_above, SameBelow, elements_same, place_below, place_end}
+pub use Rattle.vms_bodies.proofs.SettledLaws.{its_above, its_below, its_in, its_same, SameIn, cells_in, in_less, own_in}
 pub use Rattle.vms_bodies.proofs.WalkLaws.{drop_next, place_first, zero_plus}
 pub use Rattle.vms_bodies.specs.{Cells.AreCells}
 pub use Rattle.vms_stream.specs.StreamLaws.{IsWholeStream}

@@ -9,7 +9,7 @@ pub use Rattle.vms_spec.proofs.WellFormedLaws.{machine_short}
 pub use Rattle.vms_spec.specs.{Images.Image, Layout.capacity_of, Layout.counted, Layout.no_desc, Lists.at_option, Rules.counts_well, Sets.Set, Sets.Sub}
 pub use Rattle.vms_spec.specs.{Streams.configuration, Streams.is_one_of, Streams.optional, Streams.written, declared.TheConstants.LONGEST_NAME}
 unfoldable pub use Rattle.vms_spec.specs.Layout.{first}
-pub use Rattle.vms_bodies.proofs.{BodyLaws.at_set, PartLaws.at_other}
+pub use Rattle.vms_bodies.proofs.{SpellLaws.at_set, PartLaws.at_other}
 pub use Rattle.vms_stream.proofs.{Stated.never_both_holds}
 pub use Rattle.vms_stream.proofs.WrittenBytes.{AllParts, AllSubs, EachPart, EachSub, all_parts}
 pub use Rattle.vms_stream.specs.{Faults.Fault, Streams.Takes}

@@ -22,8 +22,7 @@ pub use Rattle.vms_spec.specs.Streams.{AreReady, IsConfiguration, IsReady, be32,
 pub use Rattle.vms_spec.specs.Streams.{written, written_section, written_sections, written_subs}
 pub use Rattle.vms_spec.specs.WellFormed.{WellFormed, here, in_field}
 unfoldable pub use Rattle.vms_spec.specs.Layout.{first}
-pub use Rattle.vms_bodies.proofs.{ComeLaws.defaults_of, ComeLaws.falses, PartLaws.at_other}
-pub use Rattle.vms_bodies.proofs.ReadyLaws.{is_same, ready_decides, version_decides}
+pub use Rattle.vms_bodies.proofs.{PartLaws.defaults_of, PartLaws.falses, PartLaws.at_other, Stated.is_same, Stated.ready_decides, Stated.version_decides}
 pub use Rattle.vms_bodies.specs.{Whole.reading_on}
 pub use Rattle.vms_stream.proofs.{Judging.Mirrors.state_refuses, Stated.told_holds, Streams.Steps.unit_on}
 pub use Rattle.vms_stream.proofs.Stated.{accepted_holds, either_holds, never_both_holds, one_fault_holds, section_found_holds, section_read_holds, taken_holds}

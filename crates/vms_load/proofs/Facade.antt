@@ -32,10 +32,10 @@ pub use Rattle.vms_spec.specs.Taking.{Progress, Taken, if_whole, on, refuse, tak
 pub use Rattle.vms_spec.specs.Units.{Description, Foot, Long, Magic, Mark, Piece, SubHead, Version, spell, spelled}
 pub use Rattle.vms_spec.specs.WellFormed.{WellFormed, devices_items, first_fault, has_few, item_count, items_in, struct_items, subs_items}
 unfoldable pub use Rattle.vms_spec.specs.Layout.{first}
-pub use Rattle.vms_bodies.proofs.{AboveLaws.IsAbove, AboveLaws.desc_above, AboveLaws.meanings_above, BodyLaws.at_set, BodyLaws.set_twice, FrameLaws.one_unit}
-pub use Rattle.vms_bodies.proofs.{HeadFound.found_is, LeftLaws.Leaves, LeftLaws.desc_leaves, PartLaws.at_other, PartLaws.sub_are, Places.SameBelow}
-pub use Rattle.vms_bodies.proofs.{Places.same_refl, Places.same_trans, ReadyLaws.is_same, SectionLaws.own_are, Widths.width_positive}
-pub use Rattle.vms_bodies.proofs.WalkLaws.{ComesTo, Gives, IsFrom, Keeping, Keeps, set_desc_comes, slot_keeps}
+pub use Rattle.vms_bodies.proofs.{Heads.found_is, PartLaws.at_other, PartLaws.sub_are, Stated.is_same, SettledLaws.own_are}
+pub use Rattle.vms_bodies.proofs.Places.{IsAbove, desc_above, meanings_above, SameBelow, same_refl, same_trans, width_positive}
+pub use Rattle.vms_bodies.proofs.SpellLaws.{one_unit, at_set, set_twice}
+pub use Rattle.vms_bodies.proofs.WalkLaws.{Leaves, desc_leaves, ComesTo, Gives, IsFrom, Keeping, Keeps, set_desc_comes, slot_keeps}
 pub use Rattle.vms_bodies.specs.{Cells.AreCells, Whole.reading_on}
 pub use Rattle.vms_stream.proofs.{Finding.Advancing.advances, Judging.Mirrors.solid, Judging.Mirrors.state_refuses}
 pub use Rattle.vms_stream.proofs.Bodies.Body.{IsUnit, after_read, body_read, by_tests, slot_seen, tested}

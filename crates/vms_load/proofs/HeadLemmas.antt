@@ -5,7 +5,7 @@ use Rattle.vms_load.proofs.Facade.{find_sub, index, did_come, found_inside, devi
 use Rattle.vms_load.proofs.Facade.{reason_against_sub, sub_opened, sub_opened_at, opened_at, unfit, Unfit, Piece, SubHead, device_named, found_is, first_row}
 use Rattle.vms_load.proofs.Facade.{is_none, test_some, asking, Known, ask, by_row, State, open_at, known_at, after, by_state, Verdict, Goes, Faulty}
 use Rattle.vms_spec.specs.Units.{Head}
-use Rattle.vms_bodies.proofs.SubHeads.{sub_is as sub_found}
+use Rattle.vms_bodies.proofs.Heads.{sub_is as sub_found}
 use Rattle.vms_stream.specs.State.{image_at}
 use Rattle.vms_spec.specs.declared.Reason.TheVariants as reasons
 

@@ -27,7 +27,7 @@ pub use Rattle.vms_spec.specs.WellFormed.{struct_rules, sub_fault, sub_rules, su
 pub use Rattle.vms_spec.specs.declared.Count.TheVariants.{Counted, Fixed, One}
 pub use Rattle.vms_spec.specs.declared.Whose.TheVariants.{Own, Parent}
 unfoldable pub use Rattle.vms_spec.specs.{Layout.first, WellFormed.first_fault}
-pub use Rattle.vms_bodies.proofs.ReadyLaws.{counted_well, is_same, le_decides, ranged}
+pub use Rattle.vms_bodies.proofs.Stated.{counted_well, is_same, le_decides, ranged}
 pub use Rattle.vms_elements.specs.Elements.{Element, Rule, Shape, Stand, array_elements, behind, cells_in, desc_elements, dotted, elements_from, field_elements}
 pub use Rattle.vms_elements.specs.Elements.{index_text, item_elements, no_shape, shape, single}
 pub use Rattle.vms_elements.specs.Parts.{absent, elements_in, subs_elements}

@@ -32,17 +32,15 @@ pub use Rattle.vms_kinds.specs.{Bytes.IsBytes, declared.Kind.Kind, Codes.InRange
 pub use Rattle.vms_kinds.specs.declared.Kind.TheVariants.{U64, U8}
 unfoldable pub use Rattle.vms_kinds.specs.Codes.{code}
 unfoldable pub use Rattle.vms_spec.specs.Layout.{first}
-pub use Rattle.vms_bodies.proofs.{AgreeLaws.its_spelled, BodyLaws.at_set, BodyLaws.set_twice, FaultFields.bad_same, FaultFields.raw_same, FaultFields.raw_take}
-pub use Rattle.vms_bodies.proofs.{FoundLaws.body_found, FrameLaws.one_unit, FrameLaws.unit_read, Names.if_both, Names.if_so, PartLaws.beside_end}
-pub use Rattle.vms_bodies.proofs.{PartLaws.beside_first, Places.same_refl, StepLaws.Is, StepLaws.Walks, StepLaws.step, StepLaws.steps_keep, SubHeads.sub_bytes}
-pub use Rattle.vms_bodies.proofs.{SubHeads.sub_is, Widths.width_positive, WrittenLaws.zeroed_spells, BodyOnly.front_drop, BodyOnly.front_take, BodyOnly.if_true}
-pub use Rattle.vms_bodies.proofs.{BodyOnly.none_taken, SubsOnly.own_taken, SubsOnly.part_taken, SubsOnly.so_at_last, SubsOnly.so_far, SubsOnly.sub_so}
-pub use Rattle.vms_bodies.proofs.ComeLaws.{agrees, all_came, came_at, defaults_of, falses, never_true, none_missing, none_versions, same_lists, sub_front}
-pub use Rattle.vms_bodies.proofs.FineLaws.{Fine, Stays, fine_next, fine_normal, fine_valid, part_place, stays_next, stays_on, stays_refl}
-pub use Rattle.vms_bodies.proofs.HeadFound.{found_is, four_low, head_bytes, is_bytes_drop, split_four, split_one, text_long}
+pub use Rattle.vms_bodies.proofs.{Heads.text_long, Stated.zeroed_spells, WalkLaws.Comes, WalkLaws.drop_next, WalkLaws.set_desc_comes}
+pub use Rattle.vms_bodies.proofs.BodyOnly.{front_drop, front_take, if_true, none_taken, own_taken, part_taken, so_at_last, so_far, sub_so}
+pub use Rattle.vms_bodies.proofs.Heads.{sub_bytes, sub_is, bad_same, raw_same, raw_take, found_is, four_low, head_bytes, is_bytes_drop, split_four, split_one}
+pub use Rattle.vms_bodies.proofs.PartLaws.{agrees, all_came, came_at, defaults_of, falses, never_true, none_missing, none_versions, same_lists, sub_front, Fine}
+pub use Rattle.vms_bodies.proofs.PartLaws.{Stays, fine_next, fine_normal, fine_valid, part_place, stays_next, stays_on, stays_refl, beside_end, beside_first}
 pub use Rattle.vms_bodies.proofs.PartLaws.{beside_next, beside_start, none_came, none_of, sub_are, version_at, Beside, at_other, beside_back, beside_done}
-pub use Rattle.vms_bodies.proofs.SectionLaws.{defaults_at, defaults_long, own_are}
-pub use Rattle.vms_bodies.proofs.WalkLaws.{Comes, drop_next, set_desc_comes}
+pub use Rattle.vms_bodies.proofs.Places.{if_both, if_so, same_refl, width_positive}
+pub use Rattle.vms_bodies.proofs.SettledLaws.{its_spelled, defaults_at, defaults_long, own_are}
+pub use Rattle.vms_bodies.proofs.SpellLaws.{at_set, set_twice, body_found, one_unit, unit_read, Is, Walks, step, steps_keep}
 pub use Rattle.vms_bodies.specs.Whole.{Advances, reading_on}
 pub use Rattle.vms_stream.specs.{Taking.put, Taking.taken_by, StreamLaws.ToldLaw, StreamLaws.UnitsLaw, Table.reason_of, Table.test_some, Table.wants_foot}
 pub use Rattle.vms_stream.specs.Dues.{AMagic, AVersion, AfterEnd, AfterFields, AtConfiguration, AtConstant, AtDescription, AtEnd, AtFiller, AtFoot, AtHead}

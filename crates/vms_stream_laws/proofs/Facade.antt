@@ -1,5 +1,5 @@
 -- The names of other crates, and of this crate's `specs`, that the proofs use.
-pub use Rattle.vms_bodies.proofs.{Names.if_there, ComeLaws.none_missing, ConstantLaws.own_constants, ConstantLaws.part_constants, SectionLaws.AreConstants}
+pub use Rattle.vms_bodies.proofs.{Places.if_there, PartLaws.none_missing, SettledLaws.own_constants, SettledLaws.part_constants, SettledLaws.AreConstants}
 pub use Rattle.std.proofs.{Math.Nat.mul-le-mul_right, Math.Seq.take-append_seam, lemmas.Simd.map-map}
 pub use Rattle.std.proofs.Common.{Bool, List, None, Option, Some, [], ap, append_assoc, arith, drop, false, get_or, if◌then◌else◌, length, length-append}
 pub use Rattle.std.proofs.Common.{length-drop, length-set, map, nat_le, nat_lt, negsuc, not, pos, refl, slice_set, subst, suc, sym, take, true, zero, ℕ, ℤ}

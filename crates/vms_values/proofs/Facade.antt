@@ -33,7 +33,7 @@ pub use Rattle.vms_spec.specs.ValuesReading.{read_device, read_devices, read_ele
 pub use Rattle.vms_spec.specs.ValuesReading.{rest_of, section_line, sub_fails, sub_said, then_subs, with_device, ◌>>=◌}
 unfoldable pub use Rattle.vms_spec.specs.{Layout.first, ValuesReading.values_read}
 pub use Rattle.vms_words.specs.{Lines.IsFirstLine, declared.line.NextLine.NextLine}
-pub use Rattle.vms_bodies.proofs.{CellLaws.cells_first, PartLaws.cells_of_sub, WalkLaws.place_first}
+pub use Rattle.vms_bodies.proofs.{Places.cells_first, PartLaws.cells_of_sub, WalkLaws.place_first}
 pub use Rattle.vms_elements.proofs.{Names.array_name, Names.names_absent, Tables.shapes_cells, Walk.item_walks, Walk.names_append}
 pub use Rattle.vms_elements.proofs.Walk.{names_long, names_map, walks, AreWalked, are_walked, desc_names_are, desc_walks, field_walks, fields_walk, is_dotted}
 pub use Rattle.vms_elements.specs.{Reading.Reads, Reading.Refused, Parts.absent, Parts.cell_name, Parts.elements_in, Parts.names_of, Parts.subs_elements}

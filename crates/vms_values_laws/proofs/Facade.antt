@@ -35,9 +35,9 @@ pub use Rattle.vms_spec.specs.declared.Count.TheVariants.{Counted, Fixed, One}
 unfoldable pub use Rattle.vms_spec.specs.{Layout.first, ValuesReading.values_read, WellFormed.first_fault}
 pub use Rattle.vms_words.proofs.{Lines.begun, Lines.line_splits, Spells.number_holds, Spells.spelled_holds}
 pub use Rattle.vms_words.specs.{Texts.IsShort}
-pub use Rattle.vms_bodies.proofs.{SpellLaws.rules_append, SubsOnly.rules_split, ReadyLaws.is_same, ReadyLaws.ranged, ReadyLaws.rules_decide, WalkLaws.drop_next}
-pub use Rattle.vms_bodies.proofs.{WalkLaws.place_first, WalkLaws.zero_plus, Names.if_both, Names.names_append, Names.none_joined}
-pub use Rattle.vms_bodies.proofs.Places.{elements_same, place_next, there_same}
+pub use Rattle.vms_bodies.proofs.{SpellLaws.rules_append, BodyOnly.rules_split, Stated.is_same, Stated.ranged, Stated.rules_decide}
+pub use Rattle.vms_bodies.proofs.Places.{if_both, names_append, none_joined, elements_same, place_next, there_same}
+pub use Rattle.vms_bodies.proofs.WalkLaws.{drop_next, place_first, zero_plus}
 pub use Rattle.vms_stream.proofs.Stated.{one_stream_holds, written_holds}
 pub use Rattle.vms_stream.specs.Streams.{Takes}
 pub use Rattle.vms_elements.proofs.{EntryLines.entry_law, SlotsOf.elements_slots, Tables.shapes_cells, Walk.AreCounted, Walk.walks}

@@ -18,12 +18,10 @@ pub use Rattle.vms_spec.specs.Images.{AreVersionsOf, FitsCell, Image, RulesHold,
 pub use Rattle.vms_spec.specs.Layout.{Cell, Constant, Filler, Meaning, Number, Rule, Slot, desc_cells, desc_slots, device_cells, meanings, no_cell, no_desc}
 pub use Rattle.vms_spec.specs.Streams.{AreReady, IsReady, configuration, end_mark, foot, is_needed, optional, section_head, sub_head, trailer, written_section}
 unfoldable pub use Rattle.vms_spec.specs.WellFormed.{first_fault}
-pub use Rattle.vms_bodies.proofs.{AgreeLaws.stands_behind, FineLaws.image_are, Names.names_append, NormalFound.named_fits, PartLaws.parts_together}
-pub use Rattle.vms_bodies.proofs.{PartLaws.sub_are, SectionLaws.AreConstants, SectionLaws.fit_slots, SectionLaws.own_are, SpellLaws.FitSlots}
-pub use Rattle.vms_bodies.proofs.AboveLaws.{IsAbove, above_append, above_less, above_none, desc_above, meanings_above}
-pub use Rattle.vms_bodies.proofs.CellLaws.{MeanCells, cells_first, desc_are, meanings_are}
-pub use Rattle.vms_bodies.proofs.ConstantLaws.{constants_append, own_constants, part_constants}
-pub use Rattle.vms_bodies.proofs.ReadyLaws.{are_needed, counted_well, is_same, needed_are, ranged}
+pub use Rattle.vms_bodies.proofs.{PartLaws.image_are, PartLaws.parts_together, PartLaws.sub_are, Places.above_less, Places.above_none, SpellLaws.FitSlots}
+pub use Rattle.vms_bodies.proofs.Places.{desc_above, meanings_above, MeanCells, cells_first, desc_are, meanings_are, names_append, IsAbove, above_append}
+pub use Rattle.vms_bodies.proofs.SettledLaws.{stands_behind, named_fits, constants_append, own_constants, part_constants, AreConstants, fit_slots, own_are}
+pub use Rattle.vms_bodies.proofs.Stated.{are_needed, counted_well, is_same, needed_are, ranged}
 pub use Rattle.vms_bodies.specs.{Cells.AreCells}
 pub use Rattle.vms_desc.proofs.{Bounds.good_of, Bounds.none_is, Clean.device_clean, Clean.sub_clean}
 pub use Rattle.vms_desc.proofs.AskLaws.{few_cells, own_inside_device, sub_first, sub_inside, sub_next}

@@ -1,6 +1,6 @@
 -- When the slots of a part are fine, joined and step by step.
 use Rattle.std.proofs.{Math.Bool.or-false, lemmas.Bool.false_from_ne_true}
-use Rattle.vms_bodies.proofs.AgreeLaws.{named_inside}
+use Rattle.vms_bodies.proofs.SettledLaws.{named_inside}
 use Rattle.vms_write.proofs.Facade.{◌≡◌, ℕ, zero, suc, ◌+◌, ◌<◌, ◌≤◌, List, [], ◌∷◌, ◌++◌, length, length-append, get_or, replicate, ℤ, pos, refl, sym, ap, ◌∙◌}
 use Rattle.vms_write.proofs.Facade.{subst, arith, Bool, true, false, ◌&&◌, ◌||◌, ◌-◌, Option, Some, None, length-replicate, ne_eqb, eq-eqb, and-true, and_assoc}
 use Rattle.vms_write.proofs.Facade.{same_number, in_range, counts_well, int_le, Desc, Set, Cell, no_cell, Slot, Number, Rule, Meaning}

@@ -11,7 +11,7 @@ use Rattle.vms_stream.proofs.Facade.{IsSound, AreSound, same_refl, drop_next, Co
 use Rattle.vms_stream.proofs.Facade.{judge_found, by_row, owes, State, Inside, image_at, part_at, known_at, after, by_state}
 use Rattle.vms_spec.specs.Layout.{Number as NumberSlot, Constant as ConstantSlot, Filler as FillerSlot, Rule as RuleSlot}
 use Rattle.vms_spec.specs.Readings.{Over as IsOver}
-use Rattle.vms_bodies.proofs.StepLaws.{after as step_after, Refuses}
+use Rattle.vms_bodies.proofs.SpellLaws.{after as step_after, Refuses}
 use Rattle.vms_spec.specs.declared.Reason.TheVariants as reasons
 
 -- a slot that is a unit

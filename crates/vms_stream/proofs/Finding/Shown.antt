@@ -10,7 +10,7 @@ use Rattle.vms_stream.proofs.Facade.{fits_four, length-code, is_bytes_drop, four
 use Rattle.vms_stream.proofs.Facade.{Whole, Cut, needs, start_at, head_at, sub_at, text_at, between_at, behind_at, trailer_at, unit_at, IsThere, Tail}
 use Rattle.vms_stream.proofs.Finding.There.{begins}
 use Rattle.vms_spec.specs.Layout.{Number as NumberSlot, Constant as ConstantSlot, Filler as FillerSlot}
-use Rattle.vms_bodies.proofs.HeadFound.{text_at as what_follows}
+use Rattle.vms_bodies.proofs.Heads.{text_at as what_follows}
 
 abbrev pub Shows : Due → List ℕ → Found → Type 0
 Shows d rest (Whole x n) = IsThere d rest x n

@@ -13,7 +13,7 @@ use Rattle.vms_stream.proofs.Streams.Inside.{Agrees, tail_of, closing, Section, 
 use Rattle.vms_stream.proofs.Streams.Steps.{g, unit_on, opened, settled, head_after}
 use Rattle.vms_stream.proofs.Streams.UnitRows.{head_passes, sub_passes, foot_passes, end_passes, name_passes}
 use Rattle.vms_stream.specs.{State.Over}
-use Rattle.vms_bodies.proofs.SubsOnly.{image_at}
+use Rattle.vms_bodies.proofs.BodyOnly.{image_at}
 
 -- a section may begin, and the end mark may come
 pub record IsFree (set : Set) (names : List (List ℕ)) (s : State) : Type 0 where

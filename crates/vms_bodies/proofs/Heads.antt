@@ -1,8 +1,11 @@
--- A section head that is read is spelled so.
-use Rattle.vms_bodies.proofs.Facade.{⊎_elim, cases_Bool, ◌≡◌, ℕ, zero, suc, ◌+◌, ◌<◌, ◌≤◌, List, ◌∷◌, ◌++◌, length, get_or, take, drop, Some, refl, sym, ap}
-use Rattle.vms_bodies.proofs.Facade.{◌∙◌, arith, append_assoc, length-drop, true, false, ◌==◌, ◌&&◌, [], slice_get, bytes_eq, drop-drop, take-append-drop}
-use Rattle.vms_bodies.proofs.Facade.{length-take-le, get_or-take, drop-cons, eqb-true, and_parts, big_number, big_from, U32, again, bytes_first}
-use Rattle.vms_bodies.proofs.Facade.{bytes_rest, IsBytes, Device, be32, section_head, number_at, bytes_at, find_device}
+-- Heads of sections and subsections as bytes: what is spelled is read, and what is read is spelled.
+use Rattle.vms_bodies.proofs.Facade.{⊎_elim, cases_Bool, ◌≡◌, ℕ, zero, suc, ◌+◌, ◌<◌, ◌≤◌, List, ◌∷◌, ◌++◌, length, get_or}
+use Rattle.vms_bodies.proofs.Facade.{take, drop, Some, refl, sym, ap, ◌∙◌, arith, append_assoc, length-drop, true, false, ◌==◌, ◌&&◌, []}
+use Rattle.vms_bodies.proofs.Facade.{slice_get, bytes_eq, drop-drop, take-append-drop, length-take-le, get_or-take, drop-cons, eqb-true, and_parts, big_number}
+use Rattle.vms_bodies.proofs.Facade.{big_from, U32, again, bytes_first, bytes_rest, IsBytes, Device, be32, section_head, number_at, bytes_at, find_device, Sub}
+use Rattle.vms_bodies.proofs.Facade.{sub_head, find_sub, Kind, U8, width, code, value_of, InRange, plain_take, value_taken, is_truth, is_above, is_bad_bool}
+use Rattle.vms_bodies.proofs.Facade.{raw}
+use Rattle.vms_kinds.specs.declared.Kind.TheVariants.{Bool as Truth}
 
 -- ---- bytes
 
@@ -72,3 +75,54 @@ found_is (d ∷ devices) j name instance k e =
     (λ (f : (bytes_eq d.desc.name name && d.instance == instance) ≡ false).
     let h = found_is devices (suc j) name instance k (rw f at e) in
     record { i = suc h.i; is = omega arith; device = h.device; there = h.there; name_is = h.name_is; instance_is = h.instance_is }) (cases_Bool _)
+
+-- ---- heads of subsections: what is spelled is read, and what is read is spelled: what is found
+
+pub sub_bytes : (rest : List ℕ) (n : ℕ) → IsBytes rest → get_or rest 0 0 ≡ 0x05 → get_or rest 1 0 ≡ n → 6 + n ≤ length rest
+    → rest ≡ sub_head (bytes_at n 2 rest) (number_at 4 (2 + n) rest) ++ drop (6 + n) rest
+sub_bytes rest n ok mark size long =
+    let name = bytes_at n 2 rest in
+    let v = be32 (number_at 4 (2 + n) rest) in
+    let tail = drop (6 + n) rest in
+    split_one rest (omega arith) ∙ ap (λ b. b ∷ drop 1 rest) mark ∙ ap (λ l. 0x05 ∷ l)
+    ((cc (drop-cons rest 1 0 (omega arith))) ∙ ap (λ l. n ∷ l) (text_at n 2 rest ∙ ap (λ l. name ++ l) (four_at (2 + n) (6 + n) rest ok (omega arith) long)
+    ∙ sym (append_assoc name v tail)))
+    ∙ ap (λ k. 0x05 ∷ (k ∷ ((name ++ v) ++ tail))) (sym (text_long n 2 rest (omega arith)))
+
+-- a subsection of this name is at index k
+pub record FoundSub (subs : List Sub) (j : ℕ) (name : List ℕ) (k : ℕ) : Type 0 where
+  pub i : ℕ
+  pub is : k ≡ j + i
+  pub sub : Sub
+  pub there : slice_get subs i ≡ Some sub
+  pub name_is : bytes_eq sub.desc.name name ≡ true
+
+pub sub_is : (subs : List Sub) (j : ℕ) (name : List ℕ) (k : ℕ) → find_sub j subs name ≡ Some k → FoundSub subs j name k
+sub_is [] j name k e = cc
+sub_is (s ∷ subs) j name k e =
+    ⊎_elim (λ (t : bytes_eq s.desc.name name ≡ true).
+    let one : Some j ≡ Some k = rw t at e in
+    let same : j ≡ k = cc in
+    record { i = 0; is = omega arith; sub = s; there = refl; name_is = t })
+    (λ (f : bytes_eq s.desc.name name ≡ false).
+    let h = sub_is subs (suc j) name k (rw f at e) in
+    record { i = suc h.i; is = omega arith; sub = h.sub; there = h.there; name_is = h.name_is }) (cases_Bool _)
+
+-- ---- the judge counts slots, the relation counts units: how the two are related. And what bytes say as a number.
+
+-- ---- numbers
+
+-- the bytes of a unit of a number, whatever a bool's byte is
+pub raw_take : (kind : Kind) (bytes : List ℕ) → length bytes ≡ width kind → IsBytes bytes
+    → InRange (raw kind) (value_of (raw kind) bytes) × (bytes ≡ code kind (value_of (raw kind) bytes))
+unfolding code
+raw_take Truth bytes len ok = plain_take U8 bytes refl len ok (λ b. let e = b.0 in cc)
+raw_take kind bytes len ok = value_taken kind bytes len ok (λ b. let e = b.0 in cc)
+
+pub raw_same : (kind : Kind) (bytes : List ℕ) → value_of (raw kind) bytes ≡ value_of kind bytes
+raw_same Truth bytes = refl
+raw_same _ bytes = refl
+
+pub bad_same : (kind : Kind) (bytes : List ℕ) → (is_truth kind && is_above (value_of (raw kind) bytes) 1) ≡ is_bad_bool kind bytes
+bad_same Truth bytes = refl
+bad_same _ bytes = refl
