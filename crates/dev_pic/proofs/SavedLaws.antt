@@ -78,8 +78,6 @@ restored_is_sound = record {
       (number-ok _ pair (hook-ok _ pair e));
 }
 
--- ---- a saved pair is restored as it was, and what its hooks return says the pair, or the chip and its rule
-
 -- ---- the parts of a list that joins two
 
 pub first_part : (count : ℕ) (first second : List ℤ) → length first ≡ count → take count (first ++ second) ≡ first

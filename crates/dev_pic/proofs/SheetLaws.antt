@@ -148,7 +148,7 @@ takes_lines_over inputs edges chip input lines elcr within =
     ∙ by_mode (has chip.irr input || ((has inputs input && not (has chip.lines input)) || has edges input)) (has inputs input)
     (has (level_inputs_of chip) input)
 
--- ---- laws of polls, of special fully nested mode and of rotation in automatic end of interrupt: polls
+-- ---- polls
 
 poll_asked : (level value : ℕ) (chip : Chip) → has value 4 ≡ false → has value 3 ≡ true → has value 2 ≡ true → (written_even level value chip).poll ≡ true
 unfolding written_even selected

@@ -229,7 +229,7 @@ marked SquareWave count before k tick b l = periodic-square (count == 1) count b
 marked SoftwareStrobe count before k tick b l = marked-strobe count before k tick b l
 marked _ count before k tick b l = itself l refl refl
 
--- ---- what OUT of a counter does after a moment, it has done by one of three: moments
+-- ---- moments
 
 -- so many ticks have passed at the moment of a tick
 pub ticks_at : (load tick : ℕ) → ticks load (moment_of load tick) ≡ tick

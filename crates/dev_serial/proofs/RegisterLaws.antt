@@ -190,7 +190,7 @@ bytes_in_keep_level byte now port = comes port byte now
 pub advances_keep_level : AdvancesKeepLevel
 advances_keep_level to port = advances port to
 
--- ---- the divisor latch, and the modem status in loop mode: the divisor latch
+-- ---- the divisor latch
 
 low_read : (now : ℕ) (port : Port) → has port.lcr 7 ≡ true → read_of 0 now port ≡ (port.divisor % 256, port)
 unfolding read_of

@@ -92,7 +92,7 @@ clock_sets_hold input held =
     rw asks (subst (λ (m : Option Mismatch). HasText held (verdict m) (done compatible_text held 0))
     (sym (sets_are_compatible.newest 1 (omega arith) (omega arith))) refl)
 
--- ---- words name boards that there are: boards
+-- ---- words name boards that there are
 
 -- there is such a board
 abbrev pub IsThere : Option BoardWord → Type 0

@@ -84,8 +84,6 @@ text_row step fits sound gives = record {
       record { outcome = done text.0 held 0; is = rw text.1 refl; status = refl };
 }
 
--- ---- from how a command ends, and why, to its row
-
 -- what holds but at the statuses of such a list holds too where notes failed
 pub at_six : (l : List ℕ) → HasSix l → (k status : ℕ) → status ≡ 6 → (P : Type 0) → (is_among l k ≡ false → P) → is_among l status ≡ false → P
 at_six l (inl has) k status six P h none = absurd (wrong (sym (rw six has) ∙ none))

@@ -72,8 +72,6 @@ sound_pack held word name =
     (λ t. sound_next held (fetched longest_file held name) _ (sound_fetch held _ name)
     (λ values. sound_next held (set_in t) _ (sound_set held t) (λ set. tt)))) (λ parts. sound_read held parts.set (values_read parts.set parts.values))
 
--- ---- two steps, one after the other, and the two steps of `convert`
-
 -- ---- Two steps, one after the other: what is said of the first that ends the command, or of what both give.
 
 module _ {A T U : Type 0} (m : T → A) (n : U → Both A) where
@@ -129,8 +127,6 @@ pub gives_next : {A T : Type 0} (m : T → A) (f : A → Step Set) (s : Step A) 
 gives_next m f Untold t i i' h g = gives_few _ i i' g
 gives_next {A} m f (Gives a) t i i' h g = rw h at g
 gives_next m f (Ends status line) t i i' h g = absurd h
-
--- ---- what `convert` answers, and how it ends
 
 -- ---- One thing is answered of a machine and images of the newest set: a stream, or what would be lost first.
 

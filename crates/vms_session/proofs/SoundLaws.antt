@@ -177,8 +177,6 @@ one_end (Loads name) old text text' new new' ok a b = same-under _ old text text
 pub lines_are_one : LinesAreOne
 lines_are_one = record { line = one_end }
 
--- ---- streams on the shelf: the result of a save or a load, and what a refused stream leaves
-
 -- ---- The result of a stream on the shelf, and a line that is written.
 
 -- bytes that a board reads have the result of their restore
