@@ -18,7 +18,7 @@ unfoldable pub use Rattle.vms_spec.specs.Layout.{first}
 pub use Rattle.vms_bodies.proofs.{Places.has_left, Places.has_right, Stated.counted_well, Stated.is_same, SpellLaws.rules_append}
 pub use Rattle.vms_check.specs.{Carrying.Carrier, Carrying.carried_at, Carrying.carried_device, Carrying.carried_sub, Carrying.no_image, Carrying.carriers, Carrying.carry_items, Carrying.no_carrier, Comparing.same_kind}
 unfoldable pub use Rattle.vms_check.specs.Carrying.{carried}
-pub use Rattle.vms_desc.proofs.Formed.{by_list}
+pub use Rattle.vms_desc.proofs.Clean.{by_list}
 pub use Rattle.vms_desc.specs.Formed.{newest_set, shipped_set}
 pub use Rattle.vms_fields.specs.{Fields.Row, Fields.place_under, Pic.place_of_pic, Pit.channel_rows, Serial.serial_rows}
 pub use Rattle.vms_fields.specs.declared.pit.TheConstants.{CELLS, COUNTERS, LATCH, LATCHED, STATUS, STATUS_LATCHED, WLOW, WLOW_HELD}

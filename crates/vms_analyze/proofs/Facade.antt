@@ -36,7 +36,7 @@ unfoldable pub use Rattle.vms_spec.specs.WellFormed.{first_fault}
 pub use Rattle.vms_words.proofs.{Lines.begun, WordLaws.tells_kind, WordLaws.word_named}
 pub use Rattle.vms_words.specs.Words.{kind_named, kind_word}
 pub use Rattle.vms_bodies.proofs.{BodyOnly.front_drop, BodyOnly.front_take, Stated.ranged}
-pub use Rattle.vms_elements.proofs.{LinesOf.text_append, SlotsOf.elements_slots, Stated.text_law, Walk.AreCounted, Walk.IsCounted, Walk.walks}
+pub use Rattle.vms_elements.proofs.{LinesOf.text_append, LinesOf.elements_slots, Walk.text_law, Walk.AreCounted, Walk.IsCounted, Walk.walks}
 pub use Rattle.vms_elements.proofs.Members.{Each, all_both, all_parts, decimal_all, elements_each, what_of}
 pub use Rattle.vms_elements.specs.Elements.{Constant, Filler, Rule, What, index_text, shapes}
 pub use Rattle.vms_elements.specs.Entries.{OfNumber, came_well, device_entries, devices_entries, entries, has_default, have_defaults, if_not, line_reason}
@@ -62,7 +62,7 @@ pub use Rattle.vms_analyze.specs.Walking.{AtStart, Goes, IsInside, Prints, Stops
 pub use Rattle.vms_analyze.specs.Wanted.{Any, Bytes, Differs, Foot, Found, Head, Line, Lines, Machine, Number, Took, Want, behind, device_wants, element_want}
 pub use Rattle.vms_analyze.specs.Wanted.{found, found_after, is_machine, kept_line, machine_line, number_line, only_if, section_line, sent_line, start_wants}
 pub use Rattle.vms_analyze.specs.Wanted.{sub_wants, take_machine, take_number, taken, took, wants}
-pub use Rattle.vms_desc.proofs.{Bounds.few_items, Clean.device_clean, Clean.few_subs, Clean.field_sound, Clean.sub_clean}
+pub use Rattle.vms_desc.proofs.Clean.{few_items, device_clean, few_subs, field_sound, sub_clean}
 pub use Rattle.vms_desc.specs.{Described.device_at, Formed.is_well_formed, Parts.HasPart, Parts.desc_at, Parts.sub_at}
 pub use Rattle.vms_io.proofs.ReadingLemmas.{breaks_more, nothing_follows, takes_as, takes_both, takes_none}
 pub use Rattle.vms_io.specs.{Reading.Takes, Told.Intake, Told.intake}

@@ -6,9 +6,7 @@ use Rattle.dev_clock.specs.Sound.{IsSound}
 use Rattle.dev_clock.specs.State.{power_on}
 use Rattle.dev_clock_images.proofs.ClockImages.{saved_are_ready, normal_may_be_restored}
 use Rattle.dev_clock_images.specs.Images.{cells_of}
-use Rattle.vms_desc.proofs.Bounds.{none_is}
-use Rattle.vms_desc.proofs.ClockHeads.{clock_heads}
-use Rattle.vms_desc.proofs.Formed.{clock_formed}
+use Rattle.vms_desc.proofs.Clean.{none_is, clock_heads, clock_formed}
 use Rattle.vms_desc.specs.Formed.{clock_set}
 use Rattle.vms_rtc.proofs.StepLaws.{version_stays}
 use Rattle.vms_rtc.specs.declared.limits.TheConstants.{NEWEST_CLOCK}

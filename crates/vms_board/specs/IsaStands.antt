@@ -8,7 +8,7 @@ use Rattle.dev_board.specs.Sound.{IsSound}
 use Rattle.dev_board.specs.State.{power_on}
 use Rattle.dev_board.proofs.{SoundLaws.answers_tell_int, SoundLaws.clock_goes_on, RestoredLaws.restored_is_sound}
 use Rattle.dev_images.proofs.{BoardReady.saved_are_ready, NormalCells.normal_may_be_restored}
-use Rattle.vms_desc.proofs.Formed.{by_list, fit_number}
+use Rattle.vms_desc.proofs.Clean.{by_list, fit_number}
 use Rattle.vms_desc.specs.Formed.{shipped_set}
 use Rattle.vms_board.specs.Family.{Stands}
 use Rattle.vms_board.specs.Isa.{isa, machine_of, cells_of, AreTold}

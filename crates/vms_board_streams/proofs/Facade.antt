@@ -12,7 +12,7 @@ pub use Rattle.vms_spec.specs.Layout.{counted, desc_cells, no_desc, struct_cells
 pub use Rattle.vms_spec.specs.Streams.{IsConfiguration, is_one_of, written}
 unfoldable pub use Rattle.vms_spec.specs.Layout.{first}
 pub use Rattle.vms_stream.proofs.Stated.{either_holds, never_both_holds, one_fault_holds, one_stream_holds}
-pub use Rattle.vms_stream.proofs.WrittenBytes.{AllParts, AllSubs, AreBytes, EachPart, all_parts, bytes_at, is_named, parts_named, written_are_bytes}
+pub use Rattle.vms_stream.proofs.Written.{AllParts, AllSubs, AreBytes, EachPart, all_parts, bytes_at, is_named, parts_named, written_are_bytes}
 pub use Rattle.vms_stream.specs.{StreamLaws.Answer, StreamLaws.Faulty, StreamLaws.IsWholeStream, StreamLaws.Taken, Streams.Takes}
 pub use Rattle.vms_elements.proofs.Members.{all_both, all_from, elements_each}
 pub use Rattle.vms_elements.specs.Elements.{Constant, Element, Filler, Number, Rule, What, index_text}
@@ -24,11 +24,11 @@ unfoldable pub use Rattle.vms_board.specs.Saving.{saved_stream, stream_with}
 pub use Rattle.vms_board_streams.specs.Streams.{BoardsGoOn, BytesAreOne, HasRoomFor, IsContinued, StreamComesBack, StreamsAreBytes, StreamsAreShort}
 pub use Rattle.vms_board_streams.specs.Streams.{StreamsComeBack, StreamsStand, answers_to, images_carried, trace_of}
 pub use Rattle.vms_board_streams.specs.declared.memory.TheConstants.{STREAM_ROOM}
-pub use Rattle.vms_check.proofs.{SelfLaws.is_among, ShippedLaws.shipped_compatible}
+pub use Rattle.vms_check.proofs.{SelfLaws.is_among, CompareRows.shipped_compatible}
 pub use Rattle.vms_check.specs.{Comparing.Compatible}
 unfoldable pub use Rattle.vms_check.specs.Comparing.{first_mismatch}
 pub use Rattle.vms_check_laws.proofs.Streaming.{upgrade_stands}
-pub use Rattle.vms_desc.proofs.{Bounds.none_is, Formed.by_number, Formed.clock_formed, Formed.formed}
+pub use Rattle.vms_desc.proofs.Clean.{none_is, by_number, clock_formed, formed}
 pub use Rattle.vms_desc.specs.Formed.{clock_set, shipped_set}
 pub use Rattle.vms_load.proofs.StreamLengths.{devices_long, stream_le}
 pub use Rattle.vms_selfdesc.proofs.{Bounds.clock_holds, Bounds.shipped_holds, JsonBytes.decimal_good, JsonBytes.device_letters}

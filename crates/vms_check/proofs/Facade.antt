@@ -39,7 +39,7 @@ pub use Rattle.vms_check.specs.Reducing.{Known, Open, Reduced, and_reduced, left
 pub use Rattle.vms_check.specs.Sides.{as_reduced, count_present, desc_on, field_reduced, fields_from, left_nodes, own_side, position_in, position_on}
 pub use Rattle.vms_check.specs.Wholes.{device_mismatch, is_missing, lost_mismatch, machines_mismatch, part_mismatch}
 unfoldable pub use Rattle.vms_check.specs.{Carrying.carried, Comparing.first_mismatch}
-pub use Rattle.vms_desc.proofs.{Bounds.none_is, Clean.few_fields, Clean.few_subs, Clean.field_clean, Clean.reach, Formed.numbered, Ranks.reach_whole}
+pub use Rattle.vms_desc.proofs.Clean.{none_is, few_fields, few_subs, field_clean, reach, numbered, reach_whole}
 pub use Rattle.vms_desc.specs.{Described.described, Described.device_at, Formed.is_well_formed, Formed.shipped_set, Parts.HasPart, Parts.desc_at, Parts.sub_at}
 pub use Rattle.vms_parts.proofs.{Items.get_map_at}
 pub use Rattle.vms_parts.specs.{Capacities.least_from, Capacities.least_of, Capacities.lesser, Views.device_of, Views.field_of, Views.formula, Views.sub_of}

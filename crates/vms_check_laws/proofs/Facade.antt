@@ -39,7 +39,7 @@ pub use Rattle.vms_bodies.proofs.SettledLaws.{defaults_at, defaults_long, cells_
 pub use Rattle.vms_bodies.specs.{Cells.AreCells}
 pub use Rattle.vms_stream.proofs.Stated.{trailed}
 pub use Rattle.vms_stream.specs.Streams.{HasSection, IsSection, IsStream, SectionsSpell}
-pub use Rattle.vms_check.proofs.{ListLaws.passes, ReducedLaws.IfOpen, ReducedLaws.open_reduced, ReducedLaws.reduced_holds}
+pub use Rattle.vms_check.proofs.{PairLaws.passes, CapacityLaws.IfOpen, CapacityLaws.open_reduced, CapacityLaws.reduced_holds}
 pub use Rattle.vms_check.specs.{declared.mismatch.Mismatch.Mismatch, Comparing.same_constant, Comparing.same_count}
 pub use Rattle.vms_check.specs.Carrying.{Carrier, carried_at, carried_device, carried_sub, carrier_of, carriers, carry_desc, carry_field, carry_from}
 pub use Rattle.vms_check.specs.Carrying.{carry_item, carry_items, carry_next, carrying, default_field, defaults, entries_left, no_carrier, no_image, sub_came}

@@ -16,7 +16,7 @@ pub use Rattle.vms_spec.specs.Images.{Image, default_image}
 pub use Rattle.vms_spec.specs.Streams.{AreReady, IsConfiguration, configuration, end_mark, is_one_of, optional, stream_head, trailer, written, written_sections}
 pub use Rattle.vms_spec.specs.ValuesReading.{Bad, Values, ValuesRead, values_read}
 unfoldable pub use Rattle.vms_spec.specs.Layout.{first}
-pub use Rattle.vms_stream.proofs.{Further.further_holds, Stated.either_holds, Stated.never_both_holds, Stated.one_fault_holds, Stated.one_stream_holds}
+pub use Rattle.vms_stream.proofs.Stated.{further_holds, either_holds, never_both_holds, one_fault_holds, one_stream_holds}
 pub use Rattle.vms_stream.specs.{Faults.Fault, StreamLaws.Answer, StreamLaws.Faulty, StreamLaws.Taken, Streams.Takes}
 pub use Rattle.vms_elements.specs.{Parts.cell_name, Parts.device_elements, Parts.names_of, Reading.IsMachineOf}
 pub use Rattle.vms_analyze.proofs.{One.one_holds, Total.total_holds}
@@ -85,9 +85,9 @@ pub use Rattle.vms_convert.specs.{Laws.AreRecastOf, Recast.wants_arrays, declare
 pub use Rattle.vms_convert.specs.Converted.{AreBack, recast_each}
 pub use Rattle.vms_convert.specs.Lost.{KeepsAll, Loses, OfCell, OfDevice, OfMachine, first_cell, numbers_in}
 pub use Rattle.vms_counter.specs.{Found.answer_of, declared.finding.Finding.Finding}
-pub use Rattle.vms_counter_laws.proofs.{OneAnswer.machine_known, OneAnswer.one_answer_holds, Stated.always_holds, Stated.computed_holds, Stated.named_holds}
+pub use Rattle.vms_counter_laws.proofs.Stated.{machine_known, one_answer_holds, always_holds, computed_holds, named_holds}
 pub use Rattle.vms_counter_laws.specs.{Computed.computed, Counters.Counters, Counters.Finds}
-pub use Rattle.vms_desc.proofs.{AskLaws.few_cells, Bounds.fit_of}
+pub use Rattle.vms_desc.proofs.{AskLaws.few_cells, Clean.fit_of}
 pub use Rattle.vms_desc.specs.{Described.described, Described.device_at, Formed.is_well_formed}
 pub use Rattle.vms_frames.specs.declared.fault.Refusal.{Refusal}
 pub use Rattle.vms_image.specs.Typed.{AreImagesOf, Typed, state_of}
@@ -96,7 +96,7 @@ pub use Rattle.vms_io.proofs.ReadingLemmas.{nothing_follows, reads_as}
 pub use Rattle.vms_io.specs.{Shelves.Held, Shelves.HoldsAll, Shelving.Looks, Writing.Serves, Causes.AppendsPrefix, Causes.KeepsPromise, Causes.Rose}
 pub use Rattle.vms_io.specs.Reading.{Course, Last, MayFollow, Reads}
 pub use Rattle.vms_io.specs.Told.{Intake, Outlet, Stock, intake, outlet, stock}
-pub use Rattle.vms_load.proofs.{ExactLoads.loads_kept, ExactLoads.taken_kept, ExactLoads.within, SetFacts.well_of}
+pub use Rattle.vms_load.proofs.{ExactLoads.loads_kept, ExactLoads.taken_kept, ExactLoads.within, StreamLengths.well_of}
 pub use Rattle.vms_load.specs.{Going.LoadReads, Good.AreKept, Lean.has, Lean.loads, Lean.taken_by}
 pub use Rattle.vms_load.specs.Staging.{AreShaped, IsMachine, accepted_of, most_given, name_of, no_image}
 pub use Rattle.vms_script.proofs.GrammarLaws.{reads_exactly}

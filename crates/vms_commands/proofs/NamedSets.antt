@@ -12,7 +12,7 @@ use Rattle.vms_commands.specs.{SetWords.number_after, SetWords.SetOf, SetWords.S
 use Rattle.vms_commands.specs.Fetching.{SetText, Number, Text, fetched_set, said_set, set_in, word_set}
 use Rattle.vms_commands.specs.Steps.{Step, Untold, Gives, Ends, next as after}
 use Rattle.vms_commands.specs.declared.kinds.BoardKind.TheVariants.{Isa, Clock}
-use Rattle.vms_desc.proofs.{Bounds.none_is, ClockHeads.clock_heads, Formed.clock_formed, Formed.fit_number}
+use Rattle.vms_desc.proofs.Clean.{none_is, clock_heads, clock_formed, fit_number}
 use Rattle.vms_desc.specs.{Formed.clock_set}
 use Rattle.serde_json.specs.{Data.Data, Data.Items, Data.no_items, Data.item, Find.get, Find.as_array, Find.as_number, Find.as_u64}
 use Rattle.vms_io.specs.Shelves.{Held}

@@ -37,16 +37,16 @@ pub use Rattle.vms_bodies.proofs.SettledLaws.{its_above, its_below, its_in, its_
 pub use Rattle.vms_bodies.proofs.WalkLaws.{drop_next, place_first, zero_plus}
 pub use Rattle.vms_bodies.specs.{Cells.AreCells}
 pub use Rattle.vms_stream.specs.StreamLaws.{IsWholeStream}
-pub use Rattle.vms_check.proofs.{ListLaws.passes, WholeLaws.sub_in}
+pub use Rattle.vms_check.proofs.{PairLaws.passes, WholeLaws.sub_in}
 pub use Rattle.vms_check.specs.{Reducing.presence, Sides.IsSide, Sides.desc_on, Sides.own_side, declared.side.Side.Side}
 pub use Rattle.vms_check.specs.Carrying.{carried_at, carried_device, no_image}
 pub use Rattle.vms_check.specs.Comparing.{Compatible, Entry, entry_of, is_absent, is_in, is_nothing, present, present_from}
 pub use Rattle.vms_check.specs.Partners.{Pairer, array_partners, desc_partners, field_partners, fields_left, item_partners, named_partners, no_pairer}
 pub use Rattle.vms_check.specs.Partners.{pairer_of, partners_from, unpaired}
 unfoldable pub use Rattle.vms_check.specs.{Carrying.carried, Partners.device_partners}
-pub use Rattle.vms_check_laws.proofs.{GoesDevices.carried_stands, GoesFields.struct_is, PairDevices.device_paired, Wholes.at_map}
+pub use Rattle.vms_check_laws.proofs.{GoesDevices.carried_stands, GoesFields.struct_is, Wholes.at_map}
+pub use Rattle.vms_check_laws.proofs.PairDevices.{device_paired, one_number, one_part, own_or_sub}
 pub use Rattle.vms_check_laws.proofs.Streaming.{all_in, back, found_device, found_some, pair, upgrade_stands}
-pub use Rattle.vms_check_laws.proofs.SubParts.{one_number, one_part, own_or_sub}
 pub use Rattle.vms_check_laws.specs.{Carried.IsAtVersions, Carried.IsCarried, Pairing.AreOfKinds, Pairing.ArePartners, SubCells.IsCellOf}
 pub use Rattle.vms_convert.specs.{Changes.Changes, Changes.changed, Changes.changed_append, Giving.AreTargets, Giving.give_partner, Giving.give_step}
 pub use Rattle.vms_convert.specs.{Putting.AreSources, Putting.put_partner, Putting.put_step, Returning.FirstDifference, Returning.IsReturned, Rooms.AreFresh}
@@ -63,19 +63,18 @@ pub use Rattle.vms_convert.specs.Partnering.{AreArrays, HasFew, HasRoom, IsBehin
 pub use Rattle.vms_convert.specs.Partnering.{elements_left, entries_at, item_on, partners_left, partners_on, struct_on, sub_on, table}
 pub use Rattle.vms_convert.specs.Recast.{is_port, is_ring, recast, wants, wants_arrays}
 pub use Rattle.vms_convert.specs.Returns.{ArePaired, AreReturned, AreReturnedTo, IsFirstLost, IsLostCell, IsRecastFor, carried_of}
-pub use Rattle.vms_desc.proofs.{Ranks.reach_whole, Ranks.uses_more, Bounds.few_machines, Bounds.fit_of, Bounds.good_of, Bounds.none_is}
 pub use Rattle.vms_desc.proofs.AskLaws.{device_is, few_cells, found_field, own_inside_device, sub_inside, sub_within}
-pub use Rattle.vms_desc.proofs.Clean.{few_fields, few_subs, field_clean, reach, struct_clean}
+pub use Rattle.vms_desc.proofs.Clean.{reach_whole, uses_more, few_machines, fit_of, good_of, none_is, few_fields, few_subs, field_clean, reach, struct_clean}
 pub use Rattle.vms_desc.specs.{Asks.needed_at, Described.described, Described.device_at, Formed.is_well_formed, Formed.newest_set, Names.IsNameAt}
 pub use Rattle.vms_desc.specs.{Parts.HasPart, Parts.desc_at, Parts.sub_at, Spots.kinds_at, declared.set.DescSet.DescSet}
 pub use Rattle.vms_image.proofs.States.{at_state, image_at}
 pub use Rattle.vms_image.specs.Typed.{AreImagesOf, IsImageOf, Typed, default_at, state_of, typed}
 pub use Rattle.vms_io.specs.{Told.outlet, Writing.Puts, Writing.Stops}
-pub use Rattle.vms_load.proofs.{HeadLemmas.device_below, SetFacts.well_of}
+pub use Rattle.vms_load.proofs.{HeadLemmas.device_below, StreamLengths.well_of}
 pub use Rattle.vms_load.specs.{Good.AreKept, Lean.has, Lean.loads, Staging.name_of}
 pub use Rattle.vms_parts.specs.{Capacities.least_of, Sizes.in_u32, Views.device_of, Views.field_of, Views.sub_of}
 pub use Rattle.vms_spots.specs.Spots.{Held}
-pub use Rattle.vms_walk.proofs.{Least.exceeds_least, Local.has_step_of}
+pub use Rattle.vms_walk.proofs.{Spots.exceeds_least, Walking.has_step_of}
 pub use Rattle.vms_walk.specs.{Inside.Keeps, Steps.HasSpot, Steps.spot_slots, Steps.step_of, Steps.steps_of, declared.step.WalkStep.WalkStep}
 pub use Rattle.dev_base.specs.Cells.{AreOf}
 pub use Rattle.dev_images.proofs.{NormalCells.port-of, ShippedDevices.serial_at_4}

@@ -24,9 +24,9 @@ pub use Rattle.vms_spec.specs.WellFormed.{WellFormed, here, in_field}
 unfoldable pub use Rattle.vms_spec.specs.Layout.{first}
 pub use Rattle.vms_bodies.proofs.{PartLaws.defaults_of, PartLaws.falses, PartLaws.at_other, Stated.is_same, Stated.ready_decides, Stated.version_decides}
 pub use Rattle.vms_bodies.specs.{Whole.reading_on}
-pub use Rattle.vms_stream.proofs.{Judging.Mirrors.state_refuses, Stated.told_holds, Streams.Steps.unit_on}
-pub use Rattle.vms_stream.proofs.Stated.{accepted_holds, either_holds, never_both_holds, one_fault_holds, section_found_holds, section_read_holds, taken_holds}
-pub use Rattle.vms_stream.proofs.WrittenBytes.{bytes_at, machine_bytes, written_are_bytes}
+pub use Rattle.vms_stream.proofs.{Judging.state_refuses, Stated.section_found_holds, Steps.unit_on}
+pub use Rattle.vms_stream.proofs.Stated.{section_read_holds, taken_holds, told_holds, accepted_holds, either_holds, never_both_holds, one_fault_holds}
+pub use Rattle.vms_stream.proofs.Written.{bytes_at, machine_bytes, written_are_bytes}
 pub use Rattle.vms_stream.specs.{Dues.AtMagic, Dues.AtVersion, Faults.Fault, Judge.judge, State.Headed, State.at_start, State.between, State.by_state}
 pub use Rattle.vms_stream.specs.{StreamLaws.BeginsSection, StreamLaws.Faulty, StreamLaws.Taken, Streams.HasSection, Streams.SectionsSpell, Streams.Takes}
 pub use Rattle.vms_stream.specs.SoFar.{Bare, Footed, Tail, Unknown}
@@ -39,7 +39,7 @@ pub use Rattle.vms_check.specs.Comparing.{same_constant, same_count, same_item, 
 unfoldable pub use Rattle.vms_check.specs.Comparing.{first_mismatch}
 pub use Rattle.vms_check_laws.proofs.{Parts.devices_clash, Premises.Two, Premises.kinds_same, Wholes.at_map, Wholes.fits_whole, Wholes.saved}
 pub use Rattle.vms_check_laws.proofs.AlignedDescs.{Clash, Clashes, Differ}
-pub use Rattle.vms_check_laws.proofs.Segments.{RestAt, apart, at_first, fits_left, from_zero, one_on}
+pub use Rattle.vms_check_laws.proofs.Presence.{RestAt, apart, at_first, fits_left, from_zero, one_on}
 pub use Rattle.vms_check_laws.proofs.Streaming.{Pair, back, compared, device_stands, pair}
 pub use Rattle.vms_check_laws.specs.{Laws.ArePaired, Segments.FitsAt}
 pub use Rattle.vms_counter_laws.specs.Candidates.{candidates, default_images, lacking, machine_for}

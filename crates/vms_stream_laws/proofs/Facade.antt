@@ -26,8 +26,8 @@ pub use Rattle.vms_spec.specs.WellFormed.{WellFormed, deepest, desc_fault, devic
 pub use Rattle.vms_spec.specs.WellFormed.{is_same_device, items_in, set_rules, size_rules, struct_depths, struct_fault, struct_items, struct_rules, sub_fault}
 pub use Rattle.vms_spec.specs.WellFormed.{sub_rules, subs_items, validations_fault}
 unfoldable pub use Rattle.vms_spec.specs.{Layout.first, WellFormed.first_fault}
-pub use Rattle.vms_stream.proofs.{Stated.units_hold, Streams.UnitRows.end_passes, Streams.UnitRows.foot_passes, Streams.UnitRows.head_passes}
-pub use Rattle.vms_stream.proofs.WrittenBytes.{AreBytes, be32_bytes, bytes_at, code_bytes, foot_bytes, head_bytes, parts_named, zeros_bytes}
+pub use Rattle.vms_stream.proofs.{Stated.units_hold, Steps.end_passes, Steps.foot_passes, Steps.head_passes}
+pub use Rattle.vms_stream.proofs.Written.{AreBytes, be32_bytes, bytes_at, code_bytes, foot_bytes, head_bytes, parts_named, zeros_bytes}
 pub use Rattle.vms_stream.specs.{Faults.Front, Judge.owes, Laws.Ends}
 pub use Rattle.vms_stream.specs.Dues.{AVersion, AfterFields, AtConstant, AtEnd, AtFiller, AtFoot, AtHead, AtMagic, AtNext, AtNumber, AtVersion, Between, Due}
 pub use Rattle.vms_stream.specs.Dues.{May, due, due_field, fits_four, holds, is_foot, rules_hold}

@@ -34,14 +34,13 @@ pub use Rattle.vms_spec.specs.ValuesReading.{rest_of, section_line, sub_fails, s
 unfoldable pub use Rattle.vms_spec.specs.{Layout.first, ValuesReading.values_read}
 pub use Rattle.vms_words.specs.{Lines.IsFirstLine, declared.line.NextLine.NextLine}
 pub use Rattle.vms_bodies.proofs.{Places.cells_first, PartLaws.cells_of_sub, WalkLaws.place_first}
-pub use Rattle.vms_elements.proofs.{Names.array_name, Names.names_absent, Tables.shapes_cells, Walk.item_walks, Walk.names_append}
-pub use Rattle.vms_elements.proofs.Walk.{names_long, names_map, walks, AreWalked, are_walked, desc_names_are, desc_walks, field_walks, fields_walk, is_dotted}
+pub use Rattle.vms_elements.proofs.{Walk.are_walked, Walk.desc_names_are, Walk.desc_walks, Walk.field_walks, Members.shapes_cells}
+pub use Rattle.vms_elements.proofs.Walk.{array_name, names_absent, fields_walk, is_dotted, item_walks, names_append, names_long, names_map, walks, AreWalked}
 pub use Rattle.vms_elements.specs.{Reading.Reads, Reading.Refused, Parts.absent, Parts.cell_name, Parts.elements_in, Parts.names_of, Parts.subs_elements}
 pub use Rattle.vms_elements.specs.Elements.{stand_of, Shape, desc_elements, dotted, elements_from, field_elements, item_elements, no_shape, shape, shapes}
 pub use Rattle.vms_desc.proofs.AskLaws.{few_cells, found_field, here_fields, own_inside_device, sub_first, sub_inside, sub_next}
-pub use Rattle.vms_desc.proofs.Bounds.{few_devices, few_machines, few_structs, fit_of}
-pub use Rattle.vms_desc.proofs.Clean.{few_subs, field_clean, reach, struct_clean}
-pub use Rattle.vms_desc.proofs.Ranks.{item_rank, part_rank, rank_below, reach_whole, uses_more}
+pub use Rattle.vms_desc.proofs.Clean.{few_devices, few_machines, few_structs, fit_of, few_subs, field_clean, reach, struct_clean, item_rank, part_rank}
+pub use Rattle.vms_desc.proofs.Clean.{rank_below, reach_whole, uses_more}
 pub use Rattle.vms_desc.specs.{Described.described, Described.device_at, Formed.is_well_formed, Parts.HasPart, Parts.desc_at, Parts.sub_at, Spots.kinds_at}
 pub use Rattle.vms_desc.specs.Asks.{field_at, first_cell, own_numbers}
 pub use Rattle.vms_image.proofs.States.{state_at, states_long}
@@ -63,8 +62,8 @@ pub use Rattle.vms_values.specs.SubsTaken.{IsAlike, SubReached, SubsReached, sai
 pub use Rattle.vms_values.specs.Taken.{AreKinds, ElementKinds, IsKept, element_cells, number_judged, part_cells, place_of, run_read}
 pub use Rattle.vms_values.specs.declared.line.TheConstants.{INDEX_ROOM, LONGEST_PATH, PART_ROOM}
 pub use Rattle.vms_values_laws.proofs.{SecondPass.or_bad_assoc, Stated.line_holds, Stated.read_holds}
-pub use Rattle.vms_walk.proofs.{Least.exceeds_least, Walking.fields_at, Walking.room_at}
-pub use Rattle.vms_walk.proofs.Spots.{cells_table, next_field, size_code, start_after, start_code, struct_size, width_code}
+pub use Rattle.vms_walk.proofs.Spots.{exceeds_least, cells_table, next_field, size_code, start_after, start_code, struct_size, width_code}
+pub use Rattle.vms_walk.proofs.Walking.{fields_at, room_at}
 pub use Rattle.vms_walk.specs.{declared.fields.PartAt.PartAt}
 pub use Rattle.vms_walk.specs.Steps.{HasSpot, capacities_of, cell_of, cells_in, size_in, spot_slots, steps_of, table}
 pub use Rattle.vms_write.specs.Fine.{no_form, settle}

@@ -40,9 +40,9 @@ pub use Rattle.vms_bodies.proofs.Places.{if_both, names_append, none_joined, ele
 pub use Rattle.vms_bodies.proofs.WalkLaws.{drop_next, place_first, zero_plus}
 pub use Rattle.vms_stream.proofs.Stated.{one_stream_holds, written_holds}
 pub use Rattle.vms_stream.specs.Streams.{Takes}
-pub use Rattle.vms_elements.proofs.{EntryLines.entry_law, SlotsOf.elements_slots, Tables.shapes_cells, Walk.AreCounted, Walk.walks}
-pub use Rattle.vms_elements.proofs.LinesOf.{printed_append, text_append, text_is}
-pub use Rattle.vms_elements.proofs.Members.{all_both, all_from, all_more, all_parts, decimal_all, elements_each}
+pub use Rattle.vms_elements.proofs.LinesOf.{entry_law, elements_slots, printed_append, text_append, text_is}
+pub use Rattle.vms_elements.proofs.Members.{shapes_cells, all_both, all_from, all_more, all_parts, decimal_all, elements_each}
+pub use Rattle.vms_elements.proofs.Walk.{AreCounted, walks}
 pub use Rattle.vms_elements.specs.Elements.{Element, Number, Rule, Shape, Stand, What, array_elements, behind, cells_in, desc_elements, dotted, elements_from}
 pub use Rattle.vms_elements.specs.Elements.{field_elements, index_text, item_elements, no_shape, shape, shapes, single, stand_of}
 pub use Rattle.vms_elements.specs.Entries.{Entry, OfMachine, OfNumber, OfSection, OfSub, came_well, device_entries, devices_entries, element_reason, entries}

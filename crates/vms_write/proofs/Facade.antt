@@ -23,8 +23,8 @@ pub use Rattle.vms_bodies.proofs.Places.{desc_above, meanings_above, MeanCells, 
 pub use Rattle.vms_bodies.proofs.SettledLaws.{stands_behind, named_fits, constants_append, own_constants, part_constants, AreConstants, fit_slots, own_are}
 pub use Rattle.vms_bodies.proofs.Stated.{are_needed, counted_well, is_same, needed_are, ranged}
 pub use Rattle.vms_bodies.specs.{Cells.AreCells}
-pub use Rattle.vms_desc.proofs.{Bounds.good_of, Bounds.none_is, Clean.device_clean, Clean.sub_clean}
 pub use Rattle.vms_desc.proofs.AskLaws.{few_cells, own_inside_device, sub_first, sub_inside, sub_next}
+pub use Rattle.vms_desc.proofs.Clean.{good_of, none_is, device_clean, sub_clean}
 pub use Rattle.vms_desc.specs.{Asks.first_cell, Formed.is_well_formed, Parts.desc_at, Parts.sub_at, Spots.defaults_at, Spots.kinds_at}
 pub use Rattle.vms_desc.specs.Described.{described, device_at}
 pub use Rattle.vms_image.proofs.States.{at_state, image_at, state_at, states_long}
@@ -34,7 +34,7 @@ pub use Rattle.vms_io.proofs.WritingLemmas.{stops_front, wrote_as, wrote_behind,
 pub use Rattle.vms_io.specs.{Told.Outlet, Told.outlet, Writing.Puts, Writing.Stops, Writing.Wrote}
 pub use Rattle.vms_parts.specs.{Capacities.least_from, Capacities.least_of, Capacities.lesser, Views.device_of, Views.form_of, declared.types.CellForm.CellForm}
 pub use Rattle.vms_spots.specs.Spots.{Held, codes_of}
-pub use Rattle.vms_walk.proofs.{Order.Ascends, Order.below_from, Order.desc_ascends, Order.from_end, Order.meanings_ascend, Runs.run_each}
+pub use Rattle.vms_walk.proofs.Spots.{Ascends, below_from, desc_ascends, from_end, meanings_ascend, run_each}
 pub use Rattle.vms_walk.specs.{Runs.run_of, declared.fields.PartAt.PartAt, declared.step.WalkStep.WalkStep}
 pub use Rattle.vms_walk.specs.Steps.{cells_in, spot_slots, steps_of, table}
 pub use Rattle.vms_write.specs.{Bytes.CanStep, Bytes.CanSteps, Bytes.CanWrite, Bytes.bytes_of, Judged.all_subs_fine, Judged.forms_of, Writing.written_sub}

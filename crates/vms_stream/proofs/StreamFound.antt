@@ -1,18 +1,18 @@
--- What is accepted is a stream at the front of the input: its sections, in any order and each once, and all of it.
-use Rattle.vms_stream.proofs.Facade.{◌≡◌, ℕ, zero, suc, ◌+◌, ◌<◌, List, ◌∷◌, ◌++◌, length, slice_set, Some, None, Ok, Err, refl, sym, ap, ◌∙◌, subst, arith}
-use Rattle.vms_stream.proofs.Facade.{append_assoc, length-append, Bool, true, false, [], inl, inr, map, Option, slice_get, length-set, slice_get_within}
-use Rattle.vms_stream.proofs.Facade.{add-zero, IsBytes, bytes_rest, Device, Set, device_cells, desc_cells, Image, default_image, IsVersionOf, section_head}
-use Rattle.vms_stream.proofs.Facade.{EachOnce, be32, magic, stream_head, configuration, end_mark, trailer, IsConfiguration, IsTrailer, Taken, Progress}
-use Rattle.vms_stream.proofs.Facade.{take_desc, takers, cells_of, IsGood, same_refl, at_set, body_found, own_are, defaults_at, defaults_long, none_versions}
-use Rattle.vms_stream.proofs.Facade.{all_came, falses, defaults_of, its_spelled, at_other, none_of, none_came, beside_start, Fine, fine_normal, fine_valid}
-use Rattle.vms_stream.proofs.Facade.{Tail, Unknown, Footed, Bare, State, Free, Ended, Headed, known_at, after, between, by_state, at_start, IsSection, BeginsSection}
-use Rattle.vms_stream.proofs.Facade.{SectionsSpell, Takes, Piece, spell, Accepted, AMagic, AVersion, AfterEnd, May, AtMagic, AtVersion}
-use Rattle.vms_stream.proofs.Facade.{AtDescription, AtLongText, AtTrailing, first_of, owes, reading}
+-- What is accepted is a stream at the front of the input: its sections, in any order and each once,
+-- and all of it.
+use Rattle.vms_stream.proofs.Bodies.{Reads, body_read}
+use Rattle.vms_stream.proofs.Facade.{◌≡◌, ℕ, zero, suc, ◌+◌, ◌<◌, List, ◌∷◌, ◌++◌, length, slice_set, Some, None, Ok, Err, refl, sym}
+use Rattle.vms_stream.proofs.Facade.{ap, ◌∙◌, subst, arith, append_assoc, length-append, Bool, true, false, [], inl, inr, map, Option, slice_get}
+use Rattle.vms_stream.proofs.Facade.{length-set, slice_get_within, add-zero, IsBytes, bytes_rest, Device, Set, device_cells, desc_cells, Image, default_image}
+use Rattle.vms_stream.proofs.Facade.{IsVersionOf, section_head, EachOnce, be32, magic, stream_head, configuration, end_mark, trailer, IsConfiguration}
+use Rattle.vms_stream.proofs.Facade.{IsTrailer, Taken, Progress, take_desc, takers, cells_of, IsGood, same_refl, at_set, body_found, own_are, defaults_at}
+use Rattle.vms_stream.proofs.Facade.{defaults_long, none_versions, all_came, falses, defaults_of, its_spelled, at_other, none_of, none_came, beside_start, Fine}
+use Rattle.vms_stream.proofs.Facade.{fine_normal, fine_valid, Tail, Unknown, Footed, Bare, State, Free, Ended, Headed, known_at, after, between, by_state}
+use Rattle.vms_stream.proofs.Facade.{at_start, IsSection, BeginsSection, SectionsSpell, Takes, Piece, spell, Accepted, AMagic, AVersion, AfterEnd, May, AtMagic}
+use Rattle.vms_stream.proofs.Facade.{AtVersion, AtDescription, AtLongText, AtTrailing, first_of, owes, reading}
+use Rattle.vms_stream.proofs.Inside.{Agrees, tail_of, closing, Section, image_so, subs_found}
+use Rattle.vms_stream.proofs.Steps.{Run, Goes, Opening, Closes, Opens, Names, opened, next, steps, free_opens, magic_is, version_is_3, trailing_never}
 use Rattle.vms_stream.specs.State.{Over}
-use Rattle.vms_stream.proofs.Bodies.Body.{Reads, body_read}
-use Rattle.vms_stream.proofs.Streams.Steps.{Run, Goes, Opening, Closes, Opens, Names, opened, next, steps, free_opens}
-use Rattle.vms_stream.proofs.Streams.Inside.{Agrees, tail_of, closing, Section, image_so, subs_found}
-use Rattle.vms_stream.proofs.Streams.UnitRows.{magic_is, version_is_3, trailing_never}
 
 -- the state after device k's section
 abbrev pub came_to : State → ℕ → Image → Bool → State

@@ -1,16 +1,15 @@
--- In a section whose slots are all passed: what an accepted reading finds after the fields. The subsections are spelled, in any
--- order and each once; the image stays normal and valid.
-use Rattle.vms_stream.proofs.Bodies.Body.{Reads, body_read}
-use Rattle.vms_stream.proofs.Facade.{stays_next, fine_next, sub_front, ◌≡◌, ℕ, ◌+◌, ◌<◌, List, ◌++◌, length, drop, slice_set, Option, Some, None, refl, ap, ◌∙◌}
-use Rattle.vms_stream.proofs.Facade.{subst, arith, Bool, true, false, if◌then◌else◌, ◌==◌, [], zero, suc, ◌∷◌, Ok, Err, ℤ, sym, append_assoc, length-append}
-use Rattle.vms_stream.proofs.Facade.{slice_get, slice_get_within, both_ways, not-true, or-not_self, add-zero, IsBytes, bytes_rest, at_option, Set, Device, Sub}
-use Rattle.vms_stream.proofs.Facade.{Image, IsVersionOf, sub_slots, Spells, sub_head, foot, ComesOnce, SubsSpell, subs_of, part_slots, find_sub, Piece, spell}
-use Rattle.vms_stream.proofs.Facade.{SubHead, Mark, at_set, set_twice, Tail, Unknown, Footed, Bare, Known, AfterFields, due_field, rules_hold, is_foot, is_next}
-use Rattle.vms_stream.proofs.Facade.{first_byte, May, AtSubHead, AtFoot, AtOther, AtNext, first_of, is_between, State, Free, Inside, slots_at, due_by, known_at}
-use Rattle.vms_stream.proofs.Facade.{after, device_cells, desc_cells, Taken, Progress, take_desc, takers, cells_of, IsGood, versions_long, same_refl}
-use Rattle.vms_stream.proofs.Facade.{body_found, its_spelled, sub_are, Beside, beside_back, beside_done, part_place, Fine, Stays, stays_refl, stays_on}
-use Rattle.vms_stream.proofs.Streams.Steps.{Run, Goes, steps, Opening, opening, free_opens}
-use Rattle.vms_stream.proofs.Streams.UnitRows.{foot_is, foot_mark_never, sub_is_one, none_from}
+-- In a section whose slots are all passed: what an accepted reading finds after the fields. The
+-- subsections are spelled, in any order and each once; the image stays normal and valid.
+use Rattle.vms_stream.proofs.{Bodies.Reads, Bodies.body_read, Facade.part_place, Facade.Fine, Facade.Stays, Facade.stays_refl, Facade.stays_on}
+use Rattle.vms_stream.proofs.Facade.{stays_next, fine_next, sub_front, ◌≡◌, ℕ, ◌+◌, ◌<◌, List, ◌++◌, length, drop, slice_set, Option, Some}
+use Rattle.vms_stream.proofs.Facade.{None, refl, ap, ◌∙◌, subst, arith, Bool, true, false, if◌then◌else◌, ◌==◌, [], zero, suc, ◌∷◌, Ok}
+use Rattle.vms_stream.proofs.Facade.{Err, ℤ, sym, append_assoc, length-append, slice_get, slice_get_within, both_ways, not-true, or-not_self, add-zero}
+use Rattle.vms_stream.proofs.Facade.{IsBytes, bytes_rest, at_option, Set, Device, Sub, Image, IsVersionOf, sub_slots, Spells, sub_head, foot, ComesOnce}
+use Rattle.vms_stream.proofs.Facade.{SubsSpell, subs_of, part_slots, find_sub, Piece, spell, SubHead, Mark, at_set, set_twice, Tail, Unknown, Footed, Bare}
+use Rattle.vms_stream.proofs.Facade.{Known, AfterFields, due_field, rules_hold, is_foot, is_next, first_byte, May, AtSubHead, AtFoot, AtOther, AtNext, first_of}
+use Rattle.vms_stream.proofs.Facade.{is_between, State, Free, Inside, slots_at, due_by, known_at, after, device_cells, desc_cells, Taken, Progress, take_desc}
+use Rattle.vms_stream.proofs.Facade.{takers, cells_of, IsGood, versions_long, same_refl, body_found, its_spelled, sub_are, Beside, beside_back, beside_done}
+use Rattle.vms_stream.proofs.Steps.{Run, Goes, steps, Opening, opening, free_opens, foot_is, foot_mark_never, sub_is_one, none_from}
 
 -- whether sections have footers, if the tail is known already
 abbrev pub Agrees : Tail → Bool → Type 0

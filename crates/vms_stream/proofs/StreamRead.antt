@@ -1,17 +1,18 @@
--- What an input takes is accepted, so it takes at most one stream: its sections are read, and all of it.
-use Rattle.vms_stream.proofs.{Facade.at_start, Facade.IsSection, Facade.HasSection, Facade.SectionsSpell, Bodies.Body.body_read, Streams.StreamFound.came_to}
-use Rattle.vms_stream.proofs.Facade.{IsStream, Takes, trailer_at, not, position, ◌≡◌, ℕ, ◌+◌, ◌^◌, ◌<◌, ◌≤◌, List, ◌∷◌, ◌++◌, length, drop, slice_set, Option}
-use Rattle.vms_stream.proofs.Facade.{Some, None, refl, sym, ap, ◌∙◌, subst, arith, append_assoc, length-append, Bool, true, false, ◌==◌, [], map, slice_get}
-use Rattle.vms_stream.proofs.Facade.{length-set, slice_get_within, add-zero, Device, Set, Image, default_image, own_slots, Spells, IsNormal, IsValid}
-use Rattle.vms_stream.proofs.Facade.{section_head, sub_head, ComesOnce, SubsSpell, EachOnce, be32, magic, stream_head, configuration, end_mark, IsTrailer}
-use Rattle.vms_stream.proofs.Facade.{part_slots, Head, SubHead, Foot, End, Magic, Version, Configuration, Description, Progress, Reading, Accepted, reading_on}
-use Rattle.vms_stream.proofs.Facade.{IsGood, at_set, none_of, version_at, Beside, beside_first, beside_next, beside_end, part_place, so_far, so_at_last}
-use Rattle.vms_stream.proofs.Facade.{own_taken, part_taken, sub_so, none_missing, came_at, same_lists, agrees, falses, defaults_of, never_true, Tail, Unknown}
-use Rattle.vms_stream.proofs.Facade.{Footed, Bare, Between, AfterFields, fits_four, is_foot, is_next, May, AtHead, AtEnd, AtSubHead, AtFoot, AtNext, AtMagic}
-use Rattle.vms_stream.proofs.Facade.{AtVersion, AtConfiguration, AtDescription, judge, reading, State, Free, Ended, known_at, after, by_state, Headed, between}
-use Rattle.vms_stream.proofs.Streams.Inside.{Agrees, tail_of, closing, Section, stands, over, knows, known_is, due_is, held_is, subs_are, sub_after}
-use Rattle.vms_stream.proofs.Streams.Steps.{g, unit_on, opened, settled, head_after}
-use Rattle.vms_stream.proofs.Streams.UnitRows.{head_passes, sub_passes, foot_passes, end_passes, name_passes}
+-- What an input takes is accepted, so it takes at most one stream: its sections are read, and all
+-- of it.
+use Rattle.vms_stream.proofs.{Bodies.body_read, StreamFound.came_to}
+use Rattle.vms_stream.proofs.Facade.{at_start, IsSection, HasSection, SectionsSpell, IsStream, Takes, trailer_at, not, position, ◌≡◌, ℕ, ◌+◌}
+use Rattle.vms_stream.proofs.Facade.{◌^◌, ◌<◌, ◌≤◌, List, ◌∷◌, ◌++◌, length, drop, slice_set, Option, Some, None, refl, sym, ap}
+use Rattle.vms_stream.proofs.Facade.{◌∙◌, subst, arith, append_assoc, length-append, Bool, true, false, ◌==◌, [], map, slice_get, length-set}
+use Rattle.vms_stream.proofs.Facade.{slice_get_within, add-zero, Device, Set, Image, default_image, own_slots, Spells, IsNormal, IsValid, section_head}
+use Rattle.vms_stream.proofs.Facade.{sub_head, ComesOnce, SubsSpell, EachOnce, be32, magic, stream_head, configuration, end_mark, IsTrailer, part_slots, Head}
+use Rattle.vms_stream.proofs.Facade.{SubHead, Foot, End, Magic, Version, Configuration, Description, Progress, Reading, Accepted, reading_on, IsGood, at_set}
+use Rattle.vms_stream.proofs.Facade.{none_of, version_at, Beside, beside_first, beside_next, beside_end, part_place, so_far, so_at_last, own_taken, part_taken}
+use Rattle.vms_stream.proofs.Facade.{sub_so, none_missing, came_at, same_lists, agrees, falses, defaults_of, never_true, Tail, Unknown, Footed, Bare, Between}
+use Rattle.vms_stream.proofs.Facade.{AfterFields, fits_four, is_foot, is_next, May, AtHead, AtEnd, AtSubHead, AtFoot, AtNext, AtMagic, AtVersion}
+use Rattle.vms_stream.proofs.Facade.{AtConfiguration, AtDescription, judge, reading, State, Free, Ended, known_at, after, by_state, Headed, between}
+use Rattle.vms_stream.proofs.Inside.{Agrees, tail_of, closing, Section, stands, over, knows, known_is, due_is, held_is, subs_are, sub_after}
+use Rattle.vms_stream.proofs.Steps.{g, unit_on, opened, settled, head_after, head_passes, sub_passes, foot_passes, end_passes, name_passes}
 use Rattle.vms_stream.specs.{State.Over}
 use Rattle.vms_bodies.proofs.BodyOnly.{image_at}
 
