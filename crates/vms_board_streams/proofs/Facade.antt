@@ -31,8 +31,8 @@ pub use Rattle.vms_check_laws.proofs.Streaming.{upgrade_stands}
 pub use Rattle.vms_desc.proofs.Clean.{none_is, by_number, clock_formed, formed}
 pub use Rattle.vms_desc.specs.Formed.{clock_set, shipped_set}
 pub use Rattle.vms_load.proofs.StreamLengths.{devices_long, stream_le}
-pub use Rattle.vms_selfdesc.proofs.{Bounds.clock_holds, Bounds.shipped_holds, JsonBytes.decimal_good, JsonBytes.device_letters}
-pub use Rattle.vms_selfdesc.proofs.JsonBytes.{devices_letters, kind_letters, sub_letters, text_good, word, Allows, AreSpelled, HasLetters, IsSpelled, ItemsHave}
+pub use Rattle.vms_selfdesc.proofs.{Lengths.clock_holds, Lengths.shipped_holds, ReadBack.text_good, ReadBack.word, ReadBack.Allows, ReadBack.AreSpelled}
+pub use Rattle.vms_selfdesc.proofs.ReadBack.{HasLetters, IsSpelled, ItemsHave, decimal_good, device_letters, devices_letters, kind_letters, sub_letters}
 pub use Rattle.vms_selfdesc.specs.Entries.{Entry, cell_entry, entries_of, entry_of, listed_if, part_entries, sent_entry}
 pub use Rattle.vms_selfdesc.specs.Tree.{described_text, described_tree, device_tree, device_trees, sub_trees}
 pub use Rattle.dev_base.specs.declared.limits.TheConstants.{NEWEST}

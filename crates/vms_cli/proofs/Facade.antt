@@ -19,7 +19,7 @@ unfoldable pub use Rattle.vms_spec.specs.Layout.{first}
 pub use Rattle.vms_stream.proofs.Stated.{further_holds, either_holds, never_both_holds, one_fault_holds, one_stream_holds}
 pub use Rattle.vms_stream.specs.{Faults.Fault, StreamLaws.Answer, StreamLaws.Faulty, StreamLaws.Taken, Streams.Takes}
 pub use Rattle.vms_elements.specs.{Parts.cell_name, Parts.device_elements, Parts.names_of, Reading.IsMachineOf}
-pub use Rattle.vms_analyze.proofs.{One.one_holds, Total.total_holds}
+pub use Rattle.vms_analyze.proofs.One.{one_holds, total_holds}
 pub use Rattle.vms_analyze.specs.{Laws.HasListing, declared.fault.AnalyzeFault.AnalyzeFault, declared.fault.AnalyzeReason.AnalyzeReason}
 pub use Rattle.vms_analyze.specs.Calls.{Analyzes, IsListed, IsTooMuch, ListsTaken}
 pub use Rattle.vms_analyze.specs.Listing.{HasNoShape, HasNone, IsRead, IsTooLong, Listing, Lists, Text, longest_input}
@@ -79,8 +79,8 @@ pub use Rattle.vms_commands.specs.StepEndings.{StepAs, TextEnds, WrittenAs, text
 pub use Rattle.vms_commands.specs.Steps.{Both, Ends, Gives, HasBy, HasText, Step, Untold, both, next}
 pub use Rattle.vms_commands.specs.declared.ending.Ending.TheVariants.{Refused, WriteFault, BadText, BadWords, NoMemory, NotCompatible, ReadFault}
 pub use Rattle.vms_commands.specs.declared.kinds.BoardKind.TheVariants.{Clock, Isa}
-pub use Rattle.vms_convert.proofs.{Answered.answered, Converts.converts_stand, Converts.ready, Converts.same_backs}
-pub use Rattle.vms_convert.proofs.RecastLaws.{newest_kinds, one_lost, recast_long}
+pub use Rattle.vms_convert.proofs.Answered.{answered}
+pub use Rattle.vms_convert.proofs.Converts.{converts_stand, ready, same_backs, newest_kinds, one_lost, recast_long}
 pub use Rattle.vms_convert.specs.{Laws.AreRecastOf, Recast.wants_arrays, declared.fault.ConvertFault.ConvertFault, Calls.IsStreamFor, Calls.LosesFirst}
 pub use Rattle.vms_convert.specs.Converted.{AreBack, recast_each}
 pub use Rattle.vms_convert.specs.Lost.{KeepsAll, Loses, OfCell, OfDevice, OfMachine, first_cell, numbers_in}
@@ -101,7 +101,7 @@ pub use Rattle.vms_load.specs.{Going.LoadReads, Good.AreKept, Lean.has, Lean.loa
 pub use Rattle.vms_load.specs.Staging.{AreShaped, IsMachine, accepted_of, most_given, name_of, no_image}
 pub use Rattle.vms_script.proofs.GrammarLaws.{reads_exactly}
 pub use Rattle.vms_script.specs.{Lines.ScriptLine, Lines.is_set_of, Names.is_shelf_name}
-pub use Rattle.vms_selfdesc.proofs.Bounds.{short_holds}
+pub use Rattle.vms_selfdesc.proofs.Lengths.{short_holds}
 pub use Rattle.vms_selfdesc.specs.Tree.{described_text}
 pub use Rattle.vms_session.proofs.CourseLemmas.{after_number, lines_are_events}
 pub use Rattle.vms_session.specs.Events.{events_of}
