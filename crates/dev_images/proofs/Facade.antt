@@ -25,7 +25,7 @@ pub use Rattle.vms_fields.specs.declared.pit.TheConstants.{CELLS, COUNTERS, LATC
 pub use Rattle.vms_fields.specs.declared.serial.TheConstants.{RX, RX_COUNT, RX_DATA, RX_NUMBER, THR_IPENDING, TIMEOUT_AT, TX, TX_COUNT, TX_NUMBER}
 pub use Rattle.dev_base.specs.{Tables.carried_by, Tables.places, declared.limits.TheConstants.NEWEST}
 pub use Rattle.dev_base.specs.Cells.{AreOf, flag_at, kind_at, nat_of, number_at}
-pub use Rattle.dev_board.proofs.{RuleLaws.five, RuleLaws.same-five, SavedLaws.saved_are_cells, SavedLaws.saved_comes_back, SavedLaws.saved_goes_on}
+pub use Rattle.dev_board.proofs.{RestoredLaws.five, RestoredLaws.same-five, SavedLaws.saved_are_cells, SavedLaws.saved_comes_back, SavedLaws.saved_goes_on}
 pub use Rattle.dev_board.specs.{SavedLaws.ComesBack, Sound.IsSound, State.State, declared.cells.BoardCells.BoardCells}
 pub use Rattle.dev_board.specs.Saved.{AreBoardCells, AreSavedCells, MaySaveUnder, restored, saved, timer_kinds}
 pub use Rattle.dev_images.specs.{Kinds.KindsLaw, Kinds.kinds_in, Kinds.kinds_saved, Places.PlacesLaw, Places.chip_in, Places.pit_in, Places.serial_in, Places.timer_in}

@@ -16,7 +16,7 @@ pub use Rattle.vms_stream.proofs.Written.{AllParts, AllSubs, AreBytes, EachPart,
 pub use Rattle.vms_stream.specs.{StreamLaws.Answer, StreamLaws.Faulty, StreamLaws.IsWholeStream, StreamLaws.Taken, Streams.Takes}
 pub use Rattle.vms_elements.proofs.Members.{all_both, all_from, elements_each}
 pub use Rattle.vms_elements.specs.Elements.{Constant, Element, Filler, Number, Rule, What, index_text}
-pub use Rattle.vms_board.proofs.Restored.{content, refused_is}
+pub use Rattle.vms_board.proofs.Restoring.{content, refused_is}
 pub use Rattle.vms_board.specs.{Clock.clock, Clock.clock_machine, ClockStands.clock_stands, Isa.isa, Isa.machine_of, IsaStands.isa_stands, Saving.saved_text}
 pub use Rattle.vms_board.specs.Family.{Family, MaySaveIn, Stands, images_saved, lists_in}
 pub use Rattle.vms_board.specs.Restoring.{Back, IsFaultAt, IsMisfitAt, Refused, Restore, Restores, TakesBoard, misfit_reason, misfit_section}
@@ -38,8 +38,8 @@ pub use Rattle.vms_selfdesc.specs.Tree.{described_text, described_tree, device_t
 pub use Rattle.dev_base.specs.declared.limits.TheConstants.{NEWEST}
 unfoldable pub use Rattle.dev_board.specs.Step.{answers_by}
 pub use Rattle.dev_board.specs.{declared.event.Event.Event, declared.misfit.Misfit.Misfit}
-pub use Rattle.dev_clock.proofs.AlikeLaws.{alike_stays}
+pub use Rattle.dev_clock.proofs.StepLaws.{alike_stays}
 pub use Rattle.dev_clock.specs.Sound.{Alike, IsSound}
-pub use Rattle.dev_clock_images.proofs.{ClockCarried.images_come_back, ClockSets.sets_are_compatible}
+pub use Rattle.dev_clock_images.proofs.ClockImages.{images_come_back, sets_are_compatible}
 pub use Rattle.dev_clock_images.specs.{Images.saved_images}
 pub use Rattle.serde_json.specs.View.{items_of}

@@ -26,11 +26,10 @@ pub use Rattle.vms_analyze.specs.Listing.{HasNoShape, HasNone, IsRead, IsTooLong
 pub use Rattle.vms_board.specs.{Isa.isa, IsaStands.isa_stands, Restoring.Back, Restoring.Restores, Saving.stream_with}
 pub use Rattle.vms_board.specs.Family.{Family, IsNumber, images_saved, lists_in}
 unfoldable pub use Rattle.vms_board.specs.Saving.{saved_stream}
-pub use Rattle.vms_board_commands.proofs.{LoadOutcome.loads_one, PlayOutcome.has_end, PlayOutcome.one_outcome, SeenLemmas.other_seen, SeenLemmas.reads_all}
-pub use Rattle.vms_board_commands.proofs.CourseLemmas.{among_left, kept_so, wrote_so, refused_so, save_asks, shelf_has, stream_asks, text_asks, traced_so}
-pub use Rattle.vms_board_commands.proofs.RunLemmas.{behind_runs, lacks_runs, lacks_text, seen_runs, then_runs, unread_runs}
-pub use Rattle.vms_board_commands.proofs.ScriptSteps.{AreStepLines, script_gives, scripted_lines, sound_saved, sound_script}
-pub use Rattle.vms_board_commands.proofs.SeenLemmas.{seen_given, seen_lost, seen_refused, seen_written, sees_as, TakesSo, content_seen, load_seen}
+pub use Rattle.vms_board_commands.proofs.RunLemmas.{other_seen, reads_all, among_left, kept_so, wrote_so, refused_so, save_asks, shelf_has, stream_asks}
+pub use Rattle.vms_board_commands.proofs.RunLemmas.{text_asks, traced_so, behind_runs, lacks_runs, lacks_text, seen_runs, then_runs, unread_runs, seen_given}
+pub use Rattle.vms_board_commands.proofs.RunLemmas.{seen_lost, seen_refused, seen_written, sees_as, TakesSo, content_seen, load_seen}
+pub use Rattle.vms_board_commands.proofs.ScriptCommands.{loads_one, has_end, one_outcome, AreStepLines, script_gives, scripted_lines, sound_saved, sound_script}
 pub use Rattle.vms_board_commands.specs.{Causes.save_course, Drill.drill_line, Play.PlaysAll, Save.saved_after, Scripts.scripted, Runs.Frame, Runs.Runs}
 pub use Rattle.vms_board_commands.specs.{Runs.Task, Runs.moment, Seen.IsGiven, Seen.Seen, Seen.SeenAs, Seen.Sees, Seen.WithGiven}
 pub use Rattle.vms_board_commands.specs.Load.{Loads, LoadsBy, Traces, Unfit}
@@ -63,11 +62,10 @@ pub use Rattle.vms_cli.specs.Rows.{CanAnswer, ComesSeen, DoesSeen, HasCause}
 pub use Rattle.vms_cli.specs.States.{AlwaysNamedLaw, Prints, RefusesSo, StateLaw}
 pub use Rattle.vms_cli.specs.Upgrade.{IsWritten, Upgrade, UpgradesTo, shown_newer}
 unfoldable pub use Rattle.vms_cli.specs.Commands.{pair_of, single_of, triple_of}
-pub use Rattle.vms_commands.proofs.CourseLemmas.{draws_none, draws_took, writes_end, writes_serve, wrong}
-pub use Rattle.vms_commands.proofs.EndLemmas.{around, comes_to_nothing, ends_with, kept_none, outcome_so, same_keeps}
-pub use Rattle.vms_commands.proofs.FileSets.{FitStep, fit_text, fit_word}
-pub use Rattle.vms_commands.proofs.StepLemmas.{IsSound, ending_passed, fetched_gives, first_err, had_by, one_text, sound_fetch, sound_next}
-pub use Rattle.vms_commands.proofs.StepLemmas.{sound_set, sound_sets, sound_word, sound_word_set, then_as}
+pub use Rattle.vms_commands.proofs.{EndLemmas.ends_with, EndLemmas.kept_none, NamedSets.FitStep, NamedSets.fit_text, NamedSets.fit_word}
+pub use Rattle.vms_commands.proofs.EndLemmas.{outcome_so, same_keeps, draws_none, draws_took, writes_end, writes_serve, wrong, around, comes_to_nothing}
+pub use Rattle.vms_commands.proofs.StepLemmas.{IsSound, ending_passed, fetched_gives, first_err, had_by, one_text, sound_fetch, sound_next, sound_set}
+pub use Rattle.vms_commands.proofs.StepLemmas.{sound_sets, sound_word, sound_word_set, then_as}
 pub use Rattle.vms_commands.specs.{Asks.set_asked, SetLines.mismatch_line, declared.ending.Ending.Ending, SetWords.set_word, declared.kinds.BoardKind.BoardKind}
 pub use Rattle.vms_commands.specs.Courses.{EndsSo, Risen, Stands, is_among, of_shelf, text_course}
 pub use Rattle.vms_commands.specs.Endings.{Caused, EndsAs, Tells, WritesAs, ending_of, line_of, status_of}
@@ -101,11 +99,11 @@ pub use Rattle.vms_io.specs.Told.{Intake, Outlet, Stock, intake, outlet, stock}
 pub use Rattle.vms_load.proofs.{ExactLoads.loads_kept, ExactLoads.taken_kept, ExactLoads.within, StreamLengths.well_of}
 pub use Rattle.vms_load.specs.{Going.LoadReads, Good.AreKept, Lean.has, Lean.loads, Lean.taken_by}
 pub use Rattle.vms_load.specs.Staging.{AreShaped, IsMachine, accepted_of, most_given, name_of, no_image}
-pub use Rattle.vms_script.proofs.{GrammarOnly.reads_exactly}
+pub use Rattle.vms_script.proofs.GrammarLaws.{reads_exactly}
 pub use Rattle.vms_script.specs.{Lines.ScriptLine, Lines.is_set_of, Names.is_shelf_name}
 pub use Rattle.vms_selfdesc.proofs.Lengths.{short_holds}
 pub use Rattle.vms_selfdesc.specs.Tree.{described_text}
-pub use Rattle.vms_session.proofs.RunLemmas.{after_number, lines_are_events}
+pub use Rattle.vms_session.proofs.CourseLemmas.{after_number, lines_are_events}
 pub use Rattle.vms_session.specs.Events.{events_of}
 pub use Rattle.vms_values.specs.{Printing.AreOf, Printing.IsOf, Printing.machine_of, Reading.ReadsAs}
 pub use Rattle.vms_values_laws.proofs.Stated.{accepted_holds, packed_holds, printed_holds, shown_holds, written_only}
@@ -113,6 +111,6 @@ pub use Rattle.vms_values_laws.specs.Rounds.{ShowsAs}
 pub use Rattle.arrayvec.specs.ArrayVec.{ArrayVec}
 pub use Rattle.dev_base.specs.{Levels.IsLevel, Levels.ReachesSet, declared.limits.TheConstants.NEWEST}
 pub use Rattle.dev_board.specs.{Laws.AreEvents, State.State, declared.event.Event.Event}
-pub use Rattle.dev_clock_images.proofs.ClockSets.{sets_are_compatible}
-pub use Rattle.dev_serial.proofs.RecastRestores.{recast_restores}
+pub use Rattle.dev_clock_images.proofs.ClockImages.{sets_are_compatible}
+pub use Rattle.dev_serial.proofs.RecastLaws.{recast_restores}
 pub use Rattle.dev_serial.specs.Recast.{recast_cells}

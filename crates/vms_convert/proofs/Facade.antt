@@ -77,8 +77,8 @@ pub use Rattle.vms_spots.specs.Spots.{Held}
 pub use Rattle.vms_walk.proofs.{Spots.exceeds_least, Walking.has_step_of}
 pub use Rattle.vms_walk.specs.{Inside.Keeps, Steps.HasSpot, Steps.spot_slots, Steps.step_of, Steps.steps_of, declared.step.WalkStep.WalkStep}
 pub use Rattle.dev_base.specs.Cells.{AreOf}
-pub use Rattle.dev_images.proofs.{NormalSerial.port-of, ShippedDevices.serial_at_4}
+pub use Rattle.dev_images.proofs.{NormalCells.port-of, ShippedDevices.serial_at_4}
 pub use Rattle.dev_images.proofs.ReadyOf.{AreSubs, count-of, kind-of, needed, versions}
 pub use Rattle.dev_images.specs.Images.{bare, image_of, needed_from}
-pub use Rattle.dev_serial.proofs.{RecastKinds.recast_kinds, RecastLaws.recast_twice}
+pub use Rattle.dev_serial.proofs.RecastLaws.{recast_kinds, recast_twice}
 pub use Rattle.dev_serial.specs.{Cells.IsPortCells, Cells.kinds, Recast.recast_cells}
