@@ -1,7 +1,2 @@
 pub mod CellLaws
-pub mod Choices
-pub mod ListLaws
-pub mod PlaceLemmas
-pub mod Quotients
 pub mod RuleLaws
-pub mod TableLaws

@@ -1,8 +1,29 @@
--- The search for a rule that fails finds the first, and finds none where all hold.
-use Rattle.std.proofs.Common.{◌≡◌, ℕ, zero, suc, ◌+◌, ◌-◌, ◌<◌, Bool, true, false, List, [], ◌∷◌, length, slice_index_or, Option, Some, None, Result, Ok, Err, refl, arith, MatchOption}
-use Rattle.std.proofs.lemmas.Bool.{false≢true}
+-- Rules and choices: the first rule that fails, what is restored, and what holds of both branches
+-- of a test.
+use Rattle.std.proofs.{lemmas.Bool.Decides.nat_tests, Math.Nat.div-mul-le_self, lemmas.Nat.le-div, lemmas.Bool.false≢true}
+use Rattle.std.proofs.Common.{Bool, true, false, cond, ◌≡◌, ℕ, ◌/◌, ◌<◌, ◌≤◌, ◌||◌, arith, zero, suc, ◌+◌, ◌-◌, List, []}
+use Rattle.std.proofs.Common.{◌∷◌, length, slice_index_or, Option, Some, None, Result, Ok, Err, refl, MatchOption}
+use Rattle.std.specs.{Prelude.nat_lt}
 use Rattle.dev_base.specs.Hooks.{hook_result}
 use Rattle.dev_base.specs.Rules.{failing_from, first_failing, judged_by, judged, AllHold, MeansFailing, FirstFailingIsFirst}
+
+-- ---- what holds for a choice by a test
+
+-- A fact of both branches is one of the choice.
+pub either : {A : Type 0} (P : A → Type 0) (b : Bool) (x y : A) → P x → P y → P (cond b x y)
+either P true x y p q = p
+either P false x y p q = q
+
+-- ---- whole parts of numbers that grow
+
+-- What grows over two spans grows in one of them.
+pub grown : (a b c : ℕ) → a ≤ b → b ≤ c → nat_lt a c ≡ (nat_lt a b || nat_lt b c)
+grown a b c h l = grind (arith, nat_tests)
+
+pub quotient_mono : (n a b : ℕ) → 0 < n → a ≤ b → a / n ≤ b / n
+quotient_mono n a b p h = le-div (a / n) b n p (omega (arith, div-mul-le_self a n))
+
+-- ---- the search for a rule that fails finds the first, and finds none where all hold
 
 -- The same with another first number.
 record FailsAt (number : ℕ) (rules : List Bool) (rule : ℕ) : Type 0 where

@@ -9,7 +9,8 @@ pub use Rattle.std.proofs.lemmas.Nat.{and_le_l, and_le_r, or_of_16, or_of_8, pow
 pub use Rattle.std.proofs.lemmas.Nat.Bits.{bit_at_or, same_from_bits, same_from_bits_below, and_pow, bit_at-lt, bit_at-pow_other, bit_at-zero, bit_at_and}
 pub use Rattle.std.specs.Int.{bit_at, w16, w8}
 pub use Rattle.std.specs.Prelude.{IfSome, is_some, nat_le, nat_lt}
-pub use Rattle.dev_base.proofs.{CellLaws.long, CellLaws.of_more, CellLaws.of_none, Choices.either, RuleLaws.hook-ok, RuleLaws.judged-ok, RuleLaws.ok-hook}
+pub use Rattle.dev_base.proofs.CellLaws.{long, of_more, of_none}
+pub use Rattle.dev_base.proofs.RuleLaws.{either, hook-ok, judged-ok, ok-hook}
 pub use Rattle.dev_base.specs.{Bits.bits_where, Bits.has, Cells.AreOf, Levels.IsLevel, Levels.MayRestore, Levels.MaySave}
 pub use Rattle.dev_base.specs.declared.limits.TheConstants.{LAST_MOMENT, NEWEST}
 pub use Rattle.dev_board.specs.{Kept.IsCalm, Kept.calm_by, Kept.later, Laws.PortsAre, Laws.SoundStays, Laws.StaysAlike, Ports.read, Ports.write, Saved.pit_back}
@@ -31,24 +32,24 @@ unfoldable pub use Rattle.dev_board.specs.{Ports.read_at, Ports.target_of, Ports
 unfoldable pub use Rattle.dev_board.specs.Saved.{agreed, by_chip, by_device, carried, joined, lines_agree, saved, timed}
 unfoldable pub use Rattle.dev_board.specs.Step.{acted, after_act, after_by, answers_by, inputs_of, names_wire, settled, step, waited, wires_after}
 unfoldable pub use Rattle.dev_board.specs.Touch.{ack_touches, is_command, is_quiet, is_untouched, leaves_port}
-pub use Rattle.dev_pic.proofs.{LineLaws.lines_are_taken, PairLaws.steps_keep_registers, RestoredLaws.pair-sound, SavedLaws.saved_are_cells, SavedLaws.set-of}
+pub use Rattle.dev_pic.proofs.{LineLaws.lines_are_taken, SavedLaws.pair-same, SavedLaws.pair-told}
 pub use Rattle.dev_pic.proofs.BitLaws.{and-twice, each_input, has-and, has-one, has-one_other, has-or, level_inputs-lt, not_test, without_input-lt}
-pub use Rattle.dev_pic.proofs.SavedLaws.{slave_cells, carried-saved, fault-told, master_cells, pair-restored, pair-same, pair-told, saved-count}
-pub use Rattle.dev_pic.proofs.StepLaws.{Keeps, even-keeps, odd-keeps, winner-lt}
+pub use Rattle.dev_pic.proofs.SavedLaws.{pair-sound, saved-count, saved_are_cells, set-of, slave_cells, carried-saved, fault-told, master_cells, pair-restored}
+pub use Rattle.dev_pic.proofs.StepLaws.{steps_keep_registers, Keeps, even-keeps, odd-keeps, winner-lt}
 pub use Rattle.dev_pic.specs.{Cells.kinds, Cells.saved_cells, Chip.level_inputs_of, Pair.acked, Pair.from_slave, Pair.int_of, Pair.is_port, Pair.read_pair}
 pub use Rattle.dev_pic.specs.{Pair.with_cascade, Saved.hook_restored, Saved.pair_cells, Saved.restored_pair, Sound.IsSoundPair, Sound.PairHasRegisters}
 pub use Rattle.dev_pic.specs.{declared.chip.Chip.Chip, declared.fault.ChipFault.ChipFault, declared.pair.PicPair.PicPair}
 unfoldable pub use Rattle.dev_pic.specs.{Bits.but_not, Bits.without_input, Cells.requests_hold, Winner.ready_among, Winner.winner_of}
 unfoldable pub use Rattle.dev_pic.specs.Chip.{answered, cascaded, served_of, taken, winner_at}
 unfoldable pub use Rattle.dev_pic.specs.Pair.{acked_for, chip_on, lines_of, settled_pair, slave_int_of, written_pair}
-pub use Rattle.dev_pit.proofs.{Chips.at_step, Edges.edge_in_parts, RestoredLaw.pit-restored, SavedLaw.pit_of-saved, SoundLaws.sound_stays}
-pub use Rattle.dev_pit.proofs.CounterSteps.{read-goes_on, same}
+pub use Rattle.dev_pit.proofs.{EdgeLaws.edge_in_parts, SoundLaws.sound_stays, SavedLaws.pit-restored, SavedLaws.pit_of-saved}
+pub use Rattle.dev_pit.proofs.CallLaws.{at_step, read-goes_on, same}
 pub use Rattle.dev_pit.specs.{Cells.AreCellsOf, Cells.pit_cells, Count.period, Count.ticks, Counter.edge_since, GoesOn.GoesOn, Pit.IsLoadedBy, Pit.IsPort}
 pub use Rattle.dev_pit.specs.{Pit.counter_of, Pit.pit_written, Saved.pit_of, Saved.restored_pit, Saved.rules, Sound.IsSoundPit, Turns.AreTurns, Turns.IsTurn}
 pub use Rattle.dev_pit.specs.{declared.mode.Mode.Mode, declared.pit.Pit.Pit, declared.turns.Turns.Turns}
 pub use Rattle.dev_pit.specs.declared.mode.Mode.TheVariants.{HardwareStrobe, OneShot, RateGenerator, SquareWave}
 unfoldable pub use Rattle.dev_pit.specs.{Count.rises, Counter.edge_of, Counter.out_of, Counter.powered_on, Pit.new_pit, Pit.pit_edge, Pit.pit_out, Pit.pit_read}
-pub use Rattle.dev_serial.proofs.{CarriedCells.numbers-back, SavedLaw.restored-saved, WaitLaws.still}
+pub use Rattle.dev_serial.proofs.{SavedCells.numbers-back, SavedLaws.restored-saved, WaitLaws.still}
 pub use Rattle.dev_serial.proofs.AlikeLaws.{advances_alike, alike_back, alike_itself, alike_on, bytes_in_alike, lines_alike, reads_alike, writes_alike}
 pub use Rattle.dev_serial.proofs.KeepLaws.{advances_keep_sound, bytes_in_keep_sound, power_on_is_sound, reads_keep_sound, writes_keep_sound}
 pub use Rattle.dev_serial.proofs.RegisterLaws.{advances_keep_level, bytes_in_keep_level, reads_keep_level, writes_keep_level}

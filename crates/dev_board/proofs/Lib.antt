@@ -1,16 +1,8 @@
-pub mod AlikeLaws
-pub mod ClockLaws
 pub mod Facade
-pub mod KeepLaws
-pub mod KeptLaws
 pub mod PortLaws
 pub mod QuickLaws
 pub mod QuietLaws
 pub mod RestoredLaws
-pub mod RuleLaws
 pub mod SavedLaws
-pub mod SheetNumbers
 pub mod SoundLaws
-pub mod StayLaws
-pub mod WireBits
 pub mod WireLaws

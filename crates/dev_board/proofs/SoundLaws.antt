@@ -1,14 +1,272 @@
--- A board is sound at power on, and each event keeps it sound.
-use Rattle.dev_board.proofs.{Facade.wires_of, Facade.Event, KeepLaws.acted-kept}
-use Rattle.dev_board.proofs.Facade.{◌∙◌, ℕ, ◌<◌, ◌^◌, Bool, List, [], ◌∷◌, arith, refl, IsLevel, lines_are_taken, steps_keep_registers, but_not, winner_at}
-use Rattle.dev_board.proofs.Facade.{served_of, winner_of, ready_among, chip_on, lines_of, slave_int_of, settled_pair, IsSoundPair, sound_stays, powered_on}
-use Rattle.dev_board.proofs.Facade.{out_of, new_pit, pit_out, power_on_is_sound, bits_where, interrupt, line_of, IsEvent, AreEvents, SoundStays, HasDevices}
-use Rattle.dev_board.proofs.Facade.{HasLines, IsSound, State, power_on, inputs_of, settled, after_act, step, acted, wires_after, after_all, after_by, AreWires}
-use Rattle.dev_board.proofs.WireBits.{names, wires_of-are, wires_after-are, one-lt, inputs-lt, inputs-out, inputs-serial}
-use Rattle.dev_pic.proofs.PairLaws.{steps_keep_level as pair_keeps_level}
+-- What each event keeps: level and moment, sound devices, and what is known of the timer.
+use Rattle.dev_board.proofs.Facade.{refl, NumbersAre, ◌≡◌, ℕ, int_of, AnswersTellInt, ClockGoesOn, moment_left, target_of, read_at, written_at, State}
+use Rattle.dev_board.proofs.Facade.{Act, waited, acted, settled, after_act, step, Event, Read, Write, Target, Pair, ◌-◌, ◌<◌, ◌≤◌, ◌==◌, true}
+use Rattle.dev_board.proofs.Facade.{◌&&◌, arith, ap, sym, subst, List, ◌∙◌, nat_le, cond_both, either, LAST_MOMENT, steps_keep_registers, is_port}
+use Rattle.dev_board.proofs.Facade.{read_pair, written_pair, acked, PairHasRegisters, PicPair, sound_stays, IsLoadedBy, pit_read, pit_written, IsSoundPit, Pit}
+use Rattle.dev_board.proofs.Facade.{reads_keep_sound, writes_keep_sound, bytes_in_keep_sound, advances_keep_sound, reads_keep_level, writes_keep_level}
+use Rattle.dev_board.proofs.Facade.{bytes_in_keep_level, advances_keep_level, read_of, written, came_in, advanced, Port, IsEvent, write, HasDevices, later_by}
+use Rattle.dev_board.proofs.Facade.{Byte, Wait, Wire, Ack, Counter, Register, Access, ◌/◌, inl, inr, Bool, false, if◌then◌else◌, Option, Some, None}
+use Rattle.dev_board.proofs.Facade.{⊎_elim, cases_lt, or_parts, nat_tests, nat_lt, at_step, same, read-goes_on, edge_in_parts, period, rises, ticks, edge_of}
+use Rattle.dev_board.proofs.Facade.{edge_since, out_of, GoesOn, counter_of, pit_edge, pit_out, AreTurns, IsTurn, Mode, OneShot, RateGenerator, SquareWave}
+use Rattle.dev_board.proofs.Facade.{HardwareStrobe, Turns, IsCalm, calm_by, later, read, calm_after, is_command, write_touches, Control, Touch, Command}
+use Rattle.dev_board.proofs.Facade.{wires_after, after_all, after_by, AreWires, wires_of, ◌^◌, [], ◌∷◌, IsLevel, lines_are_taken, but_not, winner_at}
+use Rattle.dev_board.proofs.Facade.{served_of, winner_of, ready_among, chip_on, lines_of, slave_int_of, settled_pair, IsSoundPair, powered_on, new_pit}
+use Rattle.dev_board.proofs.Facade.{power_on_is_sound, bits_where, interrupt, line_of, AreEvents, SoundStays, HasLines, IsSound, power_on, inputs_of}
+use Rattle.dev_board.proofs.WireLaws.{names, wires_of-are, wires_after-are, one-lt, inputs-lt, inputs-out, inputs-serial}
+use Rattle.dev_pic.proofs.StepLaws.{steps_keep_level as pair_keeps_level}
 use Rattle.dev_pic.specs.Pair.{power_on as pair_on}
-use Rattle.dev_pit.proofs.SoundLaws.{steps_keep_level as pit_keeps_level}
-use Rattle.dev_serial.specs.Port.{power_on as serial_on}
+use Rattle.dev_pit.proofs.{SoundLaws.steps_keep_level as pit_keeps_level}
+use Rattle.dev_pit.specs.{Counter.read_of as counter_read, declared.counter.Counter.Counter as Counting}
+use Rattle.dev_serial.specs.{Sound.IsSound as IsSoundPort, Port.power_on as serial_on}
+
+-- ---- the numbers are the constants' by their definition
+
+pub numbers_are : NumbersAre
+numbers_are = record { wires = refl; timer_input = refl; serial_input = refl; driven = refl; timer = refl; master = refl; pit = refl; serial = refl }
+
+-- ---- no event changes the level, and only a wait changes the moment
+
+-- A board at a moment and of a level.
+record IsAt (moment level : ℕ) (after : State) : Type 0 where
+  moment_is : after.moment ≡ moment
+  level_is : after.level ≡ level
+
+module _ (m : State) where
+  read_at-clock : (target : Target) (port : ℕ) → IsAt m.moment m.level (read_at target port m).1
+  unfolding read_at
+  read_at-clock Pair port = record { moment_is = refl; level_is = refl }
+  read_at-clock _ port = record { moment_is = refl; level_is = refl }
+
+  written_at-clock : (target : Target) (port value : ℕ) → IsAt m.moment m.level (written_at target port value m)
+  unfolding written_at
+  written_at-clock Pair port value = record { moment_is = refl; level_is = refl }
+  written_at-clock _ port value = record { moment_is = refl; level_is = refl }
+
+  acted-clock : (event : Event) → IsAt (moment_left event m.moment) m.level (acted event m).1
+  unfolding acted waited
+  acted-clock (Read port) = read_at-clock (target_of m.level port) port
+  acted-clock (Write port value) = written_at-clock (target_of m.level port) port value
+  acted-clock _ = record { moment_is = refl; level_is = refl }
+
+after_act-clock : (wires moment level : ℕ) (done : Act × State) → IsAt moment level done.1 → IsAt moment level (after_act wires done).1
+unfolding after_act settled
+after_act-clock wires moment level done c = record { moment_is = c.moment_is; level_is = c.level_is }
+
+step-clock : (event : Event) (m : State) → IsAt (moment_left event m.moment) m.level (step event m).1
+unfolding step
+step-clock event m = after_act-clock _ _ _ (acted event m) (acted-clock m event)
+
+pub clock_goes_on : ClockGoesOn
+clock_goes_on = record { moment = λ event m. (step-clock event m).moment_is; level = λ event m. (step-clock event m).level_is; last = refl }
+
+-- ---- the interrupt output
+
+told : (event : Event) (m : State) → (step event m).0.int ≡ int_of (step event m).1.pair
+unfolding step after_act
+told event m = refl
+
+pub answers_tell_int : AnswersTellInt
+answers_tell_int = record { int = told }
+
+-- ---- what each event keeps of the devices
+
+module _ (m : State) (h : HasDevices m) where
+  pub with-pair : (pair : PicPair) → PairHasRegisters pair → pair.level ≡ m.pair.level → HasDevices (record m { pair = pair })
+  with-pair pair k e = let level = e ∙ h.pair_level in search
+
+  pub with-pit : (pit : Pit) → IsSoundPit m.moment pit → pit.level ≡ m.pit.level → HasDevices (record m { pit = pit })
+  with-pit pit k e = let level = e ∙ h.pit_level in search
+
+  pub with-serial : (port : Port) → IsSoundPort m.moment port → port.level ≡ m.serial.level → HasDevices (record m { serial = port })
+  with-serial port k e = let level = e ∙ h.serial_level in search
+
+  pub pair-read : (port : ℕ) → HasDevices (record m { pair = (read_pair port m.pair).1 })
+  pair-read port = with-pair _ (steps_keep_registers.read port m.pair h.pair) (pair_keeps_level.read port m.pair)
+
+  pub pit-read : (counter : ℕ) → HasDevices (record m { pit = (pit_read counter m.moment m.pit).1 })
+  pit-read counter = with-pit _ (sound_stays.in_reads counter m.moment m.pit h.pit) (pit_keeps_level.read counter m.moment m.pit)
+
+  pub serial-read : (offset : ℕ) → HasDevices (record m { serial = (read_of offset m.moment m.serial).1 })
+  serial-read offset = with-serial _ (reads_keep_sound offset m.moment m.serial h.serial) (reads_keep_level offset m.moment m.serial)
+
+  pub read_at-kept : (target : Target) (port : ℕ) → HasDevices (read_at target port m).1
+  unfolding read_at
+  read_at-kept Pair port = pair-read port
+  read_at-kept (Counter counter) port = pit-read counter
+  read_at-kept (Register offset) port = serial-read offset
+  read_at-kept _ port = h
+
+  pub pit-written : (port value : ℕ) → value < 256 → HasDevices (record m { pit = pit_written port value m.moment m.pit })
+  pit-written port value v = with-pit _ (sound_stays.in_writes port value m.moment m.pit v h.pit) (pit_keeps_level.write port value m.moment m.pit)
+
+  pub pair-written : (port value : ℕ) → value < 256 → is_port m.pair.level port ≡ true → HasDevices (record m { pair = written_pair port value m.pair })
+  pair-written port value v e = with-pair _ (steps_keep_registers.write port value m.pair v e h.pair) (pair_keeps_level.write port value m.pair)
+
+  pub serial-written : (offset value : ℕ) → value < 256 → HasDevices (record m { serial = written offset value m.moment m.serial })
+  serial-written offset value v = with-serial _ (writes_keep_sound offset value m.moment m.serial v h.serial) (writes_keep_level offset value m.moment m.serial)
+
+  pub write-kept : (port value : ℕ) → value < 256 → HasDevices (write port value m)
+  unfolding target_of written_at
+  write-kept port value v =
+      let keeps : Target → Type 0 = λ t. HasDevices (written_at t port value m) in
+      cond_both (is_port m.level port) _ _ keeps (λ e. pair-written port value v (ap (λ level. is_port level port) h.pair_level ∙ e)) (λ _.
+      either keeps (nat_le 0x40 port && nat_le port 0x42) _ _ (pit-written port value v)
+      (either keeps (port == 0x43) _ _ (pit-written port value v)
+      (either keeps (nat_le 0x3f8 port && nat_le port 0x3ff) _ _ (serial-written (port - 0x3f8) value v) h)))
+
+  pub waited-kept : (to : ℕ) → m.moment ≤ to → to ≤ LAST_MOMENT → HasDevices (waited to m).1
+  unfolding waited
+  waited-kept to l b =
+      let level = advances_keep_level to m.serial ∙ h.serial_level in
+      let pit = sound_stays.in_time m.moment to m.pit l b h.pit in
+      let serial = advances_keep_sound m.moment to m.serial l h.serial in
+      search
+
+  pub byte-kept : (value : ℕ) → value < 256 → HasDevices (record m { serial = came_in value m.moment m.serial })
+  byte-kept value v = with-serial _ (bytes_in_keep_sound value m.moment m.serial v h.serial) (bytes_in_keep_level value m.moment m.serial)
+
+  pub ack-kept : HasDevices (record m { pair = (acked m.pair).1 })
+  ack-kept = with-pair _ (steps_keep_registers.ack m.pair h.pair) (pair_keeps_level.ack m.pair)
+
+  pub acted-kept : (event : Event) → IsEvent event → HasDevices (acted event m).1
+  unfolding acted
+  acted-kept (Read port) e = read_at-kept (target_of m.level port) port
+  acted-kept (Write port value) e = write-kept port value e
+  acted-kept (Byte value) e = byte-kept value e
+  acted-kept (Wait ns) e = waited-kept (later_by ns m.moment) (omega arith) (omega arith)
+  acted-kept (Wire input up) e = h
+  acted-kept Ack e = ack-kept
+
+-- The answers of devices, as their calls return them.
+module _ (m : State) (h : HasDevices m) where
+  pub after-pair : (port value : ℕ) (pair : PicPair) → (value, pair) ≡ read_pair port m.pair → HasDevices (record m { pair = pair })
+  after-pair port value pair e = subst (λ answer. HasDevices (record m { pair = answer.1 })) (sym e) (pair-read m h port)
+
+  pub after-pit : (counter value : ℕ) (pit : Pit) → (value, pit) ≡ pit_read counter m.moment m.pit → HasDevices (record m { pit = pit })
+  after-pit counter value pit e = subst (λ answer. HasDevices (record m { pit = answer.1 })) (sym e) (pit-read m h counter)
+
+  pub after-serial : (offset value : ℕ) (port : Port) → (value, port) ≡ read_of offset m.moment m.serial → HasDevices (record m { serial = port })
+  after-serial offset value port e = subst (λ answer. HasDevices (record m { serial = answer.1 })) (sym e) (serial-read m h offset)
+
+  pub after-ack : (value : ℕ) (pair : PicPair) → (value, pair) ≡ acked m.pair → HasDevices (record m { pair = pair })
+  after-ack value pair e = subst (λ answer. HasDevices (record m { pair = answer.1 })) (sym e) (ack-kept m h)
+
+  pub after-wait : (to : ℕ) (sent : List ℕ) (port : Port) → m.moment ≤ to → to ≤ LAST_MOMENT → (sent, port) ≡ advanced to m.serial
+      → HasDevices (record m { moment = to; serial = port })
+  unfolding waited
+  after-wait to sent port l b e = subst (λ answer. HasDevices (record m { moment = to; serial = answer.1 })) (sym e) (waited-kept m h to l b)
+
+  -- No counter was loaded after the moment.
+  pub loaded : IsLoadedBy m.moment m.pit
+  loaded = sound_stays.loaded m.moment m.pit h.pit
+
+-- ---- what is known of the timer between events
+
+-- No edge comes in no time.
+no-more : (x : Bool) (q : ℕ) → (x && nat_lt q q) ≡ false
+no-more true q = grind (arith, nat_tests)
+no-more false q = refl
+
+no-rise : (mode : Mode) (count a : ℕ) → rises mode count a a ≡ false
+unfolding rises
+no-rise OneShot count a = refl
+no-rise RateGenerator count a = no-more _ (a / period count)
+no-rise SquareWave count a = no-more _ (a / period count)
+no-rise HardwareStrobe count a = refl
+no-rise _ count a = grind (arith, nat_tests)
+
+no-edge_since : (load : Option ℕ) (mode : Mode) (count at : ℕ) → edge_since load mode count at at ≡ false
+no-edge_since None mode count at = refl
+no-edge_since (Some load) mode count at = no-rise mode count (ticks load at)
+
+no-edge : (counter : Counting) (at : ℕ) → edge_of counter at at ≡ false
+unfolding edge_of
+no-edge counter at = no-edge_since counter.loaded_at counter.mode counter.count at
+
+-- Before the first of three turns that is after the base, none has come.
+not-yet : (base turn at to : ℕ) → at ≡ turn → base ≤ at → at ≤ to → to < later base turn → at ≡ base
+not-yet base turn at to e f l h =
+    ⊎_elim
+    (λ after. let test : nat_lt base turn ≡ true = grind (arith, nat_tests) in
+    let is : later base turn ≡ turn = rw test refl in absurd (omega arith)) (λ before. omega arith) (cases_lt base turn)
+
+none-came : (turns : Turns) (base at to : ℕ) → IsTurn turns base at → base ≤ at → at ≤ to → to < calm_by turns base → at ≡ base
+none-came turns base at to (inl e) f l h = e
+none-came turns base at to (inr (inl e)) f l h = not-yet base turns.first at to e f l (omega arith)
+none-came turns base at to (inr (inr (inl e))) f l h = not-yet base turns.second at to e f l (omega arith)
+none-came turns base at to (inr (inr (inr e))) f l h = not-yet base turns.third at to e f l (omega arith)
+
+pub calm-turns : (m : State) → HasDevices m → (turns : Turns) → AreTurns turns (counter_of 0 m.pit) m.moment → IsCalm (calm_by turns m.moment) m
+unfolding pit_out pit_edge
+calm-turns m h turns are to l before =
+    let t = are m.moment to (loaded m h 0 (omega arith)) (omega arith) l in
+    let is : t.at ≡ m.moment = none-came turns m.moment t.at to t.is t.from t.upto before in (
+      sym t.out ∙ ap (out_of (counter_of 0 m.pit)) is,
+      sym t.edge ∙ ap (edge_of (counter_of 0 m.pit) m.moment) is ∙ no-edge (counter_of 0 m.pit) m.moment,
+    )
+
+-- A read of a counter changes neither OUT nor its edges.
+record SameOut (before after : Counting) : Type 0 where
+  out : (at : ℕ) → out_of after at ≡ out_of before at
+  edge : (from to : ℕ) → edge_of after from to ≡ edge_of before from to
+
+same-out : (before after : Counting) → GoesOn before after → SameOut before after
+unfolding out_of edge_of
+same-out before after g = record {
+  out = λ at. rw (g.count, g.mode, g.loaded_at) refl;
+  edge = λ from to. rw (g.count, g.mode, g.loaded_at) refl;
+}
+
+read-same : (j now : ℕ) (pit : Pit) → SameOut (counter_of 0 pit) (counter_of 0 (pit_read j now pit).1)
+unfolding pit_read
+read-same j now pit =
+    let c = counter_of 0 pit in
+    same-out c _ (at_step (GoesOn c) 0 j (λ d. (counter_read now d).1) pit (λ here. read-goes_on now c) (same c))
+
+-- A read of a counter leaves OUT unchanged.
+pub read-out : (j now : ℕ) (pit : Pit) → pit_out 0 now (pit_read j now pit).1 ≡ pit_out 0 now pit
+unfolding pit_out
+read-out j now pit = (read-same j now pit).out now
+
+module _ (until : ℕ) (m : State) (calm : IsCalm until m) where
+  read-calm : (j : ℕ) → IsCalm until (record m { pit = (pit_read j m.moment m.pit).1 })
+  unfolding pit_out pit_edge
+  read-calm j to l h =
+      let reads = read-same j m.moment m.pit in
+      let still = calm to l h in
+      (reads.out to ∙ still.0 ∙ sym (reads.out m.moment), reads.edge m.moment to ∙ still.1)
+
+  read_at-calm : (target : Target) (port : ℕ) → IsCalm until (read_at target port m).1
+  unfolding read_at
+  read_at-calm (Counter counter) port = read-calm counter
+  read_at-calm _ port = calm
+
+  written_at-calm : (target : Target) (port value : ℕ) → IsCalm (calm_after (write_touches target port value) until) (written_at target port value m)
+  unfolding written_at
+  written_at-calm Pair port value =
+      elim (is_command port value) as (λ command. IsCalm (calm_after (if command then Command else Access) until) m) [ true ↦ calm | false ↦ calm ]
+  written_at-calm (Counter counter) port value = λ to l h. absurd (omega arith)
+  written_at-calm Control port value = λ to l h. absurd (omega arith)
+  written_at-calm _ port value = calm
+
+  -- What events leave of it.
+  pub calm-read : (port value : ℕ) (after : State) → (value, after) ≡ read port m → IsCalm until after
+  calm-read port value after e = subst (λ done. IsCalm until done.1) (sym e) (read_at-calm (target_of m.level port) port)
+
+  pub calm-write : (port value : ℕ) (after : State) (touch : Touch) → touch ≡ write_touches (target_of m.level port) port value → after ≡ write port value m
+      → IsCalm (calm_after touch until) after
+  calm-write port value after touch t e = rw (t, e) (written_at-calm (target_of m.level port) port value)
+
+  wait-calm : (to : ℕ) → m.moment ≤ to → to < until → IsCalm until (waited to m).1
+  unfolding waited pit_edge
+  wait-calm to l h at from before =
+      let still = calm at (omega arith) before in
+      (still.0 ∙ sym (calm to l h).0, (or_parts _ _ (sym (edge_in_parts (counter_of 0 m.pit) m.moment to at l from) ∙ still.1)).1)
+
+  pub calm-wait : (to : ℕ) (act : Act) (after : State) → (act, after) ≡ waited to m → m.moment ≤ to → to < until → IsCalm until after
+  calm-wait to act after e l h = subst (λ done. IsCalm until done.1) (sym e) (wait-calm to l h)
+
+-- ---- a board is sound at power on, and each event keeps it sound
 
 -- The board at power on.
 pub on-devices : (level : ℕ) → IsLevel level → HasDevices (power_on level)

@@ -29,13 +29,13 @@ pub fn wires_law()
 /// States that only `Event::Wait` changes the moment, by its nanoseconds, and not beyond the last.
 ///
 /// The last moment is that of 4,000,000,000 seconds. No event changes the level.
-#[tactic(auto, using(crate::proofs::ClockLaws::clock_goes_on))]
+#[tactic(auto, using(crate::proofs::SoundLaws::clock_goes_on))]
 pub fn clock_law()
     ensures { ClockGoesOn }
 {}
 
 /// States that `Answer::int` is the interrupt output after the event.
-#[tactic(auto, using(crate::proofs::ClockLaws::answers_tell_int))]
+#[tactic(auto, using(crate::proofs::SoundLaws::answers_tell_int))]
 pub fn int_law()
     ensures { AnswersTellInt }
 {}
@@ -43,13 +43,13 @@ pub fn int_law()
 /// States that `Devices` that are alike give equal answers to each event and each list of events.
 ///
 /// They are alike afterwards, too.
-#[tactic(auto, using(crate::proofs::AlikeLaws::alike_stays))]
+#[tactic(auto, using(crate::proofs::SavedLaws::alike_stays))]
 pub fn alike_law()
     ensures { AlikeStays }
 {}
 
 /// States that being alike is an equivalence of `Devices`: reflexive, symmetric and transitive.
-#[tactic(auto, using(crate::proofs::AlikeLaws::likeness))]
+#[tactic(auto, using(crate::proofs::SavedLaws::likeness))]
 pub fn likeness_law()
     ensures { Likeness }
 {}
@@ -89,7 +89,7 @@ pub fn restored_law()
 ///
 /// The cells are those of the newest set. They are accepted if no device's rule fails and the lines
 /// agree.
-#[tactic(auto, using(crate::proofs::RuleLaws::sound_meets_rules))]
+#[tactic(auto, using(crate::proofs::RestoredLaws::sound_meets_rules))]
 pub fn rules_law()
     ensures { SoundMeetsRules }
 {}
@@ -97,7 +97,7 @@ pub fn rules_law()
 /// States the numbers of the board: which inputs are wires, and which ones devices drive.
 ///
 /// It also gives the places of the devices among those of a set, which a `Misfit` names.
-#[tactic(auto, using(crate::proofs::SheetNumbers::numbers_are))]
+#[tactic(auto, using(crate::proofs::SoundLaws::numbers_are))]
 pub fn numbers_law()
     ensures { NumbersAre }
 {}

@@ -2,15 +2,15 @@
 pub use Rattle.std.proofs.Common.{Bool, Err, List, Ok, Result, [], ap, arith, cond, false, nat_le, refl, subst, sym, true, ℕ, ℤ, ◌*◌, ◌+◌, ◌<◌, ◌==◌, ◌∙◌, ◌∷◌}
 pub use Rattle.std.proofs.Common.{◌≡◌, ◌≤◌}
 pub use Rattle.vms_hooks.specs.Numbers.{Numbers}
-pub use Rattle.vms_rtc.proofs.{CallLaws.version_stays, RuleLaws.same-chip, SavedLaws.restored-own, SavedLaws.saved_is_restored, SoundLaws.calls_keep_sound}
+pub use Rattle.vms_rtc.proofs.{StepLaws.version_stays, StepLaws.calls_keep_sound, SavedLaws.same-chip, SavedLaws.restored-own, SavedLaws.saved_is_restored}
 pub use Rattle.vms_rtc.specs.{Cells.kinds, Saved.CanRestore, Saved.hook_restored, declared.limits.TheConstants.NEWEST_CLOCK, declared.rtc.Rtc.Rtc}
 pub use Rattle.vms_rtc.specs.Chip.{is_port, passed, read_of}
 unfoldable pub use Rattle.vms_rtc.specs.{Cells.saved_cells, Chip.line_of}
-pub use Rattle.dev_base.proofs.{Choices.either, RuleLaws.AllTrue, RuleLaws.hook-ok, RuleLaws.judged-ok, RuleLaws.none_failing, RuleLaws.ok-hook}
+pub use Rattle.dev_base.proofs.RuleLaws.{either, AllTrue, hook-ok, judged-ok, none_failing, ok-hook}
 pub use Rattle.dev_base.specs.{Bits.has, Bits.same, Cells.AreOf, Cells.number_at, Levels.IsLevel, Levels.IsUpTo}
 pub use Rattle.dev_base.specs.declared.limits.TheConstants.{LAST_MOMENT, NEWEST}
-pub use Rattle.dev_board.proofs.{AlikeLaws.stays-alike, WireLaws.wires_stay, RestoredLaws.chip-ok, RestoredLaws.device-ok}
-pub use Rattle.dev_board.proofs.SavedLaws.{same-is, same-refl}
+pub use Rattle.dev_board.proofs.{WireLaws.wires_stay, RestoredLaws.chip-ok, RestoredLaws.device-ok}
+pub use Rattle.dev_board.proofs.SavedLaws.{stays-alike, same-is, same-refl}
 pub use Rattle.dev_board.specs.{Laws.AnswersAlike, Laws.AreEvents, Laws.IsEvent, Laws.moment_left, Saved.lines_agree, Saved.moment_of, State.State}
 pub use Rattle.dev_board.specs.{declared.cells.BoardCells.BoardCells, declared.event.Answer.Answer, declared.event.Event.Event, declared.misfit.Misfit.Misfit}
 pub use Rattle.dev_board.specs.declared.event.Event.TheVariants.{Ack, Byte, Read, Wait, Wire, Write}

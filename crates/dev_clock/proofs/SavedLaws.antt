@@ -1,15 +1,24 @@
--- What is saved of a clock board's devices can be restored.
-use Rattle.dev_clock.proofs.{Facade.SavedAreCells, Facade.ComesBack, Facade.SavedComesBack, Facade.SavedGoesOn, AlikeLaws.alike_stays}
-use Rattle.dev_clock.proofs.Facade.{IsSound, Alike, ClockState, CLOCK_DEVICE, LINES_CELL, ◌≡◌, ℕ, ◌*◌, ◌+◌, ◌<◌, ◌==◌, ap, arith, ℤ, ◌≤◌, Bool, List, Result}
-use Rattle.dev_clock.proofs.Facade.{Ok, refl, sym, subst, ◌∙◌, has, lines_of, IsSoundPair, PicPair, CLOCK_INPUT, hook-ok, number_at, NEWEST, same-refl}
-use Rattle.dev_clock.proofs.Facade.{by_device, State, Misfit, carried-saved, Numbers, saved_is_restored, saved_cells, line_of, CanRestore, hook_restored, Rtc}
-use Rattle.dev_clock.proofs.Facade.{MaySaveUnder, saved, carried, AreSavedCells, AreClockCells, numbers_back, slave_line, with_line, joined, restored}
+-- What is saved of a clock board's devices and restored from it.
+use Rattle.dev_clock.proofs.Facade.{SavedAreCells, ComesBack, SavedComesBack, SavedGoesOn, IsSound, Alike, ClockState, CLOCK_DEVICE, LINES_CELL, ◌≡◌, ℕ}
+use Rattle.dev_clock.proofs.Facade.{◌*◌, ◌+◌, ◌<◌, ◌==◌, ap, arith, ℤ, ◌≤◌, Bool, List, Result, Ok, refl, sym, subst, ◌∙◌, has}
+use Rattle.dev_clock.proofs.Facade.{lines_of, IsSoundPair, PicPair, CLOCK_INPUT, hook-ok, number_at, NEWEST, same-refl, by_device, State, Misfit, carried-saved}
+use Rattle.dev_clock.proofs.Facade.{Numbers, saved_is_restored, saved_cells, line_of, CanRestore, hook_restored, Rtc, MaySaveUnder, saved, carried}
+use Rattle.dev_clock.proofs.Facade.{AreSavedCells, AreClockCells, numbers_back, slave_line, with_line, joined, restored, nat_le, Err, true, false, cond, either}
+use Rattle.dev_clock.proofs.Facade.{LAST_MOMENT, timed, by_chip, lines_agree, agreed, moment_of, BoardCells, pair_of, Chip, Pit, Port, IsPlaced, clock_back}
+use Rattle.dev_clock.proofs.Facade.{judged-ok, ok-hook, same, AreOf, IsUpTo, chip-ok, device-ok, same-is, chip_of, rules, kinds, NEWEST_CLOCK, RestoredIsSound}
+use Rattle.dev_clock.proofs.Facade.{ClockCells, LINE_RULE, AllTrue, none_failing, same-chip, restored-own, IsTold, SoundMeetsRules}
+use Rattle.dev_clock.proofs.StepLaws.{alike_stays, newest-is}
+use Rattle.dev_board.proofs.RestoredLaws.{restored_is_sound as board-is-sound, made_of as board_made_of, sound_meets_rules as board-meets}
 use Rattle.dev_board.proofs.SavedLaws.{saved_are_cells as board-saved, saved_comes_back as board-comes-back}
-use Rattle.dev_board.specs.Saved.{saved as board_saved, carried as board_carried, MaySaveUnder as MaySaveBoard}
-use Rattle.dev_board.specs.SavedLaws.{ComesBack as BoardComesBack}
+use Rattle.dev_board.specs.{Saved.restored as board_restored, SavedLaws.ComesBack as BoardComesBack, Sound.IsSound as IsSoundBoard}
+use Rattle.dev_board.specs.Saved.{saved as board_saved, carried as board_carried, MaySaveUnder as MaySaveBoard, joined as board_joined}
+use Rattle.dev_pic.proofs.SavedLaws.{made_of as pair_made_of}
 use Rattle.dev_pic.specs.Cells.{saved_cells as chip_cells, carried as pic_carried}
-use Rattle.vms_rtc.proofs.SavedLaws.{saved_are_cells as clock-saved}
-use Rattle.vms_rtc.specs.Cells.{carried as clock_carried}
+use Rattle.vms_rtc.proofs.SavedLaws.{saved_are_cells as clock-saved, restored_is_sound as clock-is-sound, sound_meets_rules as clock-meets}
+use Rattle.vms_rtc.specs.{Cells.carried as clock_carried, Sound.IsSound as IsSoundClock}
+use Rattle.vms_rtc.specs.Saved.{restored as clock_restored, rules as clock_rules, chip_of as clock_chip}
+
+-- ---- what is saved of a clock board's devices can be restored
 
 high-bit : (high low : ℕ) → low < 256 → has (high * 256 + low) 8 ≡ has high 0
 high-bit high low l = ap (λ (n : ℕ). n == 1) (omega (arith, l))
@@ -108,3 +117,183 @@ saved_goes_on = record {
       let same : there.back ≡ back = ok-same there.back back _ there.restored e in
       alike_stays.answers events m back (subst (λ (n : ClockState). Alike m n) same there.alike);
 }
+
+-- ---- restored devices are sound: the devices that misfits of a board name
+
+-- A misfit, if there is one, names a device of a board.
+abbrev MayBePlaced : {D : Type 0} → Result D Misfit → Type 0
+MayBePlaced (Ok device) = Unit {0}
+MayBePlaced (Err misfit) = IsPlaced misfit
+
+of-moment : (moment : ℕ) → MayBePlaced (timed moment)
+unfolding timed
+of-moment moment = either MayBePlaced (nat_le moment LAST_MOMENT) _ _ tt (omega arith)
+
+of-chips : (level : ℕ) (master slave : Result Chip ℕ) → MayBePlaced (by_chip (pair_of level master slave))
+unfolding by_chip pair_of
+of-chips level (Err rule) slave = omega arith
+of-chips level (Ok master) (Err rule) = omega arith
+of-chips level (Ok master) (Ok slave) = tt
+
+of-device : {D : Type 0} (place : ℕ) (outcome : Result D ℕ) → place ≤ 4 → MayBePlaced (by_device place outcome)
+unfolding by_device
+of-device place (Ok device) l = tt
+of-device place (Err rule) l = l
+
+of-lines : (m : State) → MayBePlaced (agreed m)
+unfolding agreed
+of-lines m = either MayBePlaced (lines_agree m) _ _ tt (omega arith)
+
+of-all : (level : ℕ) (moment : Result ℕ Misfit) (pair : Result PicPair Misfit) (pit : Result Pit Misfit) (port : Result Port Misfit) → MayBePlaced moment
+    → MayBePlaced pair → MayBePlaced pit → MayBePlaced port → MayBePlaced (board_joined level moment pair pit port)
+unfolding board_joined
+of-all level (Err misfit) pair pit port a b c d = a
+of-all level (Ok moment) (Err misfit) pit port a b c d = b
+of-all level (Ok moment) (Ok pair) (Err misfit) port a b c d = c
+of-all level (Ok moment) (Ok pair) (Ok pit) (Err misfit) a b c d = d
+of-all level (Ok moment) (Ok pair) (Ok pit) (Ok port) a b c d = of-lines _
+
+pub placed : (level : ℕ) (cells : BoardCells) (misfit : Misfit) → board_restored level cells ≡ Err misfit → IsPlaced misfit
+placed level cells misfit e =
+    subst (λ (outcome : Result State Misfit). MayBePlaced outcome) e
+    (of-all level _ _ _ _ (of-moment _) (of-chips level _ _) (of-device _ _ (omega arith)) (of-device _ _ (omega arith)))
+
+-- ---- the devices
+
+-- The devices are made of a chip and a board's devices that were restored.
+pub record IsMadeOf (of_clock : Result Rtc Misfit) (of_board : Result State Misfit) (m : ClockState) : Type 0 where
+  pub clock : of_clock ≡ Ok m.clock
+  pub board : of_board ≡ Ok m.board
+
+pub made_of : (of_clock : Result Rtc Misfit) (of_board : Result State Misfit) (m : ClockState) → joined of_clock of_board ≡ Ok m → IsMadeOf of_clock of_board m
+unfolding joined
+made_of (Err misfit) of_board m e = cc
+made_of (Ok clock) (Err misfit) m e = cc
+made_of (Ok clock) (Ok board) m e =
+    let is : record { clock = clock; board = board } ≡ m = cc in
+    record { clock = ap (λ (o : ClockState). Ok o.clock) is; board = ap (λ (o : ClockState). Ok o.board) is }
+
+-- A chip whose line the slave remembers.
+pub record IsLined (line : Bool) (outcome : Result Rtc ℕ) (clock : Rtc) : Type 0 where
+  pub found : outcome ≡ Ok clock
+  pub kept : line ≡ line_of clock
+
+lined-by : (b : Bool) (found clock : Rtc) → cond b (Ok found) (Err LINE_RULE) ≡ Ok clock → (b ≡ true) × (found ≡ clock)
+lined-by true found clock e = (refl, cc)
+lined-by false found clock e = cc
+
+lined : (line : Bool) (outcome : Result Rtc ℕ) (clock : Rtc) → with_line line outcome ≡ Ok clock → IsLined line outcome clock
+unfolding with_line
+lined line (Err rule) clock e = cc
+lined line (Ok found) clock e =
+    let is = lined-by (same line (line_of found)) found clock e in
+    record { found = ap (λ (c : Rtc). Ok c) is.1; kept = same-is line (line_of found) is.0 ∙ ap line_of is.1 }
+
+pub clock-lined : (version : ℕ) (line : Bool) (cells : List ℤ) (clock : Rtc) → clock_back version line cells ≡ Ok clock
+    → IsLined line (clock_restored version cells) clock
+clock-lined version line cells clock e = lined line (clock_restored version cells) clock (device-ok CLOCK_DEVICE _ clock e)
+
+pub clock-sound : (version : ℕ) (line : Bool) (cells : List ℤ) (clock : Rtc) → IsUpTo NEWEST_CLOCK version → AreOf (kinds NEWEST_CLOCK) cells
+    → clock_back version line cells ≡ Ok clock → IsSoundClock clock
+clock-sound version line cells clock v are e =
+    clock-is-sound.sound (numbers_back version 0) cells clock (record { pass = record { is_version = v; newest_set = refl }; of_kinds = are })
+    (ok-hook _ clock (clock-lined version line cells clock e).found)
+
+clock-version : (version : ℕ) (line : Bool) (cells : List ℤ) (clock : Rtc) → clock_back version line cells ≡ Ok clock → clock.version ≡ version
+clock-version version line cells clock e =
+    clock-is-sound.version (numbers_back version 0) cells clock (ok-hook _ clock (clock-lined version line cells clock e).found)
+
+-- The slave's lines.
+lines-of : (cells : List ℤ) (chip : Chip) → chip_of cells ≡ chip → number_at cells LINES_CELL ≡ chip.lines
+unfolding chip_of
+lines-of cells chip e = ap (λ (c : Chip). c.lines) e
+
+slave-lines : (level : ℕ) (cells : BoardCells) (board : State) → board_restored level cells ≡ Ok board
+    → number_at cells.slave.items LINES_CELL ≡ board.pair.slave.lines
+slave-lines level cells board e =
+    let pair = chip-ok _ board.pair (board_made_of level (timed (moment_of cells)) _ _ _ board e).pair in
+    let slave = (pair_made_of level _ _ board.pair pair).of_slave in
+    lines-of cells.slave.items board.pair.slave (judged-ok (rules level _ cells.slave.items) (chip_of cells.slave.items) board.pair.slave slave).1
+
+pub both-sound : (version : ℕ) (cells : ClockCells) (clock : Rtc) (board : State) → IsUpTo NEWEST_CLOCK version → AreClockCells cells → clock_back version (slave_line cells.board.slave.items) cells.clock.items ≡ Ok clock → board_restored NEWEST cells.board ≡ Ok board → IsSound (record { clock = clock; board = board })
+both-sound version cells clock board v are a b =
+    let sound = board-is-sound.sound NEWEST cells.board board newest-is are.board b in
+    record {
+      devices = record {
+        clock = clock-sound version _ cells.clock.items clock v are.clock a;
+        level = board-is-sound.level NEWEST cells.board board b;
+      };
+      board = sound;
+      line =
+          slave-bit board.pair sound.pair ∙ sym (ap (λ (lines : ℕ). has lines 0) (slave-lines NEWEST cells.board board b))
+          ∙ (clock-lined version _ cells.clock.items clock a).kept;
+    }
+
+pub restored_is_sound : RestoredIsSound
+restored_is_sound = record {
+  sound = λ version cells m v are e. let made = made_of _ _ m e in both-sound version cells m.clock m.board v are made.clock made.board;
+  version = λ version cells m e. let made = made_of _ _ m e in clock-version version _ cells.clock.items m.clock made.clock;
+}
+
+-- ---- the devices are sound exactly if their cells in the newest clock set meet the rules and the lines agree
+
+-- The slave's line among the saved cells of a sound board.
+slave-there : (board : State) → IsSoundBoard board → slave_line (board_saved NEWEST board).slave.items ≡ has (lines_of board.pair) 8
+unfolding board_saved chip_cells
+slave-there board s = sym (slave-bit board.pair s.pair)
+
+-- Sound devices.
+module _ (m : ClockState) (s : IsSound m) where
+  chip-own : clock_restored m.clock.version (saved_cells NEWEST_CLOCK m.clock) ≡ Ok m.clock
+  unfolding saved_cells
+  chip-own = restored-own m.clock s.devices.clock
+
+  board-own : (back : State) × (board_restored NEWEST (board_saved NEWEST m.board) ≡ Ok back)
+  board-own =
+      subst (λ (level : ℕ). (back : State) × (board_restored level (board_saved NEWEST m.board) ≡ Ok back)) s.devices.level
+      ((board-meets.board m.board).0 s.board).1
+
+  told : IsTold m
+  told = record { clock = ((clock-meets.chip m.clock).0 s.devices.clock).0; board = ((board-meets.board m.board).0 s.board).0; level = s.devices.level }
+
+  own-back : (n : ClockState) × (restored m.clock.version (saved NEWEST_CLOCK m) ≡ Ok n)
+  unfolding saved
+  own-back = (
+    record { clock = m.clock; board = board-own.0 },
+    both-kept m.clock board-own.0 _ _ (device-kept CLOCK_DEVICE m.clock _ (line-kept _ m.clock _ chip-own (slave-there m.board s.board ∙ s.line))) board-own.1,
+  )
+
+-- The converse.
+module _ (m : ClockState) (t : IsTold m) (n : ClockState) (e : restored m.clock.version (saved NEWEST_CLOCK m) ≡ Ok n) where
+  made : IsMadeOf (clock_back m.clock.version (slave_line (board_saved NEWEST m.board).slave.items) (saved_cells NEWEST_CLOCK m.clock))
+      (board_restored NEWEST (board_saved NEWEST m.board)) n
+  unfolding saved
+  made = made_of _ _ n e
+
+  sound-board : IsSoundBoard m.board
+  sound-board =
+      (board-meets.board m.board).1
+      (t.board, (n.board, ap (λ (level : ℕ). board_restored level (board_saved NEWEST m.board)) t.level ∙ made.board))
+
+  is-lined : IsLined (slave_line (board_saved NEWEST m.board).slave.items) (clock_restored m.clock.version (saved_cells NEWEST_CLOCK m.clock)) n.clock
+  is-lined = clock-lined m.clock.version _ (saved_cells NEWEST_CLOCK m.clock) n.clock made.clock
+
+  judged : AllTrue (clock_rules m.clock.version (saved_cells NEWEST_CLOCK m.clock)) × (clock_chip m.clock.version (saved_cells NEWEST_CLOCK m.clock) ≡ n.clock)
+  judged =
+      judged-ok (clock_rules m.clock.version (saved_cells NEWEST_CLOCK m.clock)) (clock_chip m.clock.version (saved_cells NEWEST_CLOCK m.clock)) n.clock is-lined.found
+
+  same-clock : n.clock ≡ m.clock
+  same-clock = sym judged.1 ∙ same-chip m.clock t.clock
+
+  sound-clock : IsSoundClock m.clock
+  sound-clock = (clock-meets.chip m.clock).1 (t.clock, none_failing (clock_rules m.clock.version (saved_cells NEWEST_CLOCK m.clock)) judged.0)
+
+  sound : IsSound m
+  sound = record {
+    devices = record { clock = sound-clock; level = t.level };
+    board = sound-board;
+    line = sym (slave-there m.board sound-board) ∙ is-lined.kept ∙ ap line_of same-clock;
+  }
+
+pub sound_meets_rules : SoundMeetsRules
+sound_meets_rules = record { devices = λ m. ((λ s. (told m s, own-back m s)), (λ h. sound m h.0 h.1.0 h.1.1)) }

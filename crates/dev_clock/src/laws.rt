@@ -6,7 +6,7 @@ ghost use Rattle.dev_clock.specs.SheetNumbers.{NumbersAre};
 /// States that `ClockDevices::new` returns sound devices, and that events keep devices sound.
 ///
 /// This holds for each event and for each list of events.
-#[tactic(auto, using(crate::proofs::SoundLaws::sound_stays_on))]
+#[tactic(auto, using(crate::proofs::StepLaws::sound_stays_on))]
 pub fn sound_law()
     ensures { SoundStays }
 {}
@@ -14,13 +14,13 @@ pub fn sound_law()
 /// States that only `Event::Wait` changes the moment, by its nanoseconds, and not beyond the last.
 ///
 /// No event changes the version.
-#[tactic(auto, using(crate::proofs::ClockLaws::clock_goes_on))]
+#[tactic(auto, using(crate::proofs::StepLaws::clock_goes_on))]
 pub fn clock_law()
     ensures { ClockGoesOn }
 {}
 
 /// States that `Answer::int` is the interrupt output after the event.
-#[tactic(auto, using(crate::proofs::ClockLaws::answers_tell_int))]
+#[tactic(auto, using(crate::proofs::StepLaws::answers_tell_int))]
 pub fn int_law()
     ensures { AnswersTellInt }
 {}
@@ -29,7 +29,7 @@ pub fn int_law()
 /// events.
 ///
 /// They are alike afterwards, too.
-#[tactic(auto, using(crate::proofs::AlikeLaws::alike_stays))]
+#[tactic(auto, using(crate::proofs::StepLaws::alike_stays))]
 pub fn alike_law()
     ensures { AlikeStays }
 {}
@@ -62,7 +62,7 @@ pub fn continuation_law()
 
 /// States that devices that `ClockDevices::of_cells` returns are sound and have the version of the
 /// restore.
-#[tactic(auto, using(crate::proofs::RestoredLaws::restored_is_sound))]
+#[tactic(auto, using(crate::proofs::SavedLaws::restored_is_sound))]
 pub fn restored_law()
     ensures { RestoredIsSound }
 {}
@@ -72,7 +72,7 @@ pub fn restored_law()
 ///
 /// The cells are those of the newest clock set. They are accepted if no rule fails and the lines
 /// agree.
-#[tactic(auto, using(crate::proofs::RuleLaws::sound_meets_rules))]
+#[tactic(auto, using(crate::proofs::SavedLaws::sound_meets_rules))]
 pub fn rules_law()
     ensures { SoundMeetsRules }
 {}
@@ -82,7 +82,7 @@ pub fn rules_law()
 ///
 /// The place is that among the devices of a set. The rule is the one on that input. A `Misfit`
 /// names both.
-#[tactic(auto, using(crate::proofs::SheetNumbers::numbers_are))]
+#[tactic(auto, using(crate::proofs::StepLaws::numbers_are))]
 pub fn numbers_law()
     ensures { NumbersAre }
 {}

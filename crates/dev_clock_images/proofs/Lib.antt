@@ -1,7 +1,2 @@
-pub mod ChipReady
-pub mod ClockCarried
-pub mod ClockReady
-pub mod ClockSets
+pub mod ClockImages
 pub mod Facade
-pub mod NormalClock
-pub mod Places

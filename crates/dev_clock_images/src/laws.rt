@@ -4,19 +4,19 @@ ghost use Rattle.dev_clock_images.specs.Laws.{KindsLaw, ChipIsReady, SavedAreRea
 ghost use Rattle.dev_clock_images.specs.Places.{PlacesLaw};
 
 /// States that in each clock set a device's cells have the kinds that the device saves.
-#[tactic(auto, using(crate::proofs::ClockSets::kinds_are))]
+#[tactic(auto, using(crate::proofs::ClockImages::kinds_are))]
 pub fn kinds_law()
     ensures { KindsLaw }
 {}
 
 /// States that each clock set is compatible with the newest: a comparison of the two accepts.
-#[tactic(auto, using(crate::proofs::ClockSets::sets_are_compatible))]
+#[tactic(auto, using(crate::proofs::ClockImages::sets_are_compatible))]
 pub fn compatible_law()
     ensures { SetsAreCompatible }
 {}
 
 /// States that the image of the chip's cells (`mc146818`) is ready in each clock set.
-#[tactic(auto, using(crate::proofs::ChipReady::chip_is_ready))]
+#[tactic(auto, using(crate::proofs::ClockImages::chip_is_ready))]
 pub fn chip_law()
     ensures { ChipIsReady }
 {}
@@ -25,7 +25,7 @@ pub fn chip_law()
 ///
 /// This is so for any clock set from their version on. The images have the set's versions and
 /// exactly the needed subsections.
-#[tactic(auto, using(crate::proofs::ClockReady::saved_are_ready))]
+#[tactic(auto, using(crate::proofs::ClockImages::saved_are_ready))]
 pub fn saved_law()
     ensures { SavedAreReady }
 {}
@@ -34,7 +34,7 @@ pub fn saved_law()
 /// cells.
 ///
 /// The images are those of sound devices' `ClockDevices::cells`.
-#[tactic(auto, using(crate::proofs::ClockCarried::saved_is_carried))]
+#[tactic(auto, using(crate::proofs::ClockImages::saved_is_carried))]
 pub fn carried_law()
     ensures { SavedIsCarried }
 {}
@@ -44,7 +44,7 @@ pub fn carried_law()
 ///
 /// This is so for any clock set from their version on. The devices that `ClockDevices::of_cells`
 /// restores give the same answers to every list of events as the saved ones.
-#[tactic(auto, using(crate::proofs::ClockCarried::images_come_back))]
+#[tactic(auto, using(crate::proofs::ClockImages::images_come_back))]
 pub fn images_law()
     ensures { ImagesComeBack }
 {}
@@ -53,7 +53,7 @@ pub fn images_law()
 /// requires.
 ///
 /// There is one image for each device. It may have come with any versions and subsections.
-#[tactic(auto, using(crate::proofs::NormalClock::normal_may_be_restored))]
+#[tactic(auto, using(crate::proofs::ClockImages::normal_may_be_restored))]
 pub fn normal_law()
     ensures { NormalMayBeRestored }
 {}
@@ -61,7 +61,7 @@ pub fn normal_law()
 /// States the places of a clock board's devices in each clock set; a `Misfit` names them.
 ///
 /// The clock chip is device 0. The board's devices, 0 to 4 of a shipped set, are 1 to 5.
-#[tactic(auto, using(crate::proofs::Places::places_are))]
+#[tactic(auto, using(crate::proofs::ClockImages::places_are))]
 pub fn places_law()
     ensures { PlacesLaw }
 {}

@@ -1,15 +1,30 @@
--- What was found is when the board is next due.
-use Rattle.dev_due.proofs.Facade.{◌≡◌, ℕ, ◌<◌, ◌≤◌, length, Option, Some, None, arith, ◌+◌, ◌*◌, ◌⊎◌, inl, inr, true, false, sym, ap, ◌∙◌, subst, ⊎_elim, ◌-◌}
-use Rattle.dev_due.proofs.Facade.{◌==◌, Bool, not, ◌||◌, refl, List, IfSome, cases_lt, false_from_ne_true, le-leb, lt-leb, LAST_MOMENT, IsSound, State, loaded}
-use Rattle.dev_due.proofs.Facade.{LoadedBy, edge_of, out_of, IsLoadedBy, counter_of, pit_edge, pit_out, pit-later, IsShift, Shift, character_of, devices_of}
-use Rattle.dev_due.proofs.Facade.{shows_at, board_int, clock_int, IsEnd, timer_of, shows_of, Finds, Found, FoundAt, FoundSend, FoundSends, IsBy, Shown, Tried}
-use Rattle.dev_due.proofs.Facade.{IsSegment, SameClock, SameLine, Board, same, acted, after_act, inputs_of, later_by, settled, step, waited, wires_after}
-use Rattle.dev_due.proofs.Facade.{wires_of, Answer, Wait, ClockState, follows_line, advanced, line_of, passed, ends_within, shows, AreTurns, IsTurn, Turns}
-use Rattle.dev_due.proofs.Facade.{IsSentAfter, has_come, period_in, Rtc, Isa, Clock}
+-- When a board is next due: at one wait at most, and at what was found.
+use Rattle.dev_due.proofs.{Facade.Clock, PortLaws.Covers, PortLaws.IsBase, PortLaws.LeavesBy, PortLaws.covers}
+use Rattle.dev_due.proofs.Facade.{◌≡◌, ℕ, ◌<◌, ◌≤◌, Bool, true, false, Some, None, refl, ap, arith, ⊎_elim, cases_lt, Answer, Event}
+use Rattle.dev_due.proofs.Facade.{OneIsDue, shows, length, Option, ◌+◌, ◌*◌, ◌⊎◌, inl, inr, sym, ◌∙◌, subst, ◌-◌, ◌==◌, not}
+use Rattle.dev_due.proofs.Facade.{◌||◌, List, IfSome, false_from_ne_true, le-leb, lt-leb, LAST_MOMENT, IsSound, State, loaded, LoadedBy, edge_of, out_of}
+use Rattle.dev_due.proofs.Facade.{IsLoadedBy, counter_of, pit_edge, pit_out, pit-later, IsShift, Shift, character_of, devices_of, shows_at, board_int}
+use Rattle.dev_due.proofs.Facade.{clock_int, IsEnd, timer_of, shows_of, Finds, Found, FoundAt, FoundSend, FoundSends, IsBy, Shown, Tried, IsSegment, SameClock}
+use Rattle.dev_due.proofs.Facade.{SameLine, Board, same, acted, after_act, inputs_of, later_by, settled, step, waited, wires_after, wires_of, Wait, ClockState}
+use Rattle.dev_due.proofs.Facade.{follows_line, advanced, line_of, passed, ends_within, AreTurns, IsTurn, Turns, IsSentAfter, has_come, period_in, Rtc, Isa}
 use Rattle.dev_clock.specs.Step.{acted as clock_acted, step as clock_step, waited as clock_waited}
-use Rattle.dev_due.proofs.PortLaws.{Covers, IsBase, LeavesBy, covers}
 
--- ---- bounds of a sound board
+-- ---- a board is next due at one wait at most
+
+never-both : {A : Type 0} (b : Bool) → b ≡ true → b ≡ false → A
+never-both b h l = let bad : true ≡ false = cc in absurd (cc)
+
+pub one_is_due : {S : Type 0} (step : Event → S → Answer × S) (int : S → Bool) → OneIsDue step int
+one_is_due step int m None None h l = refl
+one_is_due step int m None (Some second) h l = never-both (shows step int m second) l.0 (h second)
+one_is_due step int m (Some first) None h l = never-both (shows step int m first) h.0 (l first)
+one_is_due step int m (Some first) (Some second) h l = ⊎_elim
+    (λ (f : first < second). never-both (shows step int m first) h.0 (l.1 first f))
+    (λ (f : second ≤ first). ⊎_elim (λ (g : second < first). never-both (shows step int m second) l.0 (h.1 second g))
+    (λ (g : first ≤ second). ap (λ (n : ℕ). Some n) (omega arith))
+    (cases_lt second first)) (cases_lt first second)
+
+-- ---- what was found is when the board is next due: bounds of a sound board
 
 shift-soon : (now : ℕ) (shift : Option Shift) → now ≤ LAST_MOMENT → IsShift now shift → IfSome shift (λ s. s.due ≤ 4500000000000000000)
 shift-soon now None l h = tt

@@ -6,9 +6,9 @@ pub use Rattle.std.proofs.lemmas.Option.{same_Some}
 pub use Rattle.std.specs.Prelude.{IfSome, is_some, nat_le, nat_lt}
 pub use Rattle.vms_rtc.specs.{Chip.ends_within, Ends.has_come, Ends.period_in, declared.rtc.Rtc.Rtc}
 unfoldable pub use Rattle.vms_rtc.specs.Chip.{passed}
-pub use Rattle.dev_base.proofs.{Choices.either}
+pub use Rattle.dev_base.proofs.RuleLaws.{either}
 pub use Rattle.dev_base.specs.{Bits.has, Bits.same, declared.limits.TheConstants.LAST_MOMENT}
-pub use Rattle.dev_board.proofs.{KeepLaws.loaded}
+pub use Rattle.dev_board.proofs.SoundLaws.{loaded}
 pub use Rattle.dev_board.specs.{Sound.IsSound, State.State, Step.later_by, declared.event.Answer.Answer, declared.event.Event.Event}
 pub use Rattle.dev_board.specs.{declared.event.Event.TheVariants.Wait}
 unfoldable pub use Rattle.dev_board.specs.{Step.acted, Step.after_act, Step.inputs_of, Step.settled, Step.step, Step.waited, Step.wires_after, Wires.wires_of}
@@ -18,7 +18,7 @@ pub use Rattle.dev_due.specs.Boards.{IsEnd, board_int, character_of, clock_int, 
 pub use Rattle.dev_due.specs.Due.{OneIsDue, shows}
 pub use Rattle.dev_due.specs.Search.{Finds, Found, FoundAt, FoundSend, FoundSends, IsBy, IsSegment, SameClock, SameLine, Shown, Tried}
 pub use Rattle.dev_due.specs.declared.boards.Board.{Board, TheVariants.Clock, TheVariants.Isa}
-pub use Rattle.dev_pit.proofs.{Moments.pit-later}
+pub use Rattle.dev_pit.proofs.CallLaws.{pit-later}
 pub use Rattle.dev_pit.specs.{Pit.IsLoadedBy, Pit.counter_of, Turns.AreTurns, Turns.IsTurn, declared.pit.Pit.Pit, declared.turns.Turns.Turns}
 pub use Rattle.dev_pit.specs.Counter.{LoadedBy, edge_of, out_of}
 unfoldable pub use Rattle.dev_pit.specs.Pit.{pit_edge, pit_out}

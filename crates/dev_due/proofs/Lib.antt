@@ -1,4 +1,3 @@
 pub mod DueLaws
 pub mod Facade
-pub mod OneLaw
 pub mod PortLaws

@@ -27,7 +27,7 @@ pub fn clock_due(devices: &ClockDevices) -> Option<u64>
 }
 
 /// States that a board is next due at one wait at most.
-#[tactic(auto, using(crate::proofs::OneLaw::one_is_due))]
+#[tactic(auto, using(crate::proofs::DueLaws::one_is_due))]
 pub fn one_law()
     ensures isa { OneIsDue step board_int }
     ensures clock { OneIsDue clock_step clock_int }

@@ -5,20 +5,20 @@ ghost use Rattle.dev_images.specs.Laws.{TimerIsCarried, ChipIsCarried, PitIsCarr
 ghost use Rattle.dev_images.specs.Places.{PlacesLaw};
 
 /// States that the image of a board's moment (`timer`) is ready in each shipped set from 1 on.
-#[tactic(auto, using(crate::proofs::TimerReady::timer_is_ready))]
+#[tactic(auto, using(crate::proofs::BoardReady::timer_is_ready))]
 pub fn timer_law()
     ensures { TimerIsReady }
 {}
 
 /// States that the image of each chip of the pair (`i8259`) is ready in each shipped set from 1 on.
-#[tactic(auto, using(crate::proofs::ChipReady::chip_is_ready))]
+#[tactic(auto, using(crate::proofs::ShippedDevices::chip_is_ready))]
 pub fn chip_law()
     ensures { ChipIsReady }
 {}
 
 /// States that the image of normal cells of the timer chip (`i8254`) is ready in each shipped set
 /// from 1 on.
-#[tactic(auto, using(crate::proofs::PitReady::pit_is_ready))]
+#[tactic(auto, using(crate::proofs::BoardReady::pit_is_ready))]
 pub fn pit_law()
     ensures { PitIsReady }
 {}
@@ -56,7 +56,7 @@ pub fn carried_chip_law()
 /// States that the cells of `i8254`, from any shipped set from 1 on, are carried as its table says.
 ///
 /// An absent cell must be at its default.
-#[tactic(auto, using(crate::proofs::PitCarried::pit_is_carried))]
+#[tactic(auto, using(crate::proofs::Carried::pit_is_carried))]
 pub fn carried_pit_law()
     ensures { PitIsCarried }
 {}
@@ -65,7 +65,7 @@ pub fn carried_pit_law()
 /// says.
 ///
 /// The cells are those that a serial port saves.
-#[tactic(auto, using(crate::proofs::SerialCarried::serial_is_carried))]
+#[tactic(auto, using(crate::proofs::Carried::serial_is_carried))]
 pub fn carried_serial_law()
     ensures { SerialIsCarried }
 {}
@@ -74,7 +74,7 @@ pub fn carried_serial_law()
 /// cells.
 ///
 /// The images are those of a sound board's `Devices::cells`.
-#[tactic(auto, using(crate::proofs::BoardCarried::saved_is_carried))]
+#[tactic(auto, using(crate::proofs::Carried::saved_is_carried))]
 pub fn carried_law()
     ensures { SavedIsCarried }
 {}
@@ -83,7 +83,7 @@ pub fn carried_law()
 ///
 /// This is so for any set from the board's level on. The board that `Devices::of_cells` restores
 /// gives the same answers to every list of events as the saved one.
-#[tactic(auto, using(crate::proofs::BoardCarried::images_come_back))]
+#[tactic(auto, using(crate::proofs::Carried::images_come_back))]
 pub fn images_law()
     ensures { ImagesComeBack }
 {}
@@ -91,7 +91,7 @@ pub fn images_law()
 /// States that the cells of normal images of the newest set are what `Devices::of_cells` requires.
 ///
 /// There is one image for each device. It may have come with any versions and subsections.
-#[tactic(auto, using(crate::proofs::NormalBoard::normal_may_be_restored))]
+#[tactic(auto, using(crate::proofs::NormalCells::normal_may_be_restored))]
 pub fn normal_law()
     ensures { NormalMayBeRestored }
 {}
@@ -99,7 +99,7 @@ pub fn normal_law()
 /// States the places of a board's devices in each shipped set from 1 on; a `Misfit` names them.
 ///
 /// The timer is device 0, the master 1, the slave 2, the timer chip 3 and the serial port 4.
-#[tactic(auto, using(crate::proofs::Places::places_are))]
+#[tactic(auto, using(crate::proofs::ShippedDevices::places_are))]
 pub fn places_law()
     ensures { PlacesLaw }
 {}

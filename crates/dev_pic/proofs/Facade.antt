@@ -13,9 +13,8 @@ pub use Rattle.vms_kinds.specs.declared.Kind.TheVariants.{U8}
 pub use Rattle.vms_fields.specs.{Fields.cells_under, Pic.i8259_rows}
 pub use Rattle.vms_fields.specs.declared.pic.TheConstants.{BASE, ELCR, IMR, IRR, ISR, LINES}
 pub use Rattle.vms_hooks.specs.{Numbers.Numbers, declared.fault.HookFault.HookFault}
-pub use Rattle.dev_base.proofs.{CellLaws.byte, CellLaws.flag, CellLaws.flag-back, CellLaws.number-lt, Choices.either}
-pub use Rattle.dev_base.proofs.ListLaws.{AllHold, carried_rows, none_lacks, of_rows, one_holds}
-pub use Rattle.dev_base.proofs.RuleLaws.{AllTrue, all_true, first_failing_is_first, hook-ok, judged-all, judged-ok, none_failing, ok-hook}
+pub use Rattle.dev_base.proofs.CellLaws.{byte, flag, flag-back, number-lt, AllHold, carried_rows, none_lacks, of_rows, one_holds}
+pub use Rattle.dev_base.proofs.RuleLaws.{either, AllTrue, all_true, first_failing_is_first, hook-ok, judged-all, judged-ok, none_failing, ok-hook}
 pub use Rattle.dev_base.specs.{Bits.has, Levels.IsLevel, Levels.MayRestore, Rules.first_failing, declared.limits.TheConstants.NEWEST}
 pub use Rattle.dev_base.specs.Cells.{AreOf, flag_number}
 unfoldable pub use Rattle.dev_base.specs.{Hooks.hook_result, Rules.judged_by}

@@ -1,14 +1,7 @@
 pub mod BitLaws
 pub mod Facade
-pub mod InitLaws
 pub mod LineLaws
-pub mod ModeLaws
-pub mod PairLaws
-pub mod PlaceLemmas
-pub mod PollLaws
-pub mod RestoredLaws
 pub mod SavedLaws
-pub mod SheetNumbers
+pub mod SheetLaws
 pub mod StepLaws
 pub mod WinnerLaws
-pub mod WinnerLemmas

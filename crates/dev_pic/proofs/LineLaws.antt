@@ -1,11 +1,11 @@
 -- The remembered lines.
-use Rattle.dev_pic.proofs.{PairLaws.cascade-lt, StepLaws.commanded-keeps, StepLaws.odd-keeps}
 use Rattle.dev_pic.proofs.BitLaws.{each_input, has-or, has-one_other, has-without_same, has-without_other, without_input-lt}
-use Rattle.dev_pic.proofs.Facade.{◌≡◌, ◌≢◌, ℕ, ◌+◌, ◌-◌, ◌*◌, ◌/◌, ◌%◌, ◌<◌, ◌≤◌, ◌^◌, ◌==◌, Bool, true, false, not, ◌&&◌, cond, Option, Some, None, refl, ap}
-use Rattle.dev_pic.proofs.Facade.{sym, ◌∙◌, arith, ⊎_elim, cases_lt, cond_both, nat_tests, and-true, and-false, or-false, has, without_input, winner_at, taken}
-use Rattle.dev_pic.proofs.Facade.{settled, started, selected, written_even, elcr_written, polled_by, read_of, answered, cascaded, LinesAreTaken, LinesAreKept}
-use Rattle.dev_pic.proofs.Facade.{command_of, slave_int_of, lines_of, acked, acked_for, with_cascade, settled_pair, read_pair, written_pair, PairHasRegisters}
-use Rattle.dev_pic.proofs.Facade.{Chip, Role, Master, Slave, PicPair, either}
+use Rattle.dev_pic.proofs.Facade.{◌≡◌, ◌≢◌, ℕ, ◌+◌, ◌-◌, ◌*◌, ◌/◌, ◌%◌, ◌<◌, ◌≤◌, ◌^◌, ◌==◌, Bool, true}
+use Rattle.dev_pic.proofs.Facade.{false, not, ◌&&◌, cond, Option, Some, None, refl, ap, sym, ◌∙◌, arith, ⊎_elim, cases_lt, cond_both, nat_tests}
+use Rattle.dev_pic.proofs.Facade.{and-true, and-false, or-false, has, without_input, winner_at, taken, settled, started, selected, written_even, elcr_written}
+use Rattle.dev_pic.proofs.Facade.{polled_by, read_of, answered, cascaded, LinesAreTaken, LinesAreKept, command_of, slave_int_of, lines_of, acked, acked_for}
+use Rattle.dev_pic.proofs.Facade.{with_cascade, settled_pair, read_pair, written_pair, PairHasRegisters, Chip, Role, Master, Slave, PicPair, either}
+use Rattle.dev_pic.proofs.StepLaws.{cascade-lt, commanded-keeps, odd-keeps}
 
 -- The bits of a number of two bytes.
 low-bit : (high low i : ℕ) → low < 256 → i < 8 → has (high * 256 + low) i ≡ has low i

@@ -1,15 +1,82 @@
--- A saved pair is restored as it was, and what its hooks return says the pair, or the chip and its rule.
-use Rattle.dev_pic.proofs.Facade.{◌≡◌, ℕ, ℤ, List, ◌++◌, take, drop, length, subst, ◌∙◌, sym, ap, zero, suc, ◌+◌, ◌-◌, ◌<◌, ◌≤◌, ◌==◌, Bool, true, false, cond}
-use Rattle.dev_pic.proofs.Facade.{[], ◌∷◌, Ok, refl, arith, pos, codes, Option, Some, None, Result, Err, take-append_seam, drop-append_seam, false≢true}
-use Rattle.dev_pic.proofs.Facade.{nat_tests, nat_le, cell_count, IsChipCells, kinds, cell_in, flag_in, state_number, state_of, named, saved_cells, carried}
-use Rattle.dev_pic.proofs.Facade.{chip_of, registers_hold, levels_hold, mode_holds, rules, restored, cells_under, i8259_rows, Numbers, U8, flag_number, AreOf}
-use Rattle.dev_pic.proofs.Facade.{MayRestore, NEWEST, either, byte, flag, flag-back, AllHold, one_holds, none_lacks, of_rows, carried_rows, AllTrue}
-use Rattle.dev_pic.proofs.Facade.{none_failing, all_true, judged-all, ok-hook, first_failing_is_first, hook-ok, judged-ok, SoundMeetsRules, SavedAreCells}
-use Rattle.dev_pic.proofs.Facade.{SavedIsRestored, FaultsAreTold, CanSave, CanRestore, pair_cells, pair_carried, pair_of, restored_pair, by_number, hook_rule}
-use Rattle.dev_pic.proofs.Facade.{fault_of, hook_restored, HasRegisters, IsSoundChip, MeetsRules, IsSoundPair, Chip, InitState, Ready, Role, Master, Slave}
-use Rattle.dev_pic.proofs.Facade.{ELCR_SINCE, LTIM_SINCE, PicPair, HookFault, hook_result, first_failing, judged_by, ChipFault}
-use Rattle.dev_pic.proofs.RestoredLaws.{sound, made_of, number-ok}
+-- What is saved of a pair and restored from it, and what its hooks return.
+use Rattle.dev_pic.proofs.Facade.{◌≡◌, ℕ, ◌≤◌, ◌%◌, true, List, ℤ, take, drop, Result, Ok, Err, arith, nat_tests, IsLevel, IRR, ISR, IMR}
+use Rattle.dev_pic.proofs.Facade.{LINES, BASE, ELCR, U8, number-lt, AllTrue, judged-ok, hook-ok, cell_count, IsChipCells, chip_of, registers_hold, rules}
+use Rattle.dev_pic.proofs.Facade.{restored, RestoredIsSound, pair_of, restored_pair, by_number, IsSoundChip, IsSoundPair, Chip, Role, Master, Slave, ChipFault}
+use Rattle.dev_pic.proofs.Facade.{PicPair, ◌++◌, length, subst, ◌∙◌, sym, ap, zero, suc, ◌+◌, ◌-◌, ◌<◌, ◌==◌, Bool, false, cond, []}
+use Rattle.dev_pic.proofs.Facade.{◌∷◌, refl, pos, codes, Option, Some, None, take-append_seam, drop-append_seam, false≢true, nat_le, kinds, cell_in}
+use Rattle.dev_pic.proofs.Facade.{flag_in, state_number, state_of, named, saved_cells, carried, levels_hold, mode_holds, cells_under, i8259_rows, Numbers}
+use Rattle.dev_pic.proofs.Facade.{flag_number, AreOf, MayRestore, NEWEST, either, byte, flag, flag-back, AllHold, one_holds, none_lacks, of_rows, carried_rows}
+use Rattle.dev_pic.proofs.Facade.{none_failing, all_true, judged-all, ok-hook, first_failing_is_first, SoundMeetsRules, SavedAreCells, SavedIsRestored}
+use Rattle.dev_pic.proofs.Facade.{FaultsAreTold, CanSave, CanRestore, pair_cells, pair_carried, hook_rule, fault_of, hook_restored, HasRegisters, MeetsRules}
+use Rattle.dev_pic.proofs.Facade.{InitState, Ready, ELCR_SINCE, LTIM_SINCE, HookFault, hook_result, first_failing, judged_by}
 use Rattle.vms_kinds.specs.declared.Kind.TheVariants.{Bool as Truth}
+
+-- ---- a restored pair is sound
+
+-- What rule 1 says.
+low_priority : (lowest state base : ℕ) → registers_hold lowest state base ≡ true → lowest ≤ 7
+unfolding registers_hold
+low_priority lowest state base h = grind (arith, nat_tests)
+
+clear_vectors : (lowest state base : ℕ) → registers_hold lowest state base ≡ true → base % 8 ≡ 0
+unfolding registers_hold
+clear_vectors lowest state base h = grind (arith, nat_tests)
+
+-- A chip whose cells break no rule is sound.
+pub sound : (level : ℕ) (role : Role) (cells : List ℤ) → IsChipCells cells → AllTrue (rules level role cells) → IsSoundChip level role (chip_of cells)
+unfolding chip_of
+sound level role cells is hold = record {
+  registers = record {
+    irr = number-lt U8 _ (is.in_range IRR (omega arith));
+    isr = number-lt U8 _ (is.in_range ISR (omega arith));
+    imr = number-lt U8 _ (is.in_range IMR (omega arith));
+    lines = number-lt U8 _ (is.in_range LINES (omega arith));
+    lowest = low_priority _ _ _ hold.0;
+    base = number-lt U8 _ (is.in_range BASE (omega arith));
+    vectors = clear_vectors _ _ _ hold.0;
+    elcr = number-lt U8 _ (is.in_range ELCR (omega arith));
+    levels = hold.1.0;
+    mode = hold.1.1.1.0;
+  };
+  requests = hold.1.1.0;
+}
+
+restored-sound : (level : ℕ) (role : Role) (cells : List ℤ) (chip : Chip) → IsChipCells cells → restored level role cells ≡ Ok chip
+    → IsSoundChip level role chip
+restored-sound level role cells chip is e =
+    let ok = judged-ok (rules level role cells) (chip_of cells) chip e in
+    rw ok.1 at (sound level role cells is ok.0)
+
+-- A pair is made of two chips that were restored.
+pub record IsMadeOf (level : ℕ) (master slave : Result Chip ℕ) (pair : PicPair) : Type 0 where
+  pub same_level : pair.level ≡ level
+  pub of_master : master ≡ Ok pair.master
+  pub of_slave : slave ≡ Ok pair.slave
+
+pub made_of : (level : ℕ) (master slave : Result Chip ℕ) (pair : PicPair) → pair_of level master slave ≡ Ok pair → IsMadeOf level master slave pair
+unfolding pair_of
+made_of level (Ok master) (Ok slave) pair e = record { same_level = cc; of_master = cc; of_slave = cc }
+made_of level _ _ pair e = cc
+
+pub number-ok : (outcome : Result PicPair ChipFault) (pair : PicPair) → by_number outcome ≡ Ok pair → outcome ≡ Ok pair
+unfolding by_number
+number-ok (Ok found) pair e = cc
+number-ok (Err fault) pair e = cc
+
+pub pair-sound : (level : ℕ) (master slave : List ℤ) (pair : PicPair) → IsLevel level → IsChipCells master → IsChipCells slave
+    → restored_pair level master slave ≡ Ok pair → IsSoundPair pair × (pair.level ≡ level)
+pair-sound level master slave pair l m s e =
+    let made = made_of level (restored level Master master) (restored level Slave slave) pair e in
+    let same = made.same_level in
+    let at_level : (n : ℕ) → n ≡ level → IsLevel n × IsSoundChip n Master pair.master × IsSoundChip n Slave pair.slave = λ n is. rw is (l, restored-sound level Master master pair.master m made.of_master, restored-sound level Slave slave pair.slave s made.of_slave) in
+    let parts = at_level pair.level same in
+    (record { level = parts.0; master = parts.1; slave = parts.2 }, same)
+
+pub restored_is_sound : RestoredIsSound
+restored_is_sound = record {
+  pair = λ numbers cells pair can e. pair-sound numbers.level (take cell_count cells) (drop cell_count cells) pair can.pass.is_level can.master can.slave
+      (number-ok _ pair (hook-ok _ pair e));
+}
 
 -- ---- the parts of a list that joins two
 

@@ -1,7 +1,13 @@
--- The search for a winner finds what the relation says.
-use Rattle.dev_pic.proofs.Facade.{◌≡◌, ℕ, zero, suc, ◌<◌, ◌≤◌, Bool, true, false, cond, List, [], ◌∷◌, Option, Some, None, refl, arith, find, length, get_or}
-use Rattle.dev_pic.proofs.Facade.{sym, MatchOption, subst, ◌∙◌, ap, ⊎_elim, cases_lt, false≢true, get_or-map-range_with_len, has, WinnerIsLeastRequest}
-use Rattle.dev_pic.proofs.Facade.{input_at, order, before, ready_among, winner_of, highest_of, IsWinner, MeansWinner}
+-- The priority order: its places, the searches through it, and the winner that they find.
+use Rattle.dev_pic.proofs.Facade.{◌≡◌, ℕ, zero, suc, ◌<◌, ◌≤◌, Bool, true, false, cond, List, [], ◌∷◌, Option, Some, None, refl, arith}
+use Rattle.dev_pic.proofs.Facade.{find, length, get_or, sym, MatchOption, subst, ◌∙◌, ap, ⊎_elim, cases_lt, false≢true, get_or-map-range_with_len}
+use Rattle.dev_pic.proofs.Facade.{has, WinnerIsLeastRequest, input_at, order, before, ready_among, winner_of, highest_of, IsWinner, MeansWinner, ◌+◌}
+use Rattle.dev_pic.proofs.Facade.{◌==◌, drop, at_drop_more, bit_at-zero, IsFirstPlace, ◌-◌, ◌*◌, ◌/◌, ◌%◌, ◌^◌, max, bit_or, inl, inr}
+use Rattle.dev_pic.proofs.Facade.{◌⊎◌, div-add-mod', pow_pos, bit_at_or, bit_at_above, bit_at_cat_low, bit_at_cat_high, bit_at-trailing_zeros, mod-lt}
+use Rattle.dev_pic.proofs.Facade.{bit_at, rotate_right, trailing_zeros, trailing_of_zero}
+use Rattle.std.proofs.Common.{w8}
+
+-- ---- the search for a winner finds what the relation says
 
 -- What a search means, by places of the list.
 record FoundAt (p q : ℕ → Bool) (xs : List ℕ) (w : ℕ) : Type 0 where
@@ -124,3 +130,185 @@ highest_at lowest inputs place h passes others =
 pub highest_none : (lowest inputs : ℕ) → ((input : ℕ) → input < 8 → has inputs input ≡ false) → highest_of lowest inputs ≡ None
 unfolding highest_of
 highest_none lowest inputs others = find_none (has inputs) (order lowest) (λ j l. rw (at lowest j l) (others (input_at lowest j) (omega arith)))
+
+-- ---- the searches through the priority order, one place at a time
+
+-- The first of a list that passes q before any passes p.
+find-before : (p q : ℕ → Bool) (x : ℕ) (xs : List ℕ) → find q (before p (x ∷ xs)) ≡ cond (p x) None (cond (q x) (Some x) (find q (before p xs)))
+find-before p q x xs =
+    elim (p x) as (λ b. find q (cond b [] (x ∷ before p xs)) ≡ cond b None (cond (q x) (Some x) (find q (before p xs)))) [ true ↦ refl | false ↦ refl ]
+
+-- The input at a place is that place of the order.
+at_place : (lowest place input : ℕ) → place < 8 → input ≡ input_at lowest place → get_or (order lowest) place 0 ≡ input
+at_place lowest place input within is = cc (get_or-map-range_with_len (input_at lowest) 0 8 place place 0 within (omega arith))
+
+-- One step of the search for a winner.
+pub ready_among-more : (lowest requests served place input : ℕ) → place < 8 → input ≡ input_at lowest place → ready_among requests served (drop place (order lowest)) ≡ cond (has served input) None (cond (has requests input) (Some input) (ready_among requests served (drop (place + 1) (order lowest))))
+unfolding ready_among
+ready_among-more lowest requests served place input within is =
+    cc (at_drop_more (ready_among requests served) (order lowest) place 0 within, find-before (has served) (has requests) (get_or (order lowest) place 0) (drop (place + 1) (order lowest)), at_place lowest place input within is)
+
+-- One step of the search for the highest of a set.
+pub find-more : (lowest inputs place input : ℕ) → place < 8 → input ≡ input_at lowest place
+    → find (has inputs) (drop place (order lowest)) ≡ cond (has inputs input) (Some input) (find (has inputs) (drop (place + 1) (order lowest)))
+find-more lowest inputs place input within is = cc (at_drop_more (find (has inputs)) (order lowest) place 0 within, at_place lowest place input within is)
+
+module _ (lowest requests served : ℕ) where
+  -- If no place so far is requested or served, the search continues after them.
+  below : (place : ℕ) → place ≤ 8 → ((other : ℕ) → other < place → has requests (input_at lowest other) ≡ false)
+      → ((other : ℕ) → other < place → has served (input_at lowest other) ≡ false)
+      → ready_among requests served (drop place (order lowest)) ≡ winner_of lowest requests served
+  unfolding winner_of
+  below zero most unasked unserved = refl
+  below (suc place) most unasked unserved =
+      let next : suc place ≡ place + 1 = omega arith in
+      let skipped = unasked place (omega arith) in
+      ap (λ (k : ℕ). ready_among requests served (drop k (order lowest))) next
+      ∙ sym (rw (unserved place (omega arith), skipped) at (ready_among-more lowest requests served place (input_at lowest place) (omega arith) refl))
+      ∙ below place (omega arith) (λ other h. unasked other (omega arith)) (λ other h. unserved other (omega arith))
+
+  -- The first request wins if it comes before the first input in service.
+  pub wins : (first other : ℕ) → IsFirstPlace lowest requests first → IsFirstPlace lowest served other → first < other
+      → Some (input_at lowest first) ≡ winner_of lowest requests served
+  wins first other asked serving before =
+      let requested = asked.there (omega arith) in
+      sym (rw (serving.before first before, requested) at (ready_among-more lowest requests served first (input_at lowest first) (omega arith) refl))
+      ∙ below first asked.most asked.before (λ k h. serving.before k (omega arith))
+
+  -- After the last place there is nothing.
+  no_more : None ≡ ready_among requests served (drop 8 (order lowest))
+  unfolding ready_among
+  no_more = refl
+
+  -- Otherwise nothing wins.
+  pub loses : (first other : ℕ) → IsFirstPlace lowest requests first → IsFirstPlace lowest served other → other ≤ first
+      → None ≡ winner_of lowest requests served
+  loses first other asked serving before = ⊎_elim here ends (cases_lt other 8) where
+    here : other < 8 → None ≡ winner_of lowest requests served
+    here within =
+        sym (rw (serving.there within) at (ready_among-more lowest requests served other (input_at lowest other) within refl))
+        ∙ below other serving.most (λ k h. asked.before k (omega arith)) serving.before
+
+    ends : 8 ≤ other → None ≡ winner_of lowest requests served
+    ends from = no_more ∙ below 8 (omega arith) (λ k h. asked.before k (omega arith)) (λ k h. serving.before k (omega arith))
+
+-- Nothing is found in the empty set.
+find-nothing : (inputs : List ℕ) → find (has 0) inputs ≡ None
+find-nothing [] = refl
+find-nothing (input ∷ inputs) = rw (ap (λ b. b == 1) (bit_at-zero input)) (find-nothing inputs)
+
+-- If nothing is requested, nothing wins.
+pub nothing_wins : (lowest requests served : ℕ) → requests ≡ 0 → None ≡ winner_of lowest requests served
+unfolding winner_of ready_among
+nothing_wins lowest requests served none = sym (rw none (find-nothing (before (has served) (order lowest))))
+
+module _ (lowest inputs : ℕ) where
+  find_below : (place : ℕ) → place ≤ 8 → ((other : ℕ) → other < place → has inputs (input_at lowest other) ≡ false)
+      → find (has inputs) (drop place (order lowest)) ≡ highest_of lowest inputs
+  unfolding highest_of
+  find_below zero most missing = refl
+  find_below (suc place) most missing =
+      let next : suc place ≡ place + 1 = omega arith in
+      ap (λ (k : ℕ). find (has inputs) (drop k (order lowest))) next
+      ∙ sym (rw (missing place (omega arith)) at (find-more lowest inputs place (input_at lowest place) (omega arith) refl))
+      ∙ find_below place (omega arith) (λ other h. missing other (omega arith))
+
+  -- The first place of a set has its highest input.
+  pub is_highest : (first : ℕ) → IsFirstPlace lowest inputs first → first < 8 → Some (input_at lowest first) ≡ highest_of lowest inputs
+  is_highest first is within =
+      sym (rw (is.there within) at (find-more lowest inputs first (input_at lowest first) within refl)) ∙ find_below first is.most is.before
+
+  pub has_none : (first : ℕ) → IsFirstPlace lowest inputs first → 8 ≤ first → None ≡ highest_of lowest inputs
+  has_none first is from = find_below 8 (omega arith) (λ k h. is.before k (omega arith))
+
+-- ---- the place of an input in the priority order is that of its bit in a rotated register
+
+-- A bit of a number that was shifted down, and of one that was shifted up and cut.
+down : (n s k : ℕ) → bit_at (n / 2 ^ s) k ≡ bit_at n (s + k)
+down n s k =
+    ap (bit_at (n / 2 ^ s)) (sym (omega arith)) ∙ sym (bit_at_cat_high (n / 2 ^ s) s (n % 2 ^ s) (s + k) (mod-lt n (pow_pos s)) (omega arith))
+    ∙ ap (λ m. bit_at m (s + k)) (div-add-mod' n (2 ^ s))
+
+cut : (n k : ℕ) → k < 8 → bit_at (n % 2 ^ 8) k ≡ bit_at n k
+cut n k within = cc (bit_at_cat_low (n / 2 ^ 8) 8 (n % 2 ^ 8) k within, div-add-mod' n (2 ^ 8))
+
+with_zero : (m : ℕ) → m + 0 ≡ m
+with_zero m = omega arith
+
+up_low : (n j k : ℕ) → k < 8 → k < j → bit_at (n * 2 ^ j % 2 ^ 8) k ≡ 0
+up_low n j k within below = cc (cut (n * 2 ^ j) k within, with_zero (n * 2 ^ j), bit_at_cat_low n j 0 k below, bit_at-zero k)
+
+up_high : (n j k : ℕ) → k < 8 → j ≤ k → bit_at (n * 2 ^ j % 2 ^ 8) k ≡ bit_at n (k - j)
+up_high n j k within from = cc (cut (n * 2 ^ j) k within, with_zero (n * 2 ^ j), bit_at_cat_high n j 0 k (pow_pos j) from)
+
+max_left : (a b : ℕ) → b ≡ 0 → max a b ≡ a
+max_left a b e = omega arith
+
+max_right : (a b : ℕ) → a ≡ 0 → max a b ≡ b
+max_right a b e = omega arith
+
+max_same : (a b : ℕ) → b ≡ a → max a b ≡ a
+max_same a b e = omega arith
+
+-- A bit of a register that was rotated right by `s`: its upper part goes down and its lower part up
+-- by `j`.
+bit_turned : (n s j k : ℕ) → n < 256 → s + j ≡ 8 → k < 8 → bit_at (bit_or (n / 2 ^ s) (n * 2 ^ j % 2 ^ 8)) k ≡ bit_at n ((s + k) % 8)
+bit_turned n s j k small whole within =
+    bit_at_or (n / 2 ^ s) (n * 2 ^ j % 2 ^ 8) k ∙ ⊎_elim low high (cases_lt k j) where
+      low : k < j → max (bit_at (n / 2 ^ s) k) (bit_at (n * 2 ^ j % 2 ^ 8) k) ≡ bit_at n ((s + k) % 8)
+      low below = max_left _ _ (up_low n j k within below) ∙ down n s k ∙ ap (bit_at n) (omega arith)
+
+      high : j ≤ k → max (bit_at (n / 2 ^ s) k) (bit_at (n * 2 ^ j % 2 ^ 8) k) ≡ bit_at n ((s + k) % 8)
+      high from = max_right _ _ (down n s k ∙ bit_at_above n 8 (s + k) small (omega arith)) ∙ up_high n j k within from ∙ ap (bit_at n) (omega arith)
+
+bit_unturned : (n k : ℕ) → n < 256 → k < 8 → bit_at (bit_or (n / 2 ^ 0) (n * 2 ^ 0 % 2 ^ 8)) k ≡ bit_at n k
+bit_unturned n k small within =
+    let back : k - 0 ≡ k = omega arith in
+    let on : 0 + k ≡ k = omega arith in
+    let left : bit_at (n / 2 ^ 0) k ≡ bit_at n k = cc (down n 0 k) in
+    bit_at_or (n / 2 ^ 0) (n * 2 ^ 0 % 2 ^ 8) k ∙ max_same _ _ ((cc (up_high n 0 k within (omega arith))) ∙ sym left) ∙ left
+
+abbrev turned_bit : ℕ → ℕ → ℕ
+turned_bit n s = bit_or (n / 2 ^ s) (n * 2 ^ ((8 - s) % 8) % 2 ^ 8)
+
+turned_by : (n s k : ℕ) → n < 256 → s < 8 → k < 8 → bit_at (turned_bit n s) k ≡ bit_at n ((s + k) % 8)
+turned_by n zero k small turns within = bit_unturned n k small within ∙ ap (bit_at n) (omega arith)
+turned_by n (suc s) k small turns within =
+    ap (λ j. bit_at (bit_or (n / 2 ^ suc s) (n * 2 ^ j % 2 ^ 8)) k) (omega arith) ∙ bit_turned n (suc s) (8 - suc s) k small (omega arith) within
+
+-- The bit at a place is that of the input there.
+bit_at_place : (lowest inputs place : ℕ) → inputs < 256 → place < 8 → bit_at (rotate_right w8 inputs (lowest + 1)) place ≡ bit_at inputs (input_at lowest place)
+bit_at_place lowest inputs place small within = turned_by inputs ((lowest + 1) % 8) place small (omega arith) within ∙ ap (bit_at inputs) (omega arith)
+
+by_bit : (lowest inputs place bit : ℕ) → inputs < 256 → place < 8 → bit_at (rotate_right w8 inputs (lowest + 1)) place ≡ bit
+    → has inputs (input_at lowest place) ≡ (bit == 1)
+by_bit lowest inputs place bit small within e = rw (sym (bit_at_place lowest inputs place small within) ∙ e)
+
+none : (lowest inputs : ℕ) → inputs < 256 → rotate_right w8 inputs (lowest + 1) ≡ 0 → IsFirstPlace lowest inputs (trailing_zeros w8 0)
+none lowest inputs small zeros =
+    rw (trailing_of_zero 8) (record {
+      most = omega arith;
+      before = λ other h. by_bit lowest inputs other 0 small h (rw zeros (bit_at-zero other));
+      there = λ h. absurd (omega arith);
+    })
+
+some : (lowest inputs : ℕ) → inputs < 256 → 0 < rotate_right w8 inputs (lowest + 1) → rotate_right w8 inputs (lowest + 1) < 256
+    → IsFirstPlace lowest inputs (trailing_zeros w8 (rotate_right w8 inputs (lowest + 1)))
+some lowest inputs small positive fits =
+    let found = bit_at-trailing_zeros w8 (rotate_right w8 inputs (lowest + 1)) positive fits in
+    record {
+      most = omega arith;
+      before = λ other h. by_bit lowest inputs other 0 small (omega arith) (found.2 other h);
+      there = λ h. by_bit lowest inputs _ 1 small h found.1;
+    }
+
+-- The lowest bit of a register that was rotated right is the first place whose input is in the set.
+pub is_first : (lowest inputs : ℕ) → inputs < 256 → rotate_right w8 inputs (lowest + 1) < 256
+    → IsFirstPlace lowest inputs (trailing_zeros w8 (rotate_right w8 inputs (lowest + 1)))
+is_first lowest inputs small fits = ⊎_elim zero_of (λ h. some lowest inputs small h fits) (cases_le _) where
+  cases_le : (n : ℕ) → (n ≡ 0) ⊎ (0 < n)
+  cases_le zero = inl refl
+  cases_le (suc n) = inr (omega arith)
+
+  zero_of : rotate_right w8 inputs (lowest + 1) ≡ 0 → IsFirstPlace lowest inputs (trailing_zeros w8 (rotate_right w8 inputs (lowest + 1)))
+  zero_of e = rw e (none lowest inputs small e)

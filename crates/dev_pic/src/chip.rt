@@ -131,7 +131,7 @@ impl Chip {
 
     /// Returns the input that is served next. If there is one, the interrupt output (INT) is high.
     #[inline(always)]
-    #[tactic(auto, using(crate::proofs::WinnerLemmas::nothing_wins), unfolding(crate::specs::Chip::winner_at))]
+    #[tactic(auto, using(crate::proofs::WinnerLaws::nothing_wins), unfolding(crate::specs::Chip::winner_at))]
     pub fn winner(&self, role: Role) -> Option<u8>
         ensures winner { result ≡ winner_at role self.now }
         ensures input { IfSome result (λ winner. winner < 8) }

@@ -13,7 +13,7 @@ pub fn winner_law()
 {}
 
 /// States that a request that `imr` masks never wins ("Interrupt Mask Register (IMR)").
-#[tactic(auto, using(crate::proofs::ModeLaws::masked_never_wins))]
+#[tactic(auto, using(crate::proofs::SheetLaws::masked_never_wins))]
 pub fn mask_law()
     ensures { MaskedNeverWins }
 {}
@@ -28,7 +28,7 @@ pub fn level_inputs_law()
 ///
 /// They set `base` and the modes. Nothing is then in service or masked, and only level inputs are
 /// still requested.
-#[tactic(auto, using(crate::proofs::InitLaws::initializes_by_words))]
+#[tactic(auto, using(crate::proofs::SheetLaws::initializes_by_words))]
 pub fn initialization_law()
     ensures { InitializesByWords }
 {}
@@ -37,7 +37,7 @@ pub fn initialization_law()
 /// priority.
 ///
 /// This is the mode without `nested` and `special_mask` ("Fully Nested Mode").
-#[tactic(auto, using(crate::proofs::ModeLaws::served_blocks_lower))]
+#[tactic(auto, using(crate::proofs::SheetLaws::served_blocks_lower))]
 pub fn nesting_law()
     ensures { ServedBlocksLower }
 {}
@@ -45,7 +45,7 @@ pub fn nesting_law()
 /// States that a non-specific EOI ends the service of highest priority.
 ///
 /// A rotating one also makes its input `lowest` ("End of Interrupt (EOI)", "Automatic Rotation").
-#[tactic(auto, using(crate::proofs::ModeLaws::eoi_ends_highest))]
+#[tactic(auto, using(crate::proofs::SheetLaws::eoi_ends_highest))]
 pub fn eoi_law()
     ensures { EoiEndsHighest }
 {}
@@ -54,7 +54,7 @@ pub fn eoi_law()
 ///
 /// The same holds for the slave if its output is the master's winner ("Edge and Level Triggered
 /// Modes", on the default IR7).
-#[tactic(auto, using(crate::proofs::ModeLaws::ack_without_winner))]
+#[tactic(auto, using(crate::proofs::SheetLaws::ack_without_winner))]
 pub fn default_law()
     ensures { AckWithoutWinner }
 {}
@@ -62,7 +62,7 @@ pub fn default_law()
 /// States that a taken edge input loses its request in `irr`, and a level input keeps it.
 ///
 /// Without automatic EOI the input is then in `isr`.
-#[tactic(auto, using(crate::proofs::ModeLaws::takes_winner))]
+#[tactic(auto, using(crate::proofs::SheetLaws::takes_winner))]
 pub fn service_law()
     ensures { TakesWinner }
 {}
@@ -70,7 +70,7 @@ pub fn service_law()
 /// States that a poll returns 0x80 plus the winner, which is taken, or 0 ("Poll Command").
 ///
 /// The poll is the first `PicPair::read` of either port after the word that requests it.
-#[tactic(auto, using(crate::proofs::PollLaws::polls_once))]
+#[tactic(auto, using(crate::proofs::SheetLaws::polls_once))]
 pub fn poll_law()
     ensures { PollsOnce }
 {}
@@ -79,7 +79,7 @@ pub fn poll_law()
 ///
 /// Every other input blocks as usual ("The Special Fully Nested Mode"). On the chip the slave's
 /// input still blocks inputs of lower priority.
-#[tactic(auto, using(crate::proofs::PollLaws::nests_specially))]
+#[tactic(auto, using(crate::proofs::SheetLaws::nests_specially))]
 pub fn special_nesting_law()
     ensures { NestsSpecially }
 {}
@@ -87,13 +87,13 @@ pub fn special_nesting_law()
 /// States that with `rotate` in automatic EOI a taken input gets the lowest priority.
 ///
 /// Without it priorities stay ("Automatic Rotation").
-#[tactic(auto, using(crate::proofs::PollLaws::rotates_at_once))]
+#[tactic(auto, using(crate::proofs::SheetLaws::rotates_at_once))]
 pub fn rotation_law()
     ensures { RotatesAtOnce }
 {}
 
 /// States which inputs are requested after `PicPair::settle` ("Edge and Level Triggered Modes").
-#[tactic(auto, using(crate::proofs::ModeLaws::takes_lines_over))]
+#[tactic(auto, using(crate::proofs::SheetLaws::takes_lines_over))]
 pub fn lines_law()
     ensures { TakesLinesOver }
 {}
@@ -116,13 +116,13 @@ pub fn kept_lines_law()
 /// range.
 ///
 /// After `PicPair::settle` the pair is sound.
-#[tactic(auto, using(crate::proofs::PairLaws::steps_keep_registers))]
+#[tactic(auto, using(crate::proofs::StepLaws::steps_keep_registers))]
 pub fn steps_law()
     ensures { StepsKeepRegisters }
 {}
 
 /// States that no step of `PicPair` changes the level.
-#[tactic(auto, using(crate::proofs::PairLaws::steps_keep_level))]
+#[tactic(auto, using(crate::proofs::StepLaws::steps_keep_level))]
 pub fn level_law()
     ensures { StepsKeepLevel }
 {}
@@ -161,14 +161,14 @@ pub fn fault_law()
 {}
 
 /// States that a pair that the hook `load` returns is sound and has the level of the restore.
-#[tactic(auto, using(crate::proofs::RestoredLaws::restored_is_sound))]
+#[tactic(auto, using(crate::proofs::SavedLaws::restored_is_sound))]
 pub fn restored_law()
     ensures { RestoredIsSound }
 {}
 
 /// States the first levels with edge/level registers, 2, and with the level mode of ICW1, 4, and
 /// that a chip has 17 cells in the newest set.
-#[tactic(auto, using(crate::proofs::SheetNumbers::numbers_are))]
+#[tactic(auto, using(crate::proofs::SheetLaws::numbers_are))]
 pub fn numbers_law()
     ensures { NumbersAre }
 {}

@@ -11,7 +11,7 @@ fn input_at(lowest: u8, place: u8) -> u8
 }
 
 /// Returns the first place of the priority order whose input is in `inputs`, or 8 if none is.
-#[tactic(auto, using(crate::proofs::PlaceLemmas::is_first))]
+#[tactic(auto, using(crate::proofs::WinnerLaws::is_first))]
 fn first_place(lowest: u8, inputs: u8) -> u8
     ensures { IsFirstPlace lowest inputs result }
 {

@@ -1,11 +1,86 @@
--- What calls leave unchanged in a counter.
-use Rattle.dev_pit.proofs.{Chips.at_counter, Chips.at_step, Edges.ticks-mono}
-use Rattle.dev_pit.proofs.CounterSteps.{same, goes-on, latched-goes_on, read_back-goes_on, read-goes_on}
-use Rattle.dev_pit.proofs.Facade.{◌≡◌, ℕ, ◌+◌, ◌-◌, ◌<◌, ◌≤◌, ◌==◌, Bool, true, false, ◌&&◌, Option, Some, None, refl, arith, ⊎_elim, nat_tests, nat_le}
-use Rattle.dev_pit.proofs.Facade.{is_some, cases_Bool, reads, writes, called, programs, sets_mode_of, loads, completes, control_word, out_at, ticks, out_of}
-use Rattle.dev_pit.proofs.Facade.{out_since, written, read_back, written_by, written_low_first, read_of, latched, GoesOn, CountingGoesOn, TerminalCountStays}
-use Rattle.dev_pit.proofs.Facade.{counter_of, pit_read, pit_out, asked_back, controlled, pit_written, ControlWord, LatchCount, SetMode, ReadBack, Counter}
-use Rattle.dev_pit.proofs.Facade.{READ_BACK_LEVEL, Access, LowThenHigh, TerminalCount, Pit, either}
+-- What calls do to one counter of a chip: its count, its OUT, and the moment at which it was
+-- loaded.
+use Rattle.dev_pit.proofs.EdgeLaws.{ticks-mono}
+use Rattle.dev_pit.proofs.Facade.{◌≡◌, ℕ, zero, suc, ◌<◌, List, [], ◌∷◌, length, slice_index_or, slice_set, refl, ap, arith, subst}
+use Rattle.dev_pit.proofs.Facade.{length-set, powered_on, counter_of, with_counter, Counter, Pit, Bool, Option, Some, None, ◌∙◌, either, latched}
+use Rattle.dev_pit.proofs.Facade.{status_latched, read_back, read_of, read_by, counted_of, counted_by, GoesOn, Access, LowThenHigh, ◌+◌, ◌-◌, ◌≤◌}
+use Rattle.dev_pit.proofs.Facade.{◌==◌, true, false, ◌&&◌, ⊎_elim, nat_tests, nat_le, is_some, cases_Bool, reads, writes, called, programs}
+use Rattle.dev_pit.proofs.Facade.{sets_mode_of, loads, completes, control_word, out_at, ticks, out_of, out_since, written, written_by, written_low_first}
+use Rattle.dev_pit.proofs.Facade.{CountingGoesOn, TerminalCountStays, pit_read, pit_out, asked_back, controlled, pit_written, ControlWord, LatchCount, SetMode}
+use Rattle.dev_pit.proofs.Facade.{ReadBack, READ_BACK_LEVEL, TerminalCount, sym, get_or_default, LoadedBy, loaded, programmed, IsLoadedBy, Mode}
+
+-- ---- the counters of a chip, and what holds for each after one was replaced
+
+-- A fact of an element after another or the same was replaced: of the new one at its place, of the
+-- old one elsewhere.
+read-set : (P : Counter → Type 0) (xs : List Counter) (k j : ℕ) (counter default : Counter) → (k ≡ j → P counter) → P (slice_index_or xs k default)
+    → P (slice_index_or (slice_set xs j counter) k default)
+read-set P (x ∷ xs) zero zero counter default here there = here refl
+read-set P (x ∷ xs) (suc k) (suc j) counter default here there = read-set P xs k j counter default (λ e. here (ap suc e)) there
+read-set P _ _ _ counter default here there = there
+
+-- A fact of counter `k` after counter `j` was replaced.
+pub at_counter : (P : Counter → Type 0) (k j : ℕ) (counter : Counter) (pit : Pit) → (k ≡ j → P counter) → P (counter_of k pit)
+    → P (counter_of k (with_counter j counter pit))
+at_counter P k j counter pit here there = read-set P pit.counters k j counter powered_on here there
+
+-- A fact of counter `k` after counter `j` made a step.
+pub at_step : (P : Counter → Type 0) (k j : ℕ) (step : Counter → Counter) (pit : Pit) → (k ≡ j → P (step (counter_of k pit))) → P (counter_of k pit)
+    → P (counter_of k (with_counter j (step (counter_of j pit)) pit))
+at_step P k j step pit here there = at_counter P k j _ pit (λ e. subst (λ i. P (step (counter_of i pit))) e (here e)) there
+
+-- The number of counters stays.
+pub count-with : (j : ℕ) (counter : Counter) (pit : Pit) → length (with_counter j counter pit).counters ≡ length pit.counters
+count-with j counter pit = length-set pit.counters j counter
+
+-- Three counters are those numbered 0 to 2.
+pub three_counters : (xs : List Counter) (default : Counter) → length xs ≡ 3
+    → slice_index_or xs 0 default ∷ slice_index_or xs 1 default ∷ slice_index_or xs 2 default ∷ [] ≡ xs
+three_counters (a ∷ b ∷ c ∷ []) default e = refl
+three_counters _ default e = absurd (omega arith)
+
+-- A fact of each of three.
+pub each_of : (P : ℕ → Type 0) → P 0 → P 1 → P 2 → (k : ℕ) → k < 3 → P k
+each_of P a b c zero l = a
+each_of P a b c (suc zero) l = b
+each_of P a b c (suc (suc zero)) l = c
+each_of P a b c (suc (suc (suc k))) l = absurd (omega arith)
+
+-- ---- which steps of a counter leave its counting as it was
+
+pub same : (counter : Counter) → GoesOn counter counter
+same counter = record { count = refl; mode = refl; loaded_at = refl }
+
+pub goes-on : (first second third : Counter) → GoesOn first second → GoesOn second third → GoesOn first third
+goes-on first second third a b = record { count = b.count ∙ a.count; mode = b.mode ∙ a.mode; loaded_at = b.loaded_at ∙ a.loaded_at }
+
+pub latched-goes_on : (now : ℕ) (counter : Counter) → GoesOn counter (latched now counter)
+unfolding latched
+latched-goes_on now counter = record { count = refl; mode = refl; loaded_at = refl }
+
+pub read_back-goes_on : (count status : Bool) (now : ℕ) (counter : Counter) → GoesOn counter (read_back count status now counter)
+unfolding read_back latched status_latched
+read_back-goes_on count status now counter = record { count = grind arith; mode = grind arith; loaded_at = grind arith }
+
+-- A counter that counts on, as the second part of an answer.
+abbrev Goes : Counter → ℕ × Counter → Type 0
+Goes before answer = GoesOn before answer.1
+
+counted_by-goes_on : (access : Access) (count : ℕ) (counter : Counter) → Goes counter (counted_by access count counter)
+counted_by-goes_on LowThenHigh count counter =
+    either (Goes counter) counter.read_high _ _ (record { count = refl; mode = refl; loaded_at = refl }) (record { count = refl; mode = refl; loaded_at = refl })
+counted_by-goes_on _ count counter = record { count = refl; mode = refl; loaded_at = refl }
+
+read_by-goes_on : (status : Option ℕ) (now : ℕ) (counter : Counter) → Goes counter (read_by status now counter)
+unfolding counted_of
+read_by-goes_on None now counter = counted_by-goes_on counter.access _ counter
+read_by-goes_on (Some status) now counter = record { count = refl; mode = refl; loaded_at = refl }
+
+pub read-goes_on : (now : ℕ) (counter : Counter) → GoesOn counter (read_of now counter).1
+unfolding read_of
+read-goes_on now counter = read_by-goes_on counter.status now counter
+
+-- ---- what calls leave unchanged in a counter
 
 asked-go_on : (count status : Bool) (j k now : ℕ) (before : Counter) (pit : Pit) → GoesOn before (counter_of k pit)
     → GoesOn before (counter_of k (asked_back count status j now pit))
@@ -77,3 +152,85 @@ terminal_count_stays = record {
       rw (out-goes_on (counter_of k pit) (counter_of k (called call moment pit)) later (counting_goes_on k moment call pit small valid p l))
       (out-later (counter_of k pit) now later m h e);
 }
+
+-- ---- a counter that was loaded by a moment was loaded by each later one
+
+pub loaded_by-later : (load : Option ℕ) (now later : ℕ) → LoadedBy now load → now ≤ later → LoadedBy later load
+loaded_by-later None now later h l = tt
+loaded_by-later (Some load) now later h l = omega arith
+
+-- A counter that wasn't loaded after a moment.
+abbrev Loaded : (now : ℕ) → Counter → Type 0
+Loaded now counter = LoadedBy now counter.loaded_at
+
+pub goes_on-loaded : (now : ℕ) (before after : Counter) → GoesOn before after → Loaded now before → Loaded now after
+goes_on-loaded now before after g h = subst (LoadedBy now) (sym g.loaded_at) h
+
+with-loaded : (now j : ℕ) (counter : Counter) (pit : Pit) → IsLoadedBy now pit → Loaded now counter → IsLoadedBy now (with_counter j counter pit)
+with-loaded now j counter pit h l k within = at_counter (Loaded now) k j counter pit (λ here. l) (h k within)
+
+loaded-now : (count now : ℕ) (counter : Counter) → Loaded now (loaded count now counter)
+unfolding loaded
+loaded-now count now counter = omega arith
+
+first-loaded : (held : Option ℕ) (value now : ℕ) (counter : Counter) → Loaded now counter → Loaded now (written_low_first held value now counter)
+first-loaded None value now counter h = h
+first-loaded (Some low) value now counter h = loaded-now _ now _
+
+by-loaded : (access : Access) (value now : ℕ) (counter : Counter) → Loaded now counter → Loaded now (written_by access value now counter)
+by-loaded LowThenHigh value now counter h = first-loaded counter.held_low value now counter h
+by-loaded _ value now counter h = loaded-now _ now counter
+
+pub written-loaded : (value now : ℕ) (counter : Counter) → Loaded now counter → Loaded now (written value now counter)
+unfolding written
+written-loaded value now counter h = by-loaded counter.access value now counter h
+
+programmed-loaded : (access : Access) (mode : Mode) (bcd : Bool) (now : ℕ) (counter : Counter) → Loaded now (programmed access mode bcd counter)
+unfolding programmed powered_on
+programmed-loaded access mode bcd now counter = tt
+
+-- A step of counter j that doesn't load it, or loads it now.
+step-loaded : (now j : ℕ) (step : Counter → Counter) (pit : Pit) → ((counter : Counter) → Loaded now counter → Loaded now (step counter)) → IsLoadedBy now pit
+    → IsLoadedBy now (with_counter j (step (counter_of j pit)) pit)
+step-loaded now j step pit keeps h k within =
+    at_step (Loaded now) k j step pit (λ here. keeps (counter_of k pit) (h k within)) (h k within)
+
+-- The whole chip.
+asked_loaded : (count status : Bool) (k now : ℕ) (pit : Pit) → IsLoadedBy now pit → IsLoadedBy now (asked_back count status k now pit)
+unfolding asked_back
+asked_loaded count status k now pit h = step-loaded now k (read_back count status now) pit (λ c. goes_on-loaded now c _ (read_back-goes_on _ _ now c)) h
+
+controlled-loaded : (word : ControlWord) (now : ℕ) (pit : Pit) → IsLoadedBy now pit → IsLoadedBy now (controlled word now pit)
+unfolding controlled
+controlled-loaded (LatchCount k) now pit h = step-loaded now k (latched now) pit (λ c. goes_on-loaded now c _ (latched-goes_on now c)) h
+controlled-loaded (SetMode k access mode bcd) now pit h = with-loaded now k _ pit h (programmed-loaded access mode bcd now (counter_of k pit))
+controlled-loaded (ReadBack count status first second third) now pit h =
+    either (IsLoadedBy now) (nat_le READ_BACK_LEVEL pit.level) _ _ (asked_loaded _ _ 2 now _ (asked_loaded _ _ 1 now _ (asked_loaded _ _ 0 now pit h))) h
+
+pub pit-later : (now later : ℕ) (pit : Pit) → IsLoadedBy now pit → now ≤ later → IsLoadedBy later pit
+pit-later now later pit h l k within = loaded_by-later (counter_of k pit).loaded_at now later (h k within) l
+
+-- The chip after a step of a counter that exists, which doesn't depend on the default for one that doesn't.
+module _ (k now : ℕ) (after default : Counter) (pit : Pit) (within : k < length pit.counters) (h : IsLoadedBy now pit) where
+  abbrev counter : Counter
+  counter = slice_index_or pit.counters k default
+
+  stepped : (step : Counter → Counter) → after ≡ step counter → ((counter : Counter) → Loaded now counter → Loaded now (step counter)) → (later : ℕ)
+      → now ≤ later → IsLoadedBy later (with_counter k after pit)
+  stepped step e keeps later l =
+      subst (λ c. IsLoadedBy later (with_counter k c pit)) (sym (e ∙ ap step (get_or_default pit.counters k default powered_on within)))
+      (pit-later now later (with_counter k (step (counter_of k pit)) pit) (step-loaded now k step pit keeps h) l)
+
+  pub read_keeps : (value : ℕ) → (value, after) ≡ read_of now counter → (later : ℕ) → now ≤ later → IsLoadedBy later (with_counter k after pit)
+  read_keeps value e = stepped (λ c. (read_of now c).1) (ap (λ (a : ℕ × Counter). a.1) e) (λ c. goes_on-loaded now c _ (read-goes_on now c))
+
+  pub written_keeps : (value : ℕ) → after ≡ written value now counter → (later : ℕ) → now ≤ later → IsLoadedBy later (with_counter k after pit)
+  written_keeps value e = stepped (written value now) e (written-loaded value now)
+
+  pub asked_keeps : (count status : Bool) → after ≡ read_back count status now counter → IsLoadedBy now (with_counter k after pit)
+  asked_keeps count status e = stepped (read_back count status now) e (λ c. goes_on-loaded now c _ (read_back-goes_on _ _ now c)) now (omega arith)
+
+pub controlled_keeps : (word : ControlWord) (now later : ℕ) (after pit : Pit) → after ≡ controlled word now pit → IsLoadedBy now pit → now ≤ later
+    → IsLoadedBy later after
+controlled_keeps word now later after pit e h l =
+    subst (IsLoadedBy later) (sym e) (pit-later now later (controlled word now pit) (controlled-loaded word now pit h) l)

@@ -12,10 +12,8 @@ pub use Rattle.vms_kinds.specs.declared.Kind.TheVariants.{U16, U64, U8}
 pub use Rattle.vms_fields.specs.{Fields.kinds_under, Fields.numbers_of, Pit.channel_rows, Pit.status_rows}
 pub use Rattle.vms_fields.specs.declared.pit.TheConstants.{CELLS, CHANNEL_CELLS, COUNT, LATCH, LOAD_TIME, STATUS_LATCHED, STATUS_SINCE, WLOW}
 pub use Rattle.vms_hooks.specs.Numbers.{Numbers}
-pub use Rattle.dev_base.proofs.{Choices.either, Quotients.grown, Quotients.quotient_mono}
-pub use Rattle.dev_base.proofs.CellLaws.{byte, flag, flag-back, long, number-lt, of_both, of_more, of_none, word}
-pub use Rattle.dev_base.proofs.ListLaws.{AllHold, carried_rows, of_rows, one_holds}
-pub use Rattle.dev_base.proofs.RuleLaws.{AllTrue, all_true, hook-ok, judged-all, judged-ok, none_failing, ok-hook}
+pub use Rattle.dev_base.proofs.CellLaws.{byte, flag, flag-back, long, number-lt, of_both, of_more, of_none, word, AllHold, carried_rows, of_rows, one_holds}
+pub use Rattle.dev_base.proofs.RuleLaws.{either, grown, quotient_mono, AllTrue, all_true, hook-ok, judged-all, judged-ok, none_failing, ok-hook}
 pub use Rattle.dev_base.specs.{Cells.AreOf, Cells.cell_at, Cells.flag_at, Cells.flag_number, Cells.kind_at, Cells.number_at, Levels.IsLevel, Levels.MayRestore}
 pub use Rattle.dev_base.specs.{Rules.first_failing, declared.limits.TheConstants.LAST_MOMENT, declared.limits.TheConstants.NEWEST}
 pub use Rattle.dev_pit.specs.{Channel.held_if, Control.control_word, Count.high_part, Count.period, GoesOn.GoesOn, Pit.IsLoadedBy, Pit.counter_of}

@@ -1,10 +1,19 @@
--- A latched count stays until it is read or the counter is programmed.
-use Rattle.dev_pit.proofs.Facade.{◌≡◌, ℕ, ◌-◌, ◌<◌, ◌≤◌, ◌==◌, Bool, true, false, not, ◌&&◌, Option, Some, None, refl, arith, ⊎_elim, nat_tests, nat_le}
-use Rattle.dev_pit.proofs.Facade.{is_some, cases_Bool, Call, reads, writes, IsCall, called, programs, sets_mode_of, reads_latch, is_last, control_word, loaded}
-use Rattle.dev_pit.proofs.Facade.{written, written_by, written_low_first, read_of, read_by, counted_of, counted_by, latched, status_latched, read_back}
-use Rattle.dev_pit.proofs.Facade.{LatchStays, counter_of, pit_read, asked_back, controlled, pit_written, ControlWord, LatchCount, SetMode, ReadBack, Counter}
-use Rattle.dev_pit.proofs.Facade.{READ_BACK_LEVEL, Access, LowThenHigh, Pit, either}
-use Rattle.dev_pit.proofs.Chips.{at_counter, at_step}
+-- What is read of a counter: latched counts, the read-back command and the status byte.
+use Rattle.dev_pit.proofs.{CallLaws.at_counter, CallLaws.at_step, SoundLaws.flag-small, SoundLaws.mode-small, SoundLaws.access-small}
+use Rattle.dev_pit.proofs.Facade.{refl, NumbersAre, ◌≡◌, ℕ, ◌-◌, ◌<◌, ◌≤◌, ◌==◌, Bool, true, false, not, ◌&&◌, Option, Some, None}
+use Rattle.dev_pit.proofs.Facade.{arith, ⊎_elim, nat_tests, nat_le, is_some, cases_Bool, Call, reads, writes, IsCall, called, programs, sets_mode_of}
+use Rattle.dev_pit.proofs.Facade.{reads_latch, is_last, control_word, loaded, written, written_by, written_low_first, read_of, read_by, counted_of, counted_by}
+use Rattle.dev_pit.proofs.Facade.{latched, status_latched, read_back, LatchStays, counter_of, pit_read, asked_back, controlled, pit_written, ControlWord}
+use Rattle.dev_pit.proofs.Facade.{LatchCount, SetMode, ReadBack, Counter, READ_BACK_LEVEL, Access, LowThenHigh, Pit, either, ◌||◌, sym, status_holds}
+use Rattle.dev_pit.proofs.Facade.{ReadBackByLevel, Channel, ◌+◌, ◌*◌, ◌/◌, ◌%◌, ap, ◌∙◌, flag_number, out_of, status_of, TellsStatus}
+use Rattle.dev_pit.proofs.Facade.{StatusTells, mode_number, access_number, flag-back}
+
+-- ---- the numbers are the constants' by their definition
+
+pub numbers_are : NumbersAre
+numbers_are = record { hertz = refl; read_back = refl; status = refl; cells = refl; channel_cells = refl }
+
+-- ---- a latched count stays until it is read or the counter is programmed
 
 -- A counter with this latched count.
 abbrev Holds : (held : ℕ) → Counter → Type 0
@@ -110,3 +119,56 @@ latch_stays = record {
   in_calls = λ k now held call pit l c p r e. call-holds k held now call pit l c p r e;
   in_time = λ k now later held pit e. pit_read-held k now later held pit e;
 }
+
+-- ---- the read-back command by the chip's level
+
+-- The chip after each of the chosen counters has latched.
+abbrev all-asked : Bool → Bool → Bool → Bool → Bool → ℕ → Pit → Pit
+all-asked count status first second third now pit =
+    asked_back (count && third) (status && third) 2 now
+    (asked_back (count && second) (status && second) 1 now (asked_back (count && first) (status && first) 0 now pit))
+
+none-asked : (count status first second third : Bool) (now : ℕ) (pit : Pit) → pit.level ≡ 1
+    → controlled (ReadBack count status first second third) now pit ≡ pit
+unfolding controlled
+none-asked count status first second third now pit e = rw e refl
+
+asked : (count status first second third : Bool) (now : ℕ) (pit : Pit) → 2 ≤ pit.level
+    → controlled (ReadBack count status first second third) now pit ≡ all-asked count status first second third now pit
+unfolding controlled
+asked count status first second third now pit h = let has : nat_le READ_BACK_LEVEL pit.level ≡ true = grind (arith, nat_tests) in rw has
+
+unlatched : (latched zero : Bool) → ((latched || zero) && not latched) ≡ true → latched ≡ false
+unlatched false zero h = refl
+unlatched true zero h = sym h
+
+not-latched : (channel : Channel) → status_holds 1 channel ≡ true → channel.status_latched ≡ false
+unfolding status_holds
+not-latched channel h = unlatched channel.status_latched (channel.status == 0) h
+
+pub read_back_by_level : ReadBackByLevel
+read_back_by_level = record { none = none-asked; asks = asked; rule = not-latched }
+
+-- ---- the status byte holds its four parts
+
+tells : (counter : Counter) (now : ℕ) → TellsStatus counter now (status_of counter now)
+unfolding status_of
+tells counter now =
+    let out = flag_number (out_of counter now) in
+    let bcd = flag_number counter.bcd in
+    let byte = 128 * out + 16 * access_number counter.access + 2 * mode_number counter.mode + bcd in
+    let o = flag-small (out_of counter now) in
+    let a = (access-small counter.access).1 in
+    let m = mode-small counter.mode in
+    let b = flag-small counter.bcd in
+    let sixth : byte / 64 % 2 ≡ 0 = omega arith in
+    record {
+      out = ap (λ n. n == 1) (omega arith) ∙ flag-back (out_of counter now);
+      null = ap (λ n. n == 1) sixth;
+      access = omega arith;
+      mode = omega arith;
+      bcd = ap (λ n. n == 1) (omega arith) ∙ flag-back counter.bcd;
+    }
+
+pub status_tells : StatusTells
+status_tells = record { tells = tells }

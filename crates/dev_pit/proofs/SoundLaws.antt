@@ -1,11 +1,229 @@
--- A chip is sound at power on, and time and every call keep it so.
-use Rattle.dev_pit.proofs.Facade.{◌≡◌, ℕ, ◌-◌, ◌<◌, ◌≤◌, ◌==◌, Bool, ◌∷◌, slice_index_or, refl, ◌∙◌, arith, ⊎_elim, [], nat_tests, nat_le, cases_Bool, IsLevel}
-use Rattle.dev_pit.proofs.Facade.{LAST_MOMENT, control_word, SoundStays, StepsKeepLevel, counter_of, with_counter, new_pit, pit_read, asked_back, controlled}
-use Rattle.dev_pit.proofs.Facade.{pit_written, IsSoundCounter, IsSoundPit, ControlWord, LatchCount, SetMode, ReadBack, Counter, READ_BACK_LEVEL, Pit, either}
-use Rattle.dev_pit.proofs.Facade.{powered_on, read_of, read_back, latched, programmed, written}
-use Rattle.dev_pit.proofs.Chips.{at_step, count-with, each_of}
-use Rattle.dev_pit.proofs.Moments.{loaded_by-later}
-use Rattle.dev_pit.proofs.SoundSteps.{PlainSound, sound-from_plain, plain-from_sound, powered_on-sound, latched-sound, read_back-sound, programmed-sound, written-sound, read-sound}
+-- A chip and each of its counters are sound at power on, and stay so.
+use Rattle.dev_pit.proofs.CallLaws.{at_step, count-with, each_of, loaded_by-later}
+use Rattle.dev_pit.proofs.Facade.{◌≡◌, ℕ, ◌≤◌, ◌==◌, Bool, true, false, not, ◌&&◌, ◌||◌, Option, Some, None, refl, arith, ◌+◌}
+use Rattle.dev_pit.proofs.Facade.{◌*◌, ◌%◌, ◌^◌, ◌<◌, subst, sym, le-leb, nat_tests, nat_le, is_some, nat_lt, channel_of, registers_hold}
+use Rattle.dev_pit.proofs.Facade.{moment_holds, status_holds, toggles_hold, LoadedBy, held_or, live_of, live_since, out_of, status_of, written, written_by}
+use Rattle.dev_pit.proofs.Facade.{written_low_first, programmed, powered_on, read_of, read_by, counted_of, counted_by, latched, status_latched, read_back}
+use Rattle.dev_pit.proofs.Facade.{mode_number, access_number, HasWidths, IsSoundCounter, HeldBelow, Counter, READ_BACK_LEVEL, Access, LowByte, HighByte}
+use Rattle.dev_pit.proofs.Facade.{LowThenHigh, Mode, TerminalCount, OneShot, RateGenerator, SquareWave, HardwareStrobe, flag_number, LAST_MOMENT, live_at}
+use Rattle.dev_pit.proofs.Facade.{square, high_part, either, ◌-◌, ◌∷◌, slice_index_or, ◌∙◌, ⊎_elim, [], cases_Bool, IsLevel, control_word}
+use Rattle.dev_pit.proofs.Facade.{SoundStays, StepsKeepLevel, counter_of, with_counter, new_pit, pit_read, asked_back, controlled, pit_written, IsSoundPit}
+use Rattle.dev_pit.proofs.Facade.{ControlWord, LatchCount, SetMode, ReadBack, Pit}
+use Rattle.dev_pit.specs.{Counter.loaded as loading}
+
+-- ---- what the rules say about a counter itself
+
+-- A status is latched only from the first level of the 8254 on.
+abbrev pub StatusFits : ℕ → Option ℕ → Type 0
+StatusFits level None = Unit {0}
+StatusFits level (Some status) = READ_BACK_LEVEL ≤ level
+
+-- Only a counter of two bytes is between them.
+abbrev pub TogglesFit : Access → Bool → Option ℕ → Type 0
+TogglesFit LowByte read_high held_low = (read_high ≡ false) × (held_low ≡ None)
+TogglesFit HighByte read_high held_low = (read_high ≡ false) × (held_low ≡ None)
+TogglesFit LowThenHigh read_high held_low = Unit {0}
+
+pub record PlainSound (level now : ℕ) (counter : Counter) : Type 0 where
+  pub widths : HasWidths counter
+  pub loaded : LoadedBy now counter.loaded_at
+  pub status : StatusFits level counter.status
+  pub toggles : TogglesFit counter.access counter.read_high counter.held_low
+
+pub mode-small : (mode : Mode) → mode_number mode ≤ 5
+mode-small TerminalCount = omega arith
+mode-small _ = omega arith
+
+pub access-small : (access : Access) → (1 ≤ access_number access) × (access_number access ≤ 3)
+access-small LowByte = (omega arith, omega arith)
+access-small _ = (omega arith, omega arith)
+
+pub registers-hold : (counter : Counter) → registers_hold (channel_of counter) ≡ true
+unfolding registers_hold channel_of
+registers-hold counter =
+    let access = access-small counter.access in
+    rw (le-leb _ 5 (mode-small counter.mode), le-leb 1 _ access.0, le-leb _ 3 access.1)
+
+moment-from : (now : ℕ) (load : Option ℕ) → LoadedBy now load → (nat_le (held_or load 0) now && (is_some load || (held_or load 0 == 0))) ≡ true
+moment-from now None h = grind (arith, nat_tests)
+moment-from now (Some load) h = grind (arith, nat_tests)
+
+moment-back : (now : ℕ) (load : Option ℕ) → (nat_le (held_or load 0) now && (is_some load || (held_or load 0 == 0))) ≡ true → LoadedBy now load
+moment-back now None e = tt
+moment-back now (Some load) e = grind (arith, nat_tests)
+
+status-from : (level : ℕ) (status : Option ℕ) → StatusFits level status
+    → ((is_some status || (held_or status 0 == 0)) && (nat_le READ_BACK_LEVEL level || not (is_some status))) ≡ true
+status-from level None h = grind (arith, nat_tests)
+status-from level (Some status) h = grind (arith, nat_tests)
+
+status-back : (level : ℕ) (status : Option ℕ) → ((is_some status || (held_or status 0 == 0)) && (nat_le READ_BACK_LEVEL level || not (is_some status))) ≡ true
+    → StatusFits level status
+status-back level None e = tt
+status-back level (Some status) e = grind (arith, nat_tests)
+
+toggles-from : (access : Access) (read_high : Bool) (held : Option ℕ) → TogglesFit access read_high held
+    → ((access_number access == 3) || (not read_high && not (is_some held))) ≡ true
+toggles-from LowThenHigh read_high held h = refl
+toggles-from _ read_high held h = rw (h.0, h.1) refl
+
+halves-back : (read_high : Bool) (held : Option ℕ) → (not read_high && not (is_some held)) ≡ true → (read_high ≡ false) × (held ≡ None)
+halves-back false None e = (refl, refl)
+halves-back _ _ e = cc
+
+toggles-back : (access : Access) (read_high : Bool) (held : Option ℕ) → ((access_number access == 3) || (not read_high && not (is_some held))) ≡ true
+    → TogglesFit access read_high held
+toggles-back LowThenHigh read_high held e = tt
+toggles-back _ read_high held e = halves-back read_high held e
+
+pub sound-from_plain : (level now : ℕ) (counter : Counter) → PlainSound level now counter → IsSoundCounter level now counter
+unfolding channel_of moment_holds status_holds toggles_hold
+sound-from_plain level now counter s = search (registers-hold, moment-from, status-from, toggles-from)
+
+pub plain-from_sound : (level now : ℕ) (counter : Counter) → IsSoundCounter level now counter → PlainSound level now counter
+unfolding channel_of moment_holds status_holds toggles_hold
+plain-from_sound level now counter s = search (moment-back, status-back, toggles-back)
+
+-- ---- steps
+
+-- A number of sixteen bits.
+record IsWord (n : ℕ) : Type 0 where
+  fits : n < 2 ^ 16
+
+word-mod : (n : ℕ) → IsWord (n % 65536)
+word-mod n = record { fits = omega arith }
+
+square-word : (n k : ℕ) → IsWord (square n k)
+unfolding square
+square-word n k = either IsWord (nat_lt (k % n) (high_part n)) _ _ (word-mod _) (word-mod _)
+
+live_at-word : (mode : Mode) (count k : ℕ) → IsWord count → IsWord (live_at mode count k)
+unfolding live_at
+live_at-word OneShot count k h = h
+live_at-word RateGenerator count k h = either IsWord (count == 1) _ _ (record { fits = omega arith }) (word-mod _)
+live_at-word SquareWave count k h = either IsWord (count == 1) _ _ (record { fits = omega arith }) (square-word _ k)
+live_at-word HardwareStrobe count k h = h
+live_at-word _ count k h = word-mod _
+
+since-word : (load : Option ℕ) (mode : Mode) (count now : ℕ) → IsWord count → IsWord (live_since load mode count now)
+since-word None mode count now h = h
+since-word (Some load) mode count now h = live_at-word mode count _ h
+
+live-word : (counter : Counter) (now : ℕ) → HasWidths counter → live_of counter now < 2 ^ 16
+unfolding live_of
+live-word counter now h = (since-word counter.loaded_at counter.mode counter.count now (record { fits = h.count })).fits
+
+pub held-below : (limit value : ℕ) (held : Option ℕ) → HeldBelow limit held → value < limit → held_or held value < limit
+held-below limit value None h l = l
+held-below limit value (Some held) h l = h
+
+-- The status byte.
+pub flag-small : (b : Bool) → flag_number b ≤ 1
+flag-small b = grind arith
+
+status-byte : (counter : Counter) (now : ℕ) → status_of counter now < 2 ^ 8
+unfolding status_of
+status-byte counter now = omega (arith, (access-small counter.access).1, mode-small counter.mode, flag-small counter.bcd, flag-small (out_of counter now))
+
+-- A counter of which only these fields changed.
+changed : {level now : ℕ} {counter : Counter} {held_low latch status : Option ℕ} {read_high : Bool} → PlainSound level now counter
+    → HeldBelow (2 ^ 8) held_low → HeldBelow (2 ^ 16) latch → HeldBelow (2 ^ 8) status → StatusFits level status → TogglesFit counter.access read_high held_low
+    → PlainSound level now (record counter { held_low = held_low; latch = latch; status = status; read_high = read_high })
+changed s low latch byte fits toggles = search
+
+-- Latching.
+pub latched-sound : (level now : ℕ) (counter : Counter) → PlainSound level now counter → PlainSound level now (latched now counter)
+unfolding latched
+latched-sound level now counter s =
+    let w = s.widths in
+    changed s w.held_low (held-below (2 ^ 16) (live_of counter now) counter.latch w.latch (live-word counter now w)) w.status s.status s.toggles
+
+status_latched-sound : (level now : ℕ) (counter : Counter) → READ_BACK_LEVEL ≤ level → PlainSound level now counter
+    → PlainSound level now (status_latched now counter)
+unfolding status_latched
+status_latched-sound level now counter h s =
+    let w = s.widths in
+    changed s w.held_low w.latch (held-below (2 ^ 8) (status_of counter now) counter.status w.status (status-byte counter now)) h s.toggles
+
+pub read_back-sound : (count status : Bool) (level now : ℕ) (counter : Counter) → READ_BACK_LEVEL ≤ level → PlainSound level now counter
+    → PlainSound level now (read_back count status now counter)
+unfolding read_back
+read_back-sound true true level now counter h s = status_latched-sound level now _ h (latched-sound level now counter s)
+read_back-sound true false level now counter h s = latched-sound level now counter s
+read_back-sound false true level now counter h s = status_latched-sound level now counter h s
+read_back-sound false false level now counter h s = s
+
+-- Programming.
+pub powered_on-sound : (level now : ℕ) → PlainSound level now powered_on
+unfolding powered_on
+powered_on-sound level now = search arith
+
+fresh-toggles : (access : Access) → TogglesFit access false None
+fresh-toggles LowThenHigh = tt
+fresh-toggles _ = (refl, refl)
+
+pub programmed-sound : (access : Access) (mode : Mode) (bcd : Bool) (level now : ℕ) (counter : Counter) → PlainSound level now counter
+    → PlainSound level now (programmed access mode bcd counter)
+unfolding programmed powered_on
+programmed-sound access mode bcd level now counter s = search (arith, fresh-toggles)
+
+-- Loading.
+loaded-sound : (count level now : ℕ) (counter : Counter) → now ≤ LAST_MOMENT → count < 2 ^ 16 → PlainSound level now counter
+    → PlainSound level now (loading count now counter)
+unfolding loading
+loaded-sound count level now counter m c s = search arith
+
+-- A counter of two bytes may hold one or not.
+holding : (level now : ℕ) (low : Option ℕ) (counter : Counter) → counter.access ≡ LowThenHigh → HeldBelow (2 ^ 8) low → PlainSound level now counter
+    → PlainSound level now (record counter { held_low = low })
+holding level now low counter e h s = changed s h s.widths.latch s.widths.status s.status (subst (λ a. TogglesFit a counter.read_high low) (sym e) tt)
+
+first-sound : (low : Option ℕ) (value level now : ℕ) (counter : Counter) → now ≤ LAST_MOMENT → value < 256 → counter.access ≡ LowThenHigh
+    → HeldBelow (2 ^ 8) low → PlainSound level now counter → PlainSound level now (written_low_first low value now counter)
+first-sound None value level now counter m v e h s = holding level now (Some value) counter e v s
+first-sound (Some low) value level now counter m v e h s = loaded-sound (256 * value + low) level now _ m (omega arith) (holding level now None counter e tt s)
+
+by-sound : (access : Access) (value level now : ℕ) (counter : Counter) → now ≤ LAST_MOMENT → value < 256 → counter.access ≡ access
+    → PlainSound level now counter → PlainSound level now (written_by access value now counter)
+by-sound LowByte value level now counter m v e s = loaded-sound value level now counter m (omega arith) s
+by-sound HighByte value level now counter m v e s = loaded-sound (256 * value) level now counter m (omega arith) s
+by-sound LowThenHigh value level now counter m v e s = first-sound counter.held_low value level now counter m v e s.widths.held_low s
+
+pub written-sound : (value level now : ℕ) (counter : Counter) → now ≤ LAST_MOMENT → value < 256 → PlainSound level now counter
+    → PlainSound level now (written value now counter)
+unfolding written
+written-sound value level now counter m v s = by-sound counter.access value level now counter m v refl s
+
+-- Reading.
+no_latch : (level now : ℕ) (counter : Counter) → PlainSound level now counter → PlainSound level now (record counter { latch = None })
+no_latch level now counter s = changed s s.widths.held_low tt s.widths.status s.status s.toggles
+
+turned : (level now : ℕ) (read_high : Bool) (latch : Option ℕ) (counter : Counter) → counter.access ≡ LowThenHigh → HeldBelow (2 ^ 16) latch
+    → PlainSound level now counter → PlainSound level now (record counter { read_high = read_high; latch = latch })
+turned level now read_high latch counter e h s =
+    changed s s.widths.held_low h s.widths.status s.status (subst (λ a. TogglesFit a read_high counter.held_low) (sym e) tt)
+
+-- A sound counter, as the second part of an answer.
+abbrev Sounds : (level now : ℕ) → ℕ × Counter → Type 0
+Sounds level now answer = PlainSound level now answer.1
+
+counted_by-sound : (access : Access) (count level now : ℕ) (counter : Counter) → counter.access ≡ access → PlainSound level now counter
+    → Sounds level now (counted_by access count counter)
+counted_by-sound LowThenHigh count level now counter e s =
+    either (Sounds level now) counter.read_high _ _ (turned level now false None counter e tt s)
+    (turned level now true counter.latch counter e s.widths.latch s)
+counted_by-sound _ count level now counter e s = no_latch level now counter s
+
+read_by-sound : (status : Option ℕ) (level now : ℕ) (counter : Counter) → PlainSound level now counter → Sounds level now (read_by status now counter)
+unfolding counted_of
+read_by-sound None level now counter s = counted_by-sound counter.access _ level now counter refl s
+read_by-sound (Some status) level now counter s = changed s s.widths.held_low s.widths.latch tt tt s.toggles
+
+pub read-sound : (level now : ℕ) (counter : Counter) → PlainSound level now counter → PlainSound level now (read_of now counter).1
+unfolding read_of
+read-sound level now counter s = read_by-sound counter.status level now counter s
+
+-- ---- a chip is sound at power on, and time and every call keep it so
 
 new-sound : (level now : ℕ) → IsLevel level → now ≤ LAST_MOMENT → IsSoundPit now (new_pit level)
 unfolding new_pit

@@ -78,7 +78,7 @@ impl Channel {
 
     /// Returns the cells of three channels in set `set`, with their statuses if `set` has cells for
     /// them.
-    #[tactic(auto, using(crate::proofs::CellCounts::three_cells_fit), unfolding(crate::specs::Cells::three_cells, crate::specs::Cells::status_cells))]
+    #[tactic(auto, using(crate::proofs::SavedLaws::three_cells_fit), unfolding(crate::specs::Cells::three_cells, crate::specs::Cells::status_cells))]
     pub fn cells_of(set: u8, first: &Channel, second: &Channel, third: &Channel) -> DevCells
         ensures cells { result.items ≡ three_cells set first.now second.now third.now }
         ensures count { length result.items ≤ CELLS }

@@ -3,7 +3,7 @@ ghost use Rattle.dev_pit.specs.Laws.{TicksGoOn, SecondsHaveTicks, EdgeInParts, E
 ghost use Rattle.dev_pit.specs.SheetNumbers.{NumbersAre};
 
 /// States that ticks never go back, and that each second has 1,193,182 of them.
-#[tactic(auto, using(crate::proofs::Edges::ticks_go_on, crate::proofs::Edges::seconds_have_ticks))]
+#[tactic(auto, using(crate::proofs::EdgeLaws::ticks_go_on, crate::proofs::EdgeLaws::seconds_have_ticks))]
 pub fn ticks_law()
     ensures order { TicksGoOn }
     ensures rate { SecondsHaveTicks }
@@ -11,7 +11,7 @@ pub fn ticks_law()
 
 /// States that in every mode `Pit::edge` finds an edge in a span exactly if it finds one in one of
 /// its two parts.
-#[tactic(auto, using(crate::proofs::Edges::edge_in_parts))]
+#[tactic(auto, using(crate::proofs::EdgeLaws::edge_in_parts))]
 pub fn edge_parts_law()
     ensures { EdgeInParts }
 {}
@@ -20,7 +20,7 @@ pub fn edge_parts_law()
 /// span.
 ///
 /// OUT is low at the tick before and high at that tick.
-#[tactic(auto, using(crate::proofs::EdgeMeaning::edge_turns_high))]
+#[tactic(auto, using(crate::proofs::EdgeLaws::edge_turns_high))]
 pub fn edge_turns_high_law()
     ensures { EdgeTurnsHigh }
 {}
@@ -44,7 +44,7 @@ pub fn terminal_count_law()
 /// OUT is in bit 7, RW in bits 5 and 4, the mode in bits 3 to 1, BCD in bit 0. Bit 6 is clear: on
 /// the chip it is set while a written count isn't in force yet, and here a count is in force at
 /// once.
-#[tactic(auto, using(crate::proofs::StatusLaw::status_tells))]
+#[tactic(auto, using(crate::proofs::LatchLaws::status_tells))]
 pub fn status_law()
     ensures { StatusTells }
 {}
@@ -62,7 +62,7 @@ pub fn latch_law()
 ///
 /// At level 1, on an 8253, it does nothing, and no status may be latched. From level 2 on, on an
 /// 8254, it latches the count, the status or both of each chosen counter.
-#[tactic(auto, using(crate::proofs::ReadBackLaw::read_back_by_level))]
+#[tactic(auto, using(crate::proofs::LatchLaws::read_back_by_level))]
 pub fn read_back_law()
     ensures { ReadBackByLevel }
 {}
@@ -82,7 +82,7 @@ pub fn level_law()
 /// States that a chip is sound exactly if its cells in the newest set are normal and break no rule.
 ///
 /// The rules are those of `Pit::of_cells`.
-#[tactic(auto, using(crate::proofs::SavedLaw::sound_meets_rules))]
+#[tactic(auto, using(crate::proofs::SavedLaws::sound_meets_rules))]
 pub fn rules_law()
     ensures { SoundMeetsRules }
 {}
@@ -90,7 +90,7 @@ pub fn rules_law()
 /// States that `Pit::cells` of a sound chip returns as many cells as the set has.
 ///
 /// Each cell is in its kind's range, and an absent one is at its default.
-#[tactic(auto, using(crate::proofs::SavedLaw::saved_are_cells))]
+#[tactic(auto, using(crate::proofs::SavedLaws::saved_are_cells))]
 pub fn cells_law()
     ensures { SavedAreCells }
 {}
@@ -99,13 +99,13 @@ pub fn cells_law()
 ///
 /// The saved chip is sound, its cells are carried to the newest set, and the restore is at its level
 /// and moment.
-#[tactic(auto, using(crate::proofs::SavedLaw::saved_is_restored))]
+#[tactic(auto, using(crate::proofs::SavedLaws::saved_is_restored))]
 pub fn saved_law()
     ensures { SavedIsRestored }
 {}
 
 /// States that a chip that the hook `load` returns is sound and has the level of the restore.
-#[tactic(auto, using(crate::proofs::RestoredLaw::restored_is_sound))]
+#[tactic(auto, using(crate::proofs::SavedLaws::restored_is_sound))]
 pub fn restored_law()
     ensures { RestoredIsSound }
 {}
@@ -114,7 +114,7 @@ pub fn restored_law()
 /// have.
 ///
 /// The read-back command exists from level 2 on, and cells for latched statuses from set 2 on.
-#[tactic(auto, using(crate::proofs::SheetNumbers::numbers_are))]
+#[tactic(auto, using(crate::proofs::LatchLaws::numbers_are))]
 pub fn numbers_law()
     ensures { NumbersAre }
 {}

@@ -17,10 +17,9 @@ pub use Rattle.vms_fields.specs.Serial.{serial_rows}
 pub use Rattle.vms_fields.specs.declared.serial.TheConstants.{DIVISOR, RX, RX_COUNT, RX_DATA, RX_HEAD, RX_NUMBER}
 pub use Rattle.vms_fields.specs.declared.serial.TheConstants.{THR_IPENDING, TIMEOUT_AT, TX, TX_COUNT, TX_DATA, TX_DUE, TX_HEAD, TX_NUMBER}
 pub use Rattle.vms_hooks.specs.Numbers.{Numbers}
-pub use Rattle.dev_base.proofs.{Choices.either, RuleLaws.AllTrue, RuleLaws.first_failing_is_first, RuleLaws.hook-ok, RuleLaws.judged-all, RuleLaws.judged-ok}
-pub use Rattle.dev_base.proofs.CellLaws.{byte, number-lt, of_more, of_none, timer, word}
-pub use Rattle.dev_base.proofs.ListLaws.{AllHold, AllLack, carried_rows, none_lacks, of_rows, one_holds}
-pub use Rattle.dev_base.proofs.PlaceLemmas.{all_set, bytes_within, firsts_more, one_set}
+pub use Rattle.dev_base.proofs.CellLaws.{all_set, bytes_within, firsts_more, one_set, byte, number-lt, of_more, of_none, timer, word, AllHold, AllLack}
+pub use Rattle.dev_base.proofs.CellLaws.{carried_rows, none_lacks, of_rows, one_holds}
+pub use Rattle.dev_base.proofs.RuleLaws.{either, AllTrue, first_failing_is_first, hook-ok, judged-all, judged-ok}
 pub use Rattle.dev_base.specs.{Levels.IsLevel, Tables.since, Bits.bits_where, Bits.has, Bits.same, Rules.IsFirstFailing, Rules.first_failing, Rules.judged}
 pub use Rattle.dev_base.specs.Cells.{AreOf, cell_at, firsts, kind_at, nat_of, number_at}
 pub use Rattle.dev_base.specs.declared.limits.TheConstants.{LAST_MOMENT, NEWEST}

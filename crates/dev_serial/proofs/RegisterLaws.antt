@@ -1,11 +1,21 @@
--- The identified interrupt, the effects of the FIFO control register, and the level, which each call keeps.
-use Rattle.dev_serial.proofs.Facade.{◌≡◌, ℕ, Bool, true, false, not, ◌&&◌, cond, List, [], ◌∷◌, ◌++◌, Option, Some, None, refl, sym, ap, ◌∙◌, ◌/◌, arith, ◌==◌}
-use Rattle.dev_serial.proofs.Facade.{is_some, nat_le, is_empty, switch_of, fcr_cleared, fcr_written, receiver_cleared, transmitter_cleared, read_of}
-use Rattle.dev_serial.proofs.Facade.{thr_written, ier_written, written, came_in, advanced, has, trigger_of, Port, asks, interrupt, is_pending, line_of}
-use Rattle.dev_serial.proofs.Facade.{IsFirstAsking, IdentifiesFirst, SomeAsks, LineTellsAsking, HasNoBytes, SwitchClearsBoth, IsResetBy, ResetsByBits, StaysOff}
-use Rattle.dev_serial.proofs.Facade.{IsSwitched, WritesSwitch, Interrupt, LineStatus, ReceivedData, CharacterTimeout, ThrEmpty, NonePending, Trigger, either}
-use Rattle.dev_serial.proofs.Facade.{ReadsKeepLevel, WritesKeepLevel, BytesInKeepLevel, AdvancesKeepLevel, cond_both, first_asking, priorities, All-cons}
-use Rattle.dev_serial.proofs.Facade.{All-nil}
+-- Registers as the data sheet has them, the divisor latch, loop mode, and bytes that come in while
+-- there is room.
+use Rattle.dev_serial.proofs.Facade.{refl, NumbersAre, ◌≡◌, ℕ, Bool, true, false, not, ◌&&◌, cond, List, [], ◌∷◌, ◌++◌, Option, Some}
+use Rattle.dev_serial.proofs.Facade.{None, sym, ap, ◌∙◌, ◌/◌, arith, ◌==◌, is_some, nat_le, is_empty, switch_of, fcr_cleared, fcr_written}
+use Rattle.dev_serial.proofs.Facade.{receiver_cleared, transmitter_cleared, read_of, thr_written, ier_written, written, came_in, advanced, has, trigger_of}
+use Rattle.dev_serial.proofs.Facade.{Port, asks, interrupt, is_pending, line_of, IsFirstAsking, IdentifiesFirst, SomeAsks, LineTellsAsking, HasNoBytes}
+use Rattle.dev_serial.proofs.Facade.{SwitchClearsBoth, IsResetBy, ResetsByBits, StaysOff, IsSwitched, WritesSwitch, Interrupt, LineStatus, ReceivedData}
+use Rattle.dev_serial.proofs.Facade.{CharacterTimeout, ThrEmpty, NonePending, Trigger, either, ReadsKeepLevel, WritesKeepLevel, BytesInKeepLevel}
+use Rattle.dev_serial.proofs.Facade.{AdvancesKeepLevel, cond_both, first_asking, priorities, All-cons, All-nil, LoopsModem, ◌+◌, ◌*◌, ◌%◌, ◌<◌}
+use Rattle.dev_serial.proofs.Facade.{if◌then◌else◌, bit_or, bits_where, msr_of, ReachesDivisor, IsLooped, ◌≤◌, length, append_assoc, append-nil}
+use Rattle.dev_serial.proofs.Facade.{common_steps, room_of, received, all_came, RoomIsHeld}
+
+-- ---- the numbers are the constants' by their definition
+
+pub numbers_are : NumbersAre
+numbers_are = record { fifo = refl; sent = refl; character = refl; never = refl; fifos = refl; timeout = refl; rings = refl }
+
+-- ---- the identified interrupt, the effects of the FIFO control register, and the level, which each call keeps
 
 module _ (now : ℕ) (port : Port) where
   abbrev Silent : Interrupt → Type 0
@@ -179,3 +189,123 @@ bytes_in_keep_level byte now port = comes port byte now
 
 pub advances_keep_level : AdvancesKeepLevel
 advances_keep_level to port = advances port to
+
+-- ---- the divisor latch
+
+low_read : (now : ℕ) (port : Port) → has port.lcr 7 ≡ true → read_of 0 now port ≡ (port.divisor % 256, port)
+unfolding read_of
+low_read now port set = rw set refl
+
+high_read : (now : ℕ) (port : Port) → has port.lcr 7 ≡ true → read_of 1 now port ≡ (port.divisor / 256, port)
+unfolding read_of
+high_read now port set = rw set refl
+
+low_written : (value now : ℕ) (port : Port) → has port.lcr 7 ≡ true → written 0 value now port ≡ record port { divisor = port.divisor / 256 * 256 + value }
+unfolding written
+low_written value now port set = rw set refl
+
+high_written : (value now : ℕ) (port : Port) → has port.lcr 7 ≡ true → written 1 value now port ≡ record port { divisor = value * 256 + port.divisor % 256 }
+unfolding written
+high_written value now port set = rw set refl
+
+low_stays : (high low value : ℕ) → value < 256 → high * 256 + (low * 256 + value) % 256 ≡ 256 * high + value
+low_stays high low value byte = omega arith
+
+both_written : (low high now later : ℕ) (port : Port) → low < 256 → has port.lcr 7 ≡ true
+    → written 1 high later (written 0 low now port) ≡ record port { divisor = 256 * high + low }
+both_written low high now later port byte set = rw (low_written low now port set, high_written high later _ set, low_stays high _ low byte) refl
+
+module _ (port : Port) where
+  abbrev KeepsDivisor : Port → Type 0
+  KeepsDivisor after = after.divisor ≡ port.divisor
+
+  -- a port is what a choice gives where its condition doesn't hold
+  chosen : (b : Bool) (first second : Port) → b ≡ false → KeepsDivisor second → KeepsDivisor (if b then first else second)
+  chosen true first second e k = cc
+  chosen false first second e k = k
+
+  hidden : (offset value now : ℕ) → has port.lcr 7 ≡ false → KeepsDivisor (written offset value now port)
+  unfolding written thr_written ier_written fcr_written
+  hidden offset value now clear =
+      either KeepsDivisor (offset == 0) _ _ (chosen (has port.lcr 7) _ _ clear refl)
+      (either KeepsDivisor (offset == 1) _ _ (chosen (has port.lcr 7) _ _ clear refl)
+      (either KeepsDivisor (offset == 2) _ _ (either KeepsDivisor (nat_le 2 port.level) _ _ (switch_stays port value port.fifos (switch_of value)).1 refl)
+      (either KeepsDivisor (offset == 3) _ _ refl
+      (either KeepsDivisor (offset == 4) _ _ refl
+      (either KeepsDivisor (offset == 5) _ _ refl
+      (either KeepsDivisor (offset == 6) _ _ refl refl))))))
+
+pub reaches_divisor : ReachesDivisor
+reaches_divisor = search (low_read, high_read, both_written, hidden)
+
+-- ---- the modem status in loop mode
+
+-- the status by the four outputs, request to send, data terminal ready, OUT1 and OUT2
+abbrev status_by : (rts dtr out1 out2 : Bool) → ℕ
+status_by rts dtr out1 out2 = bit_or (bit_or (bit_or (bits_where rts 0x10) (bits_where dtr 0x20)) (bits_where out1 0x40)) (bits_where out2 0x80)
+
+record HasBits (rts dtr out1 out2 : Bool) (msr : ℕ) : Type 0 where
+  cts : has msr 4 ≡ rts
+  dsr : has msr 5 ≡ dtr
+  ri : has msr 6 ≡ out1
+  dcd : has msr 7 ≡ out2
+  changes : msr % 16 ≡ 0
+
+looped_of : (rts dtr out1 out2 : Bool) → HasBits rts dtr out1 out2 (status_by rts dtr out1 out2)
+looped_of rts dtr out1 out2 = record { cts = grind arith; dsr = grind arith; ri = grind arith; dcd = grind arith; changes = grind arith }
+
+msr_looped : (mcr : ℕ) → has mcr 4 ≡ true → msr_of mcr ≡ status_by (has mcr 1) (has mcr 0) (has mcr 2) (has mcr 3)
+unfolding msr_of
+msr_looped mcr loop = rw loop refl
+
+is_looped : (mcr : ℕ) → has mcr 4 ≡ true → IsLooped mcr (msr_of mcr)
+is_looped mcr loop =
+    let bits = looped_of (has mcr 1) (has mcr 0) (has mcr 2) (has mcr 3) in
+    let is = msr_looped mcr loop in
+    record { cts = rw is bits.cts; dsr = rw is bits.dsr; ri = rw is bits.ri; dcd = rw is bits.dcd; changes = rw is bits.changes }
+
+modem_read : (now : ℕ) (port : Port) → read_of 6 now port ≡ (msr_of port.mcr, port)
+unfolding read_of
+modem_read now port = refl
+
+pub loops_modem : LoopsModem
+loops_modem = record { read = modem_read; looped = is_looped }
+
+-- ---- bytes that come in while there is room
+
+-- a byte for which there is room
+record Held (byte : ℕ) (old new : Port) : Type 0 where
+  held : new.receiver.held ≡ old.receiver.held ++ byte ∷ []
+  overrun : new.receiver.overrun ≡ old.receiver.overrun
+  room : room_of new + 1 ≡ room_of old
+
+one_held : (now byte : ℕ) (port : Port) → 1 ≤ room_of port → Held byte port (came_in byte now port)
+unfolding came_in received
+one_held now byte port h = record {
+  held = grind (arith, common_steps);
+  overrun = grind (arith, common_steps);
+  room = grind (arith, common_steps);
+}
+
+-- the port after all bytes came
+record AreHeld (bytes : List ℕ) (port after : Port) : Type 0 where
+  held : after.receiver.held ≡ port.receiver.held ++ bytes
+  overrun : after.receiver.overrun ≡ port.receiver.overrun
+
+all_held : (now : ℕ) (bytes : List ℕ) (port : Port) → length bytes ≤ room_of port → AreHeld bytes port (all_came now bytes port)
+all_held now [] port h = record { held = sym (append-nil port.receiver.held); overrun = refl }
+all_held now (byte ∷ bytes) port h =
+    let one = one_held now byte port (omega arith) in
+    let rest = all_held now bytes (came_in byte now port) (omega arith) in
+    record { held = rest.held ∙ rw (one.held, append_assoc); overrun = rest.overrun ∙ one.overrun }
+
+one_lost : (now byte : ℕ) (port : Port) → has port.mcr 4 ≡ false → room_of port ≡ 0 → (came_in byte now port).receiver.overrun ≡ true
+unfolding came_in received
+one_lost now byte port clear none = grind (arith, common_steps)
+
+pub room_is_held : RoomIsHeld
+room_is_held = record {
+  held = λ now bytes port h. (all_held now bytes port h).held;
+  overrun = λ now bytes port h. (all_held now bytes port h).overrun;
+  lost = one_lost;
+}

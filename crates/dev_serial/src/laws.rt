@@ -11,14 +11,14 @@ ghost use Rattle.dev_serial.specs.SheetNumbers.{NumbersAre};
 ///
 /// A FIFO holds sixteen bytes, `MOST_SENT` is 17, and the longest character takes 6,826,562,500
 /// nanoseconds. FIFOs, the character timeout and rings exist from the levels 2, 3 and 4 on.
-#[tactic(auto, using(crate::proofs::SheetNumbers::numbers_are))]
+#[tactic(auto, using(crate::proofs::RegisterLaws::numbers_are))]
 pub fn numbers_law()
     ensures { NumbersAre }
 {}
 
 /// States the index of each field's first cell, and of the number of bytes in each ring, among the
 /// `PORT_CELLS` of the newest set.
-#[tactic(auto, using(crate::proofs::Places::places_are))]
+#[tactic(auto, using(crate::proofs::SavedCells::places_are))]
 pub fn places_law()
     ensures { PlacesAre }
 {}
@@ -154,7 +154,7 @@ pub fn fifo_control_law()
 ///
 /// While bit 7 of the Line Control Register is set, offsets 0 and 1 are the low and the high byte
 /// of the divisor. While it is clear, no write changes the divisor.
-#[tactic(auto, using(crate::proofs::LatchLaws::reaches_divisor))]
+#[tactic(auto, using(crate::proofs::RegisterLaws::reaches_divisor))]
 pub fn divisor_law()
     ensures { ReachesDivisor }
 {}
@@ -162,7 +162,7 @@ pub fn divisor_law()
 /// States that the Modem Status Register reads the modem control's outputs in loop mode.
 ///
 /// Its four bits for changes of the inputs are 0.
-#[tactic(auto, using(crate::proofs::LatchLaws::loops_modem))]
+#[tactic(auto, using(crate::proofs::RegisterLaws::loops_modem))]
 pub fn modem_law()
     ensures { LoopsModem }
 {}
@@ -171,7 +171,7 @@ pub fn modem_law()
 ///
 /// The result has the kinds of the newest set, and is restored as the argument is. If no
 /// direction's bytes are in the ring alone, the cells stay as they are.
-#[tactic(auto, using(crate::proofs::RecastKinds::recast_once))]
+#[tactic(auto, using(crate::proofs::RecastLaws::recast_once))]
 pub fn recast_law()
     ensures { RecastOnce }
 {}
@@ -179,7 +179,7 @@ pub fn recast_law()
 /// States that bytes up to the port's `room` are held in order and none is lost.
 ///
 /// If there is no room, one more byte sets the overrun flag, except in loop mode.
-#[tactic(auto, using(crate::proofs::RoomLaws::room_is_held))]
+#[tactic(auto, using(crate::proofs::RegisterLaws::room_is_held))]
 pub fn room_law()
     ensures { RoomIsHeld }
 {}

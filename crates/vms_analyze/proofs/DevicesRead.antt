@@ -1,17 +1,18 @@
 -- What is read of a description is exactly what it says.
-use Rattle.vms_analyze.proofs.Facade.{map-map, ◌≡◌, ℕ, Bool, true, ◌&&◌, ◌||◌, ◌==◌, nat_le, if◌then◌else◌, List, [], Option, Some, None, ℤ, codes, refl, inl}
-use Rattle.vms_analyze.proofs.Facade.{ap, ◌∙◌, ◌∷◌, map, IfSome, Ordering, Equal, subst, ◌+◌, drop, bytes_eq, is_utf8, and_parts, eqb-true, and_from, eq-eqb}
-use Rattle.vms_analyze.proofs.Facade.{bytes_eq-Decides, list_all, nat_cmp, match_ordering, slice_cmp, Data, number, string, object, no_members, member, array}
-use Rattle.vms_analyze.proofs.Facade.{Items, Members, of_integer, get, get_member, as_array, fits, Kind, width, MOST_UNUSED, LONGEST_NAME, in_range, kind_word}
-use Rattle.vms_analyze.proofs.Facade.{kind_named, word_named, tells_kind, natural, entry_tree, list_tree, LONGEST_PATH, Told, Sent, Kept, Fixed, Skipped, inr}
-use Rattle.vms_analyze.proofs.Facade.{told_entry, is_path, is_good, ToldSub, told_sub, ToldDevice, told_device, told_tree, fits_four, is_kept, is_good_sub}
-use Rattle.vms_analyze.proofs.Facade.{is_good_device, IsSorted, AreSorted, HoldSorted, only, text_at, path_at, natural_at, whole_at, sent_keys, kept_keys}
-use Rattle.vms_analyze.proofs.Facade.{unprinted, sent_as, sent_in, kept_as, kept_in, element_in, next, four_at, flag_at, list_at, each, sub_keys, sub_in}
-use Rattle.vms_analyze.proofs.Facade.{subs_in, device_keys, device_in, devices_in, items_of, read, value_in, Tells, ◌⊎◌, false}
-use Rattle.vms_analyze.specs.Read.{elements_in}
+use Rattle.vms_analyze.proofs.Facade.{map-map, ◌≡◌, ℕ, Bool, true, ◌&&◌, ◌||◌, ◌==◌, nat_le, if◌then◌else◌, List, [], Option, Some}
+use Rattle.vms_analyze.proofs.Facade.{None, ℤ, codes, refl, inl, ap, ◌∙◌, ◌∷◌, map, IfSome, Ordering, Equal, subst, ◌+◌, drop, bytes_eq}
+use Rattle.vms_analyze.proofs.Facade.{is_utf8, and_parts, eqb-true, and_from, eq-eqb, bytes_eq-Decides, list_all, nat_cmp, match_ordering, slice_cmp, Data}
+use Rattle.vms_analyze.proofs.Facade.{number, string, object, no_members, member, array, Items, Members, of_integer, get, get_member, as_array, fits, Kind}
+use Rattle.vms_analyze.proofs.Facade.{width, MOST_UNUSED, LONGEST_NAME, in_range, kind_word, kind_named, word_named, tells_kind, natural, entry_tree, list_tree}
+use Rattle.vms_analyze.proofs.Facade.{LONGEST_PATH, Told, Sent, Kept, Fixed, Skipped, inr, told_entry, is_path, is_good, ToldSub, told_sub, ToldDevice}
+use Rattle.vms_analyze.proofs.Facade.{told_device, told_tree, fits_four, is_kept, is_good_sub, is_good_device, IsSorted, AreSorted, HoldSorted, only, text_at}
+use Rattle.vms_analyze.proofs.Facade.{path_at, natural_at, whole_at, sent_keys, kept_keys, unprinted, sent_as, sent_in, kept_as, kept_in, element_in, next}
+use Rattle.vms_analyze.proofs.Facade.{four_at, flag_at, list_at, each, sub_keys, sub_in, subs_in, device_keys, device_in, devices_in, items_of, read, value_in}
+use Rattle.vms_analyze.proofs.Facade.{Tells, ◌⊎◌, false}
 use Rattle.vms_analyze.proofs.MembersRead.{is_picked, after, first_then, only_is, only_so, text_is, path_is, natural_is, whole_is, whole_back, Says, under}
 use Rattle.vms_analyze.proofs.MembersRead.{IsPathAt, four_is, flag_is, list_is, each_says, each_back, read_sorted}
-use Rattle.vms_analyze.proofs.Parts.{sub_parts, sub_from, device_parts, device_from}
+use Rattle.vms_analyze.proofs.Shapes.{sub_parts, sub_from, device_parts, device_from}
+use Rattle.vms_analyze.specs.Read.{elements_in}
 
 -- what a choice gives is given by one of its sides
 if_gives : {A : Type 0} (b : Bool) (x y : Option A) (a : A) → (if b then x else y) ≡ Some a → ((b ≡ true) × (x ≡ Some a)) ⊎ ((b ≡ false) × (y ≡ Some a))

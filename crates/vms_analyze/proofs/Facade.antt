@@ -20,9 +20,8 @@ unfoldable pub use Rattle.std.specs.{Fmt.digits, Str.chars, Str.is_utf8}
 pub use Rattle.vms_kinds.specs.{Codes.InRange, Codes.highest, Codes.lowest, Codes.width, declared.Item.Item, declared.Kind.Kind, declared.Kind.TheVariants.U64}
 pub use Rattle.vms_kinds.specs.declared.Item.TheVariants.{Num, Unused}
 unfoldable pub use Rattle.vms_kinds.specs.Codes.{code}
-pub use Rattle.vms_spec.proofs.{NameBytes.name_byte_low, NumberLaws.same_number_is, ListLaws.either_of}
-pub use Rattle.vms_spec.proofs.Faultless.{all_true, every_one, few_devices, machine_short, or_else_none}
-pub use Rattle.vms_spec.proofs.KindLaws.{be32_read, length-code, value_code, width_small}
+pub use Rattle.vms_spec.proofs.ListsAndNumbers.{name_byte_low, same_number_is, either_of, be32_read, length-code, value_code, width_small}
+pub use Rattle.vms_spec.proofs.WellFormedLaws.{all_true, every_one, few_devices, machine_short, or_else_none}
 pub use Rattle.vms_spec.specs.{Heads.FitsHeads, Lookup.bytes_at, Lookup.number_at, Spelling.begins_with, Values.values_text, declared.Count.Count}
 pub use Rattle.vms_spec.specs.{declared.Count.TheVariants.One, declared.Part.Part, declared.TheConstants.LONGEST_NAME, declared.TheConstants.MOST_UNUSED}
 pub use Rattle.vms_spec.specs.Images.{Image, own_cells, sub_slots, zeroed}
@@ -36,8 +35,8 @@ pub use Rattle.vms_spec.specs.WellFormed.{WellFormed, deepest, devices_items, fa
 unfoldable pub use Rattle.vms_spec.specs.WellFormed.{first_fault}
 pub use Rattle.vms_words.proofs.{Lines.begun, WordLaws.tells_kind, WordLaws.word_named}
 pub use Rattle.vms_words.specs.Words.{kind_named, kind_word}
-pub use Rattle.vms_bodies.proofs.{BodyOnly.front_drop, BodyOnly.front_take, ReadyLaws.ranged}
-pub use Rattle.vms_elements.proofs.{LinesOf.text_append, SlotsOf.elements_slots, Stated.text_law, Walk.AreCounted, Walk.IsCounted, Walk.walks}
+pub use Rattle.vms_bodies.proofs.{BodyOnly.front_drop, BodyOnly.front_take, Stated.ranged}
+pub use Rattle.vms_elements.proofs.{LinesOf.text_append, LinesOf.elements_slots, Walk.text_law, Walk.AreCounted, Walk.IsCounted, Walk.walks}
 pub use Rattle.vms_elements.proofs.Members.{Each, all_both, all_parts, decimal_all, elements_each, what_of}
 pub use Rattle.vms_elements.specs.Elements.{Constant, Filler, Rule, What, index_text, shapes}
 pub use Rattle.vms_elements.specs.Entries.{OfNumber, came_well, device_entries, devices_entries, entries, has_default, have_defaults, if_not, line_reason}
@@ -63,17 +62,17 @@ pub use Rattle.vms_analyze.specs.Walking.{AtStart, Goes, IsInside, Prints, Stops
 pub use Rattle.vms_analyze.specs.Wanted.{Any, Bytes, Differs, Foot, Found, Head, Line, Lines, Machine, Number, Took, Want, behind, device_wants, element_want}
 pub use Rattle.vms_analyze.specs.Wanted.{found, found_after, is_machine, kept_line, machine_line, number_line, only_if, section_line, sent_line, start_wants}
 pub use Rattle.vms_analyze.specs.Wanted.{sub_wants, take_machine, take_number, taken, took, wants}
-pub use Rattle.vms_desc.proofs.{Bounds.few_items, Clean.device_clean, Clean.few_subs, Clean.field_sound, Clean.sub_clean}
+pub use Rattle.vms_desc.proofs.Clean.{few_items, device_clean, few_subs, field_sound, sub_clean}
 pub use Rattle.vms_desc.specs.{Described.device_at, Formed.is_well_formed, Parts.HasPart, Parts.desc_at, Parts.sub_at}
 pub use Rattle.vms_io.proofs.ReadingLemmas.{breaks_more, nothing_follows, takes_as, takes_both, takes_none}
 pub use Rattle.vms_io.specs.{Reading.Takes, Told.Intake, Told.intake}
 pub use Rattle.vms_json.proofs.KeyLaws.{none_left, object_is}
 pub use Rattle.vms_json.specs.{Keys.fits, Keys.has, Keys.has_all, Keys.has_no_others, Nodes.items_left, Nodes.members_left, Nodes.view, Texts.value_in}
-pub use Rattle.vms_selfdesc.proofs.{Bounds.short_holds, EntryLong.member_long, Lengths.fit, Plain.sub_name_is, Shapes.described_plain, WholeText.reads_whole}
-pub use Rattle.vms_selfdesc.proofs.{Fits.AreLong, Fits.entries_few, Fits.entries_long, Fits.longer, JsonBytes.sub_letters, JsonBytes.text_good, JsonBytes.word}
-pub use Rattle.vms_selfdesc.proofs.JsonBytes.{Allows, AreSpelled, HasLetters, IsSpelled, ItemsHave, MembersHave, device_letters, devices_letters, kind_letters}
-pub use Rattle.vms_selfdesc.proofs.ReadBack.{absent_sound, array_sound, device_sound, natural_sound, negative_sound, sent_sound, sub_sound, whole_sound}
-pub use Rattle.vms_selfdesc.proofs.Soundness.{fields_flat, natural_fits, negative_fits, part_sound}
+pub use Rattle.vms_selfdesc.proofs.{Plain.member_long, Plain.sub_name_is, Lengths.short_holds, Lengths.fit, Lengths.described_plain}
+pub use Rattle.vms_selfdesc.proofs.Fits.{AreLong, entries_few, entries_long, longer, fields_flat, natural_fits, negative_fits, part_sound}
+pub use Rattle.vms_selfdesc.proofs.ReadBack.{reads_whole, MembersHave, device_letters, devices_letters, kind_letters, sub_letters, text_good, word, Allows}
+pub use Rattle.vms_selfdesc.proofs.ReadBack.{AreSpelled, HasLetters, IsSpelled, ItemsHave, absent_sound, array_sound, device_sound, natural_sound}
+pub use Rattle.vms_selfdesc.proofs.ReadBack.{negative_sound, sent_sound, sub_sound, whole_sound}
 pub use Rattle.vms_selfdesc.specs.{Drafts.AreSound, Drafts.IsSound, Entries.entries_of, Entries.entry_of, Entries.part_entries}
 pub use Rattle.vms_selfdesc.specs.Tree.{described_text, described_tree, device_trees, entry_tree, list_tree, natural, sub_trees}
 pub use Rattle.vms_values_laws.proofs.{AllCome.short_are, ReadyParts.text_says, SecondPass.AreShort, SecondPass.of_numbers}

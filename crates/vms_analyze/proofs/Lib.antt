@@ -2,14 +2,11 @@ mod Rows
 pub mod DevicesRead
 pub mod Facade
 pub mod Following
-pub mod Inputs
 pub mod Letters
 pub mod MembersRead
 pub mod One
-pub mod Parts
 pub mod Shapes
 pub mod Shown
 pub mod Streams
 pub mod Texts
-pub mod Total
 pub mod Walks

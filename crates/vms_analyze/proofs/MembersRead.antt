@@ -1,12 +1,13 @@
 -- What was read of an object's members and of a list's items, and keys in order.
-use Rattle.vms_analyze.proofs.{Facade.natural_at, Facade.four_at, Facade.whole_of, Facade.whole_at, Facade.each, Parts.each_good}
-use Rattle.vms_analyze.proofs.Facade.{Ordering, Less, Equal, Greater, ◌≡◌, ℕ, Bool, true, false, ◌&&◌, List, [], ◌∷◌, ◌++◌, append-nil, is_some, unwrap_or}
-use Rattle.vms_analyze.proofs.Facade.{Option, Some, None, refl, sym, ap, ap₂, ◌∙◌, IfSome, option_map, option_and_then, map, ℤ, pos, negsuc, arith, and_parts}
-use Rattle.vms_analyze.proofs.Facade.{le-ltb, nat_list_cmp_total, exact_bytes, is_eq-slice_cmp, nat_cmp, match_ordering, ordering_reverse, is_eq, slice_cmp}
-use Rattle.vms_analyze.proofs.Facade.{list_all, Data, null, boolean, number, string, array, object, Members, no_members, member, put, Items, item, unsigned}
-use Rattle.vms_analyze.proofs.Facade.{negative, no_items, get, get_member, as_bool, as_number, as_str, as_array, as_u64, of_integer, is_one_of, has}
-use Rattle.vms_analyze.proofs.Facade.{has_no_others, has_all, fits, IsLess, IsBefore, AreOrdered, keys_of, IsSorted, AreSorted, HoldSorted, tokens, number_of}
-use Rattle.vms_analyze.proofs.Facade.{of_json, of_items, of_members, max_depth, read, items_of, natural, is_path, fits_four, next, only, text_at, path_at}
+use Rattle.vms_analyze.proofs.Facade.{natural_at, four_at, whole_of, whole_at, each, Ordering, Less, Equal, Greater, ◌≡◌, ℕ, Bool, true, false}
+use Rattle.vms_analyze.proofs.Facade.{◌&&◌, List, [], ◌∷◌, ◌++◌, append-nil, is_some, unwrap_or, Option, Some, None, refl, sym, ap, ap₂}
+use Rattle.vms_analyze.proofs.Facade.{◌∙◌, IfSome, option_map, option_and_then, map, ℤ, pos, negsuc, arith, and_parts, le-ltb, nat_list_cmp_total}
+use Rattle.vms_analyze.proofs.Facade.{exact_bytes, is_eq-slice_cmp, nat_cmp, match_ordering, ordering_reverse, is_eq, slice_cmp, list_all, Data, null, boolean}
+use Rattle.vms_analyze.proofs.Facade.{number, string, array, object, Members, no_members, member, put, Items, item, unsigned, negative, no_items, get}
+use Rattle.vms_analyze.proofs.Facade.{get_member, as_bool, as_number, as_str, as_array, as_u64, of_integer, is_one_of, has, has_no_others, has_all, fits}
+use Rattle.vms_analyze.proofs.Facade.{IsLess, IsBefore, AreOrdered, keys_of, IsSorted, AreSorted, HoldSorted, tokens, number_of, of_json, of_items, of_members}
+use Rattle.vms_analyze.proofs.Facade.{max_depth, read, items_of, natural, is_path, fits_four, next, only, text_at, path_at}
+use Rattle.vms_analyze.proofs.Shapes.{each_good}
 use Rattle.serde_json.specs.Data.{Num}
 use Rattle.json.specs.Json as json
 

@@ -1,21 +1,76 @@
--- The description of a well-formed set has the right shape.
-use Rattle.vms_analyze.proofs.{Letters.AreGoodFields, Parts.sub_from, Parts.device_from, Parts.all_at}
-use Rattle.vms_analyze.proofs.Facade.{◌≡◌, ℕ, ◌+◌, Bool, true, false, ◌&&◌, is_some, List, [], ◌∷◌, length, map, Option, ℤ, refl, ap, ◌∙◌, codes, suc, ◌*◌, ◌<◌}
-use Rattle.vms_analyze.proofs.Facade.{◌≤◌, ◌||◌, ◌==◌, nat_le, length-append, get_or, arith, zero, is_none, Some, None, ⊎_elim, map-append, length-map}
-use Rattle.vms_analyze.proofs.Facade.{list_all, AllByRecursion, and_parts, and_from, lt-ltb, cases_lt, get_or-eq_default, slice_get-get_or, list_all-append}
-use Rattle.vms_analyze.proofs.Facade.{no_members, Members, member, number, string, Desc, Sub, Device, Set, AtLeast, desc_cells, struct_cells, no_desc, no_field}
-use Rattle.vms_analyze.proofs.Facade.{counted, Image, own_cells, What, Constant, Filler, shapes, elements_in, entry_of, entries_of, part_entries, sub_trees}
-use Rattle.vms_analyze.proofs.Facade.{device_trees, described_tree, natural, entry_tree, told_entry, told_sub, told_device, told_tree, Told, Sent, Kept, Fixed}
-use Rattle.vms_analyze.proofs.Facade.{Skipped, is_path_byte, is_good, is_kept, fits_four, is_good_sub, is_good_device, told_what, tolds, told_part, told_subs}
+-- The description of a well-formed set has the right shape, and what its parts consist of.
+use Rattle.vms_analyze.proofs.Facade.{nat_tests, ◌≡◌, ℕ, suc, ◌<◌, ◌≤◌, ◌==◌, List, [], ◌∷◌, length, get_or, arith, true, ◌&&◌}
+use Rattle.vms_analyze.proofs.Facade.{◌||◌, list_all, AllByRecursion, Bool, and_parts, and_from, LONGEST_NAME, ToldSub, ToldDevice, is_path, fits_four}
+use Rattle.vms_analyze.proofs.Facade.{is_good, is_kept, is_good_sub, is_good_device, ◌+◌, false, is_some, map, Option, ℤ, refl, ap, ◌∙◌, codes}
+use Rattle.vms_analyze.proofs.Facade.{◌*◌, nat_le, length-append, zero, is_none, Some, None, ⊎_elim, map-append, length-map, lt-ltb, cases_lt}
+use Rattle.vms_analyze.proofs.Facade.{get_or-eq_default, slice_get-get_or, list_all-append, no_members, Members, member, number, string, Desc, Sub, Device, Set}
+use Rattle.vms_analyze.proofs.Facade.{AtLeast, desc_cells, struct_cells, no_desc, no_field, counted, Image, own_cells, What, Constant, Filler, shapes}
+use Rattle.vms_analyze.proofs.Facade.{elements_in, entry_of, entries_of, part_entries, sub_trees, device_trees, described_tree, natural, entry_tree, told_entry}
+use Rattle.vms_analyze.proofs.Facade.{told_sub, told_device, told_tree, Told, Sent, Kept, Fixed, Skipped, is_path_byte, told_what, tolds, told_part, told_subs}
 use Rattle.vms_analyze.proofs.Facade.{told_devices, told, told_sub_of, told_device_of, escape, escape_byte, compact_text, members_text, Kind, width, kind_word}
-use Rattle.vms_analyze.proofs.Facade.{of_integer, Part, MOST_UNUSED, LONGEST_NAME, is_name, in_range, defaults_well, counts_well, is_small_item}
-use Rattle.vms_analyze.proofs.Facade.{is_small_optional, WellFormed, struct_items, struct_depths, items_in, deepest, subs_items, devices_items, HasPart}
-use Rattle.vms_analyze.proofs.Facade.{desc_at, sub_at, field_sound, few_subs, device_clean, sub_clean, member_long, AreLong, longer, entries_few, entries_long}
-use Rattle.vms_analyze.proofs.Facade.{fit, part_sound, fields_flat, LONGEST_PATH, FitsHeads, device_at, is_well_formed, few_items, all_both}
-use Rattle.vms_analyze.proofs.Letters.{elements_good, named_path, IsNamed, named_within, name_named, sub_named, IsGoodWhat, HasPath, IsGoodElement, IsGoodField}
+use Rattle.vms_analyze.proofs.Facade.{of_integer, Part, MOST_UNUSED, is_name, in_range, defaults_well, counts_well, is_small_item, is_small_optional}
+use Rattle.vms_analyze.proofs.Facade.{WellFormed, struct_items, struct_depths, items_in, deepest, subs_items, devices_items, HasPart, desc_at, sub_at}
+use Rattle.vms_analyze.proofs.Facade.{field_sound, few_subs, device_clean, sub_clean, member_long, AreLong, longer, entries_few, entries_long, fit, part_sound}
+use Rattle.vms_analyze.proofs.Facade.{fields_flat, LONGEST_PATH, FitsHeads, device_at, is_well_formed, few_items, all_both}
+use Rattle.vms_analyze.proofs.Letters.{AreGoodFields, elements_good, named_path, IsNamed, named_within, name_named, sub_named, IsGoodWhat, HasPath}
+use Rattle.vms_analyze.proofs.Letters.{IsGoodElement, IsGoodField}
 use Rattle.vms_elements.specs.Elements.{Number, Element}
 use Rattle.vms_kinds.specs.declared.Kind.TheVariants as kinds
 use Rattle.vms_spec.specs.declared.Part.TheVariants as parts
+
+-- ---- what a subsection and a device that are described consist of, if they are good
+
+pub record SubParts (s : ToldSub) : Type 0 where
+  pub name : is_path LONGEST_NAME s.name ≡ true
+  pub version : fits_four s.version ≡ true
+  pub elements : list_all is_good s.elements ≡ true
+  pub kept : (s.sent || list_all is_kept s.elements) ≡ true
+
+pub sub_parts : (s : ToldSub) → is_good_sub s ≡ true → SubParts s
+sub_parts s e =
+    let p = and_parts (is_path LONGEST_NAME s.name && fits_four s.version && list_all is_good s.elements) (s.sent || list_all is_kept s.elements) e in
+    let q = and_parts (is_path LONGEST_NAME s.name && fits_four s.version) (list_all is_good s.elements) p.0 in
+    let r = and_parts (is_path LONGEST_NAME s.name) (fits_four s.version) q.0 in
+    record { name = r.0; version = r.1; elements = q.1; kept = p.1 }
+
+pub sub_from : (s : ToldSub) → SubParts s → is_good_sub s ≡ true
+sub_from s p = and_from _ _ (and_from _ _ (and_from _ _ p.name p.version) p.elements) p.kept
+
+pub record DeviceParts (d : ToldDevice) : Type 0 where
+  pub name : is_path LONGEST_NAME d.name ≡ true
+  pub instance : fits_four d.instance ≡ true
+  pub version : fits_four d.version ≡ true
+  pub elements : list_all is_good d.elements ≡ true
+  pub subs : list_all is_good_sub d.subs ≡ true
+
+pub device_parts : (d : ToldDevice) → is_good_device d ≡ true → DeviceParts d
+device_parts d e =
+    let p = and_parts (is_path LONGEST_NAME d.name && fits_four d.instance && fits_four d.version && list_all is_good d.elements)
+    (list_all is_good_sub d.subs) e in
+    let q = and_parts (is_path LONGEST_NAME d.name && fits_four d.instance && fits_four d.version) (list_all is_good d.elements) p.0 in
+    let r = and_parts (is_path LONGEST_NAME d.name && fits_four d.instance) (fits_four d.version) q.0 in
+    let s = and_parts (is_path LONGEST_NAME d.name) (fits_four d.instance) r.0 in
+    record { name = s.0; instance = s.1; version = r.1; elements = q.1; subs = p.1 }
+
+pub device_from : (d : ToldDevice) → DeviceParts d → is_good_device d ≡ true
+device_from d p = and_from _ _ (and_from _ _ (and_from _ _ (and_from _ _ p.name p.instance) p.version) p.elements) p.subs
+
+-- what holds of each good one, of a list of good ones
+pub each_good : {A : Type 0} (good : A → Bool) (All : List A → Type 0) → All [] → ((x : A) (xs : List A) → good x ≡ true → All xs → All (x ∷ xs))
+    → (xs : List A) → list_all good xs ≡ true → All xs
+each_good good All none more [] e = none
+each_good good All none more (x ∷ xs) e = let p = and_parts (good x) (list_all good xs) e in more x xs p.0 (each_good good All none more xs p.1)
+
+-- what holds of each of a list
+pub all_at : {A : Type 0} (P : A → Type 0) (d : A) (xs : List A) → ((i : ℕ) → i < length xs → P (get_or xs i d)) → AllByRecursion P xs
+all_at P d [] h = tt
+all_at P d (x ∷ xs) h = (h 0 (omega arith), all_at P d xs (λ i lt. h (suc i) (omega arith)))
+
+-- a number that is one of these
+pub fixed_small : (n : ℕ) → (n == 1 || n == 2 || n == 4 || n == 8) ≡ true → n ≤ 8
+fixed_small n e = grind (arith, nat_tests)
+
+-- ---- the description of a well-formed set has the right shape
 
 -- ---- The tree of a self-description is that of what it says.
 

@@ -1,17 +1,17 @@
 -- What is written of ready images with their description lists the values text.
-use Rattle.vms_analyze.proofs.{Streams.front, Streams.front_found, Parts.each_good, Parts.fixed_small}
-use Rattle.vms_analyze.proofs.Facade.{◌≡◌, ℕ, ◌+◌, ◌<◌, ◌≤◌, true, List, [], ◌∷◌, ◌++◌, length, length-append, append_assoc, take, drop, is_none, Option, Some}
-use Rattle.vms_analyze.proofs.Facade.{refl, sym, ap, ◌∙◌, subst, arith, Bool, if◌then◌else◌, None, is_utf8, flat_map, same_Some, ◌*◌, false, ◌&&◌, ◌||◌, ◌==◌}
-use Rattle.vms_analyze.proofs.Facade.{nat_le, length-drop, get_or, map, ℤ, and_parts, leb-true, list_all, compact_text, value_in, escape_byte, read, FitsHeads}
-use Rattle.vms_analyze.proofs.Facade.{Set, Image, AreReady, be32, end_mark, trailer, written, WellFormed, few_devices, front_take, front_drop, IsMachineOf}
-use Rattle.vms_analyze.proofs.Facade.{values_lines, text_law, few_items, IsSound, described_tree, described_text, short_holds, described_plain, reads_whole}
-use Rattle.vms_analyze.proofs.Facade.{told_tree, Bytes, Lines, device_wants, wants, found, IsLastPlace, Tells, Text, listing_of, Lists, IsRead, told}
-use Rattle.vms_analyze.proofs.Facade.{ReadBackLaw, ShownLaw, width, LONGEST_NAME, MOST_UNUSED, number_at, bytes_at, is_name_byte, Sub, Device, Desc, desc_cells}
-use Rattle.vms_analyze.proofs.Facade.{struct_cells, own_cells, begins_with, configuration, struct_items, items_in, subs_items, devices_items, width_small}
-use Rattle.vms_analyze.proofs.Facade.{LONGEST_PATH, Told, Sent, Kept, Fixed, Skipped, is_path, is_good, Want, Any, Number, Machine, Head, Foot, Line}
-use Rattle.vms_analyze.proofs.Facade.{element_want, sub_wants, Took, took, only_if, take_machine, is_machine, taken, Found, Differs, behind, found_after}
-use Rattle.vms_analyze.proofs.Facade.{told_part, told_subs, told_devices, told_device_of, told_sub_of}
-use Rattle.vms_analyze.proofs.Shapes.{all_good, told_good, tree_same, IsGoodPart, AreGoodSubs, IsGoodDevice, AreGoodDevices}
+use Rattle.vms_analyze.proofs.Facade.{◌≡◌, ℕ, ◌+◌, ◌<◌, ◌≤◌, true, List, [], ◌∷◌, ◌++◌, length, length-append, append_assoc}
+use Rattle.vms_analyze.proofs.Facade.{take, drop, is_none, Option, Some, refl, sym, ap, ◌∙◌, subst, arith, Bool, if◌then◌else◌, None, is_utf8}
+use Rattle.vms_analyze.proofs.Facade.{flat_map, same_Some, ◌*◌, false, ◌&&◌, ◌||◌, ◌==◌, nat_le, length-drop, get_or, map, ℤ, and_parts}
+use Rattle.vms_analyze.proofs.Facade.{leb-true, list_all, compact_text, value_in, escape_byte, read, FitsHeads, Set, Image, AreReady, be32, end_mark, trailer}
+use Rattle.vms_analyze.proofs.Facade.{written, WellFormed, few_devices, front_take, front_drop, IsMachineOf, values_lines, text_law, few_items, IsSound}
+use Rattle.vms_analyze.proofs.Facade.{described_tree, described_text, short_holds, described_plain, reads_whole, told_tree, Bytes, Lines, device_wants, wants}
+use Rattle.vms_analyze.proofs.Facade.{found, IsLastPlace, Tells, Text, listing_of, Lists, IsRead, told, ReadBackLaw, ShownLaw, width, LONGEST_NAME, MOST_UNUSED}
+use Rattle.vms_analyze.proofs.Facade.{number_at, bytes_at, is_name_byte, Sub, Device, Desc, desc_cells, struct_cells, own_cells, begins_with, configuration}
+use Rattle.vms_analyze.proofs.Facade.{struct_items, items_in, subs_items, devices_items, width_small, LONGEST_PATH, Told, Sent, Kept, Fixed, Skipped, is_path}
+use Rattle.vms_analyze.proofs.Facade.{is_good, Want, Any, Number, Machine, Head, Foot, Line, element_want, sub_wants, Took, took, only_if, take_machine}
+use Rattle.vms_analyze.proofs.Facade.{is_machine, taken, Found, Differs, behind, found_after, told_part, told_subs, told_devices, told_device_of, told_sub_of}
+use Rattle.vms_analyze.proofs.Shapes.{each_good, fixed_small, all_good, told_good, tree_same, IsGoodPart, AreGoodSubs, IsGoodDevice, AreGoodDevices}
+use Rattle.vms_analyze.proofs.Streams.{front, front_found}
 use Rattle.vms_analyze.proofs.Texts.{told_text, HasNoMark, last_place, tree_sound, text_printed, no_mark}
 
 -- ---- How many bytes are as required: no more than the description allows.

@@ -9,7 +9,7 @@ pub fn one_law()
 {}
 
 /// States that each input has a listing (`Lists`).
-#[tactic(auto, using(crate::proofs::Total::total_holds))]
+#[tactic(auto, using(crate::proofs::One::total_holds))]
 pub fn total_law()
     ensures { TotalLaw }
 {}

@@ -14,7 +14,7 @@ pub use Rattle.vms_board.specs.{Saving.Saves, Standing.Standing, declared.restor
 pub use Rattle.vms_board.specs.Comes.{ComesTo, IsRefused, IsUnfit, RestoreReads, Takings, TakingsRead, refusal_of}
 pub use Rattle.vms_board.specs.Family.{Family, MaySaveIn, Stands, images_saved, lists_in}
 unfoldable pub use Rattle.vms_board.specs.Saving.{saved_stream, stream_with}
-pub use Rattle.vms_check.proofs.ListLaws.{same_at}
+pub use Rattle.vms_check.proofs.PairLaws.{same_at}
 pub use Rattle.vms_desc.specs.{Described.described, Described.device_at, Formed.clock_set, Formed.shipped_set, Spots.kinds_at}
 pub use Rattle.vms_frames.specs.declared.fault.Refusal.{Refusal}
 pub use Rattle.vms_image.proofs.Made.{same_image}

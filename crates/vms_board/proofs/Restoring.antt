@@ -1,10 +1,13 @@
--- The effect of a load on a board.
-use Rattle.vms_board.proofs.Facade.{◌≡◌, inl, inr, ℕ, suc, ◌-◌, ◌<◌, ◌≤◌, List, [], ◌∷◌, length, get_or, Option, Some, None, IfSome, Ok, Err, Result, refl, sym}
-use Rattle.vms_board.proofs.Facade.{ap, ◌∙◌, subst, arith, slice_get, reads_as, Intake, Refusal, LoadReads, Loads, accepted_of, most_given, name_of, Image, Set}
-use Rattle.vms_board.proofs.Facade.{Fault, Takes, ComesTo, RestoreReads, Takings, TakingsRead, IsUnfit, refusal_of, Family, lists_in, Standing, RestoreFault}
+-- A board is restored from images.
+use Rattle.vms_board.proofs.Facade.{◌≡◌, inl, inr, ℕ, suc, ◌-◌, ◌<◌, ◌≤◌, List, [], ◌∷◌, length, get_or, Option, Some, None, IfSome}
+use Rattle.vms_board.proofs.Facade.{Ok, Err, Result, refl, sym, ap, ◌∙◌, subst, arith, slice_get, reads_as, Intake, Refusal, LoadReads, Loads}
+use Rattle.vms_board.proofs.Facade.{accepted_of, most_given, name_of, Image, Set, Fault, Takes, ComesTo, RestoreReads, Takings, TakingsRead, IsUnfit}
+use Rattle.vms_board.proofs.Facade.{refusal_of, Family, lists_in, Standing, RestoreFault, ◌+◌, reads_told, IsRefused, Refused, Restores}
 use Rattle.vms_board.proofs.Imaging.{at_below}
 use Rattle.vms_load.specs.declared.fault.LoadFault.TheVariants as loads
 use Rattle.vms_board.specs.declared.restore.RestoreFault.TheVariants as faults
+
+-- ---- the effect of a load on a board
 
 get-at : (xs : List (List ℕ)) (k : ℕ) (x : List ℕ) → slice_get xs k ≡ Some x → get_or xs k [] ≡ x
 get-at (y ∷ xs) (suc k) x e = get-at xs k x e
@@ -125,3 +128,21 @@ module _ {S : Type 0} (f : Family S) where
       (subst (λ (x : RestoreFault). ComesTo f number new rest (Some more) (Err x)) u.fault_is
       (comes_unfit number new (Some rest) (Some more) images taken fault u h)) in
       subst (λ (x : Result (Unit {0}) RestoreFault). RestoreReads f own a b new x) (sym (e ∙ ap Err u.fault_is)) (reads_as (λ k w. omega arith) said p)
+
+-- ---- the result of a call that reads a board's stream from a known input, and the bytes that it reads
+
+module _ {S : Type 0} (f : Family S) (number : ℕ) (new : Standing S) {a b : Intake} where
+  pub content : (r : Result Unit RestoreFault) → RestoreReads f number a b new r → IfSome a.left (λ input. ComesTo f number new input b.left r)
+  content (Ok u) p = reads_told (λ input left. ComesTo f number new input left (Ok u)) tt p
+  content (Err (faults.Refused r)) p = reads_told (λ input left. ComesTo f number new input left (Err (faults.Refused r))) tt p
+  content (Err faults.ReadFault) p = elim a.left as (λ o. IfSome o (λ input. Unit {0})) [ None ↦ tt | Some input ↦ tt ]
+
+  pub within : (r : Result Unit RestoreFault) → RestoreReads f number a b new r → b.given ≤ a.given + most_given (f.set f.newest)
+  within (Ok u) p = omega arith
+  within (Err fault) p = omega arith
+
+-- bytes that are refused restore to that refusal
+pub refused_is : {S : Type 0} (f : Family S) (number : ℕ) (input : List ℕ) (left : Option (List ℕ)) (r : Refusal) → IsRefused f number input left r
+    → Restores f number input (Refused r.at r.section r.reason)
+refused_is f number input left r (inl h) = inl h.0
+refused_is f number input left r (inr h) = inr h.0

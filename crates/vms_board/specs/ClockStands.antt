@@ -1,18 +1,14 @@
 -- The family of the boards clk-1 and clk-2 has the properties that code needs.
 use Rattle.std.proofs.Common.{◌≡◌, ℕ, zero, suc, ◌-◌, ◌≤◌, Some, refl, arith}
 use Rattle.std.specs.List.{slice_get}
-use Rattle.dev_clock.proofs.ClockLaws.{answers_tell_int, clock_goes_on}
-use Rattle.dev_clock.proofs.RestoredLaws.{restored_is_sound}
+use Rattle.dev_clock.proofs.{StepLaws.answers_tell_int, StepLaws.clock_goes_on, SavedLaws.restored_is_sound}
 use Rattle.dev_clock.specs.Sound.{IsSound}
 use Rattle.dev_clock.specs.State.{power_on}
-use Rattle.dev_clock_images.proofs.ClockReady.{saved_are_ready}
-use Rattle.dev_clock_images.proofs.NormalClock.{normal_may_be_restored}
+use Rattle.dev_clock_images.proofs.ClockImages.{saved_are_ready, normal_may_be_restored}
 use Rattle.dev_clock_images.specs.Images.{cells_of}
-use Rattle.vms_desc.proofs.Bounds.{none_is}
-use Rattle.vms_desc.proofs.ClockHeads.{clock_heads}
-use Rattle.vms_desc.proofs.Formed.{clock_formed}
+use Rattle.vms_desc.proofs.Clean.{none_is, clock_heads, clock_formed}
 use Rattle.vms_desc.specs.Formed.{clock_set}
-use Rattle.vms_rtc.proofs.CallLaws.{version_stays}
+use Rattle.vms_rtc.proofs.StepLaws.{version_stays}
 use Rattle.vms_rtc.specs.declared.limits.TheConstants.{NEWEST_CLOCK}
 use Rattle.vms_board.specs.Clock.{clock, clock_machine, AreTold}
 use Rattle.vms_board.specs.Family.{Stands}

@@ -6,11 +6,9 @@ use Rattle.std.specs.List.{range_with_len, slice_get}
 use Rattle.dev_base.specs.declared.limits.TheConstants.{NEWEST}
 use Rattle.dev_board.specs.Sound.{IsSound}
 use Rattle.dev_board.specs.State.{power_on}
-use Rattle.dev_board.proofs.ClockLaws.{answers_tell_int, clock_goes_on}
-use Rattle.dev_board.proofs.RestoredLaws.{restored_is_sound}
-use Rattle.dev_images.proofs.BoardReady.{saved_are_ready}
-use Rattle.dev_images.proofs.NormalBoard.{normal_may_be_restored}
-use Rattle.vms_desc.proofs.Formed.{by_list, fit_number}
+use Rattle.dev_board.proofs.{SoundLaws.answers_tell_int, SoundLaws.clock_goes_on, RestoredLaws.restored_is_sound}
+use Rattle.dev_images.proofs.{BoardReady.saved_are_ready, NormalCells.normal_may_be_restored}
+use Rattle.vms_desc.proofs.Clean.{by_list, fit_number}
 use Rattle.vms_desc.specs.Formed.{shipped_set}
 use Rattle.vms_board.specs.Family.{Stands}
 use Rattle.vms_board.specs.Isa.{isa, machine_of, cells_of, AreTold}

@@ -8,7 +8,7 @@ pub use Rattle.vms_kinds.specs.Bytes.{IsBytes}
 pub use Rattle.vms_spec.specs.{Heads.FitsHeads, Images.Image, Sets.Set, WellFormed.WellFormed, declared.Reason.Reason}
 pub use Rattle.vms_stream.proofs.Stated.{one_fault_holds}
 pub use Rattle.vms_stream.specs.Faults.{Fault}
-pub use Rattle.vms_board.proofs.{Restored.within}
+pub use Rattle.vms_board.proofs.Restoring.{within}
 pub use Rattle.vms_board.specs.{Family.Family, Isa.isa, Standing.Standing, declared.save.SaveFault.SaveFault, Comes.IsRefused, Comes.RestoreReads}
 pub use Rattle.vms_board.specs.Restoring.{Back, IsFaultAt, IsMisfitAt, Restore, Restores}
 pub use Rattle.vms_board.specs.Saving.{Saves, saved_stream}
@@ -23,12 +23,13 @@ pub use Rattle.vms_board_commands.specs.Drills.{Drill, drill_begun, drill_on, dr
 pub use Rattle.vms_board_commands.specs.Load.{Faulty, LoadGives, Loads, Traces, Unfit}
 unfoldable pub use Rattle.vms_board_commands.specs.{DrillEvents.event_by, DrillEvents.event_of, DrillEvents.next_number, Drills.bytes_after, Drills.taken_after}
 unfoldable pub use Rattle.vms_board_commands.specs.DrillProgress.{after_save, came_back, is_save_due, set_of}
-pub use Rattle.vms_board_streams.proofs.{BytesLaws.bytes_come, BytesLaws.no_fault, BytesLaws.one_restore, IsaBytes.streams_are_short, IsaStreams.isa_laws}
+pub use Rattle.vms_board_streams.proofs.BoardStreams.{isa_are_short as streams_are_short, isa_laws}
+pub use Rattle.vms_board_streams.proofs.FamilyLaws.{bytes_come, no_fault, one_restore}
 pub use Rattle.vms_board_streams.specs.{Streams.after_events, Streams.answers_to, Streams.trace_of, declared.memory.TheConstants.STREAM_ROOM}
-pub use Rattle.vms_commands.proofs.{CourseLemmas.writes_serve, StepLemmas.first_err, StepLemmas.had_by, StepLemmas.mapped_by, StepLemmas.sound_fetch}
-pub use Rattle.vms_commands.proofs.CourseLemmas.{wrong, asked, draws_none, draws_took, looked_so, same_so, so_since, unshelved_so, writes_end}
+pub use Rattle.vms_commands.proofs.EndLemmas.{writes_serve, wrong, asked, draws_none, draws_took, looked_so, same_so, so_since, unshelved_so, writes_end}
 pub use Rattle.vms_commands.proofs.EndLemmas.{comes_to_nothing, quiet_same, takes_nothing, text_written}
-pub use Rattle.vms_commands.proofs.StepLemmas.{sound_next, text_ends, then_as, then_text, ended_by, ending_mapped, ending_passed, fetched_gives}
+pub use Rattle.vms_commands.proofs.StepLemmas.{first_err, had_by, mapped_by, sound_fetch, sound_next, text_ends, then_as, then_text, ended_by, ending_mapped}
+pub use Rattle.vms_commands.proofs.StepLemmas.{ending_passed, fetched_gives}
 pub use Rattle.vms_commands.specs.{Fetching.fetched, Lines.refused_line, declared.ending.Ending.Ending, declared.ending.Ending.TheVariants.WouldLose}
 pub use Rattle.vms_commands.specs.Courses.{Course, Draws, EndsSo, Risen, is_among, of_shelf, text_course}
 pub use Rattle.vms_commands.specs.Endings.{DoneAs, EndsAs, EndsWith, SetCause, WritesAs, ending_of, status_of}
@@ -42,20 +43,20 @@ pub use Rattle.vms_io.specs.{Causes.Rose, Reading.Last, Reading.Reads, Reading.T
 pub use Rattle.vms_io.specs.Told.{Intake, Outlet, Stock, intake, outlet, stock}
 pub use Rattle.vms_load.proofs.{ExactLoads.fault_within}
 pub use Rattle.vms_load.specs.{Going.LoadReads, Staging.most_given}
-pub use Rattle.vms_script.proofs.{GrammarOnly.reads_exactly}
+pub use Rattle.vms_script.proofs.GrammarLaws.{reads_exactly}
 pub use Rattle.vms_script.specs.{Grammar.AreLines, Lines.ScriptLine, Script.Reading, Script.script_read, Views.ReadsLines, Views.event_lines, Views.lines_view}
 pub use Rattle.vms_script.specs.{declared.line.Line.Line, declared.line.ScriptFault.ScriptFault}
-pub use Rattle.vms_session.proofs.{CourseLemmas.rose_since, EndLaws.sessions_end, PartLemmas.begun_whole, ScriptLaws.sessions_are_one}
-pub use Rattle.vms_session.proofs.RunLemmas.{are_events, events_back}
+pub use Rattle.vms_session.proofs.CourseLemmas.{rose_since, begun_whole, are_events, events_back}
+pub use Rattle.vms_session.proofs.EndLaws.{sessions_end, sessions_are_one}
 pub use Rattle.vms_session.specs.{Events.events_of, Events.trace_from, Parts.Plays, Session.Session, declared.line.PlayFault.PlayFault}
 pub use Rattle.vms_session.specs.Playing.{DoesSome, Goes, LinesEnd, session_of}
 pub use Rattle.arrayvec.specs.ArrayVec.{ArrayVec}
 pub use Rattle.dev_base.specs.{Levels.IsLevel, Levels.ReachesSet, declared.limits.TheConstants.NEWEST}
-pub use Rattle.dev_board.proofs.{AlikeLaws.alike_stays, AlikeLaws.likeness, ClockLaws.clock_goes_on, RestoredLaws.restored_is_sound, SavedLaws.saved_comes_back}
-pub use Rattle.dev_board.proofs.{SoundLaws.power_on-sound, SoundLaws.sound_stays_on, WireBits.names}
+pub use Rattle.dev_board.proofs.{RestoredLaws.restored_is_sound, WireLaws.names, SoundLaws.clock_goes_on, SoundLaws.power_on-sound, SoundLaws.sound_stays_on}
+pub use Rattle.dev_board.proofs.SavedLaws.{alike_stays, likeness, saved_comes_back}
 pub use Rattle.dev_board.specs.{Sound.Alike, Sound.IsSound, State.State, Step.after_all, Step.names_wire, Step.observe, Step.step, Wires.is_wire}
 pub use Rattle.dev_board.specs.{declared.event.Answer.Answer, declared.event.Event.Event, Laws.AreEvents, Laws.IsEvent}
 pub use Rattle.dev_board.specs.Saved.{MaySaveUnder, carried, restored, saved}
 pub use Rattle.dev_board.specs.declared.event.Event.TheVariants.{Ack, Byte, Read, Wait, Wire, Write}
 unfoldable pub use Rattle.dev_board.specs.{State.power_on, Step.after_by, Step.answers_by}
-pub use Rattle.dev_images.proofs.BoardCarried.{saved_is_carried}
+pub use Rattle.dev_images.proofs.Carried.{saved_is_carried}

@@ -1,10 +1,4 @@
-pub mod BytesLaws
-pub mod ClockBytes
-pub mod ClockStreams
+pub mod BoardStreams
 pub mod Facade
 pub mod FamilyBytes
 pub mod FamilyLaws
-pub mod Front
-pub mod IsaBytes
-pub mod IsaStreams
-pub mod TextBytes

@@ -86,7 +86,7 @@ impl Sink for Growing {
 
 // Appends `piece`, a single byte without a call. Fails only if memory runs out.
 #[inline(always)]
-#[tactic(auto, using(crate::proofs::Front::one_piece))]
+#[tactic(auto, using(crate::proofs::FamilyBytes::one_piece))]
 fn append(bytes: &mut Vec<u8>, piece: &[u8]) -> Result<(), NoMemory>
     ensures ok { OnOk result (bytes.new.items ≡ bytes.old.items ++ piece.now) }
     ensures err { OnErr result (bytes.new.items ≡ bytes.old.items) }

@@ -67,7 +67,7 @@ impl Source for Lent<'_> {
 
 // Copies `from`, a single byte without a call.
 #[inline(always)]
-#[tactic(auto, using(crate::proofs::Front::one_copied))]
+#[tactic(auto, using(crate::proofs::FamilyBytes::one_copied))]
 fn copy(to: &mut [u8], from: &[u8])
     requires { length to.old ≡ length from.now }
     ensures { to.new ≡ from.now }

@@ -16,11 +16,9 @@ pub use Rattle.vms_kinds.specs.{Bytes.IsBytes, declared.Item.Item, declared.Kind
 pub use Rattle.vms_kinds.specs.Codes.{InRange, IsBadBool, highest, lowest, value_of, width}
 pub use Rattle.vms_kinds.specs.declared.Item.TheVariants.{Equal, Num, Struct, Unused}
 unfoldable pub use Rattle.vms_kinds.specs.Codes.{code}
-pub use Rattle.vms_spec.proofs.{Prefixes.first_cells, ShippedSets.shipped_stands, Tables.first_at, Tables.one_more}
-pub use Rattle.vms_spec.proofs.KindLaws.{good_code, length-code, value_code}
-pub use Rattle.vms_spec.proofs.ListLaws.{drop_on, either_of, or_turned}
-pub use Rattle.vms_spec.proofs.NumberLaws.{not_exceeds, same_number_is, same_number_itself, within_all}
-pub use Rattle.vms_spec.proofs.Sizes.{element_room, elements_fit, field_size, size_same}
+pub use Rattle.vms_spec.proofs.{ShippedSets.shipped_stands, ListsAndNumbers.same_number_itself, ListsAndNumbers.within_all}
+pub use Rattle.vms_spec.proofs.ListsAndNumbers.{good_code, length-code, value_code, drop_on, either_of, or_turned, not_exceeds, same_number_is}
+pub use Rattle.vms_spec.proofs.Tables.{first_cells, first_at, one_more, element_room, elements_fit, field_size, size_same}
 pub use Rattle.vms_spec.proofs.WellFormedLaws.{ranges, well_good, within}
 pub use Rattle.vms_spec.specs.{Numbers.exceeds, Numbers.is_above, Numbers.is_truth, Numbers.same_number, Tests.is_there, Tests.truth, declared.Count.Count}
 pub use Rattle.vms_spec.specs.{declared.Count.TheVariants.Counted, declared.Count.TheVariants.One, declared.Reason.Reason, declared.Whose.TheVariants.Own}

@@ -1,10 +1,17 @@
--- The parts of a section: where they begin, and what their slots are together.
-use Rattle.vms_bodies.proofs.{Facade.IsVersionOf, Facade.or_turned, Facade.AreCells, Names.names_append}
-use Rattle.vms_bodies.proofs.CellLaws.{Stands, front_stands, rest_stands, desc_are, meanings_are, cells_first}
-use Rattle.vms_bodies.proofs.Facade.{◌≡◌, ℕ, zero, suc, ◌+◌, ◌<◌, ◌≤◌, List, ◌∷◌, ◌++◌, length, map, slice_set, Option, Some, None, ℤ, refl, sym, ap, ◌∙◌}
-use Rattle.vms_bodies.proofs.Facade.{arith, append-nil, [], ◌||◌, flat_map, slice_get, or_assoc, cases_lt, ⊎_elim, drop-append_seam, Sub, Device, Set, Slot}
-use Rattle.vms_bodies.proofs.Facade.{Cell, desc_cells, device_cells, struct_cells, sub_place, sub_slots, own_cells, came_slots, has_cell, AreVersionsOf}
+-- The parts of a section: their slots together, what is fine of an image so far, and which parts
+-- came.
+use Rattle.vms_bodies.proofs.{Facade.first_missing, Places.none_joined, SpellLaws.at_set, SpellLaws.FitSlots, SpellLaws.fit_append, SpellLaws.rules_append}
+use Rattle.vms_bodies.proofs.Facade.{IsVersionOf, or_turned, AreCells, ◌≡◌, ℕ, zero, suc, ◌+◌, ◌<◌, ◌≤◌, List, ◌∷◌, ◌++◌}
+use Rattle.vms_bodies.proofs.Facade.{length, map, slice_set, Option, Some, None, ℤ, refl, sym, ap, ◌∙◌, arith, append-nil, [], ◌||◌, flat_map}
+use Rattle.vms_bodies.proofs.Facade.{slice_get, or_assoc, cases_lt, ⊎_elim, drop-append_seam, Sub, Device, Set, Slot, Cell, desc_cells, device_cells}
+use Rattle.vms_bodies.proofs.Facade.{struct_cells, sub_place, sub_slots, own_cells, came_slots, has_cell, AreVersionsOf, get_or, pos, false, cases_eq}
+use Rattle.vms_bodies.proofs.Facade.{cases_Bool, or_parts, slice_get_within, no_cell, Image, own_slots, image_slots, RulesHold, IsNormal, IsValid, FitsCell}
+use Rattle.vms_bodies.proofs.Facade.{IsSound, AreSound, DefaultsFit, ◌==◌, Bool, true, length-map, eqb-true, eq-eqb, Spells, default_image, sub_head}
+use Rattle.vms_bodies.proofs.Places.{names_append, Stands, front_stands, rest_stands, desc_are, meanings_are, cells_first, cells_append, none_in_both}
+use Rattle.vms_bodies.proofs.SettledLaws.{own_are, named_fits, SameIn, its_same, its_fit, its_hold, its_below, its_outside}
 use Rattle.vms_spec.specs.Streams
+
+-- ---- the parts of a section: where they begin, and what their slots are together
 
 abbrev pub sub_size : Set → Sub → ℕ
 sub_size set s = length (desc_cells (struct_cells set) s.desc)
@@ -182,3 +189,198 @@ pub beside_done : (came : List (Option ℕ)) → (left : List (Option ℕ)) × B
 beside_done [] = ([], tt, tt)
 beside_done (None ∷ came) = let h = beside_done came in (None ∷ h.0, (refl, h.1), h.2)
 beside_done (Some v ∷ came) = let h = beside_done came in (None ∷ h.0, (refl, refl, h.1), h.2)
+
+-- ---- an image whose parts so far are read is normal and valid so far, and stays so when one part more is read
+
+-- where subsection j begins
+abbrev pub part_place : Set → Device → ℕ → ℕ
+part_place set d j = sub_place set (own_cells set d) d.subs j
+
+-- one image, all of whose parts so far are right
+pub record Fine (set : Set) (d : Device) (v : ℕ) (came : List (Option ℕ)) (n : List ℤ) : Type 0 where
+  pub versions : AreVersionsOf d.subs came
+  pub long : length n ≡ length (device_cells set d)
+  pub own_fits : FitSlots n (own_slots set d v n)
+  pub own_rules : RulesHold (own_slots set d v n)
+  pub fits : (j : ℕ) (s : Sub) (w : ℕ) → slice_get d.subs j ≡ Some s → slice_get came j ≡ Some (Some w) → FitSlots n (sub_slots set s w n (part_place set d j))
+  pub rules : (j : ℕ) (s : Sub) (w : ℕ) → slice_get d.subs j ≡ Some s → slice_get came j ≡ Some (Some w) → RulesHold (sub_slots set s w n (part_place set d j))
+  pub absent : (c : ℕ) → has_cell (own_slots set d v n) c ≡ false → has_cell (came_slots set d n (own_cells set d) d.subs came) c ≡ false
+      → get_or n c (pos 0) ≡ (get_or (device_cells set d) c no_cell).default
+
+-- the cells of the parts that came are the same
+pub record Stays (set : Set) (d : Device) (came : List (Option ℕ)) (n m : List ℤ) : Type 0 where
+  pub own : SameIn 0 (0 + own_cells set d) n m
+  pub parts : (i : ℕ) (s : Sub) (x : ℕ) → slice_get d.subs i ≡ Some s → slice_get came i ≡ Some (Some x)
+      → SameIn (part_place set d i) (part_place set d i + sub_size set s) n m
+
+pub in_trans : (low end : ℕ) (n m k : List ℤ) → SameIn low end n m → SameIn low end m k → SameIn low end n k
+in_trans low end n m k a b = record { same = λ c up lt. b.same c up lt ∙ a.same c up lt }
+
+pub in_refl : (low end : ℕ) (n : List ℤ) → SameIn low end n n
+in_refl low end n = record { same = λ c up lt. refl }
+
+pub stays_refl : (set : Set) (d : Device) (came : List (Option ℕ)) (n : List ℤ) → Stays set d came n n
+stays_refl set d came n =
+    record { own = in_refl 0 (0 + own_cells set d) n; parts = λ i s x e f. in_refl (part_place set d i) (part_place set d i + sub_size set s) n }
+
+-- what came is another than what did not
+other_part : (came : List (Option ℕ)) (i j x : ℕ) → slice_get came i ≡ Some (Some x) → slice_get came j ≡ Some None → i ≡ j → ⊥
+other_part came i j x e f same = cc
+
+pub came_still : (came : List (Option ℕ)) (i j x w : ℕ) → slice_get came i ≡ Some (Some x) → slice_get came j ≡ Some None
+    → slice_get (slice_set came j (Some w)) i ≡ Some (Some x)
+came_still came i j x w e f = at_other came j i (Some w) (other_part came i j x e f) ∙ e
+
+pub stays_on : (set : Set) (d : Device) (came : List (Option ℕ)) (j w : ℕ) (n m k : List ℤ) → slice_get came j ≡ Some None → Stays set d came n m
+    → Stays set d (slice_set came j (Some w)) m k → Stays set d came n k
+stays_on set d came j w n m k f a b = record {
+  own = in_trans _ _ n m k a.own b.own;
+  parts = λ i s x e g. in_trans _ _ n m k (a.parts i s x e g) (b.parts i s x e (came_still came i j x w g f));
+}
+
+-- a part's body changes its own cells alone
+pub stays_next : (set : Set) (d : Device) (came : List (Option ℕ)) (j w : ℕ) (t : Sub) (n m : List ℤ) → slice_get d.subs j ≡ Some t
+    → slice_get came j ≡ Some None
+    → ((c : ℕ) → has_cell (sub_slots set t w m (part_place set d j)) c ≡ false → get_or m c (pos 0) ≡ get_or n c (pos 0)) → Stays set d came n m
+stays_next set d came j w t n m there new kept =
+    let first = own_cells set d in
+    record {
+      own = record { same = λ c up lt. kept c (its_below set t.desc w (part_place set d j) m c (omega (arith, sub_place_up set first d.subs j))) };
+      parts = λ i s x e f. record {
+        same = λ c up lt. kept c (its_outside set t.desc w (part_place set d j) m c
+            (parts_apart set first d.subs i j s t e there (other_part came i j x f new) c up lt));
+      };
+    }
+
+-- what holds of the new part and of those before holds of all
+pub next_parts : (subs : List Sub) (came : List (Option ℕ)) (j w : ℕ) (t : Sub) (P : ℕ → Sub → ℕ → Type 0) → slice_get subs j ≡ Some t
+    → slice_get came j ≡ Some None → P j t w → ((i : ℕ) (s : Sub) (x : ℕ) → slice_get subs i ≡ Some s → slice_get came i ≡ Some (Some x) → P i s x)
+    → (i : ℕ) (s : Sub) (x : ℕ) → slice_get subs i ≡ Some s → slice_get (slice_set came j (Some w)) i ≡ Some (Some x) → P i s x
+next_parts subs came j w t P there new here before i s x e f =
+    ⊎_elim (λ (same : i ≡ j).
+    let g = at_set came j (Some w) (slice_get_within came j None new) in
+    let ts : t ≡ s = cc in
+    let wx : w ≡ x = cc in
+    rw (same, ← ts, ← wx) here)
+    (λ (ne : i ≡ j → ⊥). before i s x e (sym (at_other came j i (Some w) ne) ∙ f)) (cases_eq i j)
+
+-- the slots of the parts that came name the same cells
+pub names_stay : (set : Set) (d : Device) (came : List (Option ℕ)) (n m : List ℤ) (c : ℕ) → AreSound set.structs
+    → ((j : ℕ) (s : Sub) → slice_get d.subs j ≡ Some s → IsSound s.desc) → Stays set d came n m
+    → has_cell (came_slots set d m (own_cells set d) d.subs came) c ≡ false → has_cell (came_slots set d n (own_cells set d) d.subs came) c ≡ false
+names_stay set d came n m c structs sound stays h =
+    parts_together set d n (λ xs. has_cell xs c ≡ false) refl (none_joined c) (own_cells set d) d.subs came (λ i s x e f.
+    rw (← (its_same set s.desc x (part_place set d i) structs (sound i s e) n m (stays.parts i s x e f)))
+    (part_apart set d m (λ xs. has_cell xs c ≡ false) (none_in_both c) (own_cells set d) d.subs came h i s x e f))
+
+pub fine_next : (set : Set) (d : Device) (v : ℕ) (came : List (Option ℕ)) (n m : List ℤ) (j w : ℕ) (t : Sub) → AreSound set.structs → IsSound d.desc
+    → ((j : ℕ) (s : Sub) → slice_get d.subs j ≡ Some s → IsSound s.desc) → slice_get d.subs j ≡ Some t → slice_get came j ≡ Some None → IsVersionOf t.desc w
+    → length m ≡ length n → FitSlots m (sub_slots set t w m (part_place set d j)) → RulesHold (sub_slots set t w m (part_place set d j))
+    → ((c : ℕ) → has_cell (sub_slots set t w m (part_place set d j)) c ≡ false → get_or m c (pos 0) ≡ get_or n c (pos 0))
+    → Fine set d v came n → Fine set d v (slice_set came j (Some w)) m
+fine_next set d v came n m j w t structs own sound there new version long fits rules kept f =
+    let stays = stays_next set d came j w t n m there new kept in
+    record {
+      versions = versions_next d.subs came j t w there version f.versions;
+      long = cc;
+      own_fits = its_fit set d.desc v 0 structs own n m stays.own f.own_fits;
+      own_rules = its_hold set d.desc v 0 structs own n m stays.own f.own_rules;
+      fits = next_parts d.subs came j w t (λ i s x. FitSlots m (sub_slots set s x m (part_place set d i))) there new fits
+          (λ i s x e g. its_fit set s.desc x _ structs (sound i s e) n m (stays.parts i s x e g) (f.fits i s x e g));
+      rules = next_parts d.subs came j w t (λ i s x. RulesHold (sub_slots set s x m (part_place set d i))) there new rules
+          (λ i s x e g. its_hold set s.desc x _ structs (sound i s e) n m (stays.parts i s x e g) (f.rules i s x e g));
+      absent = λ c a b.
+          let both = or_parts _ _ (sym (names_next set d m c (own_cells set d) d.subs came j t w there new) ∙ b) in
+          kept c both.0 ∙ f.absent c (rw (its_same set d.desc v 0 structs own n m stays.own) at a) (names_stay set d came n m c structs sound stays both.1);
+    }
+
+-- ---- the image at last
+
+pub image_are : (set : Set) (d : Device) (image : Image) → AreCells (device_cells set d) (image_slots set d image)
+image_are set d image =
+    cells_append (device_cells set d) (own_slots set d image.version image.numbers) _ (own_are set d image.version image.numbers)
+    (parts_together set d image.numbers (AreCells (device_cells set d)) tt (cells_append (device_cells set d)) (own_cells set d) d.subs image.came
+    (λ j s w e f. sub_are set d j s w image.numbers e))
+
+-- the number of a cell fits if it is named or at its default
+cell_fits : (all : List Cell) (n : List ℤ) (slots : List Slot) → DefaultsFit all → AreCells all slots → FitSlots n slots
+    → ((c : ℕ) → has_cell slots c ≡ false → get_or n c (pos 0) ≡ (get_or all c no_cell).default) → (c : ℕ) → c < length all
+    → FitsCell (get_or all c no_cell) (get_or n c (pos 0))
+cell_fits all n slots fine a f h c lt =
+    ⊎_elim (λ e. named_fits all n slots c e f a) (λ e. rw (h c e) (fine c lt)) (cases_Bool (has_cell slots c))
+
+pub fine_normal : (set : Set) (d : Device) (v : ℕ) (came : List (Option ℕ)) (n : List ℤ) → IsVersionOf d.desc v → DefaultsFit (device_cells set d)
+    → Fine set d v came n → IsNormal set d (record { version = v; came = came; numbers = n })
+fine_normal set d v came n version defaults f =
+    let image : Image = record { version = v; came = came; numbers = n } in
+    let fits : FitSlots n (image_slots set d image) =
+    fit_append n (own_slots set d v n) _ f.own_fits (parts_together set d n (FitSlots n) tt (fit_append n) (own_cells set d) d.subs came f.fits) in
+    let absent : (c : ℕ) → has_cell (image_slots set d image) c ≡ false → get_or n c (pos 0) ≡ (get_or (device_cells set d) c no_cell).default = λ c e.
+    let both = none_in_both c (own_slots set d v n) _ e in f.absent c both.0 both.1 in
+    record {
+      version = version;
+      subs = f.versions;
+      cells = record { long = f.long; fits = cell_fits (device_cells set d) n (image_slots set d image) defaults (image_are set d image) fits absent };
+      absent = λ c lt e. absent c e;
+    }
+
+pub fine_valid : (set : Set) (d : Device) (v : ℕ) (came : List (Option ℕ)) (n : List ℤ) → Fine set d v came n
+    → IsValid set d (record { version = v; came = came; numbers = n })
+fine_valid set d v came n f =
+    rules_append (own_slots set d v n) _ f.own_rules (parts_together set d n RulesHold tt rules_append (own_cells set d) d.subs came f.rules)
+
+-- ---- which devices and which subsections came: devices
+
+pub all_came : (k : ℕ) (came : List Bool) → first_missing k came ≡ None → Streams.AllCame came
+all_came k [] e = tt
+all_came k (true ∷ came) e = all_came (suc k) came e
+all_came k (false ∷ came) e = cc
+
+pub falses : (ds : List Device) → length (map (λ (d : Device). false) ds) ≡ length ds
+falses ds = length-map ds _
+
+pub defaults_of : (set : Set) (ds : List Device) → length (map (default_image set) ds) ≡ length ds
+defaults_of set ds = length-map ds _
+
+pub never_true : (ds : List Device) (k : ℕ) → slice_get (map (λ (d : Device). false) ds) k ≡ Some true → ⊥
+never_true (d ∷ ds) (suc k) e = never_true ds k e
+never_true _ _ e = cc
+
+pub none_missing : (k : ℕ) (came : List Bool) → Streams.AllCame came → first_missing k came ≡ None
+none_missing k [] h = refl
+none_missing k (true ∷ came) h = none_missing (suc k) came h
+none_missing k (false ∷ came) h = absurd h
+
+pub came_at : (came : List Bool) (k : ℕ) → Streams.AllCame came → k < length came → slice_get came k ≡ Some true
+came_at [] k h lt = absurd (omega arith)
+came_at (true ∷ came) zero h lt = refl
+came_at (true ∷ came) (suc k) h lt = came_at came k h (omega arith)
+came_at (false ∷ came) k h lt = absurd h
+
+pub same_lists : {A : Type 0} (xs ys : List A) → length xs ≡ length ys → ((k : ℕ) → k < length xs → slice_get xs k ≡ slice_get ys k) → xs ≡ ys
+same_lists [] [] e h = refl
+same_lists [] (y ∷ ys) e h = absurd (omega arith)
+same_lists (x ∷ xs) [] e h = absurd (omega arith)
+same_lists (x ∷ xs) (y ∷ ys) e h =
+    let a : Some x ≡ Some y = h 0 (omega arith) in
+    let c = same_lists xs ys (omega arith) (λ k lt. h (suc k) (omega arith)) in
+    cc
+
+pub agrees : (images now : List Image) (came : List Bool) (k j : ℕ) (image : Image) → k < length now → slice_get images k ≡ Some image
+    → (slice_get came j ≡ Some true → slice_get now j ≡ slice_get images j) → slice_get (slice_set came k true) j ≡ Some true
+    → (b : Bool) → (j == k) ≡ b → slice_get (slice_set now k image) j ≡ slice_get images j
+agrees images now came k j image lt found agree e true same = rw (eqb-true j k same) (at_set now k image lt ∙ sym found)
+agrees images now came k j image lt found agree e false other =
+    let ne : j ≡ k → ⊥ = λ x. (let f = eq-eqb j k x in cc) in
+    at_other now k j image ne ∙ agree (sym (at_other came k j true ne) ∙ e)
+
+-- ---- subsections
+
+pub none_versions : (subs : List Sub) → AreVersionsOf subs (none_of subs)
+none_versions [] = tt
+none_versions (s ∷ subs) = none_versions subs
+
+pub sub_front : (set : Set) (d : Device) (image : Image) (j w : ℕ) (s : Sub) (body : List ℕ) (o : Option Sub) (p : Option (Option ℕ)) → Some s ≡ o
+    → Some (Some w) ≡ p → Spells image.numbers (sub_slots set s w image.numbers (part_place set d j)) body
+    → Streams.SubSpells set d image j o p (sub_head s.desc.name w ++ body)
+sub_front set d image j w s body o p e f h = rw (← e, ← f) (body, h, refl)

@@ -1,12 +1,16 @@
--- What was taken of a body is spelled by its slots, as they are at last.
-use Rattle.vms_bodies.proofs.{Places.SameBelow, Places.same_refl, Places.same_less, Names.none_in_both}
-use Rattle.vms_bodies.proofs.Facade.{IsCell, AreCells, ◌≡◌, ◌≢◌, ℕ, ◌+◌, ◌≤◌, ◌≤ℤ◌, List, ◌∷◌, ◌++◌, length, get_or, take, slice_set, ℤ, pos, refl, sym, ap}
-use Rattle.vms_bodies.proofs.Facade.{◌∙◌, arith, append_assoc, append-nil, length-append, true, false, not, nat_lt, ◌==◌, get_or-set_other, [], AllByRecursion}
-use Rattle.vms_bodies.proofs.Facade.{take-append-drop, length-take-le, length-set, not-not, ltb-false, eq-eqb, or_parts, big_number, Kind, width, value_of}
-use Rattle.vms_bodies.proofs.Facade.{code, InRange, IsBadBool, value_taken, bytes_first, bytes_rest, IsBytes, is_bad_bool, exceeds, same_number, Slot, Number}
-use Rattle.vms_bodies.proofs.Facade.{Constant, Filler, Rule, Cell, Spells, RulesHold, has_cell, Progress, Refusal, on, take_slot, same_number_is, within_all}
-use Rattle.vms_bodies.proofs.WalkLaws.{Left, Gives, IsOther, Keeping, whole_gives, value_gives}
-use Rattle.std.proofs.Common.{get_or-set_same}
+-- Bodies that are read: what was taken is spelled by its slots, and reading slot by slot gives the
+-- same.
+use Rattle.vms_bodies.proofs.Facade.{IsCell, AreCells, ◌≡◌, ◌≢◌, ℕ, ◌+◌, ◌≤◌, ◌≤ℤ◌, List, ◌∷◌, ◌++◌, length, get_or}
+use Rattle.vms_bodies.proofs.Facade.{take, slice_set, ℤ, pos, refl, sym, ap, ◌∙◌, arith, append_assoc, append-nil, length-append, true, false, not}
+use Rattle.vms_bodies.proofs.Facade.{nat_lt, ◌==◌, get_or-set_other, [], AllByRecursion, take-append-drop, length-take-le, length-set, not-not, ltb-false}
+use Rattle.vms_bodies.proofs.Facade.{eq-eqb, or_parts, big_number, Kind, width, value_of, code, InRange, IsBadBool, value_taken, bytes_first, bytes_rest}
+use Rattle.vms_bodies.proofs.Facade.{IsBytes, is_bad_bool, exceeds, same_number, Slot, Number, Constant, Filler, Rule, Cell, Spells, RulesHold, has_cell}
+use Rattle.vms_bodies.proofs.Facade.{Progress, Refusal, on, take_slot, same_number_is, within_all, Ok, Desc, meanings, desc_slots, desc_cells, takers, cells_of}
+use Rattle.vms_bodies.proofs.Facade.{take_desc, IsSound, AreSound, suc, drop, Err, drop-append_seam, Taken, zero, ◌<◌, Some, slice_get, Option, length-drop}
+use Rattle.vms_bodies.proofs.Facade.{Verdict, Goes, Reading, reading_from, reading_after, reading_on, Advances}
+use Rattle.vms_bodies.proofs.Places.{SameBelow, same_refl, same_less, none_in_both}
+use Rattle.vms_bodies.proofs.WalkLaws.{Left, Gives, IsOther, Keeping, whole_gives, value_gives, ComesTo, set_desc_comes}
+use Rattle.std.proofs.Common.{get_or-set_same, drop_at}
 use Rattle.vms_kinds.specs.declared.Kind.TheVariants.{Bool}
 use Rattle.vms_spec.specs.declared.Reason.TheVariants as reasons
 
@@ -196,3 +200,125 @@ module _ (all : List Cell) (total : List ℤ → List Slot) (start : Progress) w
   pub spelled_first : (cell : ℕ) → Spelled start cell [] start
   spelled_first cell =
       record { bytes = []; front = refl; place = omega arith; spells = λ m s. refl; fits = λ m s. tt; rules = tt; long = refl; kept = λ c e. refl }
+
+-- ---- what was taken as a description is a body of it
+
+-- from p to q the bytes of a body were taken: its slots are those of all numbers that agree with q's below the end
+pub record IsBody (slots : List ℤ → List Slot) (end : ℕ) (p q : Progress) : Type 0 where
+  pub bytes : List ℕ
+  pub front : p.rest ≡ bytes ++ q.rest
+  pub place : q.place ≡ p.place + length bytes
+  pub spells : (m : List ℤ) → SameBelow end q.numbers m → Spells m (slots m) bytes
+  pub fits : (m : List ℤ) → SameBelow end q.numbers m → FitSlots m (slots m)
+  pub rules : (m : List ℤ) → SameBelow end q.numbers m → RulesHold (slots m)
+  pub long : length q.numbers ≡ length p.numbers
+  pub kept : (m : List ℤ) → SameBelow end q.numbers m → (c : ℕ) → has_cell (slots m) c ≡ false → get_or q.numbers c (pos 0) ≡ get_or p.numbers c (pos 0)
+
+body_of : (slots : List ℤ → List Slot) (end : ℕ) (p q : Progress) → ComesTo slots (Spelled p) Anything end (λ m. []) (Ok q) → IsBody slots end p q
+body_of slots end p q c =
+    let h = c.1.holds in
+    let is : (m : List ℤ) → SameBelow end q.numbers m → slots m ≡ c.0 = λ m s. c.1.split m s ∙ append-nil c.0 in
+    record {
+      bytes = h.bytes;
+      front = h.front;
+      place = h.place;
+      spells = λ m s. rw (is m s) (h.spells m s);
+      fits = λ m s. rw (is m s) (h.fits m s);
+      rules = λ m s. rw (is m s) h.rules;
+      long = h.long;
+      kept = λ m s k e. h.kept k (rw (is m s) at e);
+    }
+
+-- a description of a set that is taken has this body
+pub body_found : (all : List Cell) (ds : List Desc) → AreSound ds → (d : Desc) (v base : ℕ) (p q : Progress) → IsSound d → IsBytes p.rest
+    → length all ≤ length p.numbers → ((m : List ℤ) → AreCells all (desc_slots (meanings ds (length ds)) d v m base))
+    → take_desc (takers ds (length ds)) d v base p ≡ Ok q
+    → IsBody (λ m. desc_slots (meanings ds (length ds)) d v m base) (base + length (desc_cells (cells_of (takers ds (length ds))) d)) p q
+body_found all ds structs d v base p q sound ok room cells e =
+    let slots : List ℤ → List Slot = λ m. desc_slots (meanings ds (length ds)) d v m base in
+    let c = set_desc_comes slots (Spelled p) Anything (spelled_keeps all slots p ok room cells) ds structs d v base p sound (λ m. refl)
+    (spelled_first all slots p base) in
+    body_of slots (base + length (desc_cells (cells_of (takers ds (length ds))) d)) p q (rw e at c.comes)
+
+-- ---- a reading slot by slot, with the slots computed anew after each number, does what the structural reader does
+
+module _ {X : Type 0} (total : List ℤ → List Slot) (R : ℕ → Progress → X) (finish : ℕ → Progress → X) (refused : Refusal → X) where
+  abbrev pub after : ℕ → Taken → X
+  after i (Ok q) = R (suc i) q
+  after i (Err e) = refused e
+
+  abbrev pub step : List Slot → ℕ → Progress → X
+  step [] i p = finish i p
+  step (slot ∷ slots) i p = after i (take_slot slot p)
+
+  -- with i slots done, the next is judged
+  pub record Walks : Type 0 where
+    pub walks : (i : ℕ) (p : Progress) → R i p ≡ step (drop i (total p.numbers)) i p
+
+  -- what x is, it stays
+  abbrev pub Is : X → ℕ → List Slot → Progress → Type 0
+  Is x cell done p = x ≡ R (length done) p
+
+  abbrev pub Refuses : X → Refusal → Type 0
+  Refuses x e = x ≡ refused e
+
+  given : (x : X) (cell : ℕ) (done : List Slot) (slot : Slot) (t : Taken) → x ≡ after (length done) t
+      → Gives total (Is x) (Refuses x) cell (done ++ slot ∷ []) t
+  given x cell done slot (Err e) h = h
+  given x cell done slot (Ok q) h =
+      let n : suc (length done) ≡ length (done ++ slot ∷ []) = omega (arith, length-append done (slot ∷ [])) in
+      rw (← n) h
+
+  one_step : (w : Walks) (x : X) (cell : ℕ) (slot : Slot) (done : List Slot) (left : List ℤ → List Slot) (p : Progress)
+      → Left total (Is x) (Refuses x) cell p done (λ m. slot ∷ left m) → x ≡ after (length done) (take_slot slot p)
+  one_step w x cell slot done left p l =
+      cc (w.walks (length done) p, l.split p.numbers (same_refl cell p.numbers), drop-append_seam done (slot ∷ left p.numbers))
+
+  pub steps_keep : (w : Walks) (x : X) → Keeping total (Is x) (Refuses x)
+  steps_keep w x = record {
+    less = λ cell further done left p le up l. l.holds;
+    number = λ cell kind caps done left p up l. given x (cell + 1) done (Number cell kind caps) _ (one_step w x cell (Number cell kind caps) done left p l);
+    other = λ cell slot done left p o up l. given x cell done slot _ (one_step w x cell slot done left p l);
+  }
+
+-- ---- the judge, in a body, does what the structural reader does
+
+pub at_set : {A : Type 0} (xs : List A) (k : ℕ) (x : A) → k < length xs → slice_get (slice_set xs k x) k ≡ Some x
+at_set [] k x h = absurd (omega arith)
+at_set (y ∷ ys) zero x h = refl
+at_set (y ∷ ys) (suc k) x h = at_set ys k x (omega arith)
+
+pub set_twice : {A : Type 0} (xs : List A) (k : ℕ) (x y : A) → slice_set (slice_set xs k x) k y ≡ slice_set xs k y
+set_twice (z ∷ zs) (suc k) x y = rw (set_twice zs k x y)
+set_twice _ _ x y = refl
+
+-- ---- readings: the allowed number of units doesn't matter, if it is enough
+
+-- what is read after a verdict depends only on the reading that goes on from there
+after_same : {S : Type 0} (go on : S → ℕ → List ℕ → Option (Reading S)) (at : ℕ) (rest : List ℕ) (v : Verdict S)
+    → ((n : ℕ) (next : S) → v ≡ Goes n next → go next (at + n) (drop n rest) ≡ on next (at + n) (drop n rest))
+    → reading_after go at rest v ≡ reading_after on at rest v
+after_same go on at rest (Goes n next) h = h n next refl
+after_same go on at rest _ h = refl
+
+pub enough : {S : Type 0} (judge : S → List ℕ → Verdict S) → Advances judge → (m k : ℕ) (state : S) (at : ℕ) (rest : List ℕ)
+    → length rest < m → length rest < k → reading_from judge m state at rest ≡ reading_from judge k state at rest
+enough judge a zero k state at rest h i = absurd (omega arith)
+enough judge a (suc m) zero state at rest h i = absurd (omega arith)
+enough judge a (suc m) (suc k) state at rest h i =
+    after_same (reading_from judge m) (reading_from judge k) at rest (judge state rest) (λ n next e.
+    let b = a.goes state rest n next e in
+    enough judge a m k next (at + n) (drop n rest) (omega (arith, length-drop n rest)) (omega (arith, length-drop n rest)))
+
+-- one unit, and the rest
+pub one_unit : {S : Type 0} (judge : S → List ℕ → Verdict S) → Advances judge → (state : S) (at : ℕ) (rest : List ℕ)
+    → reading_on judge state at rest ≡ reading_after (reading_on judge) at rest (judge state rest)
+one_unit judge a state at rest =
+    after_same (reading_from judge (length rest)) (reading_on judge) at rest (judge state rest) (λ n next e.
+    let b = a.goes state rest n next e in
+    enough judge a (length rest) (suc (length (drop n rest))) next (at + n) (drop n rest) (omega (arith, length-drop n rest)) (omega arith))
+
+-- a unit that is spelled is read
+pub unit_read : {S : Type 0} (judge : S → List ℕ → Verdict S) → Advances judge → (state next : S) (at : ℕ) (unit rest : List ℕ)
+    → judge state (unit ++ rest) ≡ Goes (length unit) next → reading_on judge state at (unit ++ rest) ≡ reading_on judge next (at + length unit) rest
+unit_read judge a state next at unit rest e = one_unit judge a state at (unit ++ rest) ∙ rw (e, drop_at unit rest (length unit) refl) refl

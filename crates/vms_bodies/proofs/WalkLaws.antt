@@ -1,18 +1,19 @@
--- What the structural reader takes, by the slots that it goes through: whatever each slot keeps, the whole keeps.
-use Rattle.vms_bodies.proofs.Facade.{◌≡◌, ◌≢◌, ◌>>=◌, ℕ, zero, suc, ◌+◌, ◌*◌, ◌≤◌, List, ◌∷◌, ◌++◌, length, get_or, map, take, drop, Ok, Err, IfOk, ℤ, refl}
-use Rattle.vms_bodies.proofs.Facade.{sym, ap, ◌∙◌, arith, append_assoc, append-nil, length-append, Bool, true, false, not, if◌then◌else◌, nat_lt, slice_set}
-use Rattle.vms_bodies.proofs.Facade.{get_or-set_other, [], mul-le-mul_right, Kind, Item, Num, Equal, Unused, Struct, width, value_of, Reason, is_bad_bool}
-use Rattle.vms_bodies.proofs.Facade.{Field, Desc, is_there, Slot, Number, Constant, Filler, Rule, Meaning, no_meaning, no_desc, item_slots, item_size, times}
-use Rattle.vms_bodies.proofs.Facade.{field_slots, slots_from, desc_slots, desc_cells, cells_from, field_cells, place_of, numbers_of, elements_of, capacity_of}
-use Rattle.vms_bodies.proofs.Facade.{counted, all_hold, no_parent, first, meaning, meanings, Taken, Progress, Refusal, Taker, no_taker, takers, taker_of}
-use Rattle.vms_bodies.proofs.Facade.{cells_of, take_value, take_slot, take_item, take_items, take_field, take_fields, take_desc, check_rules, refuse, on}
-use Rattle.vms_bodies.proofs.Facade.{if_whole, IsSound, AreSound, IsSoundField, AreSoundFields, IsEarlier, field_size, elements_fit}
-use Rattle.vms_spec.specs.declared.Reason.TheVariants as reasons
+-- What the structural reader takes and leaves, by the slots that it goes through: whatever each
+-- slot keeps, the whole keeps.
+use Rattle.vms_bodies.proofs.Facade.{◌≡◌, ◌≢◌, ◌>>=◌, ℕ, zero, suc, ◌+◌, ◌*◌, ◌≤◌, List, ◌∷◌, ◌++◌, length, get_or}
+use Rattle.vms_bodies.proofs.Facade.{map, take, drop, Ok, Err, IfOk, ℤ, refl, sym, ap, ◌∙◌, arith, append_assoc, append-nil, length-append, Bool, true}
+use Rattle.vms_bodies.proofs.Facade.{false, not, if◌then◌else◌, nat_lt, slice_set, get_or-set_other, [], mul-le-mul_right, Kind, Item, Num, Equal, Unused}
+use Rattle.vms_bodies.proofs.Facade.{Struct, width, value_of, Reason, is_bad_bool, Field, Desc, is_there, Slot, Number, Constant, Filler, Rule, Meaning}
+use Rattle.vms_bodies.proofs.Facade.{no_meaning, no_desc, item_slots, item_size, times, field_slots, slots_from, desc_slots, desc_cells, cells_from}
+use Rattle.vms_bodies.proofs.Facade.{field_cells, place_of, numbers_of, elements_of, capacity_of, counted, all_hold, no_parent, first, meaning, meanings, Taken}
+use Rattle.vms_bodies.proofs.Facade.{Progress, Refusal, Taker, no_taker, takers, taker_of, cells_of, take_value, take_slot, take_item, take_items, take_field}
+use Rattle.vms_bodies.proofs.Facade.{take_fields, take_desc, check_rules, refuse, on, if_whole, IsSound, AreSound, IsSoundField, AreSoundFields, IsEarlier}
+use Rattle.vms_bodies.proofs.Facade.{field_size, elements_fit, ◌-◌, drop-drop}
+use Rattle.vms_bodies.proofs.Places.{IsAbove, MeanAbove, above_none, above_append, above_less, items_above, fields_above, meanings_above, SameBelow, same_refl}
+use Rattle.vms_bodies.proofs.Places.{same_less, same_trans, own_same, there_same, elements_same, hold_same, place_next, place_end, if_so}
 use Rattle.vms_spec.specs.Lookup.{exceeds, same_number}
-use Rattle.vms_bodies.proofs.AboveLaws.{IsAbove, MeanAbove, above_none, above_append, above_less, items_above, fields_above, meanings_above}
-use Rattle.vms_bodies.proofs.Places.{SameBelow, same_refl, same_less, same_trans, own_same, there_same, elements_same, hold_same, place_next, place_end}
-use Rattle.vms_bodies.proofs.Names.{if_so}
 pub use Rattle.vms_bodies.proofs.Places.{place_first}
+use Rattle.vms_spec.specs.declared.Reason.TheVariants as reasons
 
 -- ---- what one slot gives
 
@@ -295,3 +296,56 @@ module _ (total : List ℤ → List Slot) (Holds : ℕ → List Slot → Progres
     set_desc_comes ds structs d v base p sound is h =
         desc_comes _ _ (pairs_first ds structs (length ds) (omega arith)) (meanings_above ds (length ds)) d v base _ sound refl
         (λ m. above_none _) (record { split = λ m s. is m ∙ sym (append-nil (desc_slots (meanings ds (length ds)) d v m base)); holds = h })
+
+-- ---- what the reader of a body leaves: the bytes from its offset on, also if a unit is invalid
+
+module _ (at : ℕ) (input : List ℕ) where
+  -- these bytes are the rest of the input at this offset
+  pub record IsLeft (place : ℕ) (rest : List ℕ) : Type 0 where
+    pub from : at ≤ place
+    pub is : rest ≡ drop (place - at) input
+
+  -- those after what was taken, or from the offending unit on
+  abbrev pub Leaves : Taken → Type 0
+  Leaves (Ok q) = IsLeft q.place q.rest
+  Leaves (Err e) = IsLeft e.place e.rest
+
+  further : (n : ℕ) (p : Progress) → IsLeft p.place p.rest → IsLeft (p.place + n) (drop n p.rest)
+  further n p h =
+      let sum : p.place + n - at ≡ p.place - at + n = omega (arith, h.from) in
+      record { from = omega (arith, h.from); is = rw (sum, h.is) (drop-drop n (p.place - at) input) }
+
+  slot_left : (slot : Slot) (p : Progress) → IsLeft p.place p.rest → Leaves (take_slot slot p)
+  slot_left slot p h = slot_gives Leaves p (λ reason n. h) slot (λ n numbers s. further n p h) h
+
+  abbrev Holds : ℕ → List Slot → Progress → Type 0
+  Holds cell done p = IsLeft p.place p.rest
+
+  abbrev Fails : Refusal → Type 0
+  Fails e = IsLeft e.place e.rest
+
+  module _ (total : List ℤ → List Slot) where
+    gives : (cell : ℕ) (done : List Slot) (t : Taken) → Leaves t → Gives total Holds Fails cell done t
+    gives cell done (Ok q) h = h
+    gives cell done (Err e) h = h
+
+    keeping : Keeping total Holds Fails
+    keeping = record {
+      less = λ cell further done left p le up l. l.holds;
+      number = λ cell kind caps done left p up l. gives (cell + 1) (done ++ Number cell kind caps ∷ []) _ (slot_left (Number cell kind caps) p l.holds);
+      other = λ cell slot done left p o up l. gives cell (done ++ slot ∷ []) _ (slot_left slot p l.holds);
+    }
+
+    leaves : (cell : ℕ) (left : List ℤ → List Slot) (t : Taken) → ComesTo total Holds Fails cell left t → Leaves t
+    leaves cell left (Ok q) c = c.1.holds
+    leaves cell left (Err e) c = c
+
+-- from the front of the input on
+pub desc_leaves : (structs : List Desc) (sound : AreSound structs) (d : Desc) (v base : ℕ) (p : Progress)
+    → IsSound d → Leaves p.place p.rest (take_desc (takers structs (length structs)) d v base p)
+desc_leaves structs sound d v base p good =
+    let total : List ℤ → List Slot = λ m. desc_slots (meanings structs (length structs)) d v m base in
+    let none : p.place - p.place ≡ 0 = omega arith in
+    let c = set_desc_comes total (Holds p.place p.rest) (Fails p.place p.rest) (keeping p.place p.rest total) structs sound d v base p good (λ m. refl)
+    (record { from = omega arith; is = rw none refl }) in
+    leaves p.place p.rest total _ (λ m. []) _ c.comes

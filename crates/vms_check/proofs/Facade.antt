@@ -12,10 +12,10 @@ pub use Rattle.std.specs.Prelude.{if◌then◌else◌, is_none, nat_lt, not, ◌
 pub use Rattle.vms_kinds.specs.{declared.Item.Item, declared.TheConstants.NEWEST_SET}
 pub use Rattle.vms_kinds.specs.declared.Item.TheVariants.{Equal, Num, Struct, Unused}
 pub use Rattle.vms_kinds.specs.declared.Kind.TheVariants.{I8, U16, U8}
-pub use Rattle.vms_spec.proofs.{Faultless.answers_none, Faultless.or_else_none, ListLaws.all_right, ListLaws.both_none, ListLaws.found_inside}
-pub use Rattle.vms_spec.proofs.{NumberLaws.same_number_itself, ShippedSets.each, Tables.first_at, Tables.first_long}
-pub use Rattle.vms_spec.proofs.Boxes.{box, box_set, counted_set, empty_set, number, subsection_set, tested_set}
-pub use Rattle.vms_spec.proofs.WellFormedLaws.{Clean, beyond, device_found, device_parts, struct_clean, sub_clean, sub_found, untested}
+pub use Rattle.vms_spec.proofs.{WellFormedLaws.sub_found, ShippedSets.each, Tables.first_at, Tables.first_long}
+pub use Rattle.vms_spec.proofs.Examples.{box, box_set, counted_set, empty_set, number, subsection_set, tested_set}
+pub use Rattle.vms_spec.proofs.ListsAndNumbers.{same_number_itself, all_right, both_none, found_inside}
+pub use Rattle.vms_spec.proofs.WellFormedLaws.{untested, answers_none, or_else_none, Clean, beyond, device_found, device_parts, struct_clean, sub_clean}
 pub use Rattle.vms_spec.specs.{Lists.first_answer, Lists.or_else, Lists.position, Lookup.find_device, Lookup.find_sub, Lookup.index, Readiness.is_version_of}
 pub use Rattle.vms_spec.specs.{Rules.nodes, Rules.test_names_well, Rules.uses_below, Shipped.set_0, Shipped.set_1, Shipped.set_3, Shipped.shipped_sets}
 pub use Rattle.vms_spec.specs.{Streams.is_one_of, Tests.truth, declared.Count.Count, declared.Part.Part, declared.Place.Place, declared.Rel.Rel}
@@ -39,7 +39,7 @@ pub use Rattle.vms_check.specs.Reducing.{Known, Open, Reduced, and_reduced, left
 pub use Rattle.vms_check.specs.Sides.{as_reduced, count_present, desc_on, field_reduced, fields_from, left_nodes, own_side, position_in, position_on}
 pub use Rattle.vms_check.specs.Wholes.{device_mismatch, is_missing, lost_mismatch, machines_mismatch, part_mismatch}
 unfoldable pub use Rattle.vms_check.specs.{Carrying.carried, Comparing.first_mismatch}
-pub use Rattle.vms_desc.proofs.{Bounds.none_is, Clean.few_fields, Clean.few_subs, Clean.field_clean, Clean.reach, Formed.numbered, Ranks.reach_whole}
+pub use Rattle.vms_desc.proofs.Clean.{none_is, few_fields, few_subs, field_clean, reach, numbered, reach_whole}
 pub use Rattle.vms_desc.specs.{Described.described, Described.device_at, Formed.is_well_formed, Formed.shipped_set, Parts.HasPart, Parts.desc_at, Parts.sub_at}
 pub use Rattle.vms_parts.proofs.{Items.get_map_at}
 pub use Rattle.vms_parts.specs.{Capacities.least_from, Capacities.least_of, Capacities.lesser, Views.device_of, Views.field_of, Views.formula, Views.sub_of}

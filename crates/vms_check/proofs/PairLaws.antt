@@ -1,12 +1,43 @@
--- Two fields of the same position.
-use Rattle.vms_check.proofs.{Facade.in_new, Facade.each, ListLaws.passes, ListLaws.pass, ListLaws.at_every}
-use Rattle.vms_check.proofs.Facade.{◌≡◌, ℕ, Bool, true, false, Option, Some, None, refl, ◌≤◌, List, [], ◌∷◌, ◌&&◌, ◌==◌, if◌then◌else◌, and_parts, eq-eqb}
-use Rattle.vms_check.proofs.Facade.{eqb-true, leb-true, le-leb, Formula, Field, Desc, is_nothing, same_rest, same_reduced, Comparer, Entry, absent_hold, bound}
-use Rattle.vms_check.proofs.Facade.{failing_pair, has_room, holds_as_much, is_absent, is_covered, pair_rules, uncovered_rules, Reduced, Known, Open, left_of}
-use Rattle.vms_check.proofs.Facade.{presence, tree_of, field_reduced, Struct, Count, One, Fixed, Counted, Part, Place, counted, AreAlike, ArePaired, in_old}
+-- Two fields of the same position, tests over lists, and the positions of present fields.
+use Rattle.vms_check.proofs.Facade.{◌≡◌, ℕ, suc, ◌+◌, List, ◌∷◌, Bool, true, false, Option, Some, None, refl, arith, [], slice_get, list_all}
+use Rattle.vms_check.proofs.Facade.{Place, first_answer, both_none, failing_pair, in_new, each, ◌≤◌, ◌&&◌, ◌==◌, if◌then◌else◌, and_parts}
+use Rattle.vms_check.proofs.Facade.{eq-eqb, eqb-true, leb-true, le-leb, Formula, Field, Desc, is_nothing, same_rest, same_reduced, Comparer, Entry, absent_hold}
+use Rattle.vms_check.proofs.Facade.{bound, has_room, holds_as_much, is_absent, is_covered, pair_rules, uncovered_rules, Reduced, Known, Open, left_of, presence}
+use Rattle.vms_check.proofs.Facade.{tree_of, field_reduced, Struct, Count, One, Fixed, Counted, Part, counted, AreAlike, ArePaired, in_old, IsFirst, Present}
+use Rattle.vms_check.proofs.Facade.{Side, zero, ◌<◌, ◌++◌, length, get_or, take, map, replicate, sym, ap, ◌∙◌, drop, add-one, not, ne_eqb}
+use Rattle.vms_check.proofs.Facade.{length-map, map-append, take-map, take_more, drop_more, no_field, field_of, get_map_at, entry_of, position_from}
+use Rattle.vms_check.proofs.Facade.{fields_from, count_present, position_in, desc_on}
 use Rattle.std.specs.Prelude.{nat_le}
+use Rattle.vms_parts.specs.declared.types.Field.{Field as CodeField}
 
--- ---- The rests of the tests of two present fields.
+-- ---- tests over lists and numbered rules, and what they say of each place
+
+pub passes : (rule : ℕ) (b : Bool) (rules : List (ℕ × Bool)) (p q : Place) → failing_pair ((rule, b) ∷ rules) p q ≡ None
+    → (b ≡ true) × (failing_pair rules p q ≡ None)
+passes rule true rules p q e = (refl, e)
+passes rule false rules p q e = absurd (cc)
+
+pub pass : (rule : ℕ) (b : Bool) (rules : List (ℕ × Bool)) (p q : Place) → b ≡ true → failing_pair rules p q ≡ None
+    → failing_pair ((rule, b) ∷ rules) p q ≡ None
+pass rule true rules p q e f = f
+pass rule false rules p q e f = absurd (cc)
+
+pub at_every : {X : Type 0} (p : X → Bool) (xs : List X) → ((i : ℕ) (x : X) → slice_get xs i ≡ Some x → p x ≡ true) → list_all p xs ≡ true
+at_every p [] h = refl
+at_every p (x ∷ xs) h = rw (h 0 x refl) (at_every p xs (λ i y e. h (suc i) y e))
+
+pub none_answers : {X Y : Type 0} (f : ℕ → X → Option Y) (i : ℕ) (xs : List X) → ((j : ℕ) (x : X) → slice_get xs j ≡ Some x → f (i + j) x ≡ None)
+    → first_answer f i xs ≡ None
+none_answers f i [] h = refl
+none_answers f i (x ∷ xs) h =
+    let plus : i ≡ i + 0 = omega arith in
+    both_none (f i x) (first_answer f (suc i) xs) (rw (← plus) at (h 0 x refl))
+    (none_answers f (suc i) xs (λ j y e. let more : suc i + j ≡ i + suc j = omega arith in rw more (h (suc j) y e)))
+
+pub same_at : {X : Type 0} (xs : List X) (i : ℕ) (x y : X) → slice_get xs i ≡ Some x → slice_get xs i ≡ Some y → x ≡ y
+same_at xs i x y e f = cc
+
+-- ---- two fields of the same position: The rests of the tests of two present fields.
 
 pub presence_is : (v : ℕ) (test : Option Formula) (since : ℕ) → presence v test since ≡ left_of (field_reduced v test since)
 presence_is v None since = elim (nat_le since v) as (λ b. (if b then Some None else None) ≡ left_of (Known b)) [ true ↦ refl | false ↦ refl ]
@@ -93,3 +124,185 @@ module _ (same : ℕ → ℕ → Bool) (structs : List Comparer) (a b : Desc) (v
           → failing_pair (if x then (9, same_rest (in_old same a b v w) (in_new same a b v w) e.rest f.rest) ∷ [] else uncovered e f) p q ≡ None
       by_cover true c = pass 9 _ [] p q (h.covered c) refl
       by_cover false c = so_alike e f p q (h.alike c)
+
+-- ---- the position of a field among the present ones is how many are present before it
+
+by_presence : (p i : ℕ) (f : Field) (es : List Entry) (k : ℕ) (o : Option (Option Formula))
+    → position_from p (entry_of i 0 f o ++ es) k ≡ (if is_nothing o then position_from p es k else (if i == k then Some p else position_from (suc p) es k))
+by_presence p i f es k None = refl
+by_presence p i f es k (Some rest) = refl
+
+next_is : (v p i : ℕ) (f : Field) (fs : List Field) (k : ℕ) → position_from p (fields_from v i (f ∷ fs)) k
+    ≡ (if is_absent v f then position_from p (fields_from v (suc i) fs) k else (if i == k then Some p else position_from (suc p) (fields_from v (suc i) fs) k))
+next_is v p i f fs k = by_presence p i f (fields_from v (suc i) fs) k (presence v f.test f.since)
+
+either : {X : Type 0} (b : Bool) (x y z : X) → x ≡ z → y ≡ z → (if b then x else y) ≡ z
+either true x y z left right = left
+either false x y z left right = right
+
+none_before : (v p i : ℕ) (fs : List Field) (k : ℕ) → k < i → position_from p (fields_from v i fs) k ≡ None
+none_before v p i [] k lt = refl
+none_before v p i (f ∷ fs) k lt =
+    next_is v p i f fs k ∙ either (is_absent v f) _ _ None (none_before v p (suc i) fs k (omega arith))
+    (rw (ne_eqb i k (λ e. omega (arith, e))) (none_before v (suc p) (suc i) fs k (omega arith)))
+
+abbrev next_position : ℕ → ℕ → Field → ℕ
+next_position v p f = (if is_absent v f then 0 else 1) + p
+
+found_from : (v p i : ℕ) (f : Field) (fs : List Field) (k : ℕ)
+    → position_from p (fields_from v i (f ∷ fs)) (i + suc k) ≡ position_from (next_position v p f) (fields_from v (suc i) fs) (suc i + k)
+found_from v p i f fs k = next_is v p i f fs (i + suc k) ∙ rw (ne_eqb i (i + suc k) (λ e. omega (arith, e)), plus) (by_case (is_absent v f))
+  where
+    plus : i + suc k ≡ suc i + k
+    plus = omega arith
+
+    by_case : (b : Bool) → (if b then position_from p (fields_from v (suc i) fs) (suc i + k) else position_from (suc p) (fields_from v (suc i) fs) (suc i + k))
+        ≡ position_from ((if b then 0 else 1) + p) (fields_from v (suc i) fs) (suc i + k)
+    by_case true = let e : 0 + p ≡ p = omega arith in rw e
+    by_case false = let e : 1 + p ≡ suc p = omega arith in rw e
+
+found_here : (v p i : ℕ) (f : Field) (fs : List Field) (b : Bool) → is_absent v f ≡ b
+    → position_from p (fields_from v i (f ∷ fs)) i ≡ (if b then None else Some p)
+found_here v p i f fs true e = next_is v p i f fs i ∙ rw e (none_before v p (suc i) fs i (omega arith))
+found_here v p i f fs false e = next_is v p i f fs i ∙ rw (e, eq-eqb i i refl)
+
+there_from : (v p i : ℕ) (fs : List Field) (k : ℕ) (b : Bool) → k < length fs → is_absent v (get_or fs k no_field) ≡ b
+    → position_from p (fields_from v i fs) (i + k) ≡ (if b then None else Some (count_present v (take k fs) + p))
+there_from v p i [] k b lt e = absurd (omega arith)
+there_from v p i (f ∷ fs) zero b lt e =
+    let plus : i + 0 ≡ i = omega arith in
+    let none : 0 + p ≡ p = omega arith in
+    rw (plus, none) (found_here v p i f fs b e)
+there_from v p i (f ∷ fs) (suc k) b lt e =
+    let plus : count_present v (take k fs) + next_position v p f ≡ ((if is_absent v f then 0 else 1) + count_present v (take k fs)) + p = omega arith in
+    found_from v p i f fs k ∙ rw plus at (there_from v (next_position v p f) (suc i) fs k b (omega arith) e)
+
+pub flipped : (b c : Bool) → not b ≡ c → b ≡ not c
+flipped true false e = refl
+flipped false true e = refl
+flipped _ _ e = sym e
+
+pub there_is : (v : ℕ) (fs : List Field) (k : ℕ) (b : Bool) → k < length fs → is_absent v (get_or fs k no_field) ≡ b
+    → position_in v fs k ≡ (if b then None else Some (count_present v (take k fs)))
+there_is v fs k b lt e =
+    let zero_plus : 0 + k ≡ k = omega arith in
+    let plus : count_present v (take k fs) + 0 ≡ count_present v (take k fs) = omega arith in
+    rw (zero_plus, plus) at (there_from v 0 0 fs k b lt e)
+
+beyond_from : (v p i : ℕ) (fs : List Field) (k : ℕ) → length fs ≤ k → position_from p (fields_from v i fs) (i + k) ≡ None
+beyond_from v p i [] k le = refl
+beyond_from v p i (f ∷ fs) zero le = absurd (omega arith)
+beyond_from v p i (f ∷ fs) (suc k) le = found_from v p i f fs k ∙ beyond_from v (next_position v p f) (suc i) fs k (omega arith)
+
+pub beyond_is : (v : ℕ) (fs : List Field) (k : ℕ) → length fs ≤ k → position_in v fs k ≡ None
+beyond_is v fs k le = let zero_plus : 0 + k ≡ k = omega arith in rw zero_plus at (beyond_from v 0 0 fs k le)
+
+-- ---- as the code has it
+
+-- a table of no entries
+pub none_at : {A : Type 0} (n k : ℕ) → get_or (replicate {A = Option A} n None) k None ≡ None
+none_at zero k = refl
+none_at (suc n) zero = refl
+none_at (suc n) (suc k) = none_at n k
+
+position_there : (v : ℕ) (fields : List CodeField) (k : ℕ) (f : CodeField) → k < length fields → f ≡ get_or fields k f → is_absent v (field_of f) ≡ false
+    → position_in v (map field_of fields) k ≡ Some (count_present v (map field_of (take k fields)))
+position_there v fields k f lt is e =
+    there_is v (map field_of fields) k false (omega (arith, length-map fields field_of)) (rw (get_map_at field_of fields k f no_field lt is) e)
+    ∙ rw (take-map field_of k fields)
+
+position_absent : (v : ℕ) (fields : List CodeField) (k : ℕ) (f : CodeField) → k < length fields → f ≡ get_or fields k f → is_absent v (field_of f) ≡ true
+    → position_in v (map field_of fields) k ≡ None
+position_absent v fields k f lt is e =
+    there_is v (map field_of fields) k true (omega (arith, length-map fields field_of)) (rw (get_map_at field_of fields k f no_field lt is) e)
+
+count-append : (v : ℕ) (fs gs : List Field) → count_present v (fs ++ gs) ≡ count_present v fs + count_present v gs
+count-append v [] gs = omega arith
+count-append v (f ∷ fs) gs = omega (arith, count-append v fs gs)
+
+-- a field that is there or isn't
+module _ (v : ℕ) (fields : List CodeField) (k : ℕ) (f : CodeField) (is_there : Bool) (count : ℕ) (lt : k < length fields) (is : f ≡ get_or fields k f)
+    (e : is_there ≡ not (is_absent v (field_of f))) (n : count ≡ count_present v (map field_of (take k fields))) where
+  -- its entry
+  pub entry_is : (if is_there then Some count else None) ≡ position_in v (map field_of fields) k
+  entry_is = by is_there e
+    where
+      by : (b : Bool) → b ≡ not (is_absent v (field_of f)) → (if b then Some count else None) ≡ position_in v (map field_of fields) k
+      by true h = ap Some n ∙ sym (position_there v fields k f lt is (flipped (is_absent v (field_of f)) true (sym h)))
+      by false h = sym (position_absent v fields k f lt is (flipped (is_absent v (field_of f)) false (sym h)))
+
+  -- how many are there with it
+  pub counted_is : (if is_there then suc count else count) ≡ count_present v (map field_of (take (k + 1) fields))
+  counted_is = rw (take_more fields k f lt, map-append field_of (take k fields) (get_or fields k f ∷ []), count-append, ← is) (by is_there e)
+    where
+      by : (b : Bool) → b ≡ not (is_absent v (field_of f))
+          → (if b then suc count else count) ≡ count_present v (map field_of (take k fields)) + count_present v (field_of f ∷ [])
+      by true h = rw (flipped (is_absent v (field_of f)) true (sym h)) (omega arith)
+      by false h = rw (flipped (is_absent v (field_of f)) false (sym h)) (omega arith)
+
+pub counted_small : (b : Bool) (count n : ℕ) → count ≤ n → (if b then suc count else count) ≤ n + 1
+counted_small true count n h = omega arith
+counted_small false count n h = omega arith
+
+pub position_beyond : (v : ℕ) (fields : List CodeField) (k : ℕ) → length fields ≤ k → None ≡ position_in v (map field_of fields) k
+position_beyond v fields k le = sym (beyond_is v (map field_of fields) k (omega (arith, length-map fields field_of)))
+
+-- ---- The next field that is there.
+
+abbrev found : ℕ → ℕ → Field → Entry
+found v i f = record { index = i; place = 0; field = f; rest = tree_of (field_reduced v f.test f.since) }
+
+there : (i : ℕ) (f : Field) (r : Reduced) → is_nothing (left_of r) ≡ false
+    → entry_of i 0 f (left_of r) ≡ record { index = i; place = 0; field = f; rest = tree_of r } ∷ []
+there i f (Known false) e = absurd (cc)
+there i f _ e = refl
+
+absent : (i : ℕ) (f : Field) (o : Option (Option Formula)) → is_nothing o ≡ true → entry_of i 0 f o ≡ []
+absent i f None e = refl
+absent i f (Some rest) e = absurd (cc)
+
+module _ (v : ℕ) (fields : List Field) (i : ℕ) (lt : i < length fields) where
+  here : fields_from v i (drop i fields)
+      ≡ entry_of i 0 (get_or fields i no_field) (presence v (get_or fields i no_field).test (get_or fields i no_field).since) ++ fields_from v (i + 1)
+      (drop (i + 1) fields)
+  here = rw (drop_more fields i no_field lt, add-one i)
+
+  pub skips : is_absent v (get_or fields i no_field) ≡ true → fields_from v (i + 1) (drop (i + 1) fields) ≡ fields_from v i (drop i fields)
+  skips e =
+      let f = get_or fields i no_field in
+      sym (here ∙ rw (absent i f (presence v f.test f.since) e))
+
+  pub finds : is_absent v (get_or fields i no_field) ≡ false
+      → fields_from v i (drop i fields) ≡ found v i (get_or fields i no_field) ∷ fields_from v (i + 1) (drop (i + 1) fields)
+  finds e =
+      let f = get_or fields i no_field in
+      let is = presence_is v f.test f.since in
+      here ∙ rw (is, there i f (field_reduced v f.test f.since) (rw is at e))
+
+-- ---- as the code has it
+
+module _ (side : Side) (fields : List CodeField) (same : map field_of fields ≡ (desc_on side).fields) (i : ℕ) (f : CodeField) (lt : i < length fields)
+    (is : f ≡ get_or fields i f) where
+  inside : i < length (desc_on side).fields
+  inside = omega (arith, length-map fields field_of, ap length same)
+
+  field_is : field_of f ≡ get_or (desc_on side).fields i no_field
+  field_is = rw same at (sym (get_map_at field_of fields i f no_field lt is))
+
+  pub skip_absent : (present : Bool) → present ≡ not (is_absent side.version (field_of f)) → present ≡ false
+      → fields_from side.version (i + 1) (drop (i + 1) (desc_on side).fields) ≡ fields_from side.version i (drop i (desc_on side).fields)
+  skip_absent present e absent =
+      skips side.version (desc_on side).fields i inside (rw (← field_is) (flipped (is_absent side.version (field_of f)) false (sym e ∙ absent)))
+
+  pub first_found : (from : ℕ) (p : Present) → p.number ≡ i → p.field.now ≡ f → from ≤ i
+      → fields_from side.version i (drop i (desc_on side).fields) ≡ fields_from side.version from (drop from (desc_on side).fields)
+      → (present : Bool) → present ≡ not (is_absent side.version (field_of f)) → present ≡ true → IsFirst side from p
+  first_found from p number field le e present is_present holds =
+      let v = side.version in
+      let there' : is_absent v (field_of f) ≡ false = flipped (is_absent v (field_of f)) true (sym is_present ∙ holds) in
+      let here = rw (← field_is) at (finds v (desc_on side).fields i inside (rw (← field_is) there')) in
+      record {
+        on = record { inside = rw number inside; is = rw (field, number) field_is; there = rw field there' };
+        later = rw number le;
+        entries = sym e ∙ rw (number, field) here;
+      }

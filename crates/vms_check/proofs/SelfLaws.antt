@@ -1,16 +1,16 @@
 -- A well-formed set is compatible to itself.
-use Rattle.vms_check.proofs.{PairLaws.presence_is, PositionLaws.there_is, ListLaws.same_at, SetsFit.so_fits}
-use Rattle.vms_check.proofs.Facade.{◌≡◌, ℕ, zero, suc, ◌≤◌, min, List, ◌∷◌, ◌++◌, Bool, true, false, Some, refl, sym, ap, ◌∙◌, arith, [], Option, None, inr}
-use Rattle.vms_check.proofs.Facade.{◌+◌, ◌<◌, length, get_or, ◌==◌, ◌&&◌, nat_lt, slice_get, eq-eqb, and_parts, le-leb, leb-true, and_from, eqb-true, or_left}
-use Rattle.vms_check.proofs.Facade.{or_right, get_or_from_slice_get, slice_get_within, bytes_eq, bytes_eq-Decides, any_passes_from_place, Item, Count, One}
-use Rattle.vms_check.proofs.Facade.{Fixed, Counted, counted, no_field, no_desc, Field, Formula, Cell, Desc, Sub, Device, Set, bound, holds_as_much, is_absent}
-use Rattle.vms_check.proofs.Facade.{same_constant, same_count, same_item, same_place, same_reduced, same_rest, same_test, Compatible}
-use Rattle.vms_check.proofs.Facade.{Entry, entry_of, is_found, Num, Equal, Unused, Struct, Own, has_no_test, is_num, is_one, is_steady, is_steady_in}
-use Rattle.vms_check.proofs.Facade.{names_well, nobody, count_names_well, is_counting, is_earlier_in, test_names_well, same_number_itself, untested, Clean}
-use Rattle.vms_check.proofs.Facade.{struct_clean, device_parts, sub_clean, device_found, sub_found, beyond, Reduced, Known, Open, left_of, presence, reduced}
-use Rattle.vms_check.proofs.Facade.{field_reduced, position_in, fields_from, Rel, find_device, is_version_of, is_one_of, WellFormed, struct_rules, device_rules}
-use Rattle.vms_check.proofs.Facade.{sub_rules, ArePaired, DescsFit, DevicesFit, IsSubFor, fields_at, AllByRecursion, all_right}
-use Rattle.vms_check.proofs.ReducedLaws.{IfOpen, IsByParts, open_reduced}
+use Rattle.vms_check.proofs.{PairLaws.presence_is, PairLaws.there_is, PairLaws.same_at, SetsFit.so_fits}
+use Rattle.vms_check.proofs.CapacityLaws.{IfOpen, IsByParts, open_reduced}
+use Rattle.vms_check.proofs.Facade.{all_right, ◌≡◌, ℕ, zero, suc, ◌≤◌, min, List, ◌∷◌, ◌++◌, Bool, true, false, Some, refl, sym, ap}
+use Rattle.vms_check.proofs.Facade.{◌∙◌, arith, [], Option, None, inr, ◌+◌, ◌<◌, length, get_or, ◌==◌, ◌&&◌, nat_lt, slice_get, eq-eqb}
+use Rattle.vms_check.proofs.Facade.{and_parts, le-leb, leb-true, and_from, eqb-true, or_left, or_right, get_or_from_slice_get, slice_get_within, bytes_eq}
+use Rattle.vms_check.proofs.Facade.{bytes_eq-Decides, any_passes_from_place, Item, Count, One, Fixed, Counted, counted, no_field, no_desc, Field, Formula, Cell}
+use Rattle.vms_check.proofs.Facade.{Desc, Sub, Device, Set, bound, holds_as_much, is_absent, same_constant, same_count, same_item, same_place, same_reduced}
+use Rattle.vms_check.proofs.Facade.{same_rest, same_test, Compatible, Entry, entry_of, is_found, Num, Equal, Unused, Struct, Own, has_no_test, is_num, is_one}
+use Rattle.vms_check.proofs.Facade.{is_steady, is_steady_in, names_well, nobody, count_names_well, is_counting, is_earlier_in, test_names_well}
+use Rattle.vms_check.proofs.Facade.{same_number_itself, untested, Clean, struct_clean, device_parts, sub_clean, device_found, sub_found, beyond, Reduced, Known}
+use Rattle.vms_check.proofs.Facade.{Open, left_of, presence, reduced, field_reduced, position_in, fields_from, Rel, find_device, is_version_of, is_one_of}
+use Rattle.vms_check.proofs.Facade.{WellFormed, struct_rules, device_rules, sub_rules, ArePaired, DescsFit, DevicesFit, IsSubFor, fields_at, AllByRecursion}
 use Rattle.vms_check.specs.{Comparing.least_of}
 use Rattle.std.specs.Prelude.{nat_le}
 use denote.Enum.Bare.{true_same}

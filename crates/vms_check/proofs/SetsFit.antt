@@ -1,16 +1,15 @@
 -- Two descriptions and two sets: no rule fails exactly where they fit as the rules say.
-use Rattle.vms_check.proofs.Facade.{◌≡◌, inl, inr, ℕ, zero, suc, List, [], ◌∷◌, ◌++◌, length, get_or, Bool, true, false, Option, Some, None, refl, sym, ◌∙◌}
-use Rattle.vms_check.proofs.Facade.{arith, ◌+◌, ◌<◌, slice_get, is_none, ltb-true, slice_get-get_or, Item, Struct, Part, no_desc, struct_cells, or_else}
-use Rattle.vms_check.proofs.Facade.{first_answer, uses_below, Formula, Field, Desc, Sub, Device, Set, here, in_field, WellFormed, first_fault, struct_rules}
-use Rattle.vms_check.proofs.Facade.{device_rules, sub_rules, Comparer, Entry, compare_desc, compare_fields, entry_of, failing_pair, is_covered, is_kept}
-use Rattle.vms_check.proofs.Facade.{no_comparer, pair_rules, pair_structs, Compatible, compare_device, compare_sub, compare_subs, is_in, ArePaired, DescsFit}
-use Rattle.vms_check.proofs.Facade.{IsKept, fields_at, in_old, in_new, DevicesFit, Fits, IsSubFor, SetsFit, Reduced, Known, presence, reduced, fields_from}
-use Rattle.vms_check.proofs.Facade.{Mismatch, or_else_none, answers_none, both_none, find_device, find_sub, index, is_one_of, Clean, struct_clean, device_parts}
-use Rattle.vms_check.proofs.Facade.{sub_clean, none_is, AreRules, table, device_mismatch, lost_mismatch, machines_mismatch, each}
-use Rattle.vms_spec.specs.Layout.{Cell}
+use Rattle.vms_check.proofs.Facade.{◌≡◌, inl, inr, ℕ, zero, suc, List, [], ◌∷◌, ◌++◌, length, get_or, Bool, true, false, Option, Some, None}
+use Rattle.vms_check.proofs.Facade.{refl, sym, ◌∙◌, arith, ◌+◌, ◌<◌, slice_get, is_none, ltb-true, slice_get-get_or, Item, Struct, Part, no_desc}
+use Rattle.vms_check.proofs.Facade.{struct_cells, or_else, first_answer, uses_below, Formula, Field, Desc, Sub, Device, Set, here, in_field, WellFormed}
+use Rattle.vms_check.proofs.Facade.{first_fault, struct_rules, device_rules, sub_rules, Comparer, Entry, compare_desc, compare_fields, entry_of, failing_pair}
+use Rattle.vms_check.proofs.Facade.{is_covered, is_kept, no_comparer, pair_rules, pair_structs, Compatible, compare_device, compare_sub, compare_subs, is_in}
+use Rattle.vms_check.proofs.Facade.{ArePaired, DescsFit, IsKept, fields_at, in_old, in_new, DevicesFit, Fits, IsSubFor, SetsFit, Reduced, Known, presence}
+use Rattle.vms_check.proofs.Facade.{reduced, fields_from, Mismatch, or_else_none, answers_none, both_none, find_device, find_sub, index, is_one_of, Clean}
+use Rattle.vms_check.proofs.Facade.{struct_clean, device_parts, sub_clean, none_is, AreRules, table, device_mismatch, lost_mismatch, machines_mismatch, each}
+use Rattle.vms_check.proofs.PairLaws.{passes, pass, at_every, none_answers, paired_so, so_paired}
 use Rattle.vms_check.proofs.WholeLaws.{desc_split, AllBelow, structs_are, whole_is}
-use Rattle.vms_check.proofs.ListLaws.{passes, pass, at_every, none_answers}
-use Rattle.vms_check.proofs.PairLaws.{paired_so, so_paired}
+use Rattle.vms_spec.specs.Layout.{Cell}
 use Rattle.vms_spec.specs.declared.Part.TheVariants as parts
 
 -- ---- Two descriptions: no rule fails exactly where they fit as the rules say.

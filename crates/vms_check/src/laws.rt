@@ -3,7 +3,7 @@ ghost use Rattle.vms_check.specs.Laws.{ReducedLaw, ReflexiveLaw, RulesLaw, Shipp
 
 /// States that a test, reduced for a known version, is true exactly if the test itself is true at
 /// that version.
-#[tactic(auto, using(crate::proofs::ReducedLaws::reduced_holds))]
+#[tactic(auto, using(crate::proofs::CapacityLaws::reduced_holds))]
 pub fn reduced_law()
     ensures { ReducedLaw }
 {}
@@ -24,7 +24,7 @@ pub fn reflexive_law()
 {}
 
 /// States that [`check`](crate::check) accepts each shipped set from `@1` on with each later one.
-#[tactic(auto, using(crate::proofs::ShippedLaws::shipped_compatible))]
+#[tactic(auto, using(crate::proofs::CompareRows::shipped_compatible))]
 pub fn shipped_law()
     ensures { ShippedLaw }
 {}

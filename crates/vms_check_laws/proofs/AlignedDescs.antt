@@ -2,18 +2,17 @@
 -- newer set reads the same number of bytes for its field as the older set wrote for its own. A number that tests
 -- and counts may name is the same then. This is repeated position by position. Also a position at which two
 -- constants differ, which the newer set can't read.
-use Rattle.vms_check_laws.proofs.{Presence.filler_length, Segments.aligns_filler, Segments.spells_split, Segments.behind_first, PairLists.if_least}
-use Rattle.vms_check_laws.proofs.Facade.{◌≡◌, inl, inr, ℕ, zero, suc, ◌+◌, ◌<◌, ◌≤◌, Bool, true, List, ◌∷◌, ◌++◌, length, get_or, Some, None, sym, ap, ◌∙◌}
-use Rattle.vms_check_laws.proofs.Facade.{code_read, big_number, arith, ℤ, pos, if◌then◌else◌, ◌⊎◌, nat_lt, take, refl, slice_get, eqb-true, and_parts, ltb-true}
-use Rattle.vms_check_laws.proofs.Facade.{eq-or-lt_of_le, [], cells_in, Kind, Item, Num, Equal, Unused, Struct, width, residue, code, Count, One, is_steady_in}
-use Rattle.vms_check_laws.proofs.Facade.{is_num, is_one, is_earlier_in, Slot, Number, times, counted, item_cells, elements_of, item_slots, kind_of}
-use Rattle.vms_check_laws.proofs.Facade.{Spells, zeroed, length-code, size_same, elements_fit, Entry, same_count, same_item, FitsAt, Aligns, desc_cells}
-use Rattle.vms_check_laws.proofs.Facade.{AllZip, cases_lt, eq-eqb, position_from, same_place}
-use Rattle.vms_check_laws.proofs.FieldsRead.{pair_by, Opposite, named_pair}
-use Rattle.vms_check_laws.proofs.Positioned.{same_some, at_or_later, Above, none_before}
-use Rattle.vms_check_laws.proofs.Premises.{olds, older, newer, kinds_same, slots_at, IsKnown, entries_slots, AreKnown, known_there, Two, PairGood, Pairs, Sides, IsSingle}
-use Rattle.vms_check_laws.proofs.Premises.{NamesEarlier, OldFields, covered_slots, Met}
-use Rattle.vms_check_laws.proofs.Segments.{fits_left, fits_right, fits_at, apart, same_bytes, aligns_nil, aligns_append, aligns_number, aligns_constant}
+use Rattle.vms_check_laws.proofs.{PairLists.if_least, FieldsRead.pair_by, FieldsRead.Opposite, FieldsRead.named_pair}
+use Rattle.vms_check_laws.proofs.Facade.{◌≡◌, inl, inr, ℕ, zero, suc, ◌+◌, ◌<◌, ◌≤◌, Bool, true, List, ◌∷◌, ◌++◌, length}
+use Rattle.vms_check_laws.proofs.Facade.{get_or, Some, None, sym, ap, ◌∙◌, code_read, big_number, arith, ℤ, pos, if◌then◌else◌, ◌⊎◌, nat_lt}
+use Rattle.vms_check_laws.proofs.Facade.{take, refl, slice_get, eqb-true, and_parts, ltb-true, eq-or-lt_of_le, [], cells_in, Kind, Item, Num, Equal, Unused}
+use Rattle.vms_check_laws.proofs.Facade.{Struct, width, residue, code, Count, One, is_steady_in, is_num, is_one, is_earlier_in, Slot, Number, times, counted}
+use Rattle.vms_check_laws.proofs.Facade.{item_cells, elements_of, item_slots, kind_of, Spells, zeroed, length-code, size_same, elements_fit, Entry, same_count}
+use Rattle.vms_check_laws.proofs.Facade.{same_item, FitsAt, Aligns, desc_cells, AllZip, cases_lt, eq-eqb, position_from, same_place}
+use Rattle.vms_check_laws.proofs.Premises.{olds, older, newer, kinds_same, slots_at, IsKnown, entries_slots, AreKnown, known_there, Two, PairGood, Pairs, Sides}
+use Rattle.vms_check_laws.proofs.Premises.{IsSingle, NamesEarlier, OldFields, covered_slots, Met}
+use Rattle.vms_check_laws.proofs.Presence.{filler_length, aligns_filler, spells_split, behind_first, same_some, at_or_later, Above, none_before, fits_left}
+use Rattle.vms_check_laws.proofs.Presence.{fits_right, fits_at, apart, same_bytes, aligns_nil, aligns_append, aligns_number, aligns_constant}
 
 -- two constants of one kind that have other bytes
 pub record Differ (i j : Item) : Type 0 where

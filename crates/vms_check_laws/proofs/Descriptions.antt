@@ -1,22 +1,23 @@
 -- A description on each side: its bytes carry, what isn't in them is at its default, and at one front the newer set
 -- takes exactly the bytes that the older one wrote. Validations that hold in the older set hold in the newer. The carried numbers
 -- fit the cells of the newer set.
-use Rattle.vms_check_laws.proofs.{Facade.no_parent, Facade.passes, Facade.reduced, Positioned.present_above, Counts.caps_follow, Counts.IsIndexed}
-use Rattle.vms_check_laws.proofs.{Counts.DescGood, Counts.indexed, PairLists.if_least, PairLists.one_cell, PairLists.settled_more}
 use Rattle.vms_check_laws.proofs.AlignedDescs.{Clashes, entries_align, entries_clash, State}
-use Rattle.vms_check_laws.proofs.Facade.{reduced_holds, same_reduced, truth, truth_of, either_of, ◌≤ℤ◌, ◌≡◌, inl, inr, ℕ, zero, suc, ◌+◌, ◌<◌, ◌≤◌, Bool, true}
-use Rattle.vms_check_laws.proofs.Facade.{false, List, ◌∷◌, ◌++◌, length, get_or, Option, None, refl, arith, ℤ, pos, if◌then◌else◌, AllByRecursion, [], cells_in}
-use Rattle.vms_check_laws.proofs.Facade.{Kind, Item, Num, Struct, Formula, Field, Cell, times, counted, item_cells, field_cells, cells_from, Entry, same_kind}
-use Rattle.vms_check_laws.proofs.Facade.{pair_structs, defaults, carry_item, carry_items, carry_from, FitsAt, size_same, elements_fit, highest, InRange, is_num}
-use Rattle.vms_check_laws.proofs.Facade.{FitsCell, ItemBelow, FieldsBelow, desc_cells, is_steady_in, present, AllZip, sym, ◌∙◌, and_from, and_parts, list_all}
-use Rattle.vms_check_laws.proofs.Facade.{list_any, Desc, Rule, Meaning, slots_from, desc_slots, all_hold, Part, position_from, Comparer, compare_desc, Carrier}
-use Rattle.vms_check_laws.proofs.Facade.{carry_desc, Holds, Aligns, or_else_none, Spells, zeroed, Carries, Known, Reduced, compare_validations, here, is_kept}
+use Rattle.vms_check_laws.proofs.Counts.{caps_follow, IsIndexed, DescGood, indexed}
+use Rattle.vms_check_laws.proofs.Facade.{no_parent, passes, reduced, reduced_holds, same_reduced, truth, truth_of, either_of, ◌≤ℤ◌, ◌≡◌, inl, inr}
+use Rattle.vms_check_laws.proofs.Facade.{ℕ, zero, suc, ◌+◌, ◌<◌, ◌≤◌, Bool, true, false, List, ◌∷◌, ◌++◌, length, get_or, Option}
+use Rattle.vms_check_laws.proofs.Facade.{None, refl, arith, ℤ, pos, if◌then◌else◌, AllByRecursion, [], cells_in, Kind, Item, Num, Struct, Formula}
+use Rattle.vms_check_laws.proofs.Facade.{Field, Cell, times, counted, item_cells, field_cells, cells_from, Entry, same_kind, pair_structs, defaults, carry_item}
+use Rattle.vms_check_laws.proofs.Facade.{carry_items, carry_from, FitsAt, size_same, elements_fit, highest, InRange, is_num, FitsCell, ItemBelow, FieldsBelow}
+use Rattle.vms_check_laws.proofs.Facade.{desc_cells, is_steady_in, present, AllZip, sym, ◌∙◌, and_from, and_parts, list_all, list_any, Desc, Rule}
+use Rattle.vms_check_laws.proofs.Facade.{Meaning, slots_from, desc_slots, all_hold, Part, position_from, Comparer, compare_desc, Carrier, carry_desc, Holds}
+use Rattle.vms_check_laws.proofs.Facade.{Aligns, or_else_none, Spells, zeroed, Carries, Known, Reduced, compare_validations, here, is_kept}
 use Rattle.vms_check_laws.proofs.FieldsRead.{linked, agree_from, fields_settle, fields_carry, by_fields}
+use Rattle.vms_check_laws.proofs.PairLists.{if_least, one_cell, settled_more}
 use Rattle.vms_check_laws.proofs.Premises.{olds, news, older, newer, kinds_same, Matched, decoded, OldFields, NewFields, DefaultsGood, ItemDefault, Sides}
 use Rattle.vms_check_laws.proofs.Premises.{fields_below, FitCells, GoodCells, fit_append, fit_defaults, good_append, good_times, Met, entries_slots}
 use Rattle.vms_check_laws.proofs.Premises.{slots_entries, all_known, AreKnown, Two, Table, Meets, Reads, RulesNamed, all_met}
-use Rattle.vms_check_laws.proofs.Presence.{not_covered, Agree, Named, named_left, same_reduced_truth}
-use Rattle.vms_check_laws.proofs.Segments.{fits_left, fits_right, fits_at, holds_at, carries_append, spells_split, behind_first, aligns_append, aligns_rule}
+use Rattle.vms_check_laws.proofs.Presence.{present_above, not_covered, Agree, Named, named_left, same_reduced_truth, fits_left, fits_right, fits_at, holds_at}
+use Rattle.vms_check_laws.proofs.Presence.{carries_append, spells_split, behind_first, aligns_append, aligns_rule}
 
 -- ---- the carried numbers fit new's cells
 

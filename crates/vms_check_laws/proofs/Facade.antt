@@ -12,12 +12,11 @@ pub use Rattle.byteorder.specs.Endian.{big_number}
 pub use Rattle.vms_kinds.specs.{Codes.InRange, Codes.code, Codes.highest, Codes.residue, Codes.width, declared.Item.Item, declared.Kind.Kind}
 pub use Rattle.vms_kinds.specs.declared.Item.TheVariants.{Equal, Num, Struct, Unused}
 pub use Rattle.vms_kinds.specs.declared.Kind.TheVariants.{U16, U32, U8}
-pub use Rattle.vms_spec.proofs.{NumberLaws.same_number_is, ListLaws.all_right, ListLaws.either_of, Tables.first_at, Tables.first_long}
-pub use Rattle.vms_spec.proofs.Faultless.{AllTrue, answers_none, every_one, few_devices, machine_short, or_else_none}
-pub use Rattle.vms_spec.proofs.KindLaws.{code_read, length-code}
-pub use Rattle.vms_spec.proofs.Prefixes.{FieldsBelow, ItemBelow, desc_cells_same, first_same, item_below, struct_cells_at, struct_slots}
-pub use Rattle.vms_spec.proofs.Sizes.{elements_fit, field_size, size_same}
-pub use Rattle.vms_spec.proofs.WellFormedLaws.{Clean, device_found, device_parts, ranges, struct_clean, sub_clean, sub_found, within}
+pub use Rattle.vms_spec.proofs.ListsAndNumbers.{same_number_is, all_right, either_of, code_read, length-code}
+pub use Rattle.vms_spec.proofs.Tables.{first_at, first_long, elements_fit, field_size, size_same, FieldsBelow, ItemBelow, desc_cells_same, first_same}
+pub use Rattle.vms_spec.proofs.Tables.{item_below, struct_cells_at, struct_slots}
+pub use Rattle.vms_spec.proofs.WellFormedLaws.{AllTrue, answers_none, every_one, few_devices, machine_short, or_else_none, Clean, device_found, device_parts}
+pub use Rattle.vms_spec.proofs.WellFormedLaws.{ranges, struct_clean, sub_clean, sub_found, within}
 pub use Rattle.vms_spec.specs.{Lists.first_answer, Lookup.find_device, Lookup.find_sub, Lookup.index, Readiness.is_version_of, Tests.is_there, Tests.truth}
 pub use Rattle.vms_spec.specs.{declared.Count.Count, declared.Part.Part, declared.Rel.Rel, declared.Whose.TheVariants.Own, declared.Whose.TheVariants.Parent}
 pub use Rattle.vms_spec.specs.Images.{own_slots, sub_place, sub_slots, zeroed, AreVersionsOf, FitCells, FitsCell, Image, IsVersionOf, RulesHold, Spells}
@@ -32,17 +31,15 @@ pub use Rattle.vms_spec.specs.Streams.{written_sections, written_subs, AllCame, 
 pub use Rattle.vms_spec.specs.Streams.{SubSpells, SubsSpell, configuration, is_one_of, longest_text, optional, sub_head, trailer, written, written_section}
 pub use Rattle.vms_spec.specs.WellFormed.{WellFormed, here, in_field}
 pub use Rattle.vms_spec.specs.declared.Count.TheVariants.{Counted, Fixed, One}
-pub use Rattle.vms_bodies.proofs.{BodyLaws.at_set, ReadyLaws.version_decides, SectionLaws.defaults_at, SectionLaws.defaults_long, SettledLaws.cells_in}
-pub use Rattle.vms_bodies.proofs.{SpellLaws.rules_append, SpellLaws.spells_append, SubsOnly.rules_split}
-pub use Rattle.vms_bodies.proofs.AboveLaws.{IsAbove, MeanAbove, field_above, item_above, meanings_above}
-pub use Rattle.vms_bodies.proofs.AgreeLaws.{its_below, its_in, named_inside, skip_long, stands_behind}
-pub use Rattle.vms_bodies.proofs.CellLaws.{MeanCells, cells_first, field_are, item_are, meanings_are}
-pub use Rattle.vms_bodies.proofs.Names.{has_left, has_right, names_append, none_in_both}
+pub use Rattle.vms_bodies.proofs.{Stated.version_decides, BodyOnly.rules_split, SpellLaws.at_set, SpellLaws.rules_append, SpellLaws.spells_append}
 pub use Rattle.vms_bodies.proofs.PartLaws.{at_other, cells_of_sub, part_apart, parts_together, places_apart, sub_place_up, sub_size}
+pub use Rattle.vms_bodies.proofs.Places.{IsAbove, MeanAbove, field_above, item_above, meanings_above, MeanCells, cells_first, field_are, item_are, meanings_are}
+pub use Rattle.vms_bodies.proofs.Places.{has_left, has_right, names_append, none_in_both}
+pub use Rattle.vms_bodies.proofs.SettledLaws.{defaults_at, defaults_long, cells_in, its_below, its_in, named_inside, skip_long, stands_behind}
 pub use Rattle.vms_bodies.specs.{Cells.AreCells}
 pub use Rattle.vms_stream.proofs.Stated.{trailed}
 pub use Rattle.vms_stream.specs.Streams.{HasSection, IsSection, IsStream, SectionsSpell}
-pub use Rattle.vms_check.proofs.{ListLaws.passes, ReducedLaws.IfOpen, ReducedLaws.open_reduced, ReducedLaws.reduced_holds}
+pub use Rattle.vms_check.proofs.{PairLaws.passes, CapacityLaws.IfOpen, CapacityLaws.open_reduced, CapacityLaws.reduced_holds}
 pub use Rattle.vms_check.specs.{declared.mismatch.Mismatch.Mismatch, Comparing.same_constant, Comparing.same_count}
 pub use Rattle.vms_check.specs.Carrying.{Carrier, carried_at, carried_device, carried_sub, carrier_of, carriers, carry_desc, carry_field, carry_from}
 pub use Rattle.vms_check.specs.Carrying.{carry_item, carry_items, carry_next, carrying, default_field, defaults, entries_left, no_carrier, no_image, sub_came}

@@ -1,19 +1,19 @@
 -- Fields of both sides at one position: the newer set reads what the older one writes with the carried numbers, and what isn't in the
 -- bytes is at its default.
-use Rattle.vms_check_laws.proofs.{Presence.covers_unused, Presence.filler_length, PairLists.when_there, Positioned.at_or_later}
-use Rattle.vms_check_laws.proofs.Facade.{◌≡◌, inl, inr, ℕ, zero, suc, ◌+◌, ◌*◌, ◌≤◌, Bool, true, false, List, ◌∷◌, length, get_or, Option, None, refl, sym}
-use Rattle.vms_check_laws.proofs.Facade.{eq-eqb, ◌∙◌, arith, ℤ, pos, if◌then◌else◌, ◌++◌, Some, eqb-true, leb-true, slice_get, ap, [], length-append}
-use Rattle.vms_check_laws.proofs.Facade.{Kind, Item, Num, Equal, Unused, Struct, width, Count, One, Fixed, Counted, Formula, Field, is_there, Slot, Number}
-use Rattle.vms_check_laws.proofs.Facade.{no_parent, times, counted, capacity_of, item_cells, field_cells, elements_of, item_slots, Entry}
-use Rattle.vms_check_laws.proofs.Facade.{same_rest, same_count, same_kind, same_constant, holds_as_much, entry_of, present_from, defaults, carry_item}
-use Rattle.vms_check_laws.proofs.Facade.{carry_items, carry_field, Holds, FitsAt, Carries, size_same, elements_fit, ItemBelow, same_number_is, here, presence}
-use Rattle.vms_check_laws.proofs.Facade.{Cell, cells_from, slots_from, kind_of, is_steady_in, is_num, is_one, same_item, position_from, same_place, carry_next}
-use Rattle.vms_check_laws.proofs.Facade.{carry_from, entries_left, field_size, FieldsBelow, residue, desc_cells, AllZip}
-use Rattle.vms_check_laws.proofs.PairLists.{defaults_size, Settled, settled_defaults, settled_empty, settled_append, same_defaults, if_least, one_cell}
-use Rattle.vms_check_laws.proofs.Premises.{olds, news, older, newer, kinds_same, slots_at, entries_slots, known_there, Pairs, decoded, CoveredBy, Matched, Sides, CountFits, CountNamed}
-use Rattle.vms_check_laws.proofs.Premises.{OldGood, NewGood, OldFields, NewFields, Reads, covered_slots, Met}
-use Rattle.vms_check_laws.proofs.Presence.{Agree, same_there, presence_named, there_here, not_covered, steady, steady_rest, rest_none, one_number, Steady}
-use Rattle.vms_check_laws.proofs.Segments.{holds_left, holds_right, holds_at, fits_left, fits_right, fits_at, carries_nil, carries_append, carries_filler}
+use Rattle.vms_check_laws.proofs.{Presence.carries_nil, Presence.carries_append, Presence.carries_filler, PairLists.one_cell}
+use Rattle.vms_check_laws.proofs.Facade.{◌≡◌, inl, inr, ℕ, zero, suc, ◌+◌, ◌*◌, ◌≤◌, Bool, true, false, List, ◌∷◌, length, get_or}
+use Rattle.vms_check_laws.proofs.Facade.{Option, None, refl, sym, eq-eqb, ◌∙◌, arith, ℤ, pos, if◌then◌else◌, ◌++◌, Some, eqb-true, leb-true}
+use Rattle.vms_check_laws.proofs.Facade.{slice_get, ap, [], length-append, Kind, Item, Num, Equal, Unused, Struct, width, Count, One, Fixed, Counted, Formula}
+use Rattle.vms_check_laws.proofs.Facade.{Field, is_there, Slot, Number, no_parent, times, counted, capacity_of, item_cells, field_cells, elements_of}
+use Rattle.vms_check_laws.proofs.Facade.{item_slots, Entry, same_rest, same_count, same_kind, same_constant, holds_as_much, entry_of, present_from, defaults}
+use Rattle.vms_check_laws.proofs.Facade.{carry_item, carry_items, carry_field, Holds, FitsAt, Carries, size_same, elements_fit, ItemBelow, same_number_is, here}
+use Rattle.vms_check_laws.proofs.Facade.{presence, Cell, cells_from, slots_from, kind_of, is_steady_in, is_num, is_one, same_item, position_from, same_place}
+use Rattle.vms_check_laws.proofs.Facade.{carry_next, carry_from, entries_left, field_size, FieldsBelow, residue, desc_cells, AllZip}
+use Rattle.vms_check_laws.proofs.PairLists.{when_there, defaults_size, Settled, settled_defaults, settled_empty, settled_append, same_defaults, if_least}
+use Rattle.vms_check_laws.proofs.Premises.{olds, news, older, newer, kinds_same, slots_at, entries_slots, known_there, Pairs, decoded, CoveredBy, Matched}
+use Rattle.vms_check_laws.proofs.Premises.{Sides, CountFits, CountNamed, OldGood, NewGood, OldFields, NewFields, Reads, covered_slots, Met}
+use Rattle.vms_check_laws.proofs.Presence.{covers_unused, filler_length, at_or_later, Agree, same_there, presence_named, there_here, not_covered, steady}
+use Rattle.vms_check_laws.proofs.Presence.{steady_rest, rest_none, one_number, Steady, holds_left, holds_right, holds_at, fits_left, fits_right, fits_at}
 
 module _ (sides : Sides) where
   open sides use {two, cs, ms, ns, numbers, numbers', at, at', below, below', table}

@@ -1,5 +1,4 @@
 pub mod AlignedDescs
-pub mod Counts
 pub mod GoesDevices
 pub mod Descriptions
 pub mod Facade
@@ -7,12 +6,9 @@ pub mod FieldsRead
 pub mod Premises
 pub mod PairLists
 pub mod GoesFields
-pub mod Good
 pub mod Wholes
-pub mod PairDevices
 pub mod Parts
-pub mod Positioned
-pub mod Presence
-pub mod Segments
 pub mod Streaming
-pub mod SubParts
+pub mod Presence
+pub mod PairDevices
+pub mod Counts

@@ -1,15 +1,16 @@
 -- Structures on both sides, by induction on the number of the newer one, and parts of devices.
-use Rattle.vms_check_laws.proofs.{Counts.old_fields, Counts.StructsGood, Counts.plains_further, Counts.DescGood, FieldsRead.fields_sized, FieldsRead.pair_reads}
-use Rattle.vms_check_laws.proofs.{PairLists.Settled, PairLists.settled_defaults, PairLists.settled_append, PairLists.settled_empty, Segments.holds_left}
-use Rattle.vms_check_laws.proofs.{Segments.holds_right, Good.structs_good, Good.device_good, Good.sub_good, AlignedDescs.Clashes, AlignedDescs.front_aligns}
+use Rattle.vms_check_laws.proofs.{Presence.holds_left, Presence.holds_right, AlignedDescs.Clashes, AlignedDescs.front_aligns}
+use Rattle.vms_check_laws.proofs.Counts.{old_fields, StructsGood, plains_further, DescGood, structs_good, device_good, sub_good}
 use Rattle.vms_check_laws.proofs.Descriptions.{desc_meets, sides, desc_clashes, first_state, good_fields}
-use Rattle.vms_check_laws.proofs.Facade.{◌≡◌, ℕ, ◌<◌, ◌≤◌, List, length, get_or, None, sym, ap, ◌∙◌, arith, ℤ, [], ◌⊎◌, inl, inr, zero, suc, ◌+◌, ◌∷◌, map}
-use Rattle.vms_check_laws.proofs.Facade.{Option, Some, refl, flat_map, slice_get, cells_in, Desc, no_desc, Cell, Meaning, meanings, desc_cells, first_long}
-use Rattle.vms_check_laws.proofs.Facade.{struct_slots, struct_cells_at, Comparer, no_comparer, comparer_of, comparers, Carrier, no_carrier, carrier_of}
-use Rattle.vms_check_laws.proofs.Facade.{carriers, FitsAt, first_at, Part, Set, struct_cells, desc_slots, WellFormed, compare_desc, comparing, carry_desc}
-use Rattle.vms_check_laws.proofs.Facade.{carrying, cells_first, Holds, Sub, Device, Image, IsVersionOf, AreVersionsOf, RulesHold, sub_slots, sub_place}
-use Rattle.vms_check_laws.proofs.Facade.{came_slots, carried_sub, defaults, rules_append, ◌++◌, Spells, zeroed, own_slots, present, position_from}
-use Rattle.vms_check_laws.proofs.Facade.{is_earlier_in, Field, numbers_of, Entry, IsPartOf, IsRead, FrontAligns}
+use Rattle.vms_check_laws.proofs.Facade.{◌≡◌, ℕ, ◌<◌, ◌≤◌, List, length, get_or, None, sym, ap, ◌∙◌, arith, ℤ, [], ◌⊎◌, inl}
+use Rattle.vms_check_laws.proofs.Facade.{inr, zero, suc, ◌+◌, ◌∷◌, map, Option, Some, refl, flat_map, slice_get, cells_in, Desc, no_desc, Cell}
+use Rattle.vms_check_laws.proofs.Facade.{Meaning, meanings, desc_cells, first_long, struct_slots, struct_cells_at, Comparer, no_comparer, comparer_of}
+use Rattle.vms_check_laws.proofs.Facade.{comparers, Carrier, no_carrier, carrier_of, carriers, FitsAt, first_at, Part, Set, struct_cells, desc_slots}
+use Rattle.vms_check_laws.proofs.Facade.{WellFormed, compare_desc, comparing, carry_desc, carrying, cells_first, Holds, Sub, Device, Image, IsVersionOf}
+use Rattle.vms_check_laws.proofs.Facade.{AreVersionsOf, RulesHold, sub_slots, sub_place, came_slots, carried_sub, defaults, rules_append, ◌++◌, Spells}
+use Rattle.vms_check_laws.proofs.Facade.{zeroed, own_slots, present, position_from, is_earlier_in, Field, numbers_of, Entry, IsPartOf, IsRead, FrontAligns}
+use Rattle.vms_check_laws.proofs.FieldsRead.{fields_sized, pair_reads}
+use Rattle.vms_check_laws.proofs.PairLists.{Settled, settled_defaults, settled_append, settled_empty}
 use Rattle.vms_check_laws.proofs.Premises.{Table, by_less, Meets, fields_below, Reads, GoodCells, FitCells, fit_append, fit_defaults, fit_length, IsKnown}
 use Rattle.vms_check_laws.proofs.Premises.{AreKnown, all_known, PairGood, Sides, OldFields, Met, Row}
 use Rattle.vms_spec.specs.declared.Part.TheVariants as parts

@@ -1,16 +1,15 @@
 -- What is known of fields and structures on both sides: present fields paired by position, numbers that fit cells, and premises.
-use Rattle.vms_check_laws.proofs.{Positioned.if_is, PairLists.Settled}
-use Rattle.vms_check_laws.proofs.Facade.{AllZip-long, ◌≡◌, ◌⊎◌, inl, inr, ℕ, Bool, true, List, ◌∷◌, Option, None, and_parts, [], ◌&&◌, zero, suc, ◌+◌, ◌<◌}
-use Rattle.vms_check_laws.proofs.Facade.{◌++◌, length, get_or, refl, arith, ℤ, pos, ◌≤◌, Some, slice_get, eqb-true, ◌∙◌, get_or_from_slice_get, Item, Desc}
-use Rattle.vms_check_laws.proofs.Facade.{counted, in_field, Part, Entry, same_rest, same_count, same_item, same_constant, is_covered, holds_as_much}
-use Rattle.vms_check_laws.proofs.Facade.{absent_hold, bound, Comparer, failing_pair, pair_rules, pair_structs, compare_fields, passes, ItemBelow, or_else_none}
-use Rattle.vms_check_laws.proofs.Facade.{names_match, Cell, no_cell, times, defaults, FitsCell, cells_in, Equal, Unused, Count, Counted, Formula, Field}
-use Rattle.vms_check_laws.proofs.Facade.{Meaning, no_meaning, names_well, nobody, is_one, no_comparer, Carrier, no_carrier, Holds, FitsAt, Carries, Aligns}
-use Rattle.vms_check_laws.proofs.Facade.{FieldsBelow, Slot, is_earlier_in, Num, Filler, Fixed, Kind, One, cells_from, elements_of, entry_of, field_cells, here}
-use Rattle.vms_check_laws.proofs.Facade.{is_there, item_slots, kind_of, presence, present_from, residue, same_kind, slots_from, width, zeroed, no_field}
-use Rattle.vms_check_laws.proofs.Facade.{field_slots, numbers_of, place_of, AllByRecursion, AllZip, flat_map}
-use Rattle.vms_check_laws.proofs.Presence.{NamedRest, constant_length, numbers_length, presence_there}
-use Rattle.vms_check_laws.proofs.Segments.{fits_at, fits_left, fits_right, one_on, at_first, from_zero}
+use Rattle.vms_check_laws.proofs.{Presence.from_zero, PairLists.Settled}
+use Rattle.vms_check_laws.proofs.Facade.{AllZip-long, ◌≡◌, ◌⊎◌, inl, inr, ℕ, Bool, true, List, ◌∷◌, Option, None, and_parts, [], ◌&&◌}
+use Rattle.vms_check_laws.proofs.Facade.{zero, suc, ◌+◌, ◌<◌, ◌++◌, length, get_or, refl, arith, ℤ, pos, ◌≤◌, Some, slice_get, eqb-true}
+use Rattle.vms_check_laws.proofs.Facade.{◌∙◌, get_or_from_slice_get, Item, Desc, counted, in_field, Part, Entry, same_rest, same_count, same_item}
+use Rattle.vms_check_laws.proofs.Facade.{same_constant, is_covered, holds_as_much, absent_hold, bound, Comparer, failing_pair, pair_rules, pair_structs}
+use Rattle.vms_check_laws.proofs.Facade.{compare_fields, passes, ItemBelow, or_else_none, names_match, Cell, no_cell, times, defaults, FitsCell, cells_in}
+use Rattle.vms_check_laws.proofs.Facade.{Equal, Unused, Count, Counted, Formula, Field, Meaning, no_meaning, names_well, nobody, is_one, no_comparer, Carrier}
+use Rattle.vms_check_laws.proofs.Facade.{no_carrier, Holds, FitsAt, Carries, Aligns, FieldsBelow, Slot, is_earlier_in, Num, Filler, Fixed, Kind, One}
+use Rattle.vms_check_laws.proofs.Facade.{cells_from, elements_of, entry_of, field_cells, here, is_there, item_slots, kind_of, presence, present_from, residue}
+use Rattle.vms_check_laws.proofs.Facade.{same_kind, slots_from, width, zeroed, no_field, field_slots, numbers_of, place_of, AllByRecursion, AllZip, flat_map}
+use Rattle.vms_check_laws.proofs.Presence.{if_is, NamedRest, constant_length, numbers_length, presence_there, fits_at, fits_left, fits_right, one_on, at_first}
 use Rattle.vms_spec.specs.Images.{FitCells as AreFit}
 use Rattle.vms_kinds.specs.contracts.Kind.{the_type as kind_type}
 use denote.Enum.Bare.{same_true}

@@ -1,13 +1,14 @@
 -- What the older set writes is a stream of the newer, with the carried images: each device's section is one of the newer set's, and the
 -- order takes each device once.
-use Rattle.vms_check_laws.proofs.{Facade.option_and_then, Segments.RestAt, Segments.at_first, Segments.one_on, Segments.from_zero, Positioned.if_is}
-use Rattle.vms_check_laws.proofs.Facade.{◌≡◌, ℕ, suc, ◌+◌, Bool, true, false, ◌&&◌, ◌==◌, List, ◌∷◌, Option, Some, None, refl, ◌∙◌, arith, slice_get, bytes_eq}
-use Rattle.vms_check_laws.proofs.Facade.{bytes_eq-Decides, and_parts, eqb-true, inr, ◌≤◌, length, map, get_or, list_all, IfSome, length-map, ap, [], inl, sym}
-use Rattle.vms_check_laws.proofs.Facade.{first_answer, Device, Set, find_device, index, WellFormed, here, Mismatch, failing_pair, compare_device, paired_device}
-use Rattle.vms_check_laws.proofs.Facade.{is_found, is_in, passes, device_found, Image, HasSection, SectionsSpell, IsReady, EachOnce, is_one_of, written_section}
-use Rattle.vms_check_laws.proofs.Facade.{written_sections, is_version_of, Compatible, first_mismatch, comparing, compare_subs, carried, carried_device}
-use Rattle.vms_check_laws.proofs.Facade.{carried_at, no_image, ArePaired, DeviceLaw, or_else_none, IsStream, IsConfiguration, configuration, trailer, optional}
-use Rattle.vms_check_laws.proofs.Facade.{longest_text, written, AreReady, every_one, machine_short, few_devices, UpgradeLaw, trailed, answers_none}
+use Rattle.vms_check_laws.proofs.Facade.{option_and_then, ◌≡◌, ℕ, suc, ◌+◌, Bool, true, false, ◌&&◌, ◌==◌, List, ◌∷◌, Option, Some}
+use Rattle.vms_check_laws.proofs.Facade.{None, refl, ◌∙◌, arith, slice_get, bytes_eq, bytes_eq-Decides, and_parts, eqb-true, inr, ◌≤◌, length, map}
+use Rattle.vms_check_laws.proofs.Facade.{get_or, list_all, IfSome, length-map, ap, [], inl, sym, first_answer, Device, Set, find_device, index, WellFormed}
+use Rattle.vms_check_laws.proofs.Facade.{here, Mismatch, failing_pair, compare_device, paired_device, is_found, is_in, passes, device_found, Image, HasSection}
+use Rattle.vms_check_laws.proofs.Facade.{SectionsSpell, IsReady, EachOnce, is_one_of, written_section, written_sections, is_version_of, Compatible}
+use Rattle.vms_check_laws.proofs.Facade.{first_mismatch, comparing, compare_subs, carried, carried_device, carried_at, no_image, ArePaired, DeviceLaw}
+use Rattle.vms_check_laws.proofs.Facade.{or_else_none, IsStream, IsConfiguration, configuration, trailer, optional, longest_text, written, AreReady, every_one}
+use Rattle.vms_check_laws.proofs.Facade.{machine_short, few_devices, UpgradeLaw, trailed, answers_none}
+use Rattle.vms_check_laws.proofs.Presence.{RestAt, at_first, one_on, from_zero, if_is}
 use Rattle.vms_check_laws.proofs.Wholes.{saved, Among, section_whole, at_map, from_map, Rises, takes_each, all_came}
 use Rattle.vms_spec.specs.declared.Part.TheVariants as parts
 

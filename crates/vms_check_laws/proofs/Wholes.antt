@@ -1,17 +1,17 @@
 -- A device with subsections: what the older set writes is a section of the newer with the carried image. An order that names each remaining
 -- one, and none twice, takes each once.
-use Rattle.vms_check_laws.proofs.{SubParts.Found, SubParts.look_up, PairLists.Settled, PairLists.settled_append, Good.device_good, Good.sub_good}
-use Rattle.vms_check_laws.proofs.Facade.{◌≡◌, ◌⊎◌, inl, inr, ℕ, zero, suc, Bool, true, false, cases_eq, slice_get-map, List, ◌∷◌, slice_set, Option, Some, None}
-use Rattle.vms_check_laws.proofs.Facade.{refl, sym, ap, ◌∙◌, slice_get, [], ◌+◌, ◌<◌, ◌++◌, length, map, arith, ℤ, flat_map, slice_get_within, AreAll}
-use Rattle.vms_check_laws.proofs.Facade.{ComesOnce, AllCame, at_other, Part, first_answer, Sub, Device, Set, struct_cells, desc_cells, device_cells, Image}
-use Rattle.vms_check_laws.proofs.Facade.{zeroed, own_slots, own_cells, sub_slots, sub_place, came_slots, IsSection, SubSpells, SubsSpell, sub_head}
-use Rattle.vms_check_laws.proofs.Facade.{written_subs, written_section, find_sub, index, is_version_of, WellFormed, comparing, compare_sub, compare_subs}
-use Rattle.vms_check_laws.proofs.Facade.{carrying, carried_sub, carried_device, defaults, sub_came, sub_found, defaults_at, version_decides, rules_append}
-use Rattle.vms_check_laws.proofs.Facade.{IsSaved, Holds, FitsAt, answers_none, at_set, rules_split, sub_size, ◌≤◌, option_and_then, Cell, FitCells, RulesHold}
-use Rattle.vms_check_laws.proofs.Facade.{IsReady, ComeAsNeeded, or_else_none, part_apart, cells_of_sub}
+use Rattle.vms_check_laws.proofs.{PairDevices.Found, PairDevices.look_up, PairLists.Settled, PairLists.settled_append, Counts.device_good, Counts.sub_good}
+use Rattle.vms_check_laws.proofs.Facade.{◌≡◌, ◌⊎◌, inl, inr, ℕ, zero, suc, Bool, true, false, cases_eq, slice_get-map, List, ◌∷◌, slice_set}
+use Rattle.vms_check_laws.proofs.Facade.{Option, Some, None, refl, sym, ap, ◌∙◌, slice_get, [], ◌+◌, ◌<◌, ◌++◌, length, map, arith, ℤ}
+use Rattle.vms_check_laws.proofs.Facade.{flat_map, slice_get_within, AreAll, ComesOnce, AllCame, at_other, Part, first_answer, Sub, Device, Set, struct_cells}
+use Rattle.vms_check_laws.proofs.Facade.{desc_cells, device_cells, Image, zeroed, own_slots, own_cells, sub_slots, sub_place, came_slots, IsSection, SubSpells}
+use Rattle.vms_check_laws.proofs.Facade.{SubsSpell, sub_head, written_subs, written_section, find_sub, index, is_version_of, WellFormed, comparing, compare_sub}
+use Rattle.vms_check_laws.proofs.Facade.{compare_subs, carrying, carried_sub, carried_device, defaults, sub_came, sub_found, defaults_at, version_decides}
+use Rattle.vms_check_laws.proofs.Facade.{rules_append, IsSaved, Holds, FitsAt, answers_none, at_set, rules_split, sub_size, ◌≤◌, option_and_then, Cell}
+use Rattle.vms_check_laws.proofs.Facade.{FitCells, RulesHold, IsReady, ComeAsNeeded, or_else_none, part_apart, cells_of_sub}
 use Rattle.vms_check_laws.proofs.Parts.{Came, Facts, subs_fit, subs_read, sub_held, part_meets, sub_reads, good_cells, Stayed}
 use Rattle.vms_check_laws.proofs.Premises.{fit_append, fit_length, are_fit}
-use Rattle.vms_check_laws.proofs.Segments.{holds_left, holds_right, holds_at, fits_left, RestAt, at_first, one_on, from_zero, fits_right, fits_at}
+use Rattle.vms_check_laws.proofs.Presence.{holds_left, holds_right, holds_at, fits_left, RestAt, at_first, one_on, from_zero, fits_right, fits_at}
 use Rattle.vms_spec.specs.declared.Part.TheVariants as parts
 
 abbrev pub Among : ℕ → List ℕ → Type 0

@@ -1,12 +1,12 @@
 -- What follows of a stream that `convert` writes.
-use Rattle.vms_cli.proofs.{Entries.ConvertCommand.target_gives, ConvertLemmas.newest_fit}
-use Rattle.vms_cli.proofs.Facade.{ScriptLine, ◌≡◌, ℕ, List, Option, Some, None, refl, sym, ap, ◌∙◌, subst, arith, [], append-nil, length, ◌-◌, Bool, true}
-use Rattle.vms_cli.proofs.Facade.{false, ◌||◌, ◌∷◌, IfSome, ℤ, if◌then◌else◌, length-map, bytes_eq-Decides, bytes_eq, Held, IsFit, Image, Set, Takes}
-use Rattle.vms_cli.proofs.Facade.{one_stream_holds, taken_kept, Compatible, first_mismatch, Mismatch, IsStreamFor, word_set, Outcome, done, SetWord, Step}
-use Rattle.vms_cli.proofs.Facade.{Untold, Gives, Ends, next, FitStep, fit_word, ConvertsBy, Rewrites, WouldLose, agreed, agrees, newest, Converts}
-use Rattle.vms_cli.proofs.Facade.{described_text, AreRecastOf, converts_stand, ready, newest_kinds, PrintsAlike, ConvertAgainLaw, ConvertThenAnalyzeLaw}
-use Rattle.vms_cli.proofs.Facade.{StandsFor, ConvertThenLoadLaw, IsLevel, NEWEST, State, recast_restores, recast_cells, IsConfiguration, is_one_of, recast_each}
-use Rattle.vms_cli.proofs.Facade.{numbers_in, wants_arrays, lists_in, takes_under, isa, isa_stands, Back, Restores, Loads, LoadsBy, Traces, Unfit}
+use Rattle.vms_cli.proofs.{Entries.target_gives, StreamCommands.newest_fit}
+use Rattle.vms_cli.proofs.Facade.{Traces, Unfit, ScriptLine, ◌≡◌, ℕ, List, Option, Some, None, refl, sym, ap, ◌∙◌, subst, arith, [], append-nil}
+use Rattle.vms_cli.proofs.Facade.{length, ◌-◌, Bool, true, false, ◌||◌, ◌∷◌, IfSome, ℤ, if◌then◌else◌, length-map, bytes_eq-Decides}
+use Rattle.vms_cli.proofs.Facade.{bytes_eq, Held, IsFit, Image, Set, Takes, one_stream_holds, taken_kept, Compatible, first_mismatch, Mismatch, IsStreamFor}
+use Rattle.vms_cli.proofs.Facade.{word_set, Outcome, done, SetWord, Step, Untold, Gives, Ends, next, FitStep, fit_word, ConvertsBy, Rewrites, WouldLose, agreed}
+use Rattle.vms_cli.proofs.Facade.{agrees, newest, Converts, described_text, AreRecastOf, converts_stand, ready, newest_kinds, PrintsAlike, ConvertAgainLaw}
+use Rattle.vms_cli.proofs.Facade.{ConvertThenAnalyzeLaw, StandsFor, ConvertThenLoadLaw, IsLevel, NEWEST, State, recast_restores, recast_cells, IsConfiguration}
+use Rattle.vms_cli.proofs.Facade.{is_one_of, recast_each, numbers_in, wants_arrays, lists_in, takes_under, isa, isa_stands, Back, Restores, Loads, LoadsBy}
 use Rattle.vms_cli.proofs.RoundTrips.{done_apart, fits_text, machine_of_set, same_text, written_prints}
 use Rattle.vms_cli.specs.{Commands.ConvertCommand.Refuses, Commands.ShowCommand.Values as Printed}
 use Rattle.vms_convert.specs.Laws.{Converts as StaysSo}

@@ -16,21 +16,20 @@ pub use Rattle.vms_spec.specs.Images.{Image, default_image}
 pub use Rattle.vms_spec.specs.Streams.{AreReady, IsConfiguration, configuration, end_mark, is_one_of, optional, stream_head, trailer, written, written_sections}
 pub use Rattle.vms_spec.specs.ValuesReading.{Bad, Values, ValuesRead, values_read}
 unfoldable pub use Rattle.vms_spec.specs.Layout.{first}
-pub use Rattle.vms_stream.proofs.{Further.further_holds, Stated.either_holds, Stated.never_both_holds, Stated.one_fault_holds, Stated.one_stream_holds}
+pub use Rattle.vms_stream.proofs.Stated.{further_holds, either_holds, never_both_holds, one_fault_holds, one_stream_holds}
 pub use Rattle.vms_stream.specs.{Faults.Fault, StreamLaws.Answer, StreamLaws.Faulty, StreamLaws.Taken, Streams.Takes}
 pub use Rattle.vms_elements.specs.{Parts.cell_name, Parts.device_elements, Parts.names_of, Reading.IsMachineOf}
-pub use Rattle.vms_analyze.proofs.{One.one_holds, Total.total_holds}
+pub use Rattle.vms_analyze.proofs.One.{one_holds, total_holds}
 pub use Rattle.vms_analyze.specs.{Laws.HasListing, declared.fault.AnalyzeFault.AnalyzeFault, declared.fault.AnalyzeReason.AnalyzeReason}
 pub use Rattle.vms_analyze.specs.Calls.{Analyzes, IsListed, IsTooMuch, ListsTaken}
 pub use Rattle.vms_analyze.specs.Listing.{HasNoShape, HasNone, IsRead, IsTooLong, Listing, Lists, Text, longest_input}
 pub use Rattle.vms_board.specs.{Isa.isa, IsaStands.isa_stands, Restoring.Back, Restoring.Restores, Saving.stream_with}
 pub use Rattle.vms_board.specs.Family.{Family, IsNumber, images_saved, lists_in}
 unfoldable pub use Rattle.vms_board.specs.Saving.{saved_stream}
-pub use Rattle.vms_board_commands.proofs.{LoadOutcome.loads_one, PlayOutcome.has_end, PlayOutcome.one_outcome, SeenLemmas.other_seen, SeenLemmas.reads_all}
-pub use Rattle.vms_board_commands.proofs.CourseLemmas.{among_left, kept_so, wrote_so, refused_so, save_asks, shelf_has, stream_asks, text_asks, traced_so}
-pub use Rattle.vms_board_commands.proofs.RunLemmas.{behind_runs, lacks_runs, lacks_text, seen_runs, then_runs, unread_runs}
-pub use Rattle.vms_board_commands.proofs.ScriptSteps.{AreStepLines, script_gives, scripted_lines, sound_saved, sound_script}
-pub use Rattle.vms_board_commands.proofs.SeenLemmas.{seen_given, seen_lost, seen_refused, seen_written, sees_as, TakesSo, content_seen, load_seen}
+pub use Rattle.vms_board_commands.proofs.RunLemmas.{other_seen, reads_all, among_left, kept_so, wrote_so, refused_so, save_asks, shelf_has, stream_asks}
+pub use Rattle.vms_board_commands.proofs.RunLemmas.{text_asks, traced_so, behind_runs, lacks_runs, lacks_text, seen_runs, then_runs, unread_runs, seen_given}
+pub use Rattle.vms_board_commands.proofs.RunLemmas.{seen_lost, seen_refused, seen_written, sees_as, TakesSo, content_seen, load_seen}
+pub use Rattle.vms_board_commands.proofs.ScriptCommands.{loads_one, has_end, one_outcome, AreStepLines, script_gives, scripted_lines, sound_saved, sound_script}
 pub use Rattle.vms_board_commands.specs.{Causes.save_course, Drill.drill_line, Play.PlaysAll, Save.saved_after, Scripts.scripted, Runs.Frame, Runs.Runs}
 pub use Rattle.vms_board_commands.specs.{Runs.Task, Runs.moment, Seen.IsGiven, Seen.Seen, Seen.SeenAs, Seen.Sees, Seen.WithGiven}
 pub use Rattle.vms_board_commands.specs.Load.{Loads, LoadsBy, Traces, Unfit}
@@ -63,11 +62,10 @@ pub use Rattle.vms_cli.specs.Rows.{CanAnswer, ComesSeen, DoesSeen, HasCause}
 pub use Rattle.vms_cli.specs.States.{AlwaysNamedLaw, Prints, RefusesSo, StateLaw}
 pub use Rattle.vms_cli.specs.Upgrade.{IsWritten, Upgrade, UpgradesTo, shown_newer}
 unfoldable pub use Rattle.vms_cli.specs.Commands.{pair_of, single_of, triple_of}
-pub use Rattle.vms_commands.proofs.CourseLemmas.{draws_none, draws_took, writes_end, writes_serve, wrong}
-pub use Rattle.vms_commands.proofs.EndLemmas.{around, comes_to_nothing, ends_with, kept_none, outcome_so, same_keeps}
-pub use Rattle.vms_commands.proofs.FileSets.{FitStep, fit_text, fit_word}
-pub use Rattle.vms_commands.proofs.StepLemmas.{IsSound, ending_passed, fetched_gives, first_err, had_by, one_text, sound_fetch, sound_next}
-pub use Rattle.vms_commands.proofs.StepLemmas.{sound_set, sound_sets, sound_word, sound_word_set, then_as}
+pub use Rattle.vms_commands.proofs.{EndLemmas.ends_with, EndLemmas.kept_none, NamedSets.FitStep, NamedSets.fit_text, NamedSets.fit_word}
+pub use Rattle.vms_commands.proofs.EndLemmas.{outcome_so, same_keeps, draws_none, draws_took, writes_end, writes_serve, wrong, around, comes_to_nothing}
+pub use Rattle.vms_commands.proofs.StepLemmas.{IsSound, ending_passed, fetched_gives, first_err, had_by, one_text, sound_fetch, sound_next, sound_set}
+pub use Rattle.vms_commands.proofs.StepLemmas.{sound_sets, sound_word, sound_word_set, then_as}
 pub use Rattle.vms_commands.specs.{Asks.set_asked, SetLines.mismatch_line, declared.ending.Ending.Ending, SetWords.set_word, declared.kinds.BoardKind.BoardKind}
 pub use Rattle.vms_commands.specs.Courses.{EndsSo, Risen, Stands, is_among, of_shelf, text_course}
 pub use Rattle.vms_commands.specs.Endings.{Caused, EndsAs, Tells, WritesAs, ending_of, line_of, status_of}
@@ -81,15 +79,15 @@ pub use Rattle.vms_commands.specs.StepEndings.{StepAs, TextEnds, WrittenAs, text
 pub use Rattle.vms_commands.specs.Steps.{Both, Ends, Gives, HasBy, HasText, Step, Untold, both, next}
 pub use Rattle.vms_commands.specs.declared.ending.Ending.TheVariants.{Refused, WriteFault, BadText, BadWords, NoMemory, NotCompatible, ReadFault}
 pub use Rattle.vms_commands.specs.declared.kinds.BoardKind.TheVariants.{Clock, Isa}
-pub use Rattle.vms_convert.proofs.{Answered.answered, Converts.converts_stand, Converts.ready, Converts.same_backs}
-pub use Rattle.vms_convert.proofs.RecastLaws.{newest_kinds, one_lost, recast_long}
+pub use Rattle.vms_convert.proofs.Answered.{answered}
+pub use Rattle.vms_convert.proofs.Converts.{converts_stand, ready, same_backs, newest_kinds, one_lost, recast_long}
 pub use Rattle.vms_convert.specs.{Laws.AreRecastOf, Recast.wants_arrays, declared.fault.ConvertFault.ConvertFault, Calls.IsStreamFor, Calls.LosesFirst}
 pub use Rattle.vms_convert.specs.Converted.{AreBack, recast_each}
 pub use Rattle.vms_convert.specs.Lost.{KeepsAll, Loses, OfCell, OfDevice, OfMachine, first_cell, numbers_in}
 pub use Rattle.vms_counter.specs.{Found.answer_of, declared.finding.Finding.Finding}
-pub use Rattle.vms_counter_laws.proofs.{OneAnswer.machine_known, OneAnswer.one_answer_holds, Stated.always_holds, Stated.computed_holds, Stated.named_holds}
+pub use Rattle.vms_counter_laws.proofs.Stated.{machine_known, one_answer_holds, always_holds, computed_holds, named_holds}
 pub use Rattle.vms_counter_laws.specs.{Computed.computed, Counters.Counters, Counters.Finds}
-pub use Rattle.vms_desc.proofs.{AskLaws.few_cells, Bounds.fit_of}
+pub use Rattle.vms_desc.proofs.{AskLaws.few_cells, Clean.fit_of}
 pub use Rattle.vms_desc.specs.{Described.described, Described.device_at, Formed.is_well_formed}
 pub use Rattle.vms_frames.specs.declared.fault.Refusal.{Refusal}
 pub use Rattle.vms_image.specs.Typed.{AreImagesOf, Typed, state_of}
@@ -98,14 +96,14 @@ pub use Rattle.vms_io.proofs.ReadingLemmas.{nothing_follows, reads_as}
 pub use Rattle.vms_io.specs.{Shelves.Held, Shelves.HoldsAll, Shelving.Looks, Writing.Serves, Causes.AppendsPrefix, Causes.KeepsPromise, Causes.Rose}
 pub use Rattle.vms_io.specs.Reading.{Course, Last, MayFollow, Reads}
 pub use Rattle.vms_io.specs.Told.{Intake, Outlet, Stock, intake, outlet, stock}
-pub use Rattle.vms_load.proofs.{ExactLoads.loads_kept, ExactLoads.taken_kept, ExactLoads.within, SetFacts.well_of}
+pub use Rattle.vms_load.proofs.{ExactLoads.loads_kept, ExactLoads.taken_kept, ExactLoads.within, StreamLengths.well_of}
 pub use Rattle.vms_load.specs.{Going.LoadReads, Good.AreKept, Lean.has, Lean.loads, Lean.taken_by}
 pub use Rattle.vms_load.specs.Staging.{AreShaped, IsMachine, accepted_of, most_given, name_of, no_image}
-pub use Rattle.vms_script.proofs.{GrammarOnly.reads_exactly}
+pub use Rattle.vms_script.proofs.GrammarLaws.{reads_exactly}
 pub use Rattle.vms_script.specs.{Lines.ScriptLine, Lines.is_set_of, Names.is_shelf_name}
-pub use Rattle.vms_selfdesc.proofs.Bounds.{short_holds}
+pub use Rattle.vms_selfdesc.proofs.Lengths.{short_holds}
 pub use Rattle.vms_selfdesc.specs.Tree.{described_text}
-pub use Rattle.vms_session.proofs.RunLemmas.{after_number, lines_are_events}
+pub use Rattle.vms_session.proofs.CourseLemmas.{after_number, lines_are_events}
 pub use Rattle.vms_session.specs.Events.{events_of}
 pub use Rattle.vms_values.specs.{Printing.AreOf, Printing.IsOf, Printing.machine_of, Reading.ReadsAs}
 pub use Rattle.vms_values_laws.proofs.Stated.{accepted_holds, packed_holds, printed_holds, shown_holds, written_only}
@@ -113,6 +111,6 @@ pub use Rattle.vms_values_laws.specs.Rounds.{ShowsAs}
 pub use Rattle.arrayvec.specs.ArrayVec.{ArrayVec}
 pub use Rattle.dev_base.specs.{Levels.IsLevel, Levels.ReachesSet, declared.limits.TheConstants.NEWEST}
 pub use Rattle.dev_board.specs.{Laws.AreEvents, State.State, declared.event.Event.Event}
-pub use Rattle.dev_clock_images.proofs.ClockSets.{sets_are_compatible}
-pub use Rattle.dev_serial.proofs.RecastRestores.{recast_restores}
+pub use Rattle.dev_clock_images.proofs.ClockImages.{sets_are_compatible}
+pub use Rattle.dev_serial.proofs.RecastLaws.{recast_restores}
 pub use Rattle.dev_serial.specs.Recast.{recast_cells}

@@ -1,11 +1,79 @@
--- Each call has one outcome, and what can be done is done.
-use Rattle.vms_cli.proofs.{Entries.row_of, Entries.words_ask, RowFacts.IsDone, Facade.PromisesKept}
-use Rattle.vms_cli.proofs.Facade.{CompleteLaw, AmpleLaw, ◌≡◌, ℕ, zero, suc, ◌+◌, ◌<◌, ◌≤◌, max, ◌⊎◌, List, ◌∷◌, length, length-append, take, Option, Some, None}
-use Rattle.vms_cli.proofs.Facade.{IfSome, IsSomeAnd, refl, ap, ◌∙◌, arith, inl, inr, [], le-max_left, le-max_right, length-take, Appends, Rose, AppendsPrefix}
-use Rattle.vms_cli.proofs.Facade.{KeepsPromise, Held, HoldsAll, Outlet, IsBytes, bad_words, read_fault, write_fault, shelf_fault, out_of_memory, Stands, Part}
-use Rattle.vms_cli.proofs.Facade.{Outcome, OutFault, NotesFault, ShelfFault, WantsMemory, ComesTo, FailsToStore, TellsShelfFault, DoesOrStops, ended}
-use Rattle.vms_cli.proofs.Facade.{text_begun, Outside, HasPart, Asked, task_of, CanBeAsked, CanBeDone, HasOneOutcome, OutcomeLaw, HasRoom, IsAmple, NoneRises}
+-- Each call has one outcome, and what can be done is done; the program's numbers and texts.
+use Rattle.vms_cli.proofs.{Facade.NoneRises, Entries.row_of, Entries.words_ask, RowLemmas.IsDone}
+use Rattle.vms_cli.proofs.Facade.{refl, LimitsLaw, ◌≡◌, ℕ, zero, suc, ◌<◌, Bool, true, nat_lt, List, [], ◌∷◌, length, get_or, arith, ltb-true}
+use Rattle.vms_cli.proofs.Facade.{and_parts, digits, list_all, default_image, first, device_at, cell_name, device_elements, names_of, newest, Option, Ending}
+use Rattle.vms_cli.proofs.Facade.{Frame, Runs, Asked, task_of, None, take_all, le_refl, inl, inr, Some, Keeps, AppendsPrefix, Tells, write_fault, PromisesKept}
+use Rattle.vms_cli.proofs.Facade.{CompleteLaw, AmpleLaw, ◌+◌, ◌≤◌, max, ◌⊎◌, length-append, take, IfSome, IsSomeAnd, ap, ◌∙◌, le-max_left}
+use Rattle.vms_cli.proofs.Facade.{le-max_right, length-take, Appends, Rose, KeepsPromise, Held, HoldsAll, Outlet, IsBytes, bad_words, read_fault, shelf_fault}
+use Rattle.vms_cli.proofs.Facade.{out_of_memory, Stands, Part, Outcome, OutFault, NotesFault, ShelfFault, WantsMemory, ComesTo, FailsToStore, TellsShelfFault}
+use Rattle.vms_cli.proofs.Facade.{DoesOrStops, ended, text_begun, Outside, HasPart, CanBeAsked, CanBeDone, HasOneOutcome, OutcomeLaw, HasRoom, IsAmple}
 use Rattle.vms_commands.specs.Outcomes.{text_of, ReadFault}
+use Rattle.vms_commands.specs.declared.ending.Ending.TheVariants as endings
+
+-- ---- the numbers by which the program goes
+
+pub limits_hold : LimitsLaw
+limits_hold =
+    record {
+      file = refl;
+      script = refl;
+      events = refl;
+      wait = refl;
+      name = refl;
+      described = refl;
+      items = refl;
+      unused = refl;
+      cells = refl;
+      image = refl;
+      newest_set = refl;
+      newest = refl;
+      newest_clock = refl;
+      last_moment = refl;
+      second = refl;
+    }
+
+-- ---- the paths of the newest set's cells are short
+
+abbrev are_short : List (List ℕ) → Bool
+are_short names = list_all (λ name. nat_lt (length name) 64) names
+
+short_at : (names : List (List ℕ)) (c : ℕ) → are_short names ≡ true → length (get_or names c []) < 64
+short_at [] c all = omega arith
+short_at (name ∷ names) zero all = ltb-true (length name) 64 (and_parts (nat_lt (length name) 64) (are_short names) all).0
+short_at (name ∷ names) (suc c) all = short_at names c (and_parts (nat_lt (length name) 64) (are_short names) all).1
+
+abbrev names_at : ℕ → List (List ℕ)
+names_at k = names_of (device_elements newest (device_at newest k) (default_image newest (device_at newest k)))
+
+all_short : (k : ℕ) → k < length newest.devices → are_short (names_at k) ≡ true
+unfolding first digits
+all_short (suc (suc (suc (suc (suc k))))) lt = absurd (omega arith)
+all_short _ lt = refl
+
+pub path_short : (k c : ℕ) → k < length newest.devices → length (cell_name newest (device_at newest k) c) < 64
+path_short k c lt = short_at _ c (all_short k lt)
+
+-- ---- how a command runs, by the command that the words name
+
+pub asked_runs : {old new : Frame} {e : Option Ending} (asked own : Option Asked) → own ≡ asked → Runs (task_of own) old new e → Runs (task_of asked) old new e
+asked_runs {old} {new} {e} asked own same h = rw same at h
+
+-- ---- the flush of the program's texts
+
+-- what was written is what the writer has
+pub kept_flushed : (old new writer : Option (List ℕ)) → Keeps old new → new ≡ writer → Keeps old writer
+kept_flushed old new writer kept same = rw same at kept
+
+-- what standard error has if standard output failed at the flush
+pub told_late : (old new : Option (List ℕ)) (faults faults' status : ℕ)
+    → Tells (record { written = old; faults = faults; promise = None }) (record { written = new; faults = faults'; promise = None })
+    (Some endings.WriteFault) status
+    → AppendsPrefix old new write_fault
+told_late old new faults faults' status (inl told) =
+    (length write_fault, le_refl (length write_fault), rw (take_all (length write_fault) write_fault (le_refl (length write_fault))) told.1)
+told_late old new faults faults' status (inr told) = told.2
+
+-- ---- each call has one outcome, and what can be done is done
 
 one_of_all : (asked : Option Asked) (input : List ℕ) (held : Held) → IsBytes input → HoldsAll held → CanBeAsked asked → HasOneOutcome asked input held
 one_of_all None input held ok holds can = record { outcome = ended 2 bad_words 0; is = refl; only = λ other e. e }

@@ -169,7 +169,7 @@ fn triple_of<'a>(name: &str, one: &str, two: &str, three: &'a str) -> Option<Com
 /// # Errors
 ///
 /// Those of the command, or [`Ending::BadWords`] if there is none.
-#[tactic(auto, using(crate::proofs::RunLemmas::asked_runs))]
+#[tactic(auto, using(crate::proofs::OutcomeLaws::asked_runs))]
 pub(crate) fn run<I: Source, O: Sink, H: Shelf>(
     alloc: Global,
     words: &Words,

@@ -124,14 +124,14 @@ pub fn always_named_law()
 
 /// States that the outcome of `check @c1 @c2` is that the sets are compatible, whatever the input
 /// and the shelf are.
-#[tactic(auto, using(crate::proofs::ClockSets::clock_sets_hold))]
+#[tactic(auto, using(crate::proofs::KindLaws::clock_sets_hold))]
 pub fn clock_sets_law()
     ensures { ClockSetsLaw }
 {}
 
 /// States the numbers behind the constants that the definitions cite: limits of files, scripts,
 /// drills, names and sets, the newest shipped sets, and times.
-#[tactic(auto, using(crate::proofs::Limits::limits_hold))]
+#[tactic(auto, using(crate::proofs::OutcomeLaws::limits_hold))]
 pub fn limits_law()
     ensures { LimitsLaw }
 {}

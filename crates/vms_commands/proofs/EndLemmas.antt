@@ -1,15 +1,98 @@
--- From how a command ends and why to what the call does.
-use Rattle.std.proofs.Common.{append-nil, ◌≡◌, ◌⊎◌, ℕ, ◌<◌, ◌^◌, List, drop, Option, Some, None, IfSome, refl, sym, ap, ◌∙◌, subst, arith, inl, inr, []}
-use Rattle.std.specs.Io.KnownBytes.{Appends, Keeps}
-use Rattle.std.specs.Prelude.{string_bytes}
-use Rattle.std.proofs.KnownBytes.{Keeps-refl}
-use Rattle.vms_io.specs.Causes.{AppendsPrefix, Rose}
-use Rattle.vms_io.specs.Told.{Intake, Outlet, Stock}
-use Rattle.vms_commands.specs.declared.ending.Ending.{Ending}
-use Rattle.vms_commands.specs.declared.ending.Ending.TheVariants.{Refused, BadWords, BadText, NotCompatible, ReadFault, WriteFault, ShelfFault, NotThere, TooLarge, NoMemory, WouldLose}
-use Rattle.vms_commands.specs.Endings.{Caused, EndsAs, EndsWith, Quiet, Tells, WritesAs}
-use Rattle.vms_commands.specs.Lines.{bad_words}
-use Rattle.vms_commands.specs.Outcomes.{Part, Outcome, Outside, ComesTo, ComesToFault, FailsToStore, TellsShelfFault, DoesOrStops, TakesBytes, done, ended, text_of, held_after}
+-- How a command ends, and what the call then does.
+use Rattle.std.proofs.{KnownBytes.Keeps-refl}
+use Rattle.std.proofs.Common.{◌≡◌, ℕ, Bool, true, false, List, refl, ◌∙◌, arith, Option, Some, None, append-nil, ◌⊎◌, ◌<◌, ◌^◌}
+use Rattle.std.proofs.Common.{drop, IfSome, sym, ap, subst, inl, inr, []}
+use Rattle.std.specs.{Io.KnownBytes.Keeps, Io.KnownBytes.Appends, Prelude.string_bytes}
+use Rattle.vms_io.proofs.ShelvingLemmas.{looks_reaches, reaches_both, reaches_none}
+use Rattle.vms_io.proofs.WritingLemmas.{serves_none, stops_prefix}
+use Rattle.vms_io.specs.{Reading.Takes, Shelving.Looks, Told.Intake, Told.Outlet, Told.Stock, Writing.Serves, Causes.AppendsPrefix, Causes.Rose}
+use Rattle.vms_commands.specs.{StepEndings.TextEnds, Steps.Gives, declared.ending.Ending.Ending, Lines.bad_words, Outcomes.text_of, Outcomes.held_after}
+use Rattle.vms_commands.specs.Courses.{Course, Draws, EndsSo, Risen, is_among}
+use Rattle.vms_commands.specs.Endings.{WritesAs, status_of, Caused, EndsAs, EndsWith, Quiet, Tells}
+use Rattle.vms_commands.specs.Outcomes.{Part, Outcome, Outside, ComesTo, ComesToFault, FailsToStore, TellsShelfFault, DoesOrStops, TakesBytes, done, ended}
+use Rattle.vms_commands.specs.declared.ending.Ending.TheVariants.{ReadFault, WriteFault, ShelfFault, Refused, BadWords, BadText, NotCompatible, NotThere}
+use Rattle.vms_commands.specs.declared.ending.Ending.TheVariants.{TooLarge, NoMemory, WouldLose}
+
+-- ---- how a command ends, by its steps
+
+pub wrong : true ≡ false → ⊥
+wrong e = cc
+
+pub draws_none : (i : Intake) → Draws i i
+draws_none i = record { later = omega arith; promise = refl }
+
+pub draws_took : {i i' : Intake} {bytes : List ℕ} → Takes i i' bytes → Draws i i'
+draws_took t = record { later = t.later; promise = t.promise }
+
+-- the shelf wasn't touched
+pub unshelved_so : {i i' : Intake} {o o' : Outlet} (s : Stock) (course : Course) (e : Option Ending) → is_among course.statuses (status_of e) ≡ true → Risen i i' o o' s s e → (is_among course.writes (status_of e) ≡ false → Keeps o.written o'.written)
+    → (is_among course.takes (status_of e) ≡ false → i' ≡ i) → Draws i i' → Serves o o' → EndsSo i i' o o' s s course e
+unshelved_so s course e can risen out input draws serves = record {
+  can = can;
+  risen = risen;
+  out = out;
+  input = input;
+  held = λ f. refl;
+  shelf = λ f. refl;
+  draws = draws;
+  serves = serves;
+  reaches = reaches_none s;
+}
+
+-- nothing was touched
+pub same_so : (i : Intake) (o : Outlet) (s : Stock) (course : Course) (e : Option Ending) → is_among course.statuses (status_of e) ≡ true → Risen i i o o s s e → EndsSo i i o o s s course e
+same_so i o s course e can risen = unshelved_so s course e can risen (λ f. Keeps-refl o.written) (λ f. refl) (draws_none i) (serves_none o)
+
+-- the shelf was only read
+pub looked_so : (i : Intake) (o : Outlet) {s s' : Stock} (course : Course) (e : Option Ending) → Looks s s' → (course.asks ≡ false → s' ≡ s) → is_among course.statuses (status_of e) ≡ true → Risen i i o o s s' e → EndsSo i i o o s s' course e
+looked_so i o course e looks same can risen = record {
+  can = can;
+  risen = risen;
+  out = λ f. Keeps-refl o.written;
+  input = λ f. refl;
+  held = λ f. looks.held;
+  shelf = same;
+  draws = draws_none i;
+  serves = serves_none o;
+  reaches = looks_reaches looks;
+}
+
+-- the shelf was used before
+risen_since : (i i' : Intake) (o o' : Outlet) (a s s' : Stock) (e : Option Ending) → Looks a s → Risen i i' o o' s s' e → Risen i i' o o' a s' e
+risen_since i i' o o' a s s' (Some ReadFault) p h = h
+risen_since i i' o o' a s s' (Some WriteFault) p h = h
+risen_since i i' o o' a s s' (Some ShelfFault) p h = omega (arith, p.later, h)
+risen_since i i' o o' a s s' e p h = tt
+
+pub asked : (b : Bool) → b ≡ true → b ≡ false → ⊥
+asked true is f = wrong f
+asked false is f = cc
+
+pub so_since : {i i' : Intake} {o o' : Outlet} {a s s' : Stock} {course : Course} (e : Option Ending) → course.asks ≡ true → Looks a s → EndsSo i i' o o' s s' course e → EndsSo i i' o o' a s' course e
+so_since {i} {i'} {o} {o'} {a} {s} {s'} {course} e asks p g = record {
+  can = g.can;
+  risen = risen_since i i' o o' a s s' e p g.risen;
+  out = g.out;
+  input = g.input;
+  held = λ f. g.held f ∙ p.held;
+  shelf = λ f. absurd (asked course.asks asks f);
+  draws = g.draws;
+  serves = g.serves;
+  reaches = reaches_both (looks_reaches p) g.reaches;
+}
+
+-- a text was written
+pub writes_serve : (text : List ℕ) (o o' : Outlet) (e : Option Ending) → WritesAs text o o' e → Serves o o'
+writes_serve text o o' None w = record { later = w.later; promise = w.promise }
+writes_serve text o o' (Some WriteFault) w = record { later = w.puts.later; promise = w.puts.promise }
+writes_serve text o o' e w = absurd w
+
+pub writes_end : (text : List ℕ) (o o' : Outlet) (e : Option Ending) → WritesAs text o o' e → TextEnds (Gives text) o o' e
+writes_end text o o' None w = w.told
+writes_end text o o' (Some WriteFault) w = stops_prefix w
+writes_end text o o' e w = absurd w
+
+-- ---- from how a command ends and why to what the call does
 
 -- what is unchanged grows by nothing
 pub kept_none : (old new : Option (List ℕ)) → Keeps old new → Appends old new []

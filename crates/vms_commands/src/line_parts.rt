@@ -13,7 +13,7 @@ use vms_words::append;
 /// # Requires
 ///
 /// `line` has room for 20 more bytes.
-#[tactic(auto, using(crate::proofs::LineLemmas::number_short))]
+#[tactic(auto, using(crate::proofs::NamedSets::number_short))]
 pub fn append_number<const N: usize>(line: &mut ArrayVec<u8, N>, number: u64)
     requires { length line.old.items + 20 ≤ N }
     ensures items { line.new.items ≡ line.old.items ++ decimal number }

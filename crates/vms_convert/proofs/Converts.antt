@@ -1,13 +1,206 @@
--- What is converted loads as the newer set's, and again.
-use Rattle.vms_convert.proofs.{HasBack.one_back, Settling.back_versions, Settling.some_at, BringLaws.there}
+-- What is converted loads as the newer set's, and again: recast numbers, and the parts of a device
+-- one by one.
+use Rattle.vms_convert.proofs.{TakeLaws.first_slots, TakeLaws.first_next, TakeLaws.one_slots, HasBack.one_back, Settling.back_versions, Settling.some_at}
 use Rattle.vms_convert.proofs.BackNormal.{back_may, at_get, gives, given_all, steps_long}
-use Rattle.vms_convert.proofs.Facade.{subst, ◌≡◌, ℕ, ◌≤◌, List, [], ◌∷◌, length, get_or, Option, Some, refl, sym, ap, ◌∙◌, arith, ℤ, ◌<◌, map, slice_get_within}
-use Rattle.vms_convert.proofs.Facade.{slice_get, get_or-map, length-map, Ok, Device, Set, Image, IsNormal, image_slots, AreReady, longest_text, written}
-use Rattle.vms_convert.proofs.Facade.{WellFormed, device_cells, Cell, no_cell, IsFit, same_lists, well_good, Compatible, carried, carried_device, pair, back}
-use Rattle.vms_convert.proofs.Facade.{all_in, upgrade_stands, recast_twice, AreBack, IsConverted, IsPairAt, recast_each, OneBackLaw, BackLaw, AreRecastOf}
-use Rattle.vms_convert.proofs.Facade.{numbers_in, device_partners, recast, device_paired, U8, ArePartners, AreOfKinds, carried_stands, device_at, kinds_at}
-use Rattle.vms_convert.proofs.Facade.{Typed, default_at, state_of, steps_of, IsBack, Changes, AreTargets, give_step, AreSources, IsWholeStream, Converts}
-use Rattle.vms_convert.proofs.Facade.{at_option, IsStreamFor, PutsStream, Judges, stream_of, ArePut}
+use Rattle.vms_convert.proofs.Facade.{◌≡◌, zero, suc, Bool, true, false, List, [], ◌∷◌, get_or, map, Some, ℤ, refl, sym, arith}
+use Rattle.vms_convert.proofs.Facade.{if◌then◌else◌, ℕ, ◌<◌, length, ap, Option, None, IfSome, slice_get, Device, Set, Cell, first, device_cells}
+use Rattle.vms_convert.proofs.Facade.{Image, IsNormal, newest_set, timer, i8259_at_4, i8254_at_2, AreOf, kind-of, count-of, kinds, IsPortCells, recast_cells}
+use Rattle.vms_convert.proofs.Facade.{recast_kinds, AreRecastOf, RecastOfLaw, OneLostLaw, AreOfKinds, recast, wants_arrays, is_port, AreKept, serial_at_4}
+use Rattle.vms_convert.proofs.Facade.{port-of, recast_each, is_one_of, one_number, DifferAt, Loses, OfCell, OfDevice, OfMachine, KeepsAll, changed_append}
+use Rattle.vms_convert.proofs.Facade.{step_of, add-one, ◌+◌, ◌≤◌, ◌∙◌, append-nil, slice_get-get_or, take_all, map-append, Sub, own_slots}
+use Rattle.vms_convert.proofs.Facade.{image_slots, needed_at, is_well_formed, sub_at, few_cells, own_inside_device, sub_inside, Typed, HasSpot, spot_slots}
+use Rattle.vms_convert.proofs.Facade.{steps_of, SettlesBy, SettlesSub, part_of, part_slots, sub_slots_at, changed, part_place, give_step, subst}
+use Rattle.vms_convert.proofs.Facade.{slice_get_within, get_or-map, length-map, Ok, AreReady, longest_text, written, WellFormed, no_cell, IsFit, same_lists}
+use Rattle.vms_convert.proofs.Facade.{well_good, Compatible, carried, carried_device, pair, back, all_in, upgrade_stands, recast_twice, AreBack, IsConverted}
+use Rattle.vms_convert.proofs.Facade.{IsPairAt, OneBackLaw, BackLaw, numbers_in, device_partners, device_paired, U8, ArePartners, carried_stands, kinds_at}
+use Rattle.vms_convert.proofs.Facade.{default_at, state_of, IsBack, Changes, AreTargets, AreSources, IsWholeStream, Converts, at_option, IsStreamFor}
+use Rattle.vms_convert.proofs.Facade.{PutsStream, Judges, stream_of, ArePut}
+use Rattle.vms_parts.specs.Devices.{device_at}
+use Rattle.vms_spec.specs.declared.Part.TheVariants as parts
+
+-- ---- recast numbers of normal images of the newest set are of its devices' kinds
+
+-- the same, as the devices say it
+to_kinds : (cells : List Cell) (numbers : List ℤ) → AreOfKinds cells numbers → AreOf (map (λ cell. cell.kind) cells) numbers
+to_kinds cells numbers h =
+    record {
+      count = omega (arith, count-of cells);
+      in_range = λ c lt. rw (kind-of cells c) (h.in_range c (omega (arith, count-of cells)));
+    }
+
+from_kinds : (cells : List Cell) (numbers : List ℤ) → AreOf (map (λ cell. cell.kind) cells) numbers → AreOfKinds cells numbers
+from_kinds cells numbers h =
+    record {
+      long = omega (arith, count-of cells);
+      in_range = λ c lt. rw (← kind-of cells c) (h.in_range c (omega (arith, count-of cells)));
+    }
+
+of_normal : (d : Device) (image : Image) → IsNormal newest_set d image → AreOfKinds (device_cells newest_set d) image.numbers
+of_normal d image n = record { long = n.cells.long; in_range = λ c lt. (n.cells.fits c lt).0 }
+
+port_kinds : map (λ cell. cell.kind) (device_cells newest_set serial_at_4) ≡ kinds 4
+unfolding first
+port_kinds = refl
+
+port_of : (to : Set) (numbers : List ℤ) → AreOfKinds (device_cells newest_set serial_at_4) numbers
+    → AreOfKinds (device_cells newest_set serial_at_4) (recast to serial_at_4 numbers)
+port_of to numbers h = go (wants_arrays to) where
+  go : (b : Bool) → AreOfKinds (device_cells newest_set serial_at_4) (if b then recast_cells numbers else numbers)
+  go false = h
+  go true = from_kinds _ _ (rw port_kinds (recast_kinds _ (rw port_kinds at (to_kinds _ _ h))))
+
+device_is : (d e : Device) (numbers : List ℤ) → Some d ≡ Some e → AreOfKinds (device_cells newest_set d) numbers
+    → AreOfKinds (device_cells newest_set e) numbers
+device_is d e numbers h k = let same : e ≡ d = cc in rw same k
+
+pub recast_of : RecastOfLaw
+recast_of to (a ∷ b ∷ c ∷ d ∷ e ∷ []) l h = each where
+  each : AreRecastOf to newest_set (a ∷ b ∷ c ∷ d ∷ e ∷ [])
+  each zero x is = device_is timer x _ is (of_normal timer a (h 0 timer a refl refl))
+  each (suc zero) x is = device_is (i8259_at_4 0) x _ is (of_normal _ b (h 1 (i8259_at_4 0) b refl refl))
+  each (suc (suc zero)) x is = device_is (i8259_at_4 1) x _ is (of_normal _ c (h 2 (i8259_at_4 1) c refl refl))
+  each (suc (suc (suc zero))) x is = device_is i8254_at_2 x _ is (of_normal _ d (h 3 i8254_at_2 d refl refl))
+  each (suc (suc (suc (suc zero)))) x is = device_is serial_at_4 x _ is (port_of to _ (of_normal _ e (h 4 serial_at_4 e refl refl)))
+  each (suc (suc (suc (suc (suc k))))) x is = absurd (cc)
+recast_of to _ l h = absurd (omega arith)
+
+-- ---- The recast numbers of a device of the newest set, and when its cells are a port's.
+
+pub recast_at : (to : Set) (devices : List Device) (lists : List (List ℤ)) (k : ℕ) (e : Device) (numbers : List ℤ) → slice_get devices k ≡ Some e
+    → slice_get lists k ≡ Some numbers → get_or (recast_each to devices lists) k [] ≡ recast to e numbers
+recast_at to (d ∷ devices) (n ∷ lists) zero e numbers p q = grind arith
+recast_at to (d ∷ devices) (n ∷ lists) (suc k) e numbers p q = recast_at to devices lists k e numbers p q
+recast_at to _ _ k e numbers p q = absurd (cc)
+
+pub recast_long : (to : Set) (devices : List Device) (lists : List (List ℤ)) → length lists ≡ length devices
+    → length (recast_each to devices lists) ≡ length devices
+recast_long to [] lists l = refl
+recast_long to (d ∷ devices) [] l = absurd (omega arith)
+recast_long to (d ∷ devices) (n ∷ lists) l = ap suc (recast_long to devices lists (omega arith))
+
+-- ---- images that a loader of the newest set keeps
+
+pub port_is : (k : ℕ) → k < length newest_set.devices → is_port (device_at newest_set k) ≡ true → k ≡ 4
+port_is (suc (suc (suc (suc zero)))) lt e = refl
+port_is (suc (suc (suc (suc (suc k))))) lt e = absurd (omega arith)
+port_is _ lt e = absurd (cc)
+
+pub port_cells : (images : List Image) → AreKept newest_set images → (k : ℕ) (image : Image) → k ≡ 4
+    → slice_get images k ≡ Some image → IsPortCells image.numbers
+port_cells images kept k image is at = port-of image (kept.each 4 serial_at_4 image refl (rw (sym is) (at))).normal
+
+-- of a set that is the newest
+pub newest_kinds : (to new : Set) → new ≡ newest_set → (images : List Image) → AreKept new images → AreRecastOf to new images
+newest_kinds to new is images = rw is (λ kept. recast_of to images kept.one_each (λ k e image at at'. (kept.each k e image at at').normal))
+
+-- ---- What is lost first is one thing.
+
+accepted : (to : Set) (machine : Option (List ℕ)) (name : List ℕ) → IfSome machine (λ m. is_one_of to.machines m ≡ true) → machine ≡ Some name
+    → is_one_of to.machines name ≡ true
+accepted to None name h e = absurd (cc)
+accepted to (Some m) name h e = grind arith
+
+module _ (to new : Set) (machine : Option (List ℕ)) (wanted there : List (List ℤ)) (backs : List Image) where
+  abbrev Lost : Option ℕ → Option ℕ → Type 0
+  Lost section cell = Loses to new machine wanted there backs section cell
+
+  abbrev Differ : ℕ → ℕ → Type 0
+  Differ k c = DifferAt (get_or wanted k []) (get_or there k []) c
+
+  not_same : (k c : ℕ) → Differ k c → get_or wanted k [] ≡ get_or there k [] → ⊥
+  not_same k c d e = d.other (rw e)
+
+  not_all : (k c : ℕ) → Differ k c → wanted ≡ there → ⊥
+  not_all k c d e = not_same k c d (rw e)
+
+  never : (section cell : Option ℕ) → KeepsAll to new machine wanted there backs → Lost section cell → ⊥
+  never section cell h (OfCell k c before differ) = not_all k c differ h.cells
+  never section cell h (OfDevice k inside same before bad) = bad (h.valid k inside)
+  never section cell h (OfMachine name same valid is not) = let e = accepted to _ name h.machine_is is in let f : true ≡ false = cc in absurd (cc)
+
+  first_differ : (k c k' c' : ℕ) → ((i : ℕ) → i < k → get_or wanted i [] ≡ get_or there i []) → Differ k c
+      → ((i : ℕ) → i < k' → get_or wanted i [] ≡ get_or there i []) → Differ k' c' → k ≡ k'
+  first_differ k c k' c' before d before' d' = grind (arith, one_number, not_same)
+
+  one : (section cell section' cell' : Option ℕ) → Lost section cell → Lost section' cell' → (section ≡ section') × (cell ≡ cell')
+  one section cell section' cell' (OfCell k c before d) (OfCell k' c' before' d') = grind (arith, first_differ, one_number)
+  one section cell section' cell' (OfCell k c before d) (OfDevice k' inside same before' bad) = absurd (not_all k c d same)
+  one section cell section' cell' (OfCell k c before d) (OfMachine name same valid is not) = absurd (not_all k c d same)
+  one section cell section' cell' (OfDevice k inside same before bad) (OfCell k' c' before' d') = absurd (not_all k' c' d' same)
+  one section cell section' cell' (OfDevice k inside same before bad) (OfDevice k' inside' same' before' bad') = grind (arith, one_number)
+  one section cell section' cell' (OfDevice k inside same before bad) (OfMachine name same' valid is not) = absurd (bad (valid k inside))
+  one section cell section' cell' (OfMachine name same valid is not) (OfCell k' c' before' d') = absurd (not_all k' c' d' same)
+  one section cell section' cell' (OfMachine name same valid is not) (OfDevice k' inside same' before' bad) = absurd (bad (valid k' inside))
+  one section cell section' cell' (OfMachine name same valid is not) (OfMachine name' same' valid' is' not') = (refl, refl)
+
+pub one_lost : OneLostLaw
+one_lost to new machine wanted there backs = record {
+  never_both = λ section cell h l. never to new _ wanted there backs section cell h l;
+  one = λ a b c d p q. one to new machine wanted there backs a b c d p q;
+}
+
+-- ---- the parts of a device, as the code walks over them by number
+
+module _ (set : Set) (i : ℕ) (lt : i < length set.devices) where
+  pub there : slice_get set.devices i ≡ Some (device_at set i)
+  there = slice_get-get_or set.devices i _ lt
+
+  module _ (well : is_well_formed set ≡ true) (n : List ℤ) (long : length n ≡ length (device_cells set (device_at set i))) where
+    pub own_spot : HasSpot set (part_of set (parts.Device i)) n
+    own_spot = record {
+      part = lt;
+      few = omega (arith, few_cells set well i);
+      room = omega (arith, own_inside_device set i);
+    }
+
+    pub sub_spot : (j : ℕ) → j < length (device_at set i).subs → HasSpot set (part_of set (parts.Sub i j)) n
+    sub_spot j less = record {
+      part = (lt, less);
+      few = omega (arith, few_cells set well i);
+      room = omega (arith, sub_inside set i j less);
+    }
+
+  pub settle_rest : (a b : Typed) (j : ℕ) → SettlesSub set i j a b → b ≡ record a { numbers = b.numbers }
+  settle_rest a b j s = go (needed_at set i j a.numbers) s where
+    go : (t : Bool) → SettlesBy t set i j a b → b ≡ record a { numbers = b.numbers }
+    go true s = s ∙ ap (λ (x : Typed). record a { numbers = x.numbers }) (sym s)
+    go false s = s.1
+
+-- ---- What is given, part by part.
+
+module _ (set : Set) (i : ℕ) (lt : i < length set.devices) (image : Image) (long : length image.came ≡ length (device_at set i).subs)
+    (version : image.version ≡ (device_at set i).desc.version) (partners : List (Option ℕ)) where
+  abbrev dev : Device
+  dev = device_at set i
+
+  abbrev n : List ℤ
+  n = image.numbers
+
+  abbrev pub gives_to : ℕ → List ℤ → List ℤ
+  gives_to j before = changed (give_step partners image.numbers) (steps_of (first_slots set (device_at set i) image.came j image.numbers)) before
+
+  pub gave_own : (before : List ℤ) → changed (give_step partners n) (steps_of (spot_slots set (part_of set (parts.Device i)) n)) before ≡ gives_to 0 before
+  gave_own before = rw (append-nil (own_slots set dev dev.desc.version n))
+
+  one_is : (j : ℕ) (o : Option ℕ) → one_slots set (sub_at dev j) o n (part_place set dev j) ≡ sub_slots_at set i j o n
+  one_is j None = refl
+  one_is j (Some v) = refl
+
+  pub gave_sub : (before now next : List ℤ) (j : ℕ) → j < length dev.subs → now ≡ gives_to j before
+      → next ≡ changed (give_step partners n) (steps_of (part_slots set i j image)) now → next ≡ gives_to (j + 1) before
+  gave_sub before now next j less e f =
+      let o = get_or image.came j None in
+      let at : slice_get dev.subs j ≡ Some (sub_at dev j) = slice_get-get_or dev.subs j _ less in
+      let at' : slice_get image.came j ≡ Some (get_or image.came j None) = slice_get-get_or image.came j None (omega arith) in
+      let front = first_slots set dev image.came j n in
+      let both = changed_append (give_step partners n) (steps_of front) (steps_of (part_slots set i j image)) before in
+      rw (add-one j, first_next set dev image.came j (sub_at dev j) o n at at', one_is j o, map-append step_of front (part_slots set i j image), both, ← e) f
+
+  pub gave_all : (before : List ℤ) (j : ℕ) → length dev.subs ≤ j → j ≤ length dev.subs
+      → gives_to j before ≡ changed (give_step partners n) (steps_of (image_slots set dev image)) before
+  gave_all before j end within = grind (arith, take_all)
+
+-- ---- what is converted loads as the newer set's, and again
 
 pub one_stands : OneBackLaw
 one_stands to fit i d there partners numbers x y p q =

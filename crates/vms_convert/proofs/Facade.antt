@@ -11,9 +11,9 @@ pub use Rattle.std.proofs.lemmas.Option.{get_or_from_slice_get, slice_get-get_or
 pub use Rattle.std.specs.{Borrow.Bor, Cmp.signed_Decides, Int.w128, List.flat_map, List.list_any, List.range_with_len, List.slice_get, Ordering.int_eq}
 pub use Rattle.vms_kinds.specs.{Codes.InRange, declared.Item.Item, declared.Kind.Kind, declared.Kind.TheVariants.U8}
 pub use Rattle.vms_kinds.specs.declared.Item.TheVariants.{Num, Struct, Unused}
-pub use Rattle.vms_spec.proofs.{Faultless.answers_none, NumberLaws.within_all, Sizes.field_size, Tables.first_at, Tables.one_more}
-pub use Rattle.vms_spec.proofs.Prefixes.{FieldsBelow, ItemBelow, all_below}
-pub use Rattle.vms_spec.proofs.WellFormedLaws.{device_found, device_parts, earlier, sub_clean, well_good}
+pub use Rattle.vms_spec.proofs.ListsAndNumbers.{within_all}
+pub use Rattle.vms_spec.proofs.Tables.{field_size, first_at, one_more, FieldsBelow, ItemBelow, all_below}
+pub use Rattle.vms_spec.proofs.WellFormedLaws.{answers_none, device_found, device_parts, earlier, sub_clean, well_good}
 pub use Rattle.vms_spec.specs.{Good.IsFit, Good.IsGood, Heads.FitsHeads, Images.sub_place, Lists.at_option, Numbers.exceeds, Places.own_cell_count}
 pub use Rattle.vms_spec.specs.{Tests.is_there, Tests.truth, declared.Count.TheVariants.Counted, declared.Count.TheVariants.One, declared.Part.Part}
 pub use Rattle.vms_spec.specs.{declared.TheConstants.MOST_ITEMS, declared.Whose.TheVariants.Own, declared.Whose.TheVariants.Parent}
@@ -30,25 +30,23 @@ pub use Rattle.vms_spec.specs.Sound.{AreSound, AreSoundFields, IsEarlier, IsSoun
 pub use Rattle.vms_spec.specs.Streams.{AreReady, IsReady, is_needed, is_one_of, longest_text, written}
 pub use Rattle.vms_spec.specs.WellFormed.{WellFormed, first_fault, here}
 unfoldable pub use Rattle.vms_spec.specs.Layout.{first}
-pub use Rattle.vms_bodies.proofs.{ComeLaws.same_lists, FineLaws.image_are, FineLaws.part_place, Names.names_append, Names.none_in_both, Stated.shipped_holds}
-pub use Rattle.vms_bodies.proofs.AboveLaws.{MeanAbove, field_above, meanings_above}
-pub use Rattle.vms_bodies.proofs.AgreeLaws.{its_above, its_below, its_in, its_same}
-pub use Rattle.vms_bodies.proofs.PartLaws.{at_other, part_apart, parts_together, places_apart, sub_place_up, sub_size}
-pub use Rattle.vms_bodies.proofs.Places.{SameBelow, elements_same, place_below, place_end, place_next, place_up, there_same}
-pub use Rattle.vms_bodies.proofs.SettledLaws.{SameIn, cells_in, in_less, own_in}
+pub use Rattle.vms_bodies.proofs.{Stated.shipped_holds, Places.place_next, Places.place_up, Places.there_same}
+pub use Rattle.vms_bodies.proofs.PartLaws.{same_lists, image_are, part_place, at_other, part_apart, parts_together, places_apart, sub_place_up, sub_size}
+pub use Rattle.vms_bodies.proofs.Places.{names_append, none_in_both, MeanAbove, field_above, meanings_above, SameBelow, elements_same, place_below, place_end}
+pub use Rattle.vms_bodies.proofs.SettledLaws.{its_above, its_below, its_in, its_same, SameIn, cells_in, in_less, own_in}
 pub use Rattle.vms_bodies.proofs.WalkLaws.{drop_next, place_first, zero_plus}
 pub use Rattle.vms_bodies.specs.{Cells.AreCells}
 pub use Rattle.vms_stream.specs.StreamLaws.{IsWholeStream}
-pub use Rattle.vms_check.proofs.{ListLaws.passes, WholeLaws.sub_in}
+pub use Rattle.vms_check.proofs.{PairLaws.passes, WholeLaws.sub_in}
 pub use Rattle.vms_check.specs.{Reducing.presence, Sides.IsSide, Sides.desc_on, Sides.own_side, declared.side.Side.Side}
 pub use Rattle.vms_check.specs.Carrying.{carried_at, carried_device, no_image}
 pub use Rattle.vms_check.specs.Comparing.{Compatible, Entry, entry_of, is_absent, is_in, is_nothing, present, present_from}
 pub use Rattle.vms_check.specs.Partners.{Pairer, array_partners, desc_partners, field_partners, fields_left, item_partners, named_partners, no_pairer}
 pub use Rattle.vms_check.specs.Partners.{pairer_of, partners_from, unpaired}
 unfoldable pub use Rattle.vms_check.specs.{Carrying.carried, Partners.device_partners}
-pub use Rattle.vms_check_laws.proofs.{GoesDevices.carried_stands, GoesFields.struct_is, PairDevices.device_paired, Wholes.at_map}
+pub use Rattle.vms_check_laws.proofs.{GoesDevices.carried_stands, GoesFields.struct_is, Wholes.at_map}
+pub use Rattle.vms_check_laws.proofs.PairDevices.{device_paired, one_number, one_part, own_or_sub}
 pub use Rattle.vms_check_laws.proofs.Streaming.{all_in, back, found_device, found_some, pair, upgrade_stands}
-pub use Rattle.vms_check_laws.proofs.SubParts.{one_number, one_part, own_or_sub}
 pub use Rattle.vms_check_laws.specs.{Carried.IsAtVersions, Carried.IsCarried, Pairing.AreOfKinds, Pairing.ArePartners, SubCells.IsCellOf}
 pub use Rattle.vms_convert.specs.{Changes.Changes, Changes.changed, Changes.changed_append, Giving.AreTargets, Giving.give_partner, Giving.give_step}
 pub use Rattle.vms_convert.specs.{Putting.AreSources, Putting.put_partner, Putting.put_step, Returning.FirstDifference, Returning.IsReturned, Rooms.AreFresh}
@@ -65,23 +63,22 @@ pub use Rattle.vms_convert.specs.Partnering.{AreArrays, HasFew, HasRoom, IsBehin
 pub use Rattle.vms_convert.specs.Partnering.{elements_left, entries_at, item_on, partners_left, partners_on, struct_on, sub_on, table}
 pub use Rattle.vms_convert.specs.Recast.{is_port, is_ring, recast, wants, wants_arrays}
 pub use Rattle.vms_convert.specs.Returns.{ArePaired, AreReturned, AreReturnedTo, IsFirstLost, IsLostCell, IsRecastFor, carried_of}
-pub use Rattle.vms_desc.proofs.{Ranks.reach_whole, Ranks.uses_more, Bounds.few_machines, Bounds.fit_of, Bounds.good_of, Bounds.none_is}
 pub use Rattle.vms_desc.proofs.AskLaws.{device_is, few_cells, found_field, own_inside_device, sub_inside, sub_within}
-pub use Rattle.vms_desc.proofs.Clean.{few_fields, few_subs, field_clean, reach, struct_clean}
+pub use Rattle.vms_desc.proofs.Clean.{reach_whole, uses_more, few_machines, fit_of, good_of, none_is, few_fields, few_subs, field_clean, reach, struct_clean}
 pub use Rattle.vms_desc.specs.{Asks.needed_at, Described.described, Described.device_at, Formed.is_well_formed, Formed.newest_set, Names.IsNameAt}
 pub use Rattle.vms_desc.specs.{Parts.HasPart, Parts.desc_at, Parts.sub_at, Spots.kinds_at, declared.set.DescSet.DescSet}
 pub use Rattle.vms_image.proofs.States.{at_state, image_at}
 pub use Rattle.vms_image.specs.Typed.{AreImagesOf, IsImageOf, Typed, default_at, state_of, typed}
 pub use Rattle.vms_io.specs.{Told.outlet, Writing.Puts, Writing.Stops}
-pub use Rattle.vms_load.proofs.{HeadLemmas.device_below, SetFacts.well_of}
+pub use Rattle.vms_load.proofs.{HeadLemmas.device_below, StreamLengths.well_of}
 pub use Rattle.vms_load.specs.{Good.AreKept, Lean.has, Lean.loads, Staging.name_of}
 pub use Rattle.vms_parts.specs.{Capacities.least_of, Sizes.in_u32, Views.device_of, Views.field_of, Views.sub_of}
 pub use Rattle.vms_spots.specs.Spots.{Held}
-pub use Rattle.vms_walk.proofs.{Least.exceeds_least, Local.has_step_of}
+pub use Rattle.vms_walk.proofs.{Spots.exceeds_least, Walking.has_step_of}
 pub use Rattle.vms_walk.specs.{Inside.Keeps, Steps.HasSpot, Steps.spot_slots, Steps.step_of, Steps.steps_of, declared.step.WalkStep.WalkStep}
 pub use Rattle.dev_base.specs.Cells.{AreOf}
-pub use Rattle.dev_images.proofs.{NormalSerial.port-of, ShippedDevices.serial_at_4}
+pub use Rattle.dev_images.proofs.{NormalCells.port-of, ShippedDevices.serial_at_4}
 pub use Rattle.dev_images.proofs.ReadyOf.{AreSubs, count-of, kind-of, needed, versions}
 pub use Rattle.dev_images.specs.Images.{bare, image_of, needed_from}
-pub use Rattle.dev_serial.proofs.{RecastKinds.recast_kinds, RecastLaws.recast_twice}
+pub use Rattle.dev_serial.proofs.RecastLaws.{recast_kinds, recast_twice}
 pub use Rattle.dev_serial.specs.{Cells.IsPortCells, Cells.kinds, Recast.recast_cells}

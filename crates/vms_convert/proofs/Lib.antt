@@ -1,14 +1,11 @@
 pub mod Answered
 pub mod BackNormal
-pub mod BringLaws
 pub mod Converts
 pub mod Facade
 pub mod HasBack
-pub mod JudgeLaws
 pub mod LostLaws
 pub mod PartnerLaws
 pub mod PartnerSteps
-pub mod RecastLaws
 pub mod Rows
 pub mod Settling
 pub mod TakeLaws

@@ -1,15 +1,15 @@
 -- What is lost first, from what is found of each of the older set's devices.
-use Rattle.vms_convert.proofs.{HasBack.extend, HasBack.appended, BringLaws.there}
-use Rattle.vms_convert.proofs.Facade.{◌≡◌, ℕ, ◌+◌, ◌<◌, Bool, true, false, nat_lt, List, [], ◌∷◌, ◌++◌, length, get_or, map, Option, Some, None, ℤ, refl, sym}
-use Rattle.vms_convert.proofs.Facade.{ap, ◌∙◌, arith, if◌then◌else◌, get_or-append_seam, ltb-true, ltb-false, get_or_append_left, get_or_default, length-map}
-use Rattle.vms_convert.proofs.Facade.{get_or_from_slice_get, slice_get-get_or, slice_get_within, slice_get, take_all, length-append, ◌≤◌, slice_set, take}
-use Rattle.vms_convert.proofs.Facade.{map-append, take_more_set, back, Device, Set, Image, find_device, index, WellFormed, here, device_found, device_at}
-use Rattle.vms_convert.proofs.Facade.{device_is, carried, carried_at, carried_device, no_image, Compatible, is_in, passes, found_device, found_some, pair}
-use Rattle.vms_convert.proofs.Facade.{all_in, answers_none, at_map, DifferAt, Loses, OfCell, numbers_in, FirstDifference, ArePaired, IsFirstLost, IsLostCell}
-use Rattle.vms_convert.proofs.Facade.{carried_of, LostCell, IsBack, device_partners, default_image, Typed, state_of, AreImagesOf, default_at, typed, IsReturned}
-use Rattle.vms_convert.proofs.Facade.{AreReturnedTo, AreReturned, IsRecastFor, kinds_at, recast, AreFresh, AreRoutes, IsRoute, Route, first, newest_set}
-use Rattle.vms_convert.proofs.Facade.{AreKept, kinds, recast_each, at_other, IsImageOf}
-use Rattle.vms_convert.proofs.RecastLaws.{newest_kinds, port_cells, port_is, recast_at}
+use Rattle.vms_convert.proofs.Converts.{there, newest_kinds, port_cells, port_is, recast_at}
+use Rattle.vms_convert.proofs.Facade.{◌≡◌, ℕ, ◌+◌, ◌<◌, Bool, true, false, nat_lt, List, [], ◌∷◌, ◌++◌, length, get_or, map, Option}
+use Rattle.vms_convert.proofs.Facade.{Some, None, ℤ, refl, sym, ap, ◌∙◌, arith, if◌then◌else◌, get_or-append_seam, ltb-true, ltb-false}
+use Rattle.vms_convert.proofs.Facade.{get_or_append_left, get_or_default, length-map, get_or_from_slice_get, slice_get-get_or, slice_get_within, slice_get}
+use Rattle.vms_convert.proofs.Facade.{take_all, length-append, ◌≤◌, slice_set, take, map-append, take_more_set, back, Device, Set, Image, find_device}
+use Rattle.vms_convert.proofs.Facade.{index, WellFormed, here, device_found, device_at, device_is, carried, carried_at, carried_device, no_image, Compatible}
+use Rattle.vms_convert.proofs.Facade.{is_in, passes, found_device, found_some, pair, all_in, answers_none, at_map, DifferAt, Loses, OfCell, numbers_in}
+use Rattle.vms_convert.proofs.Facade.{FirstDifference, ArePaired, IsFirstLost, IsLostCell, carried_of, LostCell, IsBack, device_partners, default_image, Typed}
+use Rattle.vms_convert.proofs.Facade.{state_of, AreImagesOf, default_at, typed, IsReturned, AreReturnedTo, AreReturned, IsRecastFor, kinds_at, recast, AreFresh}
+use Rattle.vms_convert.proofs.Facade.{AreRoutes, IsRoute, Route, first, newest_set, AreKept, kinds, recast_each, at_other, IsImageOf}
+use Rattle.vms_convert.proofs.HasBack.{extend, appended}
 use Rattle.vms_convert.specs.{Returns.IsEarlier}
 use Rattle.std.proofs.lemmas.List.{same_lists, length-set}
 use Rattle.vms_check_laws.proofs.Streaming.{rules}

@@ -6,7 +6,7 @@ use Rattle.vms_walk.specs.Inside.{Keeps}
 use Rattle.vms_walk.specs.Steps.{capacities_of}
 use Rattle.vms_walk.specs.declared.step.WalkStep.{WalkStep}
 use Rattle.vms_walk.specs.declared.step.WalkStep.TheVariants.{Number, Constant, Filler, Rule}
-use Rattle.vms_walk.proofs.Kept.{keeps_same, keeps_more, keeps_put}
+use Rattle.vms_walk.proofs.Walking.{keeps_same, keeps_more, keeps_put}
 use Rattle.vms_image.specs.Typed.{Typed}
 use Rattle.vms_convert.specs.Changes.{changed, Changes}
 use Rattle.vms_convert.specs.Putting.{put_partner, put_step}

@@ -57,7 +57,7 @@ impl Cells for Giver<'_> {
 impl Walker for Giver<'_> {
     ghost use Rattle.std.specs.Prelude.{◌≡◌, refl};
     ghost use Rattle.std.proofs.Common.{ap, ◌∙◌};
-    ghost use Rattle.vms_walk.proofs.Kept.{keeps_same};
+    ghost use Rattle.vms_walk.proofs.Walking.{keeps_same};
     ghost use Rattle.vms_convert.specs.Changes.{Changes, changes_more};
     ghost use Rattle.vms_convert.specs.Giving.{MayGive, give_step, same_gifts};
 

@@ -30,7 +30,7 @@ pub fn recast_of_law()
 
 /// States that there is only one first thing that is lost, and that something is lost only if not
 /// all is kept.
-#[tactic(auto, using(crate::proofs::RecastLaws::one_lost))]
+#[tactic(auto, using(crate::proofs::Converts::one_lost))]
 pub fn one_lost_law()
     ensures { OneLostLaw }
 {}

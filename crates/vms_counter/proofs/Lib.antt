@@ -1,4 +1,3 @@
-pub mod ByteLaws
 pub mod Facade
 pub mod FoundLemmas
 pub mod RoomLaws

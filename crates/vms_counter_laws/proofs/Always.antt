@@ -1,19 +1,176 @@
--- The defaults show three kinds of mismatch, where they are ready.
-use Rattle.vms_counter_laws.proofs.{Devices.Comes, Devices.comes, Clashing.present_fields, Clashing.clashes}
-use Rattle.vms_counter_laws.proofs.Facade.{◌==◌, if◌then◌else◌, ℕ, subst, ◌≡◌, inl, inr, ◌+◌, ◌<◌, true, false, List, [], ◌++◌, length, map, Option, Some}
-use Rattle.vms_counter_laws.proofs.Facade.{None, refl, sym, ap, ◌∙◌, arith, append_assoc, append-nil, ℤ, slice_get, list_all, lacking, IsBytes, Field}
-use Rattle.vms_counter_laws.proofs.Facade.{Device, Set, FitsHeads, struct_cells, desc_cells, Image, Spells, default_image, own_slots, own_cells}
-use Rattle.vms_counter_laws.proofs.Facade.{zeroed, IsVersionOf, be32, magic, stream_head, section_head, configuration, end_mark, foot, written}
-use Rattle.vms_counter_laws.proofs.Facade.{written_sections, written_subs, AreReady, Magic, Version, WellFormed, here, find_device, few_devices}
-use Rattle.vms_counter_laws.proofs.Facade.{machine_short, reading_on, falses, defaults_of, version_decides, bytes_rest, well_good, device_found, Unknown}
-use Rattle.vms_counter_laws.proofs.Facade.{AtMagic, AtVersion, judge, reading, Headed, at_start, between, by_state, Takes, unit_on, taken_holds, Mismatch}
-use Rattle.vms_counter_laws.proofs.Facade.{presence, reduced, compare_device, compare_fields, comparers, Comparer, Entry, first_mismatch, is_kept, present}
-use Rattle.vms_counter_laws.proofs.Facade.{position_from, FitsAt, fits_left, from_zero, fits_whole, devices_clash, at_map, default_images, machine_for}
-use Rattle.vms_counter_laws.proofs.Facade.{stream_of, Shows, IsPlain, AlwaysShown, OfMachine, OfVersion, OfConstant, Pair, pair}
-use Rattle.vms_counter_laws.proofs.Inverted.{else_some, one_rule, struct_no_device, tables_within, IsDevice, OfDevice, of_device, Version as OfItsVersion, Own}
-use Rattle.vms_counter_laws.proofs.Inverted.{Below, IsWithin, part_within, DeviceFails, device_fails, machine_fails}
-use Rattle.vms_counter_laws.proofs.Machines.{same_head, lacks, machine_untaken}
+-- The defaults show three kinds of mismatch, where they are ready: streams with a machine, and the
+-- sections before the one that a mismatch concerns.
+use Rattle.vms_counter_laws.proofs.Facade.{◌≡◌, ℕ, ◌^◌, ◌<◌, List, [], ◌++◌, length, refl, sym, ap, ◌∙◌, append_assoc, Bool, true}
+use Rattle.vms_counter_laws.proofs.Facade.{false, ◌&&◌, ◌∷◌, get_or, Option, Some, None, arith, list_all, or_left, or_right, bytes_eq-Decides, be32}
+use Rattle.vms_counter_laws.proofs.Facade.{section_head, stream_head, configuration, is_one_of, IsConfiguration, be32_read, apart, Device, Set, Image}
+use Rattle.vms_counter_laws.proofs.Facade.{HasSection, SectionsSpell, Takes, lacking, subst, zero, suc, ◌+◌, ◌≤◌, slice_set, slice_get, length-set}
+use Rattle.vms_counter_laws.proofs.Facade.{slice_get_within, first_answer, IsBytes, FitsHeads, IsReady, written_section, written_sections, Accepted, WellFormed}
+use Rattle.vms_counter_laws.proofs.Facade.{here, reading_on, at_other, bytes_rest, Tail, Footed, Bare, judge, between, by_state, BeginsSection}
+use Rattle.vms_counter_laws.proofs.Facade.{section_read_holds, section_found_holds, compare_device, failing_pair, is_in, carried_device, ArePaired, compared}
+use Rattle.vms_counter_laws.proofs.Facade.{Pair, pair, back, device_stands, at_first, one_on, saved, ◌==◌, if◌then◌else◌, inl, inr, map, append-nil}
+use Rattle.vms_counter_laws.proofs.Facade.{ℤ, Field, struct_cells, desc_cells, Spells, default_image, own_slots, own_cells, zeroed, IsVersionOf, magic}
+use Rattle.vms_counter_laws.proofs.Facade.{end_mark, foot, written, written_subs, AreReady, Magic, Version, find_device, few_devices, machine_short, falses}
+use Rattle.vms_counter_laws.proofs.Facade.{defaults_of, version_decides, well_good, device_found, Unknown, AtMagic, AtVersion, reading, Headed, at_start}
+use Rattle.vms_counter_laws.proofs.Facade.{unit_on, taken_holds, Mismatch, presence, reduced, compare_fields, comparers, Comparer, Entry, first_mismatch}
+use Rattle.vms_counter_laws.proofs.Facade.{is_kept, present, position_from, FitsAt, fits_left, from_zero, fits_whole, devices_clash, at_map, default_images}
+use Rattle.vms_counter_laws.proofs.Facade.{machine_for, stream_of, Shows, IsPlain, AlwaysShown, OfMachine, OfVersion, OfConstant}
+use Rattle.vms_counter_laws.proofs.Inverted.{present_fields, clashes, else_some, one_rule, struct_no_device, tables_within, IsDevice, OfDevice, of_device}
+use Rattle.vms_counter_laws.proofs.Inverted.{Version as OfItsVersion, Own, Below, IsWithin, part_within, DeviceFails, device_fails, machine_fails}
+use Rattle.vms_stream.specs.State.{State}
 use Rattle.vms_spec.specs.declared.Part.TheVariants as parts
+
+-- ---- Two section heads at one front.
+
+pub same_be32 : (n m : ℕ) → n < 2 ^ 32 → m < 2 ^ 32 → be32 n ≡ be32 m → n ≡ m
+same_be32 n m lt lt' e = cc (be32_read n [] lt, be32_read m [] lt')
+
+pub record SameHead (name name' : List ℕ) (instance instance' v v' : ℕ) (rest rest' : List ℕ) : Type 0 where
+  pub names : name ≡ name'
+  pub instances : instance ≡ instance'
+  pub versions : v ≡ v'
+  pub rests : rest ≡ rest'
+
+pub same_head : (id id' : ℕ) (name name' : List ℕ) (instance instance' v v' : ℕ) (rest rest' : List ℕ) → instance < 2 ^ 32 → instance' < 2 ^ 32
+    → v < 2 ^ 32 → v' < 2 ^ 32 → section_head id name instance v ++ rest ≡ section_head id' name' instance' v' ++ rest'
+    → SameHead name name' instance instance' v v' rest rest'
+same_head id id' name name' instance instance' v v' rest rest' i_fits i_fits' v_fits v_fits' h =
+    let long : length name ≡ length name' = cc in
+    let more : ((name ++ be32 instance) ++ be32 v) ++ rest ≡ ((name' ++ be32 instance') ++ be32 v') ++ rest' = cc in
+    let a = apart name name' (be32 instance' ++ (be32 v' ++ rest')) (be32 instance ++ (be32 v ++ rest)) long (simp append_assoc at more) in
+    let b = apart (be32 instance) (be32 instance') (be32 v' ++ rest') (be32 v ++ rest) refl a.1 in
+    let c = apart (be32 v) (be32 v') rest' rest refl b.1 in
+    record { names = a.0; instances = same_be32 _ _ i_fits i_fits' b.0; versions = same_be32 v v' v_fits v_fits' c.0; rests = c.1 }
+
+-- ---- A machine that the newer set doesn't have: no stream that names it is accepted.
+
+-- ---- the machine
+
+pub record Lacks (names machines : List (List ℕ)) : Type 0 where
+  pub name : List ℕ
+  pub is : lacking names machines ≡ Some name
+  pub unknown : is_one_of names name ≡ false
+  pub known : is_one_of machines name ≡ true
+
+pub lacks : (names machines : List (List ℕ)) → list_all (is_one_of names) machines ≡ false → Lacks names machines
+lacks names [] h = absurd (cc)
+lacks names (m ∷ machines) h =
+    let by : (b : Bool) → is_one_of names m ≡ b → (b && list_all (is_one_of names) machines) ≡ false → Lacks names (m ∷ machines) = elim [
+      | true ↦ λ e k.
+          let r = lacks names machines k in
+          record { name = r.name; is = rw e r.is; unknown = r.unknown; known = or_right _ _ r.known }
+      | false ↦ λ e k.
+          record { name = m; is = rw e; unknown = e; known = or_left _ _ ((bytes_eq-Decides m m).1 refl) }
+    ] in
+    by _ refl h
+
+-- ---- bytes
+
+-- sections, and then the end mark, begin with no configuration's mark
+first_byte : (set : Set) (footed : Bool) (images : List Image) (order : List ℕ) (sections more : List ℕ) → SectionsSpell set footed images order sections
+    → get_or (sections ++ (0x00 ∷ more)) 0 0 ≡ 0x07 → ⊥
+first_byte set footed images [] sections more spelled h = let f : ◌≡◌ {A = ℕ} 0x00 0x07 = rw spelled at h in cc
+first_byte set footed images (k ∷ order) sections more spelled h = by _ _ spelled.2
+  where
+    by : (o : Option Device) (p : Option Image) → HasSection set footed k o p spelled.0 → ⊥
+    by (Some d) (Some image) s =
+        let f : ◌≡◌ {A = ℕ} 0x04 0x07 = rw (spelled.4, s.1.whole) at h in cc
+    by None p s = s
+    by (Some d) None s = s
+
+by_machine : (names : List (List ℕ)) (machine : Option (List ℕ)) (name named more more' : List ℕ) → is_one_of names name ≡ false → length name < 2 ^ 32
+    → IsConfiguration names machine named
+    → (named ≡ [] → get_or more 0 0 ≡ 0x07 → ⊥) → configuration name ++ more' ≡ named ++ more → ⊥
+by_machine names None name named more more' unknown short is no_mark h =
+    no_mark is (sym (ap (λ (l : List ℕ). get_or (l ++ more) 0 0) is) ∙ sym (ap (λ (l : List ℕ). get_or l 0 0) h))
+by_machine names (Some other) name named more more' unknown short is no_mark h =
+    let h' : configuration name ++ more' ≡ configuration other ++ more = rw is.2 at h in
+    let bytes : be32 (length name) ≡ be32 (length other) = cc in
+    let rest : name ++ more' ≡ other ++ more = cc in
+    let same = (apart name other more more' (same_be32 _ _ short (omega arith) bytes) rest).0 in
+    absurd (cc (is.0))
+
+pub machine_untaken : (set : Set) (names : List (List ℕ)) (name more : List ℕ) → is_one_of names name ≡ false → length name < 2 ^ 32
+    → (n : ℕ) (machine : Option (List ℕ)) (images : List Image) → Takes set names (stream_head ++ (configuration name ++ more)) n machine images → ⊥
+machine_untaken set names name more unknown short n machine images t =
+    let s = t.stream in
+    let tail = 0x00 ∷ (s.tail ++ t.rest) in
+    let is : stream_head ++ (configuration name ++ more) ≡ stream_head ++ (s.named ++ (s.sections ++ tail)) = t.prefix ∙ rw s.whole (simp append_assoc) in
+    by_machine names _ name _ _ more unknown short s.configured (λ none e. first_byte set _ images _ _ _ s.spelled e)
+    (apart stream_head stream_head _ _ refl is).1
+
+-- ---- devices of the older set and of the newer one, and the sections before the one that a mismatch concerns
+
+module _ (old new : Set) (good_old : WellFormed old) (good_new : WellFormed new) (heads : FitsHeads new)
+    (all_in : first_answer (λ i d. failing_pair ((2, is_in new d) ∷ []) (here (parts.Device i)) (here parts.Set)) 0 old.devices ≡ None) where
+  two_apart : (i i' : ℕ) (d d' : Device) → i < i' → slice_get old.devices i ≡ Some d → slice_get old.devices i' ≡ Some d'
+      → (p : Pair old new good_old all_in i d) (q : Pair old new good_old all_in i' d') → p.number ≡ q.number → ⊥
+  two_apart i i' d d' lt e e' p q numbers =
+      let one : p.device ≡ q.device = cc (p.stands, q.stands) in
+      let indices : i ≡ i' = cc (back old new good_old all_in i d e p, back old new good_old all_in i' d' e' q) in
+      omega arith
+
+  -- the devices of old from i on have not come
+  abbrev pub Waits : List Bool → ℕ → Type 0
+  Waits came i =
+      (j : ℕ) (d : Device) (p : Pair old new good_old all_in j d) → i ≤ j → slice_get old.devices j ≡ Some d → slice_get came p.number ≡ Some false
+
+  -- an accepted reading has the section of a device, which is one of new
+  pub record Comes (d : Device) (image : Image) (id : ℕ) : Type 0 where
+    pub came : List Bool
+    pub rest : List ℕ
+    pub begins : BeginsSection new came (written_section old d image id ++ rest)
+
+  module _ (names : List (List ℕ)) (n : ℕ) (end : State) (last : List ℕ) where
+    waits_next : (came : List Bool) (i : ℕ) (d : Device) (p : Pair old new good_old all_in i d) → slice_get old.devices i ≡ Some d → Waits came i
+        → Waits (slice_set came p.number true) (suc i)
+    waits_next came i d p e waits j d' q le e' =
+        at_other came _ _ true (λ same. two_apart i j d d' (omega arith) e e' p q (sym same)) ∙ waits j d' q (omega arith) e'
+
+    pub comes : (c i : ℕ) (ds : List Device) (ims : List Image) → ((j : ℕ) → slice_get old.devices (i + j) ≡ slice_get ds j) → i + length ds ≤ 4294967296
+        → ((j : ℕ) (d : Device) (image : Image) → slice_get ds j ≡ Some d → slice_get ims j ≡ Some image → IsReady old d image)
+        → ((j : ℕ) (d : Device) → j < c → slice_get ds j ≡ Some d → compared old new (i + j) d ≡ None)
+        → (d : Device) (image : Image) → slice_get ds c ≡ Some d → slice_get ims c ≡ Some image
+        → (images : List Image) (came : List Bool) (tail : Tail) (first after : Bool) → length images ≡ length new.devices
+        → length came ≡ length new.devices → Waits came i → (tail ≡ Bare → ⊥) → (place : ℕ) → IsBytes (written_sections old i ds ims ++ last)
+        → reading_on (judge (by_state new names)) (between None images came tail first after) place (written_sections old i ds ims ++ last)
+        ≡ Some (Accepted n end)
+        → Comes d image (i + c)
+    comes zero i (x ∷ ds) (im ∷ ims) devices_are few ready none d image at_c im_c images came tail first after images_long came_long waits foots place ok h =
+        let z : i + 0 ≡ i = omega arith in
+        let front = written_section old x im i in
+        let rest = written_sections old (suc i) ds ims ++ last in
+        let e : (front ++ written_sections old (suc i) ds ims) ++ last ≡ front ++ rest = append_assoc front (written_sections old (suc i) ds ims) last in
+        let b = section_found_holds new names good_new heads None images came tail first after images_long came_long place (front ++ rest) n end
+        (subst IsBytes e ok)
+        (ap (reading_on (judge (by_state new names)) (between None images came tail first after) place) (sym e) ∙ h) refl in
+        let d_is : x ≡ d = cc in
+        let im_is : im ≡ image = cc in
+        rw z (record { came = came; rest = rest; begins = rw (d_is, im_is) at b })
+    comes (suc c) i (x ∷ ds) (im ∷ ims) devices_are few ready none d image at_c im_c images came tail first after images_long came_long waits foots place ok h =
+        let z : i + 0 ≡ i = omega arith in
+        let s : suc i + c ≡ i + suc c = omega arith in
+        let at_i : slice_get old.devices i ≡ Some x = at_first (slice_get old.devices) i devices_are in
+        let p = pair old new good_old all_in i x at_i in
+        let none_here : compare_device old new i x (Some p.number) (Some p.device) ≡ None = rw (z, p.compared_is) at (none 0 x (omega arith) refl) in
+        let front = written_section old x im i in
+        let rest = written_sections old (suc i) ds ims ++ last in
+        let e : (front ++ written_sections old (suc i) ds ims) ++ last ≡ front ++ rest = append_assoc front (written_sections old (suc i) ds ims) last in
+        let paired : ArePaired old new i p.number x p.device =
+        record { in_old = at_i; in_new = p.stands; names = sym p.name_is; instances = sym p.instance_is; rules = none_here } in
+        let section = device_stands old new good_old good_new i p.number x p.device paired im i (saved old x im (ready 0 x im refl refl)) (omega arith) in
+        let inside = slice_get_within new.devices p.number p.device p.stands in
+        let carried = carried_device old new x p.device im in
+        let on = section_read_holds new names good_new heads p.number p.device carried p.stands None images came tail first after (omega arith)
+        (waits i x p (omega arith) at_i) foots i place front rest section in
+        rw (← s) (comes c (suc i) ds ims (one_on (slice_get old.devices) i devices_are) (omega arith) (λ j. ready (suc j))
+        (λ j u lt f. let t : suc i + j ≡ i + suc j = omega arith in rw t (none (suc j) u (omega arith) f))
+        d image at_c im_c (slice_set images p.number carried) (slice_set came p.number true) Footed false false
+        (length-set images p.number carried ∙ images_long) (length-set came p.number true ∙ came_long) (waits_next came i x p at_i waits) (λ f. cc)
+        (place + length front) (bytes_rest front rest (subst IsBytes e ok))
+        (sym on ∙ ap (reading_on (judge (by_state new names)) (between None images came tail first after) place) (sym e) ∙ h))
+    comes _ i _ _ devices_are few ready none d image at_c im_c images came tail first after images_long came_long waits foots place ok h = absurd (cc)
+
+-- ---- the defaults show three kinds of mismatch, where they are ready
 
 module _ (old new : Set) (good_old : WellFormed old) (good_new : WellFormed new) (heads_old : FitsHeads old) (heads : FitsHeads new)
     (ready : AreReady old (default_images old)) where

@@ -8,9 +8,9 @@ pub use Rattle.vms_kinds.proofs.{ByteLemmas.bytes_rest}
 pub use Rattle.vms_kinds.specs.{Bytes.IsBytes, Codes.InRange, declared.Item.Item, declared.Item.TheVariants.Equal, declared.Item.TheVariants.Struct}
 pub use Rattle.vms_kinds.specs.{declared.Kind.Kind, declared.Kind.TheVariants.U16, declared.Kind.TheVariants.U8}
 unfoldable pub use Rattle.vms_kinds.specs.Codes.{code}
-pub use Rattle.vms_spec.proofs.{KindLaws.be32_read, KindLaws.value_code, Tables.one_more, WellFormedLaws.device_found, WellFormedLaws.well_good}
-pub use Rattle.vms_spec.proofs.Boxes.{box, box_set, counted_set, number, sub_of, subsection_set}
-pub use Rattle.vms_spec.proofs.Faultless.{few_devices, machine_short}
+pub use Rattle.vms_spec.proofs.{Tables.one_more, ListsAndNumbers.be32_read, ListsAndNumbers.value_code}
+pub use Rattle.vms_spec.proofs.Examples.{box, box_set, counted_set, number, sub_of, subsection_set}
+pub use Rattle.vms_spec.proofs.WellFormedLaws.{device_found, well_good, few_devices, machine_short}
 pub use Rattle.vms_spec.specs.{Good.ConstantFits, Good.ConstantsFit, Heads.FitsHeads, Lists.first_answer, Lists.or_else, Lookup.find_device}
 pub use Rattle.vms_spec.specs.{Lookup.index, Numbers.same_number, Readiness.is_version_of, Shipped.set_1, Shipped.set_3, Units.Magic}
 pub use Rattle.vms_spec.specs.{Units.Version, declared.Count.TheVariants.Counted, declared.Part.Part, declared.Place.Place, declared.Reason.Reason}
@@ -22,12 +22,11 @@ pub use Rattle.vms_spec.specs.Streams.{AreReady, IsConfiguration, IsReady, be32,
 pub use Rattle.vms_spec.specs.Streams.{written, written_section, written_sections, written_subs}
 pub use Rattle.vms_spec.specs.WellFormed.{WellFormed, here, in_field}
 unfoldable pub use Rattle.vms_spec.specs.Layout.{first}
-pub use Rattle.vms_bodies.proofs.{ComeLaws.defaults_of, ComeLaws.falses, PartLaws.at_other}
-pub use Rattle.vms_bodies.proofs.ReadyLaws.{is_same, ready_decides, version_decides}
+pub use Rattle.vms_bodies.proofs.{PartLaws.defaults_of, PartLaws.falses, PartLaws.at_other, Stated.is_same, Stated.ready_decides, Stated.version_decides}
 pub use Rattle.vms_bodies.specs.{Whole.reading_on}
-pub use Rattle.vms_stream.proofs.{Judging.Mirrors.state_refuses, Stated.told_holds, Streams.Steps.unit_on}
-pub use Rattle.vms_stream.proofs.Stated.{accepted_holds, either_holds, never_both_holds, one_fault_holds, section_found_holds, section_read_holds, taken_holds}
-pub use Rattle.vms_stream.proofs.WrittenBytes.{bytes_at, machine_bytes, written_are_bytes}
+pub use Rattle.vms_stream.proofs.{Judging.state_refuses, Stated.section_found_holds, Steps.unit_on}
+pub use Rattle.vms_stream.proofs.Stated.{section_read_holds, taken_holds, told_holds, accepted_holds, either_holds, never_both_holds, one_fault_holds}
+pub use Rattle.vms_stream.proofs.Written.{bytes_at, machine_bytes, written_are_bytes}
 pub use Rattle.vms_stream.specs.{Dues.AtMagic, Dues.AtVersion, Faults.Fault, Judge.judge, State.Headed, State.at_start, State.between, State.by_state}
 pub use Rattle.vms_stream.specs.{StreamLaws.BeginsSection, StreamLaws.Faulty, StreamLaws.Taken, Streams.HasSection, Streams.SectionsSpell, Streams.Takes}
 pub use Rattle.vms_stream.specs.SoFar.{Bare, Footed, Tail, Unknown}
@@ -40,7 +39,7 @@ pub use Rattle.vms_check.specs.Comparing.{same_constant, same_count, same_item, 
 unfoldable pub use Rattle.vms_check.specs.Comparing.{first_mismatch}
 pub use Rattle.vms_check_laws.proofs.{Parts.devices_clash, Premises.Two, Premises.kinds_same, Wholes.at_map, Wholes.fits_whole, Wholes.saved}
 pub use Rattle.vms_check_laws.proofs.AlignedDescs.{Clash, Clashes, Differ}
-pub use Rattle.vms_check_laws.proofs.Segments.{RestAt, apart, at_first, fits_left, from_zero, one_on}
+pub use Rattle.vms_check_laws.proofs.Presence.{RestAt, apart, at_first, fits_left, from_zero, one_on}
 pub use Rattle.vms_check_laws.proofs.Streaming.{Pair, back, compared, device_stands, pair}
 pub use Rattle.vms_check_laws.specs.{Laws.ArePaired, Segments.FitsAt}
 pub use Rattle.vms_counter_laws.specs.Candidates.{candidates, default_images, lacking, machine_for}

@@ -1,14 +1,145 @@
--- The laws as they are stated.
-use Rattle.vms_counter_laws.proofs.{Facade.NamedLaw, Always.shown, OneAnswer.stream_bytes}
-use Rattle.vms_counter_laws.proofs.Facade.{AlwaysLaw, ComputedLaw, ◌≡◌, ℕ, zero, suc, Bool, true, false, List, [], ◌∷◌, length, Option, Some, None, refl, arith}
-use Rattle.vms_counter_laws.proofs.Facade.{if◌then◌else◌, slice_get, Decides, Decides-and, Decides-like, IsBytes, Device, Set, FitsHeads, Image, Reading}
-use Rattle.vms_counter_laws.proofs.Facade.{Accepted, Refused, AreReady, IsReady, WellFormed, ready_decides, Fault, reading, at_start, by_state, Taken, Faulty}
-use Rattle.vms_counter_laws.proofs.Facade.{state_refuses, accepted_holds, told_holds, either_holds, never_both_holds, Mismatch, first_mismatch, candidates}
-use Rattle.vms_counter_laws.proofs.Facade.{default_images, machine_for, Refusal, Answer, AreCompatible, NoState, State, stream_of, Shows, IsFirst, Here, Later}
-use Rattle.vms_counter_laws.proofs.Facade.{NoneShows, Counters, Agree, Lacks, Finds, all_ready, answer_to, first_refused, or_next, refused, refusal_of}
+-- The laws as they are stated, and worked pairs of sets.
+use Rattle.vms_counter_laws.proofs.Always.{shown}
+use Rattle.vms_counter_laws.proofs.Facade.{◌≡◌, ℕ, ◌==◌, true, false, List, [], ◌∷◌, Option, Some, None, IfSome, refl, if◌then◌else◌}
+use Rattle.vms_counter_laws.proofs.Facade.{ap, ◌∙◌, or_left, or_right, bytes_eq-Decides, IsBytes, Set, Image, is_one_of, WellFormed, bytes_at}
+use Rattle.vms_counter_laws.proofs.Facade.{machine_bytes, written_are_bytes, Mismatch, lacking, machine_for, candidates, stream_of, Refusal, Answer, State}
+use Rattle.vms_counter_laws.proofs.Facade.{IsFirst, Here, Later, NoneShows, Counters, Agree, Lacks, Finds, Reason, Fault, one_fault_holds, OneAnswerLaw, subst}
+use Rattle.vms_counter_laws.proofs.Facade.{pos, codes, code, U8, U16, Struct, Counted, Place, first, Desc, Field, set_1, set_3, here, in_field, number, box}
+use Rattle.vms_counter_laws.proofs.Facade.{box_set, sub_of, counted_set, subsection_set, reading, between_at, behind_at, trailer_at, first_mismatch}
+use Rattle.vms_counter_laws.proofs.Facade.{default_images, AreCompatible, NoState, computed, NamedLaw, AlwaysLaw, ComputedLaw, zero, suc, Bool, length, arith}
+use Rattle.vms_counter_laws.proofs.Facade.{slice_get, Decides, Decides-and, Decides-like, Device, FitsHeads, Reading, Accepted, Refused, AreReady, IsReady}
+use Rattle.vms_counter_laws.proofs.Facade.{ready_decides, at_start, by_state, Taken, Faulty, state_refuses, accepted_holds, told_holds, either_holds}
+use Rattle.vms_counter_laws.proofs.Facade.{never_both_holds, Shows, all_ready, answer_to, first_refused, or_next, refused, refusal_of}
 use Rattle.vms_stream.specs.{State.State as Standing, StreamLaws.Answer as Either}
+use Rattle.vms_spec.specs.declared.Part.TheVariants as parts
+use Rattle.vms_spec.specs.declared.Reason.TheVariants as reasons
 
--- ---- a state that is named
+-- ---- the streams of candidates are bytes
+
+-- what is lacking is one of the machines
+more_known : (m : List ℕ) (machines : List (List ℕ)) (o : Option (List ℕ)) → IfSome o (λ x. is_one_of machines x ≡ true)
+    → IfSome o (λ x. is_one_of (m ∷ machines) x ≡ true)
+more_known m machines None h = tt
+more_known m machines (Some x) h = or_right _ _ h
+
+lacking_known : (names machines : List (List ℕ)) → IfSome (lacking names machines) (λ m. is_one_of machines m ≡ true)
+lacking_known names [] = tt
+lacking_known names (m ∷ machines) =
+    elim (is_one_of names m) as (λ b. IfSome (if b then lacking names machines else Some m) (λ x. is_one_of (m ∷ machines) x ≡ true)) [
+      | true ↦ more_known m _ _ (lacking_known names machines)
+      | false ↦ or_left _ _ ((bytes_eq-Decides m m).1 refl)
+    ]
+
+pub machine_known : (old new : Set) (m : Mismatch) → IfSome (machine_for old new m) (λ x. is_one_of old.machines x ≡ true)
+machine_known old new m =
+    elim (m.rule == 1) as (λ b. IfSome (if b then lacking new.machines old.machines else None) (λ x. is_one_of old.machines x ≡ true)) [
+      | true ↦ lacking_known new.machines old.machines
+      | false ↦ tt
+    ]
+
+pub stream_bytes : (old new : Set) → WellFormed old → (m : Mismatch) (images : List Image) → IsBytes (stream_of old new m images)
+stream_bytes old new well m images =
+    let machine = machine_for old new m in
+    bytes_at (stream_of old new m images) (written_are_bytes old well machine images None (machine_bytes old well machine (machine_known old new m)) tt)
+
+-- ---- Two sets have one answer.
+
+module _ (old new : Set) where
+  none_first : (m : Mismatch) (images : List Image) (list : List (List Image)) → NoneShows old new m list → IsFirst old new m images list → ⊥
+  none_first m images _ none (Here more s) = none.0 s
+  none_first m images _ none (Later others more n first) = none_first m images more none.1 first
+
+  one_first : (m : Mismatch) (a b : List Image) (list : List (List Image)) → IsFirst old new m a list → IsFirst old new m b list → a ≡ b
+  one_first m a b _ (Here more s) (Here _ t) = refl
+  one_first m a b _ (Here more s) (Later _ _ n first) = absurd (n s)
+  one_first m a b _ (Later _ more n first) (Here _ t) = absurd (n t)
+  one_first m a b _ (Later others more n first) (Later _ _ k second) = one_first m a b more first second
+
+  -- the bytes of a stream have one fault
+  abbrev FaultOf : List ℕ → Refusal → ℕ → Type 0
+  FaultOf bytes r n = Fault new new.machines bytes r.place r.section r.reason n
+
+  one_refusal : (bytes : List ℕ) (r s : Refusal) (n k : ℕ) → IsBytes bytes → FaultOf bytes r n → FaultOf bytes s k → r ≡ s
+  one_refusal bytes r s n k ok f g =
+      let one = one_fault_holds new new.machines bytes ok r.place s.place r.section s.section r.reason s.reason n k f g in
+      ap (λ (p : ℕ). record r { place = p }) one.places ∙ ap (λ (o : Option ℕ). record r { place = s.place; section = o }) one.sections
+      ∙ ap (λ (x : Reason). record { place = s.place; section = s.section; reason = x }) one.reasons
+
+  both_found : (m : Mismatch) (a b : List Image) (r s : Refusal) (n k : ℕ) → IsBytes (stream_of old new m a) → IsFirst old new m a (candidates old new m)
+      → IsFirst old new m b (candidates old new m) → FaultOf (stream_of old new m a) r n → FaultOf (stream_of old new m b) s k
+      → State m (machine_for old new m) a r ≡ State m (machine_for old new m) b s
+  both_found m a b r s n k ok x y f g =
+      let same = one_first m a b _ x y in
+      rw (same, (one_refusal _ r s n k ok f (rw (← same) at g)))
+
+  module _ (well : WellFormed old) where
+    one_answer : (a b : Answer) → Counters old new a → Counters old new b → a ≡ b
+    one_answer _ _ (Agree h) (Agree k) = refl
+    one_answer _ _ (Agree h) (Lacks m e none) = cc
+    one_answer _ _ (Agree h) (Finds m images r n e first fault) = cc
+    one_answer _ _ (Lacks m e none) (Agree h) = cc
+    one_answer _ _ (Finds m images r n e first fault) (Agree h) = cc
+    one_answer _ _ (Lacks m e none) (Lacks m' e' none') = let same : m ≡ m' = cc in rw same
+    one_answer _ _ (Lacks m e none) (Finds m' images r n e' first fault) =
+        let same : m ≡ m' = cc in
+        absurd (none_first m' images (candidates old new m') (subst (λ x. NoneShows old new x (candidates old new x)) same none) first)
+    one_answer _ _ (Finds m images r n e first fault) (Lacks m' e' none') =
+        let same : m' ≡ m = cc in
+        absurd (none_first m images (candidates old new m) (subst (λ x. NoneShows old new x (candidates old new x)) same none') first)
+    one_answer _ _ (Finds m a r n e x f) (Finds m' b s k e' y g) =
+        let same : m' ≡ m = cc in
+        rw same (both_found m a b r s n k (stream_bytes old new well m a) x (rw same at y) f (rw same at g))
+
+pub one_answer_holds : OneAnswerLaw
+one_answer_holds old new well a b x y = one_answer old new well a b x y
+
+-- ---- worked pairs of sets
+
+unfoldable told : Set → Set → Answer
+unfolding first_mismatch reading
+told old new = computed old new
+
+abbrev mismatch : ℕ → Place → Place → Mismatch
+mismatch rule a b = record { rule = rule; in_old = a; in_new = b }
+
+-- a structure of one or two bytes
+abbrev point : ℕ → List Field → Desc
+point version fields = record { name = codes "pt"; version = version; minimum = 1; fields = fields; validate = [] }
+
+abbrev points : Desc → Set
+points d = record { machines = codes "lab" ∷ []; structs = d ∷ []; devices = box 1 (record (number U8 (codes "p")) { item = Struct 0 } ∷ []) [] [] ∷ [] }
+
+abbrev older_points : Set
+older_points = points (point 1 (number U8 (codes "x") ∷ []))
+
+abbrev newer_points : Set
+newer_points = points (point 2 (number U8 (codes "x") ∷ record (number U8 (codes "y")) { since = 2 } ∷ []))
+
+abbrev four : Set
+four = box_set (number U8 (codes "n") ∷ record (number U16 (codes "v")) { count = Counted 0 4 } ∷ []) [] []
+
+abbrev without_q : Set
+without_q = box_set (number U8 (codes "a") ∷ []) [] (sub_of (codes "box/p") (codes "x") 5 ∷ [])
+
+record Rows : Type 0 where
+  -- the newer set takes the footer's mark for y, and the stream is then bare
+  takes_a_footer_for_a_field : told older_points newer_points
+      ≡ State (mismatch 6 (here (parts.Struct 0)) (in_field (parts.Struct 0) 1)) None (record { version = 1; came = []; numbers = pos 0 ∷ [] } ∷ [])
+      (record { place = 28; section = None; reason = reasons.Trailing })
+  raises_a_count : told four counted_set
+      ≡ State (mismatch 11 (in_field (parts.Device 0) 1) (in_field (parts.Device 0) 1)) None
+      (record { version = 1; came = []; numbers = pos 3 ∷ pos 0 ∷ pos 0 ∷ pos 0 ∷ pos 0 ∷ [] } ∷ [])
+      (record { place = 25; section = Some 0; reason = reasons.CountTooLarge })
+  has_no_state : told subsection_set without_q ≡ NoState (mismatch 13 (here (parts.Sub 0 1)) (here (parts.Device 0)))
+  names_a_machine : told set_3 set_1 ≡ State (mismatch 1 (here parts.Set) (here parts.Set)) (Some (codes "isa-2")) (default_images set_3)
+      (record { place = 8; section = None; reason = reasons.WrongMachine })
+  accepts_an_older_set : told set_1 set_3 ≡ AreCompatible
+
+rows : Rows
+unfolding told first between_at behind_at trailer_at code
+rows = search
+
+-- ---- the laws as they are stated: a state that is named
 
 first_shows : (old new : Set) (m : Mismatch) (images : List Image) (list : List (List Image)) → IsFirst old new m images list → Shows old new m images
 first_shows old new m images _ (Here more s) = s

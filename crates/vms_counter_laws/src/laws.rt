@@ -25,7 +25,7 @@ pub fn computed_law()
 {}
 
 /// States that two sets have only one answer.
-#[tactic(auto, using(crate::proofs::OneAnswer::one_answer_holds))]
+#[tactic(auto, using(crate::proofs::Stated::one_answer_holds))]
 pub fn one_answer_law()
     ensures { OneAnswerLaw }
 {}

@@ -1,14 +1,14 @@
 -- The fields that tests and counts of a well-formed set name exist, and the code's answers are
 -- those of the definitions.
-use Rattle.vms_desc.proofs.{Bounds.small_layout, Clean.field_clean, Clean.validate_clean, Clean.sub_clean, EvalLaws.truth_same, EvalLaws.own_number}
-use Rattle.vms_desc.proofs.Facade.{◌≡◌, ℕ, zero, suc, ◌+◌, ◌<◌, ◌≤◌, List, [], ◌∷◌, length, length-append, get_or, map, Option, Some, None, refl, sym, ap, ◌∙◌}
-use Rattle.vms_desc.proofs.Facade.{arith, Bool, true, ◌&&◌, ℤ, flat_map, slice_get, list_all, and_parts, length-map, get_or_from_slice_get, get_or-map}
-use Rattle.vms_desc.proofs.Facade.{MOST_ITEMS, Counted, Own, Parent, Part, Formula, AtLeast, Below, Cell, Not, And, Or, Field, Desc, Sub, Device, Set, truth}
-use Rattle.vms_desc.proofs.Facade.{own_cells, sub_place, no_desc, no_field, no_parent, all_hold, desc_cells, struct_cells, device_cells, is_num, is_one}
-use Rattle.vms_desc.proofs.Facade.{has_no_test, is_steady, is_steady_in, is_earlier_in, is_counting, names_well, nobody, test_names_well, count_names_well}
-use Rattle.vms_desc.proofs.Facade.{device_at, field_of, desc_of, sub_of, device_of, form_of, get_map_at, Scope, own_numbers, HasCells, is_well_formed}
-use Rattle.vms_desc.proofs.Facade.{fields_in, number_of, IsScope, HasPart, desc_at, sub_at, is_number, is_number_in, is_placed}
-pub use Rattle.vms_spec.proofs.ListLaws.{sub_first}
+use Rattle.vms_desc.proofs.{Clean.small_layout, Clean.field_clean, Clean.validate_clean, Clean.sub_clean, EvalLaws.truth_same, EvalLaws.own_number}
+use Rattle.vms_desc.proofs.Facade.{◌≡◌, ℕ, zero, suc, ◌+◌, ◌<◌, ◌≤◌, List, [], ◌∷◌, length, length-append, get_or, map, Option}
+use Rattle.vms_desc.proofs.Facade.{Some, None, refl, sym, ap, ◌∙◌, arith, Bool, true, ◌&&◌, ℤ, flat_map, slice_get, list_all, and_parts, length-map}
+use Rattle.vms_desc.proofs.Facade.{get_or_from_slice_get, get_or-map, MOST_ITEMS, Counted, Own, Parent, Part, Formula, AtLeast, Below, Cell, Not, And, Or}
+use Rattle.vms_desc.proofs.Facade.{Field, Desc, Sub, Device, Set, truth, own_cells, sub_place, no_desc, no_field, no_parent, all_hold, desc_cells, struct_cells}
+use Rattle.vms_desc.proofs.Facade.{device_cells, is_num, is_one, has_no_test, is_steady, is_steady_in, is_earlier_in, is_counting, names_well, nobody}
+use Rattle.vms_desc.proofs.Facade.{test_names_well, count_names_well, device_at, field_of, desc_of, sub_of, device_of, form_of, get_map_at, Scope, own_numbers}
+use Rattle.vms_desc.proofs.Facade.{HasCells, is_well_formed, fields_in, number_of, IsScope, HasPart, desc_at, sub_at, is_number, is_number_in, is_placed}
+pub use Rattle.vms_spec.proofs.ListsAndNumbers.{sub_first}
 use Rattle.vms_parts.specs.{declared.types.Desc.Desc as CodeDesc, declared.types.Device.Device as CodeDevice, declared.types.Field.Field as CodeField}
 use Rattle.vms_parts.specs.{declared.types.Sub.Sub as CodeSub}
 use Rattle.vms_spec.specs.declared.Part.TheVariants as parts

@@ -1,14 +1,107 @@
--- The properties of a well-formed set, part by part.
-use Rattle.vms_desc.proofs.Facade.{◌≡◌, ℕ, suc, ◌<◌, ◌≤◌, List, ◌∷◌, length, length-map, map, ap, sym, ◌∙◌, get_or, Some, refl, arith, Bool, true, ◌&&◌, nat_le, [], list_all, slice_get}
-use Rattle.vms_desc.proofs.Facade.{leb-true, and_parts, slice_get-get_or, Item, Equal, Unused, Count, One, Fixed, Counted, Part, Formula, AtLeast, Field, Desc}
-use Rattle.vms_desc.proofs.Facade.{Set, capacity_of, no_desc, no_field, is_name, is_name_byte, is_steady_in, names_well, nobody, test_names_well}
-use Rattle.vms_desc.proofs.Facade.{count_names_well, uses_below, has_good_count, field_rules, validation_rules, has_few, struct_rules, sub_rules, device_rules}
-use Rattle.vms_desc.proofs.Facade.{first_fault, WellFormed, device_at, is_well_formed, HasPart, desc_at, sub_at, AllTrue, Clean, device_parts}
+-- Well-formed sets: their limits, their properties part by part, and that the shipped sets are.
+use Rattle.vms_desc.proofs.{Facade.shipped_set, Facade.clock_set, Facade.heads_fit, Facade.clock_1, Facade.clock_2, EvalLaws.cells_size, EvalLaws.struct_sizes}
+use Rattle.vms_desc.proofs.Facade.{items_are, items_to, is_well_formed, ◌≡◌, ℕ, zero, suc, ◌*◌, ◌≤◌, List, ◌∷◌, ◌++◌, length}
+use Rattle.vms_desc.proofs.Facade.{length-append, get_or, map, sym, ap, ◌∙◌, arith, true, ◌&&◌, nat_le, [], flat_map, and_parts, leb-true, length-map}
+use Rattle.vms_desc.proofs.Facade.{map-map, Item, Struct, MOST_ITEMS, Field, Desc, Sub, Device, Set, first, no_desc, capacity_of, desc_cells, struct_cells}
+use Rattle.vms_desc.proofs.Facade.{device_cells, first_fault, items_in, struct_items, subs_items, devices_items, IsFit, IsGood, FitsHeads, first_long}
+use Rattle.vms_desc.proofs.Facade.{well_good, Cells, Items, in_u32, size_of, fields_size, sizes_to, form_of, layout_of, ◌<◌, Some, refl, Bool, list_all}
+use Rattle.vms_desc.proofs.Facade.{slice_get, slice_get-get_or, Equal, Unused, Count, One, Fixed, Counted, Part, Formula, AtLeast, no_field, is_name}
+use Rattle.vms_desc.proofs.Facade.{is_name_byte, is_steady_in, names_well, nobody, test_names_well, count_names_well, uses_below, has_good_count, field_rules}
+use Rattle.vms_desc.proofs.Facade.{validation_rules, has_few, struct_rules, sub_rules, device_rules, WellFormed, device_at, HasPart, desc_at, sub_at, AllTrue}
+use Rattle.vms_desc.proofs.Facade.{Clean, device_parts, ◌+◌, ltb-true, lt-ltb, ◌-◌, drop, get_or_default, get_or-map, get_or-drop}
+use Rattle.vms_desc.proofs.Facade.{get_or-map-range_with_len, range_with_len, NEWEST_SET, shipped_sets, all_fit, device_fits, each, fit, is_fit, newest_set}
+pub use Rattle.vms_spec.proofs.ShippedSets.{none_is}
+use Rattle.vms_spec.proofs.WellFormedLaws.{set_clean, struct_clean as struct_at, sub_clean as sub_of}
 use Rattle.vms_spec.specs.declared.Part.TheVariants as parts
-use Rattle.vms_spec.proofs.WellFormedLaws.{struct_clean as struct_at, sub_clean as sub_of}
-use Rattle.vms_desc.proofs.Bounds.{none_is}
 
--- ---- one description
+-- ---- no fault at the set
+
+module _ (set : Set) (h : is_well_formed set ≡ true) where
+  few_parts : ((nat_le (length set.machines) 16 && nat_le (length set.structs) 64) ≡ true) × (nat_le (length set.devices) 64 ≡ true)
+  few_parts = and_parts (nat_le (length set.machines) 16 && nat_le (length set.structs) 64) (nat_le (length set.devices) 64) (set_clean set (none_is (first_fault set) h)).own.1.1.1.1.1.1.0
+
+  pub few_machines : length set.machines ≤ 16
+  few_machines = leb-true (length set.machines) 16 (and_parts (nat_le (length set.machines) 16) (nat_le (length set.structs) 64) few_parts.0).0
+
+  pub few_structs : length set.structs ≤ 64
+  few_structs = leb-true (length set.structs) 64 (and_parts (nat_le (length set.machines) 16) (nat_le (length set.structs) 64) few_parts.0).1
+
+  pub few_devices : length set.devices ≤ 64
+  few_devices = leb-true (length set.devices) 64 few_parts.1
+
+  pub few_items : devices_items (struct_items set.structs) set.devices ≤ MOST_ITEMS
+  few_items = leb-true (devices_items (struct_items set.structs) set.devices) MOST_ITEMS (set_clean set (none_is (first_fault set) h)).sizes.1.1.1.1.1.1.0
+
+  -- a set whose instances and versions fit is fit, and good
+  pub fit_of : FitsHeads set → IsFit set
+  fit_of heads = record { well = none_is (first_fault set) h; heads = heads }
+
+  pub good_of : FitsHeads set → IsGood set
+  good_of heads = well_good set (none_is (first_fault set) h) heads
+
+-- ---- there are at most as many cells as items
+
+-- each number of one list is at most that of the other
+abbrev pub Less : List ℕ → List ℕ → Type 0
+Less [] ys = Unit {0}
+Less (a ∷ xs) [] = ⊥
+Less (a ∷ xs) (b ∷ ys) = (a ≤ b) × Less xs ys
+
+less_at : (xs ys : List ℕ) (j : ℕ) → Less xs ys → get_or xs j 0 ≤ get_or ys j 0
+less_at [] ys j h = omega arith
+less_at (a ∷ xs) [] j h = absurd h
+less_at (a ∷ xs) (b ∷ ys) zero h = h.0
+less_at (a ∷ xs) (b ∷ ys) (suc j) h = less_at xs ys j h.1
+
+less_append : (xs ys : List ℕ) (a b : ℕ) → length xs ≡ length ys → Less xs ys → a ≤ b → Less (xs ++ a ∷ []) (ys ++ b ∷ [])
+less_append [] [] a b e h le = (le, tt)
+less_append [] (c ∷ ys) a b e h le = absurd (omega arith)
+less_append (c ∷ xs) [] a b e h le = absurd h
+less_append (c ∷ xs) (d ∷ ys) a b e h le = (h.0, less_append xs ys a b (omega arith) h.1 le)
+
+less_item : (xs ys : List ℕ) (item : Item) → Less xs ys → size_of Cells xs item ≤ size_of Items ys item
+less_item xs ys (Struct j) h = less_at xs ys j h
+less_item xs ys item h = omega arith
+
+less_product : (c a b : ℕ) → a ≤ b → c * a ≤ c * b
+less_product c a b le = grind arith
+
+less_fields : (xs ys : List ℕ) (fs : List Field) → Less xs ys → fields_size Cells xs fs ≤ fields_size Items ys fs
+less_fields xs ys [] h = omega arith
+less_fields xs ys (f ∷ fs) h = omega (arith, less_product (capacity_of f.count) _ _ (less_item xs ys f.item h), less_fields xs ys fs h)
+
+less_structs : (ds : List Desc) (k : ℕ) → Less (sizes_to Cells ds k) (sizes_to Items ds k)
+unfolding first
+less_structs ds zero = tt
+less_structs ds (suc k) =
+    let long = first_long (λ sizes d. fields_size Cells sizes d.fields) ds k ∙ sym (first_long (λ sizes d. fields_size Items sizes d.fields) ds k) in
+    less_append (sizes_to Cells ds k) (sizes_to Items ds k) _ _ long (less_structs ds k)
+    (less_fields (sizes_to Cells ds k) (sizes_to Items ds k) (get_or ds k no_desc).fields (less_structs ds k))
+
+-- the cells of a description of the set
+desc_less : (set : Set) (d : Desc) → length (desc_cells (struct_cells set) d) ≤ items_in (struct_items set.structs) d.fields
+desc_less set d =
+    let n = length set.structs in
+    rw (cells_size (struct_cells set) d.fields 0 d.fields, items_are (struct_items set.structs) d.fields, items_to set.structs n, ← struct_sizes set.structs n)
+    (less_fields (sizes_to Cells set.structs n) (sizes_to Items set.structs n) d.fields (less_structs set.structs n))
+
+subs_less : (set : Set) (subs : List Sub) → length (flat_map (λ s. desc_cells (struct_cells set) s.desc) subs) ≤ subs_items (struct_items set.structs) subs
+subs_less set [] = omega arith
+subs_less set (s ∷ subs) = rw length-append (omega (arith, desc_less set s.desc, subs_less set subs))
+
+devices_less : (set : Set) (devices : List Device) (k : ℕ)
+    → length (get_or (map (λ d. map form_of (device_cells set d)) devices) k []) ≤ devices_items (struct_items set.structs) devices
+devices_less set [] k = omega arith
+devices_less set (d ∷ devices) zero = rw (length-map, length-append) (omega (arith, desc_less set d.desc, subs_less set d.subs))
+devices_less set (d ∷ devices) (suc k) = omega (arith, devices_less set devices k)
+
+pub small_layout : (set : Set) → is_well_formed set ≡ true → (k : ℕ) → length (get_or (layout_of set) k []) ≤ MOST_ITEMS
+small_layout set h k = omega (arith, few_items set h, devices_less set set.devices k)
+
+pub sizes_are : (set : Set) → map in_u32 (sizes_to Cells set.structs (length set.structs)) ≡ map (λ cells. in_u32 (length cells)) (struct_cells set)
+sizes_are set = ap (map in_u32) (struct_sizes set.structs (length set.structs)) ∙ map-map in_u32 length (struct_cells set)
+
+-- ---- the properties of a well-formed set, part by part: one description
 
 -- field i of a description that may use the structures of numbers below k
 pub record IsCleanField (k : ℕ) (d : Desc) (i : ℕ) (f : Field) : Type 0 where
@@ -129,3 +222,67 @@ module _ (set : Set) (well : is_well_formed set ≡ true) where
   few_subs i h =
       let d = device_at set i in
       leb-true (length d.subs) 32 (and_parts (has_few d.desc) (nat_le (length d.subs) 32) (device_clean i h).own.1.1.1.1.1.1.0).1
+
+-- ---- how many levels of structures the calls can still go down
+
+abbrev pub item_rank : Item → ℕ
+item_rank (Struct j) = 5 * j + 5
+item_rank item = 0
+
+abbrev pub part_rank : Set → Part → ℕ
+part_rank set part = 5 * reach set part
+
+pub reach_whole : (set : Set) (part : Part) → HasPart set part → reach set part ≤ length set.structs
+reach_whole set parts.Set h = absurd h
+reach_whole set part h = omega arith
+
+pub uses_more : (j k : ℕ) (item : Item) → j ≤ k → uses_below j item ≡ true → uses_below k item ≡ true
+uses_more j k (Struct i) le e = let lt : i < j = ltb-true i j e in lt-ltb i k (omega arith)
+uses_more j k item le e = refl
+
+pub rank_below : (r : ℕ) (item : Item) → uses_below r item ≡ true → item_rank item + 2 < 5 * r + 3
+rank_below r (Struct i) e = let lt : i < r = ltb-true i r e in omega arith
+rank_below r item e = omega arith
+
+-- ---- the shipped sets and the clock sets are well formed
+
+each_entry : (p : Set → Bool) (sets : List Set) (d : Set) → list_all p sets ≡ true → p d ≡ true → (s : ℕ) → p (get_or sets s d) ≡ true
+each_entry p [] d all last s = last
+each_entry p (set ∷ sets) d all last zero = (and_parts (p set) (list_all p sets) all).0
+each_entry p (set ∷ sets) d all last (suc s) = each_entry p sets d (and_parts (p set) (list_all p sets) all).1 last s
+
+-- a property of each shipped set of the list holds of the set of each number
+pub by_number : (p : Set → Bool) → list_all p shipped_sets ≡ true → (s : ℕ) → p (shipped_set s) ≡ true
+by_number p all s = each_entry p shipped_sets newest_set all (each p shipped_sets NEWEST_SET newest_set all refl) s
+
+-- what the shipped sets from `n` on have, computed one after the other, the set of each number has
+pub by_list : {X : Type 0} (f : Set → X) (g : ℕ → X) (n : ℕ) → map f (drop n shipped_sets) ≡ map g (range_with_len n (length shipped_sets - n)) → (s : ℕ) → n ≤ s
+    → s ≤ NEWEST_SET → f (shipped_set s) ≡ g s
+by_list f g n same s low le =
+    let at : n + (s - n) ≡ s = omega (arith, low) in
+    ap (λ k. f (shipped_set k)) (sym at) ∙ ap f (sym (get_or-drop n shipped_sets (s - n) newest_set))
+    ∙ sym (get_or-map f (drop n shipped_sets) (s - n) newest_set) ∙ ap (λ l. get_or l (s - n) (f newest_set)) same
+    ∙ get_or-map-range_with_len g n (length shipped_sets - n) (s - n) s (f newest_set) (omega (arith, low, le)) at
+
+-- the set of a number is that of the list
+pub numbered : (s : ℕ) (d : Set) → s < length shipped_sets → get_or shipped_sets s d ≡ shipped_set s
+numbered s d lt = get_or_default shipped_sets s d newest_set lt
+
+pub fit_number : (s : ℕ) → IsFit (shipped_set s)
+fit_number s = fit (shipped_set s) (by_number is_fit all_fit s)
+
+pub formed : (s : ℕ) → is_well_formed (shipped_set s) ≡ true
+formed s = (and_parts (is_well_formed (shipped_set s)) (list_all device_fits (shipped_set s).devices) (by_number is_fit all_fit s)).0
+
+pub clock_formed : (c : ℕ) → is_well_formed (clock_set c) ≡ true
+unfolding first_fault first
+clock_formed zero = refl
+clock_formed (suc zero) = refl
+clock_formed (suc (suc c)) = refl
+
+-- ---- the numbers of the clock sets fit their heads
+
+pub clock_heads : (c : ℕ) → FitsHeads (clock_set c)
+clock_heads zero = heads_fit clock_1 refl
+clock_heads (suc zero) = heads_fit clock_1 refl
+clock_heads (suc (suc c)) = heads_fit clock_2 refl

@@ -11,10 +11,9 @@ pub use Rattle.std.specs.{Option.option_copied, Option.option_map, Prelude.if◌
 pub use Rattle.std.specs.List.{flat_map, list_all, range_with_len, slice_get}
 pub use Rattle.vms_kinds.specs.{Codes.InRange, declared.TheConstants.NEWEST_SET, declared.Item.Item, declared.Kind.Kind, declared.Kind.TheVariants.U8}
 pub use Rattle.vms_kinds.specs.declared.Item.TheVariants.{Equal, Num, Struct, Unused}
-pub use Rattle.vms_spec.proofs.{ListLaws.found_one, Sizes.element_room, Sizes.field_size, Faultless.AllTrue}
+pub use Rattle.vms_spec.proofs.{ListsAndNumbers.found_one, Tables.element_room, Tables.field_size, Tables.first_at, Tables.first_long, Tables.first_take}
 pub use Rattle.vms_spec.proofs.ShippedSets.{all_fit, device_fits, each, fit, heads_fit, is_fit}
-pub use Rattle.vms_spec.proofs.Tables.{first_at, first_long, first_take}
-pub use Rattle.vms_spec.proofs.WellFormedLaws.{Clean, device_parts, well_good}
+pub use Rattle.vms_spec.proofs.WellFormedLaws.{AllTrue, Clean, device_parts, well_good}
 pub use Rattle.vms_spec.specs.{Heads.FitsHeads, Images.own_cells, Images.sub_place, Lists.position, Lookup.find_device, Lookup.find_sub, Names.is_name}
 pub use Rattle.vms_spec.specs.{Names.is_name_byte, Streams.is_one_of, Tests.is_there, Tests.truth, declared.Count.Count, declared.Part.Part}
 pub use Rattle.vms_spec.specs.{declared.TheConstants.MOST_ITEMS, Shipped.shipped_sets, declared.Whose.TheVariants.Own, declared.Whose.TheVariants.Parent}

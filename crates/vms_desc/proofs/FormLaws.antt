@@ -1,11 +1,11 @@
 -- Forms that are appended, and the numbers of a device's cells at their defaults.
-use Rattle.vms_desc.proofs.{Bounds.none_is, EvalLaws.device_forms_are}
-use Rattle.vms_desc.proofs.Facade.{◌≡◌, ℕ, zero, suc, ◌+◌, ◌-◌, ◌*◌, ◌<◌, ◌≤◌, List, [], ◌∷◌, ◌++◌, length, get_or, drop, take, map, refl, sym, ap, ◌∙◌, arith}
-use Rattle.vms_desc.proofs.Facade.{ℤ, pos, append_assoc, append-nil, length-append, true, drop_all, drop_at, ext_get_or, length-map, map-append, take-map}
-use Rattle.vms_desc.proofs.Facade.{take_at, take-append-le, length-drop, get_or_past, mul-le, slice_get-get_or, map-map, Kind, U8, InRange, FitsHeads, no_desc}
-use Rattle.vms_desc.proofs.Facade.{no_cell, times, device_cells, first_fault, DefaultsFit, first_at, first_take, first_long, well_good, device_at, CellForm}
-use Rattle.vms_desc.proofs.Facade.{Parts, field_of, desc_of, sub_of, device_of, set_of, form_of, layout_of, drop_is, get_map_at, Held, Forms, is_well_formed}
-use Rattle.vms_desc.proofs.Facade.{field_forms, fields_forms, subs_forms, device_forms, forms_to, structs_forms, AreForms, Puts, kinds_at, form_numbers, defaults_at}
+use Rattle.vms_desc.proofs.{Clean.none_is, EvalLaws.device_forms_are, Facade.AreForms, Facade.Puts, Facade.kinds_at, Facade.form_numbers, Facade.defaults_at}
+use Rattle.vms_desc.proofs.Facade.{◌≡◌, ℕ, zero, suc, ◌+◌, ◌-◌, ◌*◌, ◌<◌, ◌≤◌, List, [], ◌∷◌, ◌++◌, length, get_or}
+use Rattle.vms_desc.proofs.Facade.{drop, take, map, refl, sym, ap, ◌∙◌, arith, ℤ, pos, append_assoc, append-nil, length-append, true, drop_all, drop_at}
+use Rattle.vms_desc.proofs.Facade.{ext_get_or, length-map, map-append, take-map, take_at, take-append-le, length-drop, get_or_past, mul-le, slice_get-get_or}
+use Rattle.vms_desc.proofs.Facade.{map-map, Kind, U8, InRange, FitsHeads, no_desc, no_cell, times, device_cells, first_fault, DefaultsFit, first_at, first_take}
+use Rattle.vms_desc.proofs.Facade.{first_long, well_good, device_at, CellForm, Parts, field_of, desc_of, sub_of, device_of, set_of, form_of, layout_of, drop_is}
+use Rattle.vms_desc.proofs.Facade.{get_map_at, Held, Forms, is_well_formed, field_forms, fields_forms, subs_forms, device_forms, forms_to, structs_forms}
 use Rattle.std.proofs.{Common.drop-drop, Common.take_all, Math.Seq.take-add, lemmas.List.drop-append-le, lemmas.List.get_or-map, lemmas.List.length-take-le}
 use Rattle.vms_parts.specs.{declared.types.Desc.Desc, declared.types.Device.Device, declared.types.Field.Field, declared.types.Sub.Sub}
 use Rattle.vms_spec.specs.Sets as sets

@@ -1,11 +1,6 @@
 pub mod AskLaws
-pub mod Bounds
 pub mod Clean
-pub mod ClockHeads
 pub mod EvalLaws
 pub mod Facade
 pub mod FormLaws
-pub mod Formed
 pub mod PathLaws
-pub mod Ranks
-pub mod TablesMade

@@ -11,7 +11,7 @@ pub use Rattle.std.specs.{Cmp.Lexicographic.slice_cmp, Str.bytes_eq, List.positi
 pub use Rattle.std.specs.Ordering.{match_ordering, nat_cmp}
 unfoldable pub use Rattle.std.specs.{Fmt.digits, Str.chars, Str.is_utf8}
 pub use Rattle.vms_kinds.specs.{declared.Item.Item, declared.Kind.Kind}
-pub use Rattle.vms_spec.proofs.Boxes.{counted_set, tested_set}
+pub use Rattle.vms_spec.proofs.Examples.{counted_set, tested_set}
 pub use Rattle.vms_spec.proofs.WellFormedLaws.{Clean, device_parts, ranges, struct_clean, sub_clean}
 pub use Rattle.vms_spec.specs.{Layout.counted, Names.all_names, Names.are_new, Numbers.same_number, Streams.is_one_of, declared.Count.Count, declared.Rel.Rel}
 pub use Rattle.vms_spec.specs.Rules.{count_names_well, counts_well, defaults_well, in_range, is_counting, is_earlier_in, is_small_item, is_small_optional}

@@ -1,13 +1,13 @@
 -- A field can be read back from its file.
-use Rattle.vms_descfile.proofs.{Facade.test_file, Facade.front_file, Facade.field_file, PlainLaws.number_named}
-use Rattle.vms_descfile.proofs.AnswerLaws.{next_good, judged_good, at_good, maybe_good, default_good, list_or_good, natural_good, integer_good}
-use Rattle.vms_descfile.proofs.Facade.{◌≡◌, ℕ, ◌≤◌, List, [], ◌∷◌, get_or, map, Bool, true, false, not, ◌&&◌, ◌==◌, if◌then◌else◌, Option, Some, None}
-use Rattle.vms_descfile.proofs.Facade.{option_map, is_some, ℤ, pos, negsuc, int_le, int_lt, IfSome, refl, sym, ap, ◌∙◌, subst, codes, arith, and_parts}
-use Rattle.vms_descfile.proofs.Facade.{and_from, eqb-true, false≢true, ints, Data, Members, string, object, get, as_str, Kind, Item, Count, One}
-use Rattle.vms_descfile.proofs.Facade.{Formula, Field, in_range, defaults_well, same_number, ranges, Sort, good, given, list_of, fits, at, at_or, maybe_at}
-use Rattle.vms_descfile.proofs.Facade.{u16_of, u32_of, integer_of, text_of, Names, number_in, name_in, test_of, sort_named, sort_of, counts_fit, values_fit}
-use Rattle.vms_descfile.proofs.Facade.{sort_fits, field_needs, field_allows, field_fits, count_as, count_of, item_as, front_of, field_after, field_in, field_of}
-use Rattle.vms_descfile.proofs.Facade.{FitsField, natural_file, integer_file, is_zero, item_word, capacity_in, length_in, counter_in, equal_in, size_in}
+use Rattle.vms_descfile.proofs.Facade.{test_file, front_file, field_file, ◌≡◌, ℕ, ◌≤◌, List, [], ◌∷◌, get_or, map, Bool, true, false, not}
+use Rattle.vms_descfile.proofs.Facade.{◌&&◌, ◌==◌, if◌then◌else◌, Option, Some, None, option_map, is_some, ℤ, pos, negsuc, int_le, int_lt}
+use Rattle.vms_descfile.proofs.Facade.{IfSome, refl, sym, ap, ◌∙◌, subst, codes, arith, and_parts, and_from, eqb-true, false≢true, ints, Data, Members}
+use Rattle.vms_descfile.proofs.Facade.{string, object, get, as_str, Kind, Item, Count, One, Formula, Field, in_range, defaults_well, same_number, ranges, Sort}
+use Rattle.vms_descfile.proofs.Facade.{good, given, list_of, fits, at, at_or, maybe_at, u16_of, u32_of, integer_of, text_of, Names, number_in, name_in, test_of}
+use Rattle.vms_descfile.proofs.Facade.{sort_named, sort_of, counts_fit, values_fit, sort_fits, field_needs, field_allows, field_fits, count_as, count_of}
+use Rattle.vms_descfile.proofs.Facade.{item_as, front_of, field_after, field_in, field_of, FitsField, natural_file, integer_file, is_zero, item_word}
+use Rattle.vms_descfile.proofs.Facade.{capacity_in, length_in, counter_in, equal_in, size_in}
+use Rattle.vms_descfile.proofs.ObjectLaws.{number_named, next_good, judged_good, at_good, maybe_good, default_good, list_or_good, natural_good, integer_good}
 use Rattle.vms_descfile.proofs.ObjectLaws.{Table, put_if, members_in, object_of, or_none, got, table_fits, kept, listed, given_if, unless_if, list_if}
 use Rattle.vms_descfile.proofs.ShownLaws.{number_shown, test_shown, count_shown, field_shown, map_same}
 use Rattle.vms_descfile.specs.{Written.struct_in}

@@ -1,22 +1,9 @@
 mod Rows
-pub mod AnswerLaws
-pub mod AskedLaws
-pub mod BuiltLaws
-pub mod DepthLaws
 pub mod DescBack
 pub mod Facade
 pub mod FieldBack
 pub mod FileLaws
-pub mod FileLevels
-pub mod FirstNames
-pub mod FitLaws
-pub mod FloatLaws
 pub mod ObjectLaws
-pub mod PlainLaws
-pub mod SetBack
 pub mod SetLaws
 pub mod ShownLaws
-pub mod TestBack
-pub mod TestLaws
 pub mod WalkLaws
-pub mod WriteLaws

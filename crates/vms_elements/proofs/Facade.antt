@@ -7,9 +7,9 @@ pub use Rattle.std.proofs.lemmas.List.{get_or-append_right, get_or-map, get_or_a
 pub use Rattle.std.specs.{Fmt.decimal, Fmt.digit_glyph, Fmt.digits_onto, List.AllByRecursion, List.flat_map, List.slice_get}
 unfoldable pub use Rattle.std.specs.Fmt.{digits}
 pub use Rattle.vms_kinds.specs.{declared.Item.Item, declared.Item.TheVariants.Num, declared.Item.TheVariants.Struct, declared.Kind.Kind}
-pub use Rattle.vms_spec.proofs.{ListLaws.pick_append, Prefixes.first_cells, Sizes.elements_fit, Sizes.size_same}
-pub use Rattle.vms_spec.proofs.Boxes.{counted_set, mixed_set, sub_of, subsection_set, tested_set}
-pub use Rattle.vms_spec.proofs.Tables.{first_at, first_long, one_more, two_more}
+pub use Rattle.vms_spec.proofs.Examples.{counted_set, mixed_set, sub_of, subsection_set, tested_set}
+pub use Rattle.vms_spec.proofs.ListsAndNumbers.{pick_append}
+pub use Rattle.vms_spec.proofs.Tables.{first_cells, elements_fit, size_same, first_at, first_long, one_more, two_more}
 pub use Rattle.vms_spec.specs.{Layout.no_cell, Layout.no_desc, Spelling.first_line, Values.printers, ValuesReading.machine_named, declared.Count.Count}
 pub use Rattle.vms_spec.specs.{declared.ValuesReason.ValuesReason, declared.Count.TheVariants.One, Sets.Desc, Sets.Device, Sets.Field, Sets.Set, Sets.Sub}
 pub use Rattle.vms_spec.specs.Images.{Image, came_slots, own_cells, sub_place}

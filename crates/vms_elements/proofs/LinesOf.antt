@@ -1,13 +1,108 @@
--- The lines of the counted numbers are the text of a description.
-use Rattle.vms_elements.proofs.{Arrays.array_of, Arrays.outs, Tables.both, Tables.shapes_cells, Facade.machine_lines, Facade.values_lines, Facade.is_number}
-use Rattle.vms_elements.proofs.Facade.{◌≡◌, ℕ, zero, suc, ◌+◌, ◌≤◌, List, ◌∷◌, ◌++◌, length, get_or, map, ℤ, refl, sym, ◌∙◌, arith, Bool, true, false, ◌&&◌}
-use Rattle.vms_elements.proofs.Facade.{two_more, if◌then◌else◌, append-nil, append_assoc, Option, Some, None, codes, [], map-append, decimal, Item, Num, Struct}
-use Rattle.vms_elements.proofs.Facade.{Count, One, Field, Desc, Sub, Device, Set, Image, own_cells, no_desc, first, counted, capacity_of, elements_of}
-use Rattle.vms_elements.proofs.Facade.{item_size, desc_cells, struct_cells, Printer, no_printer, printer, printers, item_lines, element_lines, array_lines}
-use Rattle.vms_elements.proofs.Facade.{field_lines, desc_lines, values_text, version_text, pick_append, first_cells, elements_fit, first_long, Element, Shape}
-use Rattle.vms_elements.proofs.Facade.{no_shape, shape, cells_in, dotted, behind, item_elements, Stand, stand_of, array_elements, field_elements, elements_from}
-use Rattle.vms_elements.proofs.Facade.{desc_elements, index_text, text_of, printed, number_line, number_lines, subs_lines, device_lines, devices_lines}
+-- What the elements of a description are: slots of its bytes, and lines of its text.
+use Rattle.vms_elements.proofs.Facade.{◌≡◌, ℕ, zero, suc, ◌+◌, ◌-◌, ◌≤◌, List, [], ◌++◌, map, arith, Bool, true, false, ◌&&◌}
+use Rattle.vms_elements.proofs.Facade.{le-ltb, lt-ltb, Field, Element, Stand, behind, array_elements, index_text, ◌∷◌, length, get_or, ℤ, refl, sym, ap}
+use Rattle.vms_elements.proofs.Facade.{◌∙◌, two_more, if◌then◌else◌, Item, Struct, Desc, Set, Slot, Meaning, no_meaning, no_desc, first, times}
+use Rattle.vms_elements.proofs.Facade.{counted, capacity_of, elements_of, item_size, item_slots, slots_from, desc_slots, meaning, meanings, pick_append}
+use Rattle.vms_elements.proofs.Facade.{first_cells, elements_fit, first_long, Shape, no_shape, shape, cells_in, dotted, item_elements, stand_of, elements_from}
+use Rattle.vms_elements.proofs.Facade.{desc_elements, slots_of, elements_in, machine_lines, values_lines, is_number, append-nil, append_assoc, Option, Some}
+use Rattle.vms_elements.proofs.Facade.{None, codes, map-append, decimal, Num, Count, One, Sub, Device, Image, own_cells, desc_cells, struct_cells, Printer}
+use Rattle.vms_elements.proofs.Facade.{no_printer, printer, printers, item_lines, element_lines, array_lines, field_lines, desc_lines, values_text}
+use Rattle.vms_elements.proofs.Facade.{version_text, field_elements, text_of, printed, number_line, number_lines, subs_lines, device_lines, devices_lines}
+use Rattle.vms_elements.proofs.Facade.{Entry, OfNumber, number_entries, subs_entries, device_entries, devices_entries, entry_line, EntryLaw}
+use Rattle.vms_elements.proofs.Members.{shapes_cells, both}
 use Rattle.vms_spec.specs.Values as texts
+
+-- ---- what is read of an array whose first elements count and whose later ones give nothing
+
+-- the parts of the elements from e on, m of them
+abbrev pub outs : {B : Type 0} → (ℕ → ℕ → List B) → ℕ → ℕ → ℕ → ℕ → List B
+outs out step e zero at = []
+outs out step e (suc m) at = out e at ++ outs out step (suc e) m (at + step)
+
+module _ {B : Type 0} (h : List Element → List B) (both : (xs ys : List Element) → h (xs ++ ys) ≡ h xs ++ h ys) (none : h [] ≡ [])
+    (f : Field) (stand : Stand) (part : ℕ → List Element) (out : ℕ → ℕ → List B) (step : ℕ) where
+  abbrev pub element : ℕ → ℕ → Bool → List Element
+  element e at below = map (behind (stand.number, e) (f.name ++ index_text f.count e) below (stand.there && below)) (part at)
+
+  pub array_of : ((e at : ℕ) → h (element e at true) ≡ out e at) → ((e at : ℕ) → h (element e at false) ≡ [])
+      → (e n m at : ℕ) → m ≡ stand.count - e → m ≤ n → h (array_elements f stand part step e n at) ≡ outs out step e m at
+  array_of here past e zero zero at c le = none
+  array_of here past e zero (suc m) at c le = absurd (omega arith)
+  array_of here past e (suc n) zero at c le = rw (both, le-ltb e stand.count (omega arith), past e at) (array_of here past (suc e) n zero (at + step) (omega arith) (omega arith))
+  array_of here past e (suc n) (suc m) at c le =
+      rw (both, lt-ltb e stand.count (omega arith), here e at) (rw (array_of here past (suc e) n m (at + step) (omega arith) (omega arith)))
+
+-- ---- the elements that are in the bytes are the slots
+
+pub slots_append : (xs ys : List Element) → slots_of (xs ++ ys) ≡ slots_of xs ++ slots_of ys
+slots_append [] ys = refl
+slots_append (x ∷ xs) ys = pick_append _ _ _ _ _ (slots_append xs ys)
+
+slots_behind : (step : ℕ × ℕ) (text : List ℕ) (c p : Bool) (xs : List Element) → slots_of (map (behind step text c p) xs) ≡ (if p then slots_of xs else [])
+slots_behind step text c true [] = refl
+slots_behind step text c false [] = refl
+slots_behind step text c true (x ∷ xs) = rw (slots_behind step text c true xs)
+slots_behind step text c false (x ∷ xs) = slots_behind step text c false xs
+
+-- an element of a field that is there or not, before the count and past it, and those before it
+slots_here : (there : Bool) (step : ℕ × ℕ) (text : List ℕ) (xs : List Element) → slots_of (map (behind step text true (there && true)) xs) ≡ (if there then slots_of xs else [])
+slots_here true step text xs = slots_behind step text true true xs
+slots_here false step text xs = slots_behind step text true false xs
+
+slots_past : (there : Bool) (step : ℕ × ℕ) (text : List ℕ) (xs : List Element) → slots_of (map (behind step text false (there && false)) xs) ≡ []
+slots_past true step text xs = slots_behind step text false false xs
+slots_past false step text xs = slots_behind step text false false xs
+
+slots_all : (there : Bool) (slots : ℕ → List Slot) (step e m at : ℕ) → outs (λ e a. if there then slots a else []) step e m at ≡ (if there then times m slots at step else [])
+slots_all true slots step e zero at = refl
+slots_all false slots step e zero at = refl
+slots_all true slots step e (suc m) at = rw (slots_all true slots step (suc e) m (at + step))
+slots_all false slots step e (suc m) at = slots_all false slots step (suc e) m (at + step)
+
+slots_dotted : (xs : List Element) → slots_of (map dotted xs) ≡ slots_of xs
+slots_dotted [] = refl
+slots_dotted (x ∷ xs) = rw (slots_dotted xs)
+
+-- each structure's elements have the slots of what it means
+abbrev pub AreMeant : List Shape → List Meaning → Type 0
+AreMeant ss ms = (j : ℕ) (n : List ℤ) (at : ℕ) → slots_of ((get_or ss j no_shape).elements n at) ≡ (get_or ms j no_meaning).slots n at
+
+module _ (ss : List Shape) (ms : List Meaning) (cells : cells_in ss ≡ map (λ m. m.cells) ms) (meant : AreMeant ss ms) where
+  item_meant : (item : Item) (caps : List ℕ) (z : ℤ) (n : List ℤ) (at : ℕ) → slots_of (item_elements ss item caps z n at) ≡ item_slots ms item caps n at
+  item_meant (Struct j) caps z n at = slots_dotted ((get_or ss j no_shape).elements n at) ∙ meant j n at
+  item_meant _ caps z n at = refl
+
+  fields_meant : (fields : List Field) (v : ℕ) (own : ℕ → ℕ) (n : List ℤ) (i at : ℕ) (fs : List Field) → slots_of (elements_from ss fields v own n i at fs) ≡ slots_from ms fields v own n i at fs
+  fields_meant fields v own n i at [] = refl
+  fields_meant fields v own n i at (f ∷ fs) =
+      let s = stand_of i f v own in
+      let part = item_elements ss f.item (counted i fields) f.default n in
+      let slots = item_slots ms f.item (counted i fields) n in
+      let step = item_size (cells_in ss) f.item in
+      let array = array_of slots_of slots_append refl f s part (λ e a. if s.there then slots a else []) step (λ e a. slots_here s.there _ _ (part a) ∙ ap (λ l. if s.there then l else []) (item_meant f.item (counted i fields) f.default n a))
+      (λ e a. slots_past s.there _ _ (part a)) 0 (capacity_of f.count) (elements_of f.count own) at (omega arith) (elements_fit f.count own) in
+      rw (slots_append, array, slots_all s.there slots step 0 (elements_of f.count own) at, fields_meant fields v own n (suc i) _ fs, cells) refl
+
+  desc_meant : (d : Desc) (v : ℕ) (n : List ℤ) (at : ℕ) → slots_of (desc_elements ss d v n at) ≡ desc_slots ms d v n at
+  desc_meant d v n at = rw (slots_append, fields_meant _ v _ n 0 at _, cells) refl
+
+meaning_cells : (ds : List Desc) (k : ℕ) → cells_in (first shape ds k) ≡ map (λ m. m.cells) (meanings ds k)
+meaning_cells ds k = cc (shapes_cells ds k, first_cells (λ (m : Meaning). m.cells) meaning (λ ms d. refl) ds k)
+
+are_meant : (ds : List Desc) (k : ℕ) → AreMeant (first shape ds k) (meanings ds k)
+unfolding first
+are_meant ds zero j n at = refl
+are_meant ds (suc k) j n at =
+    let ss = first shape ds k in
+    let ms = meanings ds k in
+    let d = get_or ds k no_desc in
+    two_more (λ (s : Shape) (m : Meaning). (n : List ℤ) (at : ℕ) → slots_of (s.elements n at) ≡ m.slots n at) no_shape no_meaning (λ n at. refl) ss ms
+    (first_long shape ds k ∙ sym (first_long meaning ds k)) (are_meant ds k) (shape ss d) (meaning ms d) (desc_meant ss ms (meaning_cells ds k) (are_meant ds k) d d.version) j n at
+
+pub elements_slots : (set : Set) (d : Desc) (v : ℕ) (n : List ℤ) (at : ℕ) → slots_of (elements_in set d v n at) ≡ desc_slots (meanings set.structs (length set.structs)) d v n at
+elements_slots set = desc_meant _ _ (meaning_cells _ _) (are_meant _ _)
+
+-- ---- the lines of the counted numbers are the text of a description
 
 pub text_append : (xs ys : List (List ℕ)) → text_of (xs ++ ys) ≡ text_of xs ++ text_of ys
 text_append [] ys = refl
@@ -86,8 +181,8 @@ module _ (ss : List Shape) (ps : List Printer) (cells : cells_in ss ≡ map (λ 
   desc_printed : (path : List ℕ) (d : Desc) (v : ℕ) (n : List ℤ) (at : ℕ) → under path n (desc_elements ss d v n at) ≡ desc_lines ps d path n at
   desc_printed path d v n at = rw (under_append, append-nil, fields_printed path _ v _ n 0 at _, cells) refl
 
-same_cells : (ds : List Desc) (k : ℕ) → cells_in (first shape ds k) ≡ map (λ p. p.cells) (first printer ds k)
-same_cells ds k = cc (shapes_cells ds k, first_cells (λ (p : Printer). p.cells) printer (λ ps d. refl) ds k)
+printer_cells : (ds : List Desc) (k : ℕ) → cells_in (first shape ds k) ≡ map (λ p. p.cells) (first printer ds k)
+printer_cells ds k = cc (shapes_cells ds k, first_cells (λ (p : Printer). p.cells) printer (λ ps d. refl) ds k)
 
 are_printed : (ds : List Desc) (k : ℕ) → ArePrinted (first shape ds k) (first printer ds k)
 unfolding first
@@ -97,12 +192,12 @@ are_printed ds (suc k) j path n at =
     let ps = first printer ds k in
     let d = get_or ds k no_desc in
     two_more (λ (s : Shape) (p : Printer). (path : List ℕ) (n : List ℤ) (at : ℕ) → under path n (s.elements n at) ≡ p.lines path n at) no_shape no_printer (λ path n at. refl) ss ps
-    (first_long shape ds k ∙ sym (first_long printer ds k)) (are_printed ds k) (shape ss d) (printer ps d) (λ path. desc_printed ss ps (same_cells ds k) (are_printed ds k) path d d.version) j path n at
+    (first_long shape ds k ∙ sym (first_long printer ds k)) (are_printed ds k) (shape ss d) (printer ps d) (λ path. desc_printed ss ps (printer_cells ds k) (are_printed ds k) path d d.version) j path n at
 
 -- ---- the whole text
 
 pub numbers_text : (set : Set) (d : Desc) (n : List ℤ) (at : ℕ) → text_of (number_lines set d n at) ≡ desc_lines (printers set) d [] n at
-numbers_text set d n at = desc_printed _ _ (same_cells _ _) (are_printed _ _) [] d _ n at
+numbers_text set d n at = desc_printed _ _ (printer_cells _ _) (are_printed _ _) [] d _ n at
 
 four : (a b c d e g : List ℕ) → (a ++ (b ++ (c ++ d))) ++ (e ++ g) ≡ (a ++ (b ++ (c ++ (d ++ e)))) ++ g
 four a b c d e g = simp append_assoc refl
@@ -129,3 +224,28 @@ machine_text (Some name) = refl
 
 pub text_is : (set : Set) (machine : Option (List ℕ)) (images : List Image) → text_of (values_lines set machine images) ≡ values_text set machine images
 text_is set machine images = text_append _ _ ∙ both _ _ _ _ (machine_text machine) (devices_text set _ images)
+
+-- ---- the lines of the entries are the lines of the values text
+
+numbers_same : (numbers : List ℤ) (xs : List Element) → map entry_line (map (λ x. OfNumber x numbers) xs) ≡ map (number_line numbers) xs
+numbers_same numbers [] = refl
+numbers_same numbers (x ∷ xs) = rw (numbers_same numbers xs)
+
+-- the numbers of a description, and then what follows them
+then_rest : (set : Set) (d : Desc) (numbers : List ℤ) (at : ℕ) (es : List Entry) (ls : List (List ℕ)) → map entry_line es ≡ ls → map entry_line (number_entries set d numbers at ++ es) ≡ number_lines set d numbers at ++ ls
+then_rest set d numbers at es ls e = rw (map-append entry_line (number_entries set d numbers at) es, e, numbers_same numbers (printed (elements_in set d d.version numbers at))) refl
+
+subs_same : (set : Set) (d : Device) (image : Image) (j at : ℕ) (subs : List Sub) (came : List (Option ℕ)) → map entry_line (subs_entries set d image j at subs came) ≡ subs_lines set image.numbers at subs came
+subs_same set d image j at (s ∷ subs) (o ∷ came) = rw (then_rest set s.desc _ at _ _ (subs_same set d image (suc j) (at + length (desc_cells (struct_cells set) s.desc)) subs came))
+subs_same set d image j at _ _ = refl
+
+device_same : (set : Set) (d : Device) (image : Image) → map entry_line (device_entries set d image) ≡ device_lines set d image
+device_same set d image = rw (then_rest set d.desc _ 0 _ _ (subs_same set d image 0 _ d.subs _))
+
+devices_same : (set : Set) (devices : List Device) (images : List Image) → map entry_line (devices_entries set devices images) ≡ devices_lines set devices images
+devices_same set (d ∷ devices) (image ∷ images) = map-append entry_line (device_entries set d image) _ ∙ both _ _ _ _ (device_same set d image) (devices_same set devices images)
+devices_same set _ _ = refl
+
+pub entry_law : EntryLaw
+entry_law set None images = devices_same set _ images
+entry_law set (Some name) images = rw (devices_same set _ images)

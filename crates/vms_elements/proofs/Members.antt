@@ -1,11 +1,14 @@
--- What holds of each element of a list, and of one of them; of each element of a description, by its items and its fields.
-use Rattle.vms_elements.proofs.Facade.{◌≡◌, ◌⊎◌, inl, inr, ℕ, zero, suc, ◌+◌, Bool, true, List, [], ◌∷◌, ◌++◌, map, get_or, ℤ, Some, refl, subst, slice_get}
-use Rattle.vms_elements.proofs.Facade.{Element, Item, Field, Desc, Set, no_desc, first, counted, capacity_of, one_more, What, Rule, Shape, no_shape}
-use Rattle.vms_elements.proofs.Facade.{AllByRecursion, shape, shapes, dotted, behind, single, index_text, item_elements, Stand, stand_of, array_elements}
-use Rattle.vms_elements.proofs.Facade.{field_elements, elements_from, desc_elements, elements_in, ◌<◌, ◌/◌, ◌%◌, ◌==◌, false, if◌then◌else◌, arith, decimal}
-use Rattle.vms_elements.proofs.Facade.{digits, digits_onto, digit_glyph, lt-ltb}
+-- What holds of each element of a list or a description, and of one of them; and tables of
+-- structures.
+use Rattle.vms_elements.proofs.Facade.{◌≡◌, ◌⊎◌, inl, inr, ℕ, zero, suc, ◌+◌, Bool, true, List, [], ◌∷◌, ◌++◌, map, get_or, ℤ}
+use Rattle.vms_elements.proofs.Facade.{Some, refl, subst, slice_get, Element, Item, Field, Desc, Set, no_desc, first, counted, capacity_of, one_more, What}
+use Rattle.vms_elements.proofs.Facade.{Rule, Shape, no_shape, AllByRecursion, shape, shapes, dotted, behind, single, index_text, item_elements, Stand, stand_of}
+use Rattle.vms_elements.proofs.Facade.{array_elements, field_elements, elements_from, desc_elements, elements_in, ◌<◌, ◌/◌, ◌%◌, ◌==◌, false}
+use Rattle.vms_elements.proofs.Facade.{if◌then◌else◌, arith, decimal, digits, digits_onto, digit_glyph, lt-ltb, desc_cells, first_cells, cells_in}
 use Rattle.vms_kinds.specs.declared.Item.TheVariants as items
 use Rattle.vms_elements.specs.Elements as whats
+
+-- ---- what holds of each element of a list, and of one of them; of each element of a description, by its items and its fields
 
 abbrev pub Each : (Element → Type 0) → List Element → Type 0
 Each P = AllByRecursion P
@@ -127,3 +130,16 @@ module _ (Good : Field → Type 0) (P Q : Element → Type 0)
   pub elements_each : (set : Set) → ((j : ℕ) → AreGood (get_or set.structs j no_desc).fields) → (d : Desc) (v : ℕ) → AreGood d.fields → (n : List ℤ) (at : ℕ)
       → Each Q (elements_in set d v n at)
   elements_each set structs d v good n at = desc_each (shapes set) (shapes_each set.structs structs _) d v good n at
+
+-- ---- what f makes of the first structures, one after the other
+
+pub both : {B : Type 0} (xs ys zs ws : List B) → xs ≡ ys → zs ≡ ws → xs ++ zs ≡ ys ++ ws
+both xs ys zs ws e f = rw (e, f)
+
+-- the cells of structures, by their shapes
+pub shapes_cells : (ds : List Desc) (k : ℕ) → cells_in (first shape ds k) ≡ first desc_cells ds k
+shapes_cells ds k = first_cells (λ (s : Shape). s.cells) shape (λ ss d. refl) ds k
+
+pub cells_at : (ss : List Shape) (j : ℕ) → get_or (cells_in ss) j [] ≡ (get_or ss j no_shape).cells
+cells_at (s ∷ ss) (suc j) = cells_at ss j
+cells_at _ _ = refl

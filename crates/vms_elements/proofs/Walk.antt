@@ -1,11 +1,17 @@
--- One walk over the elements of a description, in two states side by side: their cells, their names, that the numbers count up, and
--- that what is in the bytes is counted.
-use Rattle.vms_elements.proofs.{Tables.shapes_cells, Tables.cells_at, Facade.cells_with, Facade.cells_of, Members.Each, Members.all_both, Members.all_map}
-use Rattle.vms_elements.proofs.Facade.{names_of, CountsUp, elements_in, ◌≡◌, ℕ, zero, suc, ◌+◌, Bool, true, false, ◌&&◌, if◌then◌else◌, List, [], ◌∷◌, ◌++◌}
-use Rattle.vms_elements.proofs.Facade.{length, get_or, map, ℤ, refl, ap, ◌∙◌, subst, arith, append-nil, map-append, length-map, Item, Num, Struct, Field, Desc}
-use Rattle.vms_elements.proofs.Facade.{Set, Cell, no_desc, first, times, counted, item_cells, field_cells, cells_from, desc_cells, struct_cells, numbers_of}
-use Rattle.vms_elements.proofs.Facade.{pick_append, size_same, one_more, What, Number, Rule, Element, Shape, no_shape, shape, cells_in, dotted, behind, single}
-use Rattle.vms_elements.proofs.Facade.{item_elements, Stand, array_elements, field_elements, elements_from, desc_elements, absent, is_number, numbers_in}
+-- Walks over the elements of a description, and the laws that they give.
+use Rattle.vms_elements.proofs.Facade.{get_or-append_right, cells_with, cells_of, names_of, CountsUp, elements_in, ◌≡◌, ℕ, zero, suc, ◌+◌, Bool}
+use Rattle.vms_elements.proofs.Facade.{true, false, ◌&&◌, if◌then◌else◌, List, [], ◌∷◌, ◌++◌, length, get_or, map, ℤ, refl, ap, ◌∙◌}
+use Rattle.vms_elements.proofs.Facade.{subst, arith, append-nil, map-append, length-map, Item, Num, Struct, Field, Desc, Set, Cell, no_desc, first, times}
+use Rattle.vms_elements.proofs.Facade.{counted, item_cells, field_cells, cells_from, desc_cells, struct_cells, numbers_of, pick_append, size_same, one_more}
+use Rattle.vms_elements.proofs.Facade.{What, Number, Rule, Element, Shape, no_shape, shape, cells_in, dotted, behind, single, item_elements, Stand}
+use Rattle.vms_elements.proofs.Facade.{array_elements, field_elements, elements_from, desc_elements, absent, is_number, numbers_in, ElementsLaw, DeviceLaw}
+use Rattle.vms_elements.proofs.Facade.{TextLaw, Option, Some, None, zero-add, flat_map, Sub, Device, device_cells, Image, came_slots, slots_of, device_elements}
+use Rattle.vms_elements.proofs.Facade.{sub_elements, subs_elements, index_text, ◌-◌, ◌*◌, ◌<◌, ◌≤◌, nat_lt, get_or-map, get_or_append_left}
+use Rattle.vms_elements.proofs.LinesOf.{elements_slots, slots_append, text_is}
+use Rattle.vms_elements.proofs.Members.{shapes_cells, cells_at, Each, all_both, all_map}
+
+-- ---- one walk over the elements of a description, in two states side by side: their cells, their names, that the numbers count
+-- up, and that what is in the bytes is counted
 
 abbrev pub IsCounted : Element → Type 0
 IsCounted x = x.present ≡ true → x.counted ≡ true
@@ -173,3 +179,69 @@ are_walked ds (suc k) j n m a b =
 
 pub walks : (set : Set) (d : Desc) (v w : ℕ) (n m : List ℤ) (a b : ℕ) → Walks (desc_cells (struct_cells set) d) a (elements_in set d v n a) (elements_in set d w m b)
 walks set d v w n m a b = rw (← (shapes_cells set.structs (length set.structs))) (desc_walks _ (are_walked _ _) d v w n m a b)
+
+-- ---- the laws of one description and of the text, as they are stated
+
+pub elements_law : ElementsLaw
+elements_law set d v n place =
+    let w = walks set d v v n n place place in
+    record { cells = w.cells_are; in_order = w.up; slots = elements_slots set d v n place }
+
+-- ---- a whole device
+
+absent_slots : (xs : List Element) → slots_of (map absent xs) ≡ []
+absent_slots [] = refl
+absent_slots (x ∷ xs) = absent_slots xs
+
+subs_slots : (set : Set) (d : Device) (subs : List Sub) (came : List (Option ℕ)) (n : List ℤ) (place : ℕ) → slots_of (subs_elements set subs came n place) ≡ came_slots set d n place subs came
+subs_slots set d (s ∷ subs) (None ∷ came) n place = rw (slots_append, absent_slots) (subs_slots set d subs came n _)
+subs_slots set d (s ∷ subs) (Some v ∷ came) n place = rw (slots_append, elements_slots set s.desc v n place, subs_slots set d subs came n _) refl
+subs_slots set d _ _ n place = refl
+
+sub_walks : (set : Set) (s : Sub) (o : Option ℕ) (n : List ℤ) (place : ℕ) → Walks (desc_cells (struct_cells set) s.desc) place (sub_elements set s o n place) (sub_elements set s o n place)
+sub_walks set s None n place = step_walks is_absent is_absent (walks set s.desc s.desc.version s.desc.version n n place place)
+sub_walks set s (Some v) n place = walks set s.desc v v n n place place
+
+subs_walk : (set : Set) (subs : List Sub) (came : List (Option ℕ)) (n : List ℤ) (place : ℕ) → length came ≡ length subs
+    → Walks (flat_map (λ s. desc_cells (struct_cells set) s.desc) subs) place (subs_elements set subs came n place) (subs_elements set subs came n place)
+subs_walk set [] came n place e = no_walk place
+subs_walk set (s ∷ subs) [] n place e = absurd (omega arith)
+subs_walk set (s ∷ subs) (o ∷ came) n place e = then_walks (sub_walks set s o n place) (subs_walk set subs came n _ (omega arith))
+
+device_walks : (set : Set) (d : Device) (image : Image) → length image.came ≡ length d.subs → Walks (device_cells set d) 0 (device_elements set d image) (device_elements set d image)
+device_walks set d image e = then_walks (walks set d.desc image.version image.version image.numbers image.numbers 0 0) (rw zero-add (subs_walk set d.subs _ _ _ e))
+
+pub device_law : DeviceLaw
+device_law set d image e =
+    let w = device_walks set d image e in
+    record { cells = w.cells_are; in_order = w.up; slots = rw (slots_append, elements_slots set d.desc image.version image.numbers 0, subs_slots set d d.subs _ _ _) refl }
+
+pub text_law : TextLaw
+text_law set machine images = text_is set machine images
+
+-- ---- the name of a number is found from its cell
+
+pub names_absent : (xs : List Element) → names_of (map absent xs) ≡ names_of xs
+names_absent xs = names_map is_absent xs ∙ same (names_of xs)
+  where
+    same : (ls : List (List ℕ)) → map (λ l. l) ls ≡ ls
+    same [] = refl
+    same (l ∷ ls) = rw (same ls)
+
+-- element q of an array, and cell r in it
+pub array_name : (f : Field) (stand : Stand) (part : ℕ → List Element) (names : List (List ℕ)) (step : ℕ) → ((a : ℕ) → names_of (part a) ≡ names) → length names ≡ step
+    → (q e n a r i k : ℕ) → q < n → r < step → i ≡ q * step + r → k ≡ e + q
+    → get_or (names_of (array_elements f stand part step e n a)) i [] ≡ (f.name ++ index_text f.count k) ++ get_or names r []
+array_name f stand part names step h long q e zero a r i k lt small index at = absurd (omega arith)
+array_name f stand part names step h long zero e (suc n) a r i k lt small index at =
+    let text = f.name ++ index_text f.count e in
+    let here : i ≡ r = grind arith in
+    let same : k ≡ e = omega arith in
+    let inside : r < length (map (λ l. text ++ l) names) = rw length-map (omega arith) in
+    rw (here, same, names_append, names_map (is_behind (stand.number, e) text (nat_lt e stand.count) stand.there) (part a), h a, get_or_append_left, get_or-map (λ l. text ++ l) names r [] [] (omega arith)) refl
+array_name f stand part names step h long (suc q) e (suc n) a r i k lt small index at =
+    let text = f.name ++ index_text f.count e in
+    let here : List Element = map (behind (stand.number, e) text (nat_lt e stand.count) (stand.there && nat_lt e stand.count)) (part a) in
+    let many : length (names_of here) ≡ step = rw (names_map (is_behind (stand.number, e) text (nat_lt e stand.count) stand.there) (part a), h a, length-map) long in
+    let past : step ≤ i = grind arith in
+    rw (names_append, get_or-append_right (names_of here) _ step i [] many past) (array_name f stand part names step h long q (suc e) n (a + step) r (i - step) k (omega arith) small (grind arith) (omega arith))

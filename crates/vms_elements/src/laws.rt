@@ -11,7 +11,7 @@ pub fn elements_law()
 
 /// States that the elements of a device for an image (`device_elements`) are the device's cells and
 /// the image's slots.
-#[tactic(auto, using(crate::proofs::Stated::device_law))]
+#[tactic(auto, using(crate::proofs::Walk::device_law))]
 pub fn device_law()
     ensures { DeviceLaw }
 {}
@@ -24,14 +24,14 @@ pub fn counted_law()
 
 /// States that the lines of the counted numbers, with those of sections and subsections
 /// (`values_lines`), are the values text.
-#[tactic(auto, using(crate::proofs::Stated::text_law))]
+#[tactic(auto, using(crate::proofs::Walk::text_law))]
 pub fn text_law()
     ensures { TextLaw }
 {}
 
 /// States that the `entries` of a values text have exactly its lines: a machine, sections,
 /// subsections and numbers.
-#[tactic(auto, using(crate::proofs::EntryLines::entry_law))]
+#[tactic(auto, using(crate::proofs::LinesOf::entry_law))]
 pub fn entry_law()
     ensures { EntryLaw }
 {}
@@ -43,14 +43,14 @@ pub fn cell_law()
 {}
 
 /// States that distinct paths of a device have distinct cells (`cell_at`).
-#[tactic(auto, using(crate::proofs::DevicePaths::distinct_law))]
+#[tactic(auto, using(crate::proofs::PathsOf::distinct_law))]
 pub fn distinct_law()
     ensures { DistinctLaw }
 {}
 
 /// States that each cell of a device has a path (`HasPath`), which names a field of the cell's kind
 /// and default.
-#[tactic(auto, using(crate::proofs::DevicePaths::path_law))]
+#[tactic(auto, using(crate::proofs::PathsOf::path_law))]
 pub fn path_law()
     ensures { PathLaw }
 {}

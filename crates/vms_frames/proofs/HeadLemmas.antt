@@ -1,14 +1,120 @@
--- The heads of sections and of subsections, of configurations and of descriptions, and footers, by the bytes that came.
-use Rattle.vms_frames.proofs.Facade.{◌≡◌, ℕ, ◌+◌, ◌<◌, ◌≤◌, ◌==◌, not, List, ◌++◌, length, get_or, take, drop, Bool, true, false, if◌then◌else◌, nat_lt}
-use Rattle.vms_frames.proofs.Facade.{Some, None, refl, sym, ap, ◌∙◌, arith, length-append, length-drop, take_all, le-ltb, lt-ltb, eq-eqb, ne_eqb, get_or-take}
-use Rattle.vms_frames.proofs.Facade.{length-take-le, number_at, bytes_at, Piece, Long, Start, Foot, head_in, sub_head_in, Known, Due, AfterFields, first_row}
-use Rattle.vms_frames.proofs.Facade.{alone, needs, text_at, Seen, Good, Bad, Short, seen_in, seen_by, nothing_known, Section, step_long, unit_of_step}
-use Rattle.vms_frames.proofs.Facade.{in_section, head_seen, start_seen, IsStartReason, Reason, sub_seen, foot_seen}
-use Rattle.vms_spec.specs.declared.Reason.TheVariants as reasons
-use Rattle.vms_stream.specs.SoFar as tails
-use Rattle.vms_spec.specs.Units.{SubHead as ASub}
+-- Units by the bytes that came: numbers, heads, footers, and what ends a stream.
+use Rattle.vms_frames.proofs.Facade.{◌≡◌, ℕ, suc, zero, ◌+◌, ◌<◌, ◌≤◌, List, [], ◌++◌, length, get_or, drop, Some, Ok, Err, refl, sym}
+use Rattle.vms_frames.proofs.Facade.{ap, arith, drop_at, length-drop, take-append-le, append-nil, le-ltb, lt-ltb, big_from, Reason, number_at, bytes_at}
+use Rattle.vms_frames.proofs.Facade.{Refused, Piece, Known, Due, first_row, alone, needs, Seen, Good, Bad, Short, seen_in, seen_by, AnswersSeen, Fails}
+use Rattle.vms_frames.proofs.Facade.{◌&&◌, not, ℤ, Bool, true, false, if◌then◌else◌, slice_index, take, None, ◌∙◌, length-append, take_at}
+use Rattle.vms_frames.proofs.Facade.{false_from_ne_true, ltb-true, bytes_eq, bytes_eq-Decides, big_number, Kind, width, value_of, IsBadBool, is_truth, is_above}
+use Rattle.vms_frames.proofs.Facade.{is_bad_bool, Magic, Number, raw_same, bad_same, magic, AMagic, Field, raw, seen, nothing_known, ◌==◌, nat_lt, take_all}
+use Rattle.vms_frames.proofs.Facade.{eq-eqb, ne_eqb, get_or-take, length-take-le, Long, Start, Foot, head_in, sub_head_in, AfterFields, text_at, Section}
+use Rattle.vms_frames.proofs.Facade.{step_long, unit_of_step, in_section, head_seen, start_seen, IsStartReason, sub_seen, foot_seen, ReadsTrailer}
+use Rattle.vms_frames.proofs.Facade.{LONGEST_DESCRIPTION, ◌-◌, ◌∷◌, Option, Result, Intake, Takes, Breaks, reads_behind, reads_last, longest_text}
+use Rattle.vms_frames.proofs.Facade.{Description, AfterEnd, trailer_at, FrameFault, ReadFault, AnswersEnd, ReadsEnd, IsLong, ReadsText}
+use Rattle.std.proofs.{lemmas.List.get_or_append_left, lemmas.List.drop-append-le, Math.Bool.and-false}
+use Rattle.vms_spec.specs.{Layout.Number as NumberSlot, Units.SubHead as ASub, Units.Mark}
 use Rattle.vms_stream.specs.Dues.{Between as IsBetween}
-use Rattle.vms_frames.proofs.UnitLemmas.{byte_of_unit, number_of_unit, bytes_of_unit, cut_short, seen_whole}
+use Rattle.vms_spec.specs.declared.Reason.TheVariants as reasons
+use Rattle.vms_kinds.specs.declared.Kind.TheVariants as kinds
+use Rattle.vms_stream.specs.SoFar as tails
+
+-- ---- a unit whose bytes came one part after the other
+
+module _ {X : Type 0} (piece : List ℕ → X → Piece) (long : X → ℕ) (found : List ℕ → Seen) where
+  -- a whole unit came
+  pub whole : (left unit : List ℕ) (at : ℕ) (x : X) → length unit ≡ long x → ((rest : List ℕ) → found (unit ++ rest) ≡ Good (piece (unit ++ rest) x) (long x))
+      → AnswersSeen (piece (unit ++ left)) long (found (unit ++ left)) at (unit ++ left) (Some left) (Ok x)
+  whole left unit at x e is = (is left, ap Some (sym (drop_at unit left (long x) e)))
+
+  -- an invalid unit came
+  pub wrong : (left unit : List ℕ) (at n : ℕ) (why : Reason) → length unit ≡ n → ((rest : List ℕ) → found (unit ++ rest) ≡ Bad n why)
+      → AnswersSeen (piece (unit ++ left)) long (found (unit ++ left)) at (unit ++ left) (Some left) (Err (Refused at why))
+  wrong left unit at n why e is = (refl, rw (is left, drop_at unit left n e) (refl, refl))
+
+  -- a part of a unit is missing
+  pub short : (unit bytes left : List ℕ) (reason : Reason) → reason ≡ reasons.Truncated → found (unit ++ bytes) ≡ Short → left ≡ []
+      → Fails (found (unit ++ (bytes ++ left))) (unit ++ (bytes ++ left)) (Some left) reason
+  short unit bytes left reason r is none = rw (none, append-nil bytes, is) (r, refl)
+
+-- ---- what the bytes of a unit are, whatever comes after them
+
+pub byte_of_unit : (i : ℕ) (unit rest : List ℕ) → i < length unit → get_or (unit ++ rest) i 0 ≡ get_or unit i 0
+byte_of_unit i unit rest h = get_or_append_left unit rest 0 i h
+
+big_append : (i k : ℕ) (xs ys : List ℕ) → i + k ≤ length xs → big_from i k (xs ++ ys) ≡ big_from i k xs
+big_append i zero xs ys h = refl
+big_append i (suc k) xs ys h = rw (byte_of_unit i xs ys (omega arith), big_append (suc i) k xs ys (omega arith))
+
+pub number_of_unit : (k i : ℕ) (unit rest : List ℕ) → i + k ≤ length unit → number_at k i (unit ++ rest) ≡ number_at k i unit
+number_of_unit k i unit rest h = rw (drop-append-le i unit rest (omega arith)) (big_append 0 k (drop i unit) rest (omega (arith, length-drop i unit)))
+
+pub bytes_of_unit : (n i : ℕ) (unit rest : List ℕ) → i + n ≤ length unit → bytes_at n i (unit ++ rest) ≡ bytes_at n i unit
+bytes_of_unit n i unit rest h = rw (drop-append-le i unit rest (omega arith), take-append-le n (drop i unit) rest (omega (arith, length-drop i unit)))
+
+-- ---- the number of bytes that a unit needs
+
+pub cut_short : (d : Due) (k : Known) (n : ℕ) (rest : List ℕ) (x : Piece) → length rest < n → seen_in d k (needs n rest x) ≡ Short
+cut_short d k n rest x h = rw (lt-ltb (length rest) n h)
+
+pub seen_whole : (d : Due) (k : Known) (n : ℕ) (rest : List ℕ) (x : Piece) → n ≤ length rest
+    → seen_in d k (needs n rest x) ≡ seen_by (first_row (alone d k x)) x n
+seen_whole d k n rest x h = rw (le-ltb (length rest) n h)
+
+-- ---- a number whose code came, and the head of a stream
+
+abbrev number_seen : Kind → List ℕ → Seen
+number_seen kind all = seen (Field 0 (NumberSlot 0 kind [])) nothing_known all
+
+abbrev seen_if : Kind → ℤ → Bool → Seen
+seen_if kind z bad = seen_by (if bad then Some (None, reasons.BadBool) else None) (Number 0 kind z) (width kind)
+
+-- what comes after it doesn't matter
+number_came : (kind : Kind) (code rest : List ℕ) → length code ≡ width kind
+    → number_seen kind (code ++ rest) ≡ seen_if kind (value_of (raw kind) code) (is_bad_bool kind code)
+number_came kind code rest long =
+    let of : List ℕ → Seen = λ l. seen_if kind (value_of (raw kind) l) (is_truth kind && is_above (value_of (raw kind) l) 1) in
+    seen_whole (Field 0 (NumberSlot 0 kind [])) nothing_known (width kind) (code ++ rest)
+    (Number 0 kind (value_of (raw kind) (take (width kind) (code ++ rest)))) (omega (arith, length-append code rest))
+    ∙ ap of (take_at code rest (width kind) long) ∙ ap (seen_if kind (value_of (raw kind) code)) (bad_same kind code)
+
+-- the one byte of a truth value
+first : (code : List ℕ) → big_number 1 code ≡ slice_index code 0
+first code = omega arith
+
+not_bad : (kind : Kind) (code : List ℕ) → length code ≡ width kind → (IsBadBool kind code → ⊥) → is_bad_bool kind code ≡ false
+not_bad kinds.Bool code long good = false_from_ne_true _ (λ e. good (refl, rw (← (first code)) (ltb-true 1 _ e)))
+not_bad kind code long good = refl
+
+pub number_good : (kind : Kind) (code : List ℕ) (value : ℤ) → length code ≡ width kind → (IsBadBool kind code → ⊥) → value ≡ value_of kind code
+    → (rest : List ℕ) → number_seen kind (code ++ rest) ≡ Good (Number 0 kind value) (width kind)
+number_good kind code value long good is rest =
+    number_came kind code rest long ∙ ap (seen_if kind (value_of (raw kind) code)) (not_bad kind code long good)
+    ∙ ap (λ z. Good (Number 0 kind z) (width kind)) (raw_same kind code ∙ sym is)
+
+is_bad : (kind : Kind) (code : List ℕ) → IsBadBool kind code → is_bad_bool kind code ≡ true
+is_bad kinds.Bool code bad = lt-ltb 1 _ (rw first bad.1)
+is_bad kind code bad = cc
+
+pub number_bad : (kind : Kind) (code : List ℕ) → length code ≡ width kind → IsBadBool kind code → (rest : List ℕ)
+    → number_seen kind (code ++ rest) ≡ Bad (width kind) reasons.BadBool
+number_bad kind code long bad rest = number_came kind code rest long ∙ ap (seen_if kind (value_of (raw kind) code)) (is_bad kind code bad)
+
+-- ---- the magic
+
+abbrev magic_by : List ℕ → Bool → Seen
+magic_by all b = seen_by (if not b then Some (None, reasons.BadMagic) else None) (Magic (take 4 all)) 4
+
+magic_came : (unit rest : List ℕ) → length unit ≡ 4 → seen AMagic nothing_known (unit ++ rest) ≡ magic_by (unit ++ rest) (bytes_eq unit magic)
+magic_came unit rest long =
+    seen_whole AMagic nothing_known 4 (unit ++ rest) (Magic (take 4 (unit ++ rest))) (omega (arith, length-append unit rest))
+    ∙ ap (λ l. magic_by (unit ++ rest) (bytes_eq l magic)) (take_at unit rest 4 long)
+
+pub magic_good : (unit rest : List ℕ) → length unit ≡ 4 → unit ≡ magic → seen AMagic nothing_known (unit ++ rest) ≡ Good (Magic (take 4 (unit ++ rest))) 4
+magic_good unit rest long e = magic_came unit rest long ∙ ap (λ l. magic_by (unit ++ rest) (bytes_eq l magic)) e
+
+pub magic_bad : (unit rest : List ℕ) → length unit ≡ 4 → (unit ≡ magic → ⊥) → seen AMagic nothing_known (unit ++ rest) ≡ Bad 4 reasons.BadMagic
+magic_bad unit rest long other =
+    magic_came unit rest long ∙ ap (magic_by (unit ++ rest)) (false_from_ne_true (bytes_eq unit magic) (λ e. other ((bytes_eq-Decides unit magic).0 e)))
+
+-- ---- the heads of sections and of subsections, of configurations and of descriptions, and footers, by the bytes that came
 
 -- a byte that came stays where it is
 pub kept_byte : (i : ℕ) (unit more : List ℕ) → take (length unit) more ≡ unit → i < length unit → get_or more i 0 ≡ get_or unit i 0
@@ -136,3 +242,50 @@ module _ (d : Due) (k : Known) (mark longest : ℕ) (piece : List ℕ → Piece)
   text_whole unit rest some low le =
       text_came unit rest some ∙ ap (text_by (unit ++ rest) (number_at 4 1 unit)) (le-ltb longest (number_at 4 1 unit) low)
       ∙ seen_whole d k (5 + number_at 4 1 unit) (unit ++ rest) _ (omega (arith, length-append unit rest))
+
+-- ---- what ends a stream: nothing, or a description section
+
+-- a description, after its mark
+pub description_there : (more : List ℕ)
+    → text_seen AfterEnd nothing_known 0x06 longest_text Description (0x06 ∷ more) ≡ seen AfterEnd nothing_known (0x06 ∷ more)
+unfolding trailer_at
+description_there more = refl
+
+trailing_row : (b : ℕ) → first_row (alone AfterEnd nothing_known (Mark b)) ≡ Some (None, reasons.Trailing)
+trailing_row b = simp and-false refl
+
+other_there : (b : ℕ) (more : List ℕ) → (b ≡ 0x06 → ⊥) → seen AfterEnd nothing_known (b ∷ more) ≡ Bad 1 reasons.Trailing
+unfolding trailer_at
+other_there b more other =
+    rw (ne_eqb b 0x06 other)
+    (seen_whole AfterEnd nothing_known 1 (b ∷ more) (Mark b) (omega arith) ∙ ap (λ o. seen_by o (Mark b) 1)
+    (trailing_row b))
+
+-- the read of its first byte failed
+pub trailer_broken : {a b : Intake} (at : ℕ) → Breaks a b 1 → ReadsTrailer a b at (Err ReadFault)
+trailer_broken at p = record { bytes = p.bytes; takes = p.takes; long = omega arith; says = λ more f. unsaid (p.bytes ++ more) (Some more); cause = p.rose }
+  where
+    unsaid : (rest : List ℕ) (left : Option (List ℕ)) → AnswersEnd rest (seen AfterEnd nothing_known rest) at at left (Err ReadFault)
+    unsaid _ left = tt
+
+-- another byte came
+pub trailer_other : {a b : Intake} (at c : ℕ) (fault : FrameFault) → Takes a b (c ∷ []) → (c ≡ 0x06 → ⊥) → fault ≡ Refused at reasons.Trailing
+    → ReadsTrailer a b at (Err fault)
+trailer_other {a} {b} at c fault p other same =
+    rw same (record {
+      bytes = c ∷ [];
+      takes = p;
+      long = omega arith;
+      says = λ more f. (refl, rw (other_there c more other) (refl, refl));
+      cause = tt;
+    })
+
+-- the mark of a description came
+pub trailer_on : {a b c : Intake} (at : ℕ) (r : Result ℕ FrameFault) → Takes a b (0x06 ∷ []) → ReadsText b c (0x06 ∷ []) at r → ReadsTrailer a c at r
+trailer_on at (Ok n) p h =
+    let w =
+    reads_behind {M = IsLong {X = Unit {0}} (λ _. (at + n) - at) LONGEST_DESCRIPTION (Ok tt)} {Q = λ rest left. ReadsEnd at (at + n) (Some rest)
+    (Some left) (Ok tt)} (λ k l. omega arith) (λ rest left q. rw q.0 (refl, q.1)) p h in
+    reads_last w
+trailer_on at (Err (Refused place reason)) p h = reads_behind (λ k l. l) (λ rest left q. q) p h
+trailer_on at (Err ReadFault) p h = reads_behind (λ k l. l) (λ rest left q. tt) p h

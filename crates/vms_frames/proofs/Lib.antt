@@ -1,9 +1,4 @@
 pub mod Facade
 pub mod HeadLemmas
-pub mod NumberLemmas
-pub mod ReadsCalls
 pub mod ReadsFirst
-pub mod ReadsParts
 pub mod ReadsUnits
-pub mod Trailers
-pub mod UnitLemmas

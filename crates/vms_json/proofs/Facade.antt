@@ -12,7 +12,7 @@ pub use Rattle.std.proofs.lemmas.List.{append-nil, get_or_at, get_or_default, le
 pub use Rattle.std.proofs.lemmas.Map.Text.{btree_map_updates_text, is_eq-slice_cmp}
 pub use Rattle.std.specs.{Borrow.Bor, Cmp.Lexicographic.slice_cmp, List.list_all, List.list_any, List.position, List.position_or_len, Ordering.match_ordering}
 pub use Rattle.std.specs.{Ordering.nat_cmp, Prelude.MatchBool, Prelude.MatchOption, Prelude.slice_get, Str.bytes_eq, Str.is_utf8}
-pub use Rattle.vms_spec.proofs.{ListLaws.one_of_both}
+pub use Rattle.vms_spec.proofs.ListsAndNumbers.{one_of_both}
 pub use Rattle.vms_spec.specs.{Lists.or_else, Streams.is_one_of}
 pub use Rattle.vms_json.specs.{Asked.some_ask, Keys.has, Keys.has_all, Keys.has_no_others, Keys.has_one, Laying.is_in_list, Laying.items_of, Laying.members_of}
 pub use Rattle.vms_json.specs.{Nodes.tree_view, Nodes.view, Texts.value_in, declared.fault.Fault.Fault, declared.node.Row.Row, declared.node.Tree.Tree}

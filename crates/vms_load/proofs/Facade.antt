@@ -12,8 +12,8 @@ pub use Rattle.std.specs.{Int.w128, Io.KnownBytes.IsAtEnd, List.slice_get, Str.b
 pub use Rattle.vms_kinds.proofs.{ByteLemmas.bytes_both}
 pub use Rattle.vms_kinds.specs.{Bytes.IsBytes, Codes.code, Codes.value_of, Codes.width, declared.Item.Item, declared.Kind.Kind, declared.Kind.TheVariants.U8}
 pub use Rattle.vms_kinds.specs.declared.Item.TheVariants.{Equal, Num, Struct, Unused}
-pub use Rattle.vms_spec.proofs.{NumberLaws.same_number_is, Sizes.elements_fit, Tables.first_long, KindLaws.length-code, KindLaws.width_small}
-pub use Rattle.vms_spec.proofs.ListLaws.{found_inside, none_left}
+pub use Rattle.vms_spec.proofs.ListsAndNumbers.{same_number_is, length-code, width_small, found_inside, none_left}
+pub use Rattle.vms_spec.proofs.Tables.{elements_fit, first_long}
 pub use Rattle.vms_spec.proofs.WellFormedLaws.{Clean, device_parts, struct_clean, sub_clean}
 pub use Rattle.vms_spec.specs.{Good.IsGood, Heads.FitsHeads, Layout.meanings, Layout.no_cell, Layout.no_desc, Layout.no_meaning, Layout.no_parent}
 pub use Rattle.vms_spec.specs.{Lists.at_option, Lists.position, Places.own_cell_count, Rules.is_small_item, Rules.is_small_optional, Sound.AreSound}
@@ -32,14 +32,13 @@ pub use Rattle.vms_spec.specs.Taking.{Progress, Taken, if_whole, on, refuse, tak
 pub use Rattle.vms_spec.specs.Units.{Description, Foot, Long, Magic, Mark, Piece, SubHead, Version, spell, spelled}
 pub use Rattle.vms_spec.specs.WellFormed.{WellFormed, devices_items, first_fault, has_few, item_count, items_in, struct_items, subs_items}
 unfoldable pub use Rattle.vms_spec.specs.Layout.{first}
-pub use Rattle.vms_bodies.proofs.{AboveLaws.IsAbove, AboveLaws.desc_above, AboveLaws.meanings_above, BodyLaws.at_set, BodyLaws.set_twice, FrameLaws.one_unit}
-pub use Rattle.vms_bodies.proofs.{HeadFound.found_is, LeftLaws.Leaves, LeftLaws.desc_leaves, PartLaws.at_other, PartLaws.sub_are, Places.SameBelow}
-pub use Rattle.vms_bodies.proofs.{Places.same_refl, Places.same_trans, ReadyLaws.is_same, SectionLaws.own_are, Widths.width_positive}
-pub use Rattle.vms_bodies.proofs.WalkLaws.{ComesTo, Gives, IsFrom, Keeping, Keeps, set_desc_comes, slot_keeps}
+pub use Rattle.vms_bodies.proofs.{Heads.found_is, PartLaws.at_other, PartLaws.sub_are, Stated.is_same, SettledLaws.own_are}
+pub use Rattle.vms_bodies.proofs.Places.{IsAbove, desc_above, meanings_above, SameBelow, same_refl, same_trans, width_positive}
+pub use Rattle.vms_bodies.proofs.SpellLaws.{one_unit, at_set, set_twice}
+pub use Rattle.vms_bodies.proofs.WalkLaws.{Leaves, desc_leaves, ComesTo, Gives, IsFrom, Keeping, Keeps, set_desc_comes, slot_keeps}
 pub use Rattle.vms_bodies.specs.{Cells.AreCells, Whole.reading_on}
-pub use Rattle.vms_stream.proofs.{Finding.Advancing.advances, Judging.Mirrors.solid, Judging.Mirrors.state_refuses}
-pub use Rattle.vms_stream.proofs.Bodies.Body.{IsUnit, after_read, body_read, by_tests, slot_seen, tested}
-pub use Rattle.vms_stream.proofs.Calls.Judged.{judged_holds, next_holds, seen_holds}
+pub use Rattle.vms_stream.proofs.{Finding.advances, Judging.solid, Judging.state_refuses, Calls.judged_holds, Calls.next_holds, Calls.seen_holds}
+pub use Rattle.vms_stream.proofs.Bodies.{IsUnit, after_read, body_read, by_tests, slot_seen, tested}
 pub use Rattle.vms_stream.proofs.Stated.{accepted_holds, never_both_holds, one_fault_holds, one_stream_holds}
 pub use Rattle.vms_stream.specs.{Faults.Cut, Faults.Fault, Faults.Why, Faults.Wrong, Finding.Whole, Finding.needs, Finding.text_at, Judge.by_row, Judge.judge}
 pub use Rattle.vms_stream.specs.{Judged.ask, Judged.judge_seen, Seen.Bad, Seen.Good, Seen.Seen, Seen.Short, Seen.seen, Seen.seen_by, Seen.seen_in, SoFar.Known}
@@ -49,7 +48,7 @@ pub use Rattle.vms_stream.specs.Dues.{AMagic, AVersion, AfterEnd, AfterFields, b
 pub use Rattle.vms_stream.specs.State.{slots_at, Before, Ended, Free, Headed, Inside, Spot, State, after, at_start, by_state, due_by, inside, known_at, open_at}
 unfoldable pub use Rattle.vms_stream.specs.{Finding.trailer_at, Judge.reading}
 pub use Rattle.vms_desc.proofs.AskLaws.{few_cells, own_inside_device, sub_inside}
-pub use Rattle.vms_desc.proofs.Bounds.{few_devices, few_items, few_machines, good_of, none_is}
+pub use Rattle.vms_desc.proofs.Clean.{few_devices, few_items, few_machines, good_of, none_is}
 pub use Rattle.vms_desc.specs.{Asks.first_cell, Described.described, Formed.is_well_formed, Parts.HasPart, Parts.desc_at, Parts.sub_at, Spots.kinds_at}
 pub use Rattle.vms_frames.specs.{Reads.IsLong, Reads.ReadsAs, Stands.Stand, declared.fault.FrameFault.FrameFault, declared.fault.Refusal.Refusal}
 pub use Rattle.vms_frames.specs.{declared.units.Between.Between, declared.units.Between.TheVariants.First, declared.units.Step.Step, declared.units.Tail.Tail}
@@ -77,7 +76,7 @@ pub use Rattle.vms_marks.specs.{declared.sub_head.TheConstants.LONGEST_SUB_HEAD}
 pub use Rattle.vms_parts.proofs.{Items.get_map_at}
 pub use Rattle.vms_parts.specs.{Devices.device_at, Views.device_of, Views.sub_of}
 pub use Rattle.vms_spots.specs.Spots.{put_from, values_of}
-pub use Rattle.vms_walk.proofs.{Least.exceeds_least, Local.part_sound, Runs.run_each, Runs.run_split, Walking.steps_append}
-pub use Rattle.vms_walk.proofs.Kept.{keeps_more, keeps_put, keeps_same}
+pub use Rattle.vms_walk.proofs.Spots.{exceeds_least, run_each, run_split}
+pub use Rattle.vms_walk.proofs.Walking.{part_sound, steps_append, keeps_more, keeps_put, keeps_same}
 pub use Rattle.vms_walk.specs.{Runs.run_of, declared.fields.PartAt.PartAt, declared.step.WalkStep.WalkStep}
 pub use Rattle.vms_walk.specs.Steps.{HasSpot, capacities_of, cells_in, spot_slots, step_of, steps_of, table}

@@ -6,7 +6,5 @@ pub mod HeadLemmas
 pub mod PartReads
 pub mod ReadLemmas
 pub mod RunReads
-pub mod SetFacts
-pub mod StagedLemmas
 pub mod StreamLengths
 pub mod StreamReads

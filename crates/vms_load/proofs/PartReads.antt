@@ -10,7 +10,7 @@ use Rattle.vms_load.proofs.Facade.{IsTaken, IsStopped, Reading, Refused, part_sl
 use Rattle.vms_load.proofs.Facade.{body_read, after_read, Stand, ahead, tail_of, IsGood, Leaves, desc_leaves, device_at, sub_at, Reads, ReadsOn, concerning}
 use Rattle.vms_load.proofs.Facade.{IsIn, IsOpen, part_desc, part_base, state_in, in_fields, after_fields, Section}
 use Rattle.vms_spec.specs.Taking.{Refusal}
-use Rattle.vms_stream.proofs.Bodies.Body.{Reads as ReadsBody}
+use Rattle.vms_stream.proofs.Bodies.{Reads as ReadsBody}
 use Rattle.vms_spec.specs.declared.Reason.TheVariants as reasons
 use Rattle.vms_frames.specs.declared.fault.FrameFault.TheVariants as faults
 

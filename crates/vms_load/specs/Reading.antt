@@ -15,7 +15,7 @@ use Rattle.vms_walk.specs.declared.step.WalkStep.{WalkStep}
 use Rattle.vms_walk.specs.declared.step.WalkStep.TheVariants as steps
 use Rattle.vms_walk.specs.Inside.{Keeps}
 use Rattle.vms_walk.specs.Steps.{capacities_of}
-use Rattle.vms_walk.proofs.Kept.{keeps_same, keeps_more, keeps_front}
+use Rattle.vms_walk.proofs.Walking.{keeps_same, keeps_more, keeps_front}
 use Rattle.vms_load.specs.Bodies.{TakesAs, HasMoved, progress}
 
 -- The slot of a step. A step keeps only the least of the capacities.

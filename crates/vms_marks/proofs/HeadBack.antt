@@ -2,7 +2,7 @@
 use Rattle.std.proofs.{lemmas.List.drop-drop, Math.Seq.drop-append_seam, Math.Seq.take-append_seam}
 use Rattle.std.proofs.Common.{◌≡◌, ℕ, ◌+◌, ◌<◌, ◌≤◌, ◌^◌, List, ◌∷◌, ◌++◌, length, drop, refl, sym, ap, ◌∙◌, arith, append_assoc}
 use Rattle.byteorder.specs.Endian.{big_number}
-use Rattle.vms_spec.proofs.{KindLaws.be32_read}
+use Rattle.vms_spec.proofs.ListsAndNumbers.{be32_read}
 use Rattle.vms_spec.specs.{declared.TheConstants.LONGEST_NAME, Streams.be32, Lookup.number_at, Lookup.bytes_at}
 use Rattle.vms_marks.specs.{declared.sub_head.SubHead.SubHead, declared.configuration.Configuration.Configuration, declared.foot.Foot.Foot}
 use Rattle.vms_marks.specs.{declared.head.Head.Head, Laws.HeadLaw, Laws.SubHeadLaw, Laws.ConfigurationLaw, Laws.FootLaw}

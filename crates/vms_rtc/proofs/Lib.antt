@@ -1,9 +1,3 @@
-pub mod CallLaws
-pub mod EndLaws
 pub mod Facade
-pub mod RestoredLaws
-pub mod RuleLaws
 pub mod SavedLaws
-pub mod SheetNumbers
-pub mod SoundLaws
-pub mod TimeLaws
+pub mod StepLaws

@@ -1,10 +1,13 @@
--- A saved chip is restored as it was.
-use Rattle.vms_rtc.proofs.Facade.{◌≡◌, ℕ, zero, suc, ◌+◌, ◌<◌, ◌≤◌, ◌||◌, not, nat_le, Bool, true, false, List, [], ◌∷◌, length, map, replicate, get_or}
-use Rattle.vms_rtc.proofs.Facade.{ℤ, pos, codes, Ok, refl, sym, ap, subst, ◌∙◌, arith, nat_tests, get_or-map, mc146818_rows, place_of_clock, numbers_of}
-use Rattle.vms_rtc.proofs.Facade.{Numbers, U8, of_none, of_more, byte, flag, flag-back, AllHold, size_at, whole, of_rows, carried_rows, stands, all_set}
-use Rattle.vms_rtc.proofs.Facade.{AllTrue, judged-all, ok-hook, cell_at, nat_of, flag_number, firsts, AreOf, named, kinds, saved_cells, carried, register}
-use Rattle.vms_rtc.proofs.Facade.{SavedAreCells, SavedIsRestored, CanSave, CanRestore, MayRestore, register_in, nmi_mask_in, pf_in, rules, chip_of, restored}
-use Rattle.vms_rtc.proofs.Facade.{hook_restored, IsSound, NEWEST_CLOCK, NMI_SINCE, REGISTER_A, REGISTER_C, REGISTER_D, REGISTERS, Rtc}
+-- What is saved of a clock chip and restored from it, and the rules that it meets.
+use Rattle.vms_rtc.proofs.Facade.{◌≡◌, ℕ, zero, suc, ◌+◌, ◌<◌, ◌≤◌, ◌||◌, not, nat_le, Bool, true, false, List, [], ◌∷◌, length}
+use Rattle.vms_rtc.proofs.Facade.{map, replicate, get_or, ℤ, pos, codes, Ok, refl, sym, ap, subst, ◌∙◌, arith, nat_tests, get_or-map, mc146818_rows}
+use Rattle.vms_rtc.proofs.Facade.{place_of_clock, numbers_of, Numbers, U8, of_none, of_more, byte, flag, flag-back, AllHold, size_at, whole, of_rows}
+use Rattle.vms_rtc.proofs.Facade.{carried_rows, stands, all_set, AllTrue, judged-all, ok-hook, cell_at, nat_of, flag_number, firsts, AreOf, named, kinds}
+use Rattle.vms_rtc.proofs.Facade.{saved_cells, carried, register, SavedAreCells, SavedIsRestored, CanSave, CanRestore, MayRestore, register_in, nmi_mask_in}
+use Rattle.vms_rtc.proofs.Facade.{pf_in, rules, chip_of, restored, hook_restored, IsSound, NEWEST_CLOCK, NMI_SINCE, REGISTER_A, REGISTER_C, REGISTER_D}
+use Rattle.vms_rtc.proofs.Facade.{REGISTERS, Rtc, drop, ◌==◌, ◌&&◌, and_parts, get_or-map-range_with_len, length-map-range_with_len, CMOS, InRange}
+use Rattle.vms_rtc.proofs.Facade.{Kind, bytes_within, number-lt, judged-ok, hook-ok, IsUpTo, RestoredIsSound, index_in, index_holds, registers_hold, None}
+use Rattle.vms_rtc.proofs.Facade.{get_or_append_left, length-map, none_failing, all_true, first_failing, IsTold, SoundMeetsRules}
 
 -- ---- the kinds of what is saved
 
@@ -110,3 +113,112 @@ back-as numbers back chip can s may same =
 
 pub saved_is_restored : SavedIsRestored
 saved_is_restored = record { chip = back-as }
+
+-- ---- a restored chip is sound: the kinds of the cells of the newest clock set
+
+-- the index and the registers are bytes
+pub is_byte : (cells : List ℤ) (k : ℕ) → AreOf (kinds NEWEST_CLOCK) cells → k < CMOS + REGISTERS → InRange U8 (cell_at cells k)
+is_byte cells k are lt =
+    subst (λ (kind : Kind). InRange kind (cell_at cells k))
+    (bytes_within [] (drop (CMOS + REGISTERS) (kinds NEWEST_CLOCK)) (CMOS + REGISTERS) k (omega arith) (omega arith)) (are.in_range k (omega arith))
+
+-- ---- what is restored
+
+-- a register of the chip of cells
+pub register_of : (version : ℕ) (cells : List ℤ) (k : ℕ) → k < REGISTERS → register k (chip_of version cells) ≡ register_in cells k
+unfolding chip_of
+register_of version cells k lt = get_or-map-range_with_len (register_in cells) 0 REGISTERS k k 0 lt (omega arith)
+
+low : (version : ℕ) (cells : List ℤ) → index_holds cells ≡ true → index_in cells ≤ 63
+low version cells h = grind (arith, nat_tests, h)
+
+record Registers (cells : List ℤ) : Type 0 where
+  a : register_in cells REGISTER_A ≤ 127
+  c : register_in cells REGISTER_C ≡ 0
+  d : register_in cells REGISTER_D ≡ 0
+
+registers : (cells : List ℤ) → registers_hold cells ≡ true → Registers cells
+registers cells h =
+    let first = and_parts (nat_le (register_in cells REGISTER_A) 127) ((register_in cells REGISTER_C == 0) && (register_in cells REGISTER_D == 0)) h in
+    let second = and_parts (register_in cells REGISTER_C == 0) (register_in cells REGISTER_D == 0) first.1 in
+    record { a = grind (arith, nat_tests, first.0); c = grind (arith, nat_tests, second.0); d = grind (arith, nat_tests, second.1) }
+
+clear : (b flag : Bool) → (b || not flag) ≡ true → b ≡ false → flag ≡ false
+clear true flag h e = cc
+clear false true h e = sym h
+clear false false h e = refl
+
+pub sound : (version : ℕ) (cells : List ℤ) → IsUpTo NEWEST_CLOCK version → AreOf (kinds NEWEST_CLOCK) cells → AllTrue (rules version cells)
+    → IsSound (chip_of version cells)
+unfolding chip_of
+sound version cells v are hold =
+    let n = registers cells hold.1.0 in
+    record {
+      version = v;
+      index = low version cells hold.0;
+      count = length-map-range_with_len (register_in cells) 0 REGISTERS;
+      bytes = λ k lt.
+          let is : register k (chip_of version cells) ≡ register_in cells k = register_of version cells k lt in
+          omega (arith, number-lt U8 (cell_at cells (1 + k)) (is_byte cells (1 + k) are (omega arith)));
+      a = n.a;
+      c = n.c;
+      d = n.d;
+      mask = λ none. clear (nat_le NMI_SINCE version) (nmi_mask_in cells) hold.1.1.0 none;
+    }
+
+made : (version : ℕ) (cells : List ℤ) → (chip_of version cells).version ≡ version
+unfolding chip_of
+made version cells = refl
+
+-- the chip that was restored is that of its cells, and all rules hold
+module _ (numbers : Numbers) (cells : List ℤ) (chip : Rtc) (e : hook_restored numbers cells ≡ Ok chip) where
+  accepted : AllTrue (rules numbers.level cells) × (chip_of numbers.level cells ≡ chip)
+  accepted = judged-ok (rules numbers.level cells) (chip_of numbers.level cells) chip (hook-ok (restored numbers.level cells) chip e)
+
+  is-sound : CanRestore numbers cells → IsSound chip
+  is-sound can = subst IsSound accepted.1 (sound numbers.level cells can.pass.is_version can.of_kinds accepted.0)
+
+  has-version : chip.version ≡ numbers.level
+  has-version = ap (λ (c : Rtc). c.version) (sym accepted.1) ∙ made numbers.level cells
+
+pub restored_is_sound : RestoredIsSound
+restored_is_sound = record { sound = λ numbers cells chip can e. is-sound numbers cells chip e can; version = has-version }
+
+-- ---- the chip is sound exactly if its cells in the newest clock set meet the rules
+
+-- a chip that a stream can describe has bytes
+module _ (chip : Rtc) (t : IsTold chip) where
+  small : (k : ℕ) → k < CMOS + REGISTERS → nat_of (cell_at (newest chip) k) < 256
+  unfolding saved_cells
+  small k l = number-lt U8 (cell_at (newest chip) k) (is_byte (newest chip) k t.cells l)
+
+  register-at : (k : ℕ) → k < REGISTERS → nat_of (cell_at (newest chip) (suc k)) ≡ get_or chip.cmos k 0
+  register-at k l =
+      ap nat_of (get_or_append_left (map pos chip.cmos) _ (pos 0) k (omega (arith, length-map chip.cmos pos)) ∙ get_or-map pos chip.cmos k 0 (pos 0)
+      (omega arith))
+
+  is-wide : IsWide chip
+  is-wide = record {
+    index = small 0 (omega arith);
+    count = t.count;
+    bytes = λ k l. let e = register-at k l in let b = small (suc k) (omega arith) in omega arith;
+  }
+
+  pub same-chip : chip_of chip.version (saved_cells NEWEST_CLOCK chip) ≡ chip
+  unfolding saved_cells
+  same-chip = own-back chip is-wide
+
+  told-sound : first_failing (rules chip.version (newest chip)) ≡ None → IsSound chip
+  unfolding saved_cells
+  told-sound none =
+      subst IsSound (own-back chip is-wide) (sound chip.version (newest chip) t.version t.cells (all_true (rules chip.version (newest chip)) none))
+
+-- the cells of a sound chip
+told : (chip : Rtc) → IsSound chip → IsTold chip
+told chip s = record { version = s.version; count = s.count; cells = of-set NEWEST_CLOCK chip s }
+
+pub sound_meets_rules : SoundMeetsRules
+unfolding saved_cells
+sound_meets_rules = record {
+  chip = λ chip. ((λ s. (told chip s, none_failing (rules chip.version (newest chip)) (met chip s))), (λ h. told-sound chip h.0 h.1));
+}

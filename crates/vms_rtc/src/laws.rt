@@ -7,13 +7,13 @@ ghost use Rattle.vms_rtc.specs.Laws.{CallsKeepSound, SavedAreCells, SavedIsResto
 /// Port 0x70 reads and writes the index, and port 0x71 the register that it selects. Bit 6 of
 /// register 0x0b enables the interrupt line, and each second has 32,768 ticks. Registers A to D are
 /// 0x0a to 0x0d of 64, and the NMI mask exists from version 2 on.
-#[tactic(auto, using(crate::proofs::SheetNumbers::numbers_are))]
+#[tactic(auto, using(crate::proofs::StepLaws::numbers_are))]
 pub fn numbers_law()
     ensures { NumbersAre }
 {}
 
 /// States that `passed` in two parts has the same effect as `passed` at once.
-#[tactic(auto, using(crate::proofs::TimeLaws::parts_are_whole))]
+#[tactic(auto, using(crate::proofs::StepLaws::parts_are_whole))]
 pub fn parts_law()
     ensures { PartsAreWhole }
 {}
@@ -22,7 +22,7 @@ pub fn parts_law()
 ///
 /// It does so exactly if a multiple of the period is after the ticks at its beginning and not after
 /// those at its end. No span clears the flag.
-#[tactic(auto, using(crate::proofs::TimeLaws::set_at_multiples))]
+#[tactic(auto, using(crate::proofs::StepLaws::set_at_multiples))]
 pub fn multiple_law()
     ensures { FlagIsSetAtMultiples }
 {}
@@ -30,25 +30,25 @@ pub fn multiple_law()
 /// States that a read of register C clears the periodic interrupt flag and changes nothing else.
 ///
 /// A read of any other register changes nothing.
-#[tactic(auto, using(crate::proofs::CallLaws::reads_clear))]
+#[tactic(auto, using(crate::proofs::StepLaws::reads_clear))]
 pub fn flags_law()
     ensures { ReadsClearFlag }
 {}
 
 /// States that writes to registers C and D don't change them.
-#[tactic(auto, using(crate::proofs::CallLaws::flags_are_kept))]
+#[tactic(auto, using(crate::proofs::StepLaws::flags_are_kept))]
 pub fn kept_law()
     ensures { FlagsAreKept }
 {}
 
 /// States that `read`, `write` and `passed` don't change the version.
-#[tactic(auto, using(crate::proofs::CallLaws::version_stays))]
+#[tactic(auto, using(crate::proofs::StepLaws::version_stays))]
 pub fn level_law()
     ensures { VersionStays }
 {}
 
 /// States that a new [`Rtc`](crate::Rtc) is sound and that each call keeps it so.
-#[tactic(auto, using(crate::proofs::SoundLaws::calls_keep_sound))]
+#[tactic(auto, using(crate::proofs::StepLaws::calls_keep_sound))]
 pub fn sound_law()
     ensures { CallsKeepSound }
 {}
@@ -72,13 +72,13 @@ pub fn saved_law()
 ///
 /// Of the chips that a stream can describe, those are sound for which no rule fails for what the
 /// newest clock set saves.
-#[tactic(auto, using(crate::proofs::RuleLaws::sound_meets_rules))]
+#[tactic(auto, using(crate::proofs::SavedLaws::sound_meets_rules))]
 pub fn rules_law()
     ensures { SoundMeetsRules }
 {}
 
 /// States that a chip that `of_cells` restores is sound and has the version of the restore.
-#[tactic(auto, using(crate::proofs::RestoredLaws::restored_is_sound))]
+#[tactic(auto, using(crate::proofs::SavedLaws::restored_is_sound))]
 pub fn restored_law()
     ensures { RestoredIsSound }
 {}

@@ -68,7 +68,7 @@ pub(crate) fn ends_within(period: Option<u64>, from: u64, to: u64) -> bool
 }
 
 /// Returns the first moment after `from` at which a period ends, or `None` if none is counted.
-#[tactic(auto, using(crate::proofs::EndLaws::end_is_next, crate::proofs::EndLaws::none_ends))]
+#[tactic(auto, using(crate::proofs::StepLaws::end_is_next, crate::proofs::StepLaws::none_ends))]
 pub(crate) fn next_end(period: Option<u64>, from: u64) -> Option<u64>
     requires some { IfSome period (λ period. 0 < period) }
     requires small { IfSome period (λ period. period ≤ 16384) }

@@ -15,8 +15,8 @@ pub use Rattle.std.specs.Ordering.{eq_by_cmp, is_eq, nat_cmp, ordering_then}
 pub use Rattle.std.specs.Prelude.{nat_eq, nat_le, nat_lt, not, ◌&&◌, ◌==◌, ◌||◌}
 unfoldable pub use Rattle.std.specs.{List.IsDistinct, Set.KeepsOthers}
 pub use Rattle.vms_kinds.specs.declared.Item.{Item, TheVariants.Struct}
-pub use Rattle.vms_spec.proofs.{Tables.first_long}
-pub use Rattle.vms_spec.proofs.ListLaws.{all_right, and_swap, both_below, either_of, one_of_both, or_turned}
+pub use Rattle.vms_spec.proofs.ListsAndNumbers.{all_right, and_swap, both_below, either_of, one_of_both, or_turned}
+pub use Rattle.vms_spec.proofs.Tables.{first_long}
 pub use Rattle.vms_spec.specs.{Layout.counted, Layout.no_desc, Lists.first_answer, Lists.or_else, Streams.is_one_of, declared.Place.Place}
 pub use Rattle.vms_spec.specs.{declared.TheConstants.MOST_ITEMS, declared.Whose.TheVariants.Own, declared.Whose.TheVariants.Parent}
 pub use Rattle.vms_spec.specs.Names.{all_names, are_new, is_name, is_sub_name}

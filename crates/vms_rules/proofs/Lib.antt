@@ -1,11 +1,3 @@
-pub mod CapacityLaws
-pub mod DeviceLaws
 pub mod Facade
-pub mod FieldLaws
-pub mod KeyLaws
 pub mod NameLaws
-pub mod RuleLaws
-pub mod SetLaws
-pub mod SizeLaws
-pub mod StructLaws
 pub mod WalkLaws

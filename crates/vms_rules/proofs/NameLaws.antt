@@ -1,11 +1,16 @@
--- Names and sets of names.
-use Rattle.vms_rules.proofs.Facade.{◌≡◌, ℕ, ◌+◌, ◌<◌, ◌≤◌, List, ◌∷◌, ◌++◌, length, length-take, length-append, get_or, drop, take, map, Bool, true, false}
-use Rattle.vms_rules.proofs.Facade.{Ordering, Equal, refl, sym, ap, subst, ◌∙◌, arith, [], ◌&&◌, not, nat_eq, ◌||◌, BTreeSet, UpdatesBy, KeepsOthers, IsKeyTest}
-use Rattle.vms_rules.proofs.Facade.{AreApart, IsTotalOrder, then_total, on_total, nat_cmp_total, unequal, slice_cmp, nat_list_cmp_total, nat_cmp, is_eq}
-use Rattle.vms_rules.proofs.Facade.{eq_by_cmp, ordering_then, list_any, bytes_eq, length-map, map-append, take_more, is_eq-slice_cmp, bytes_eq-Decides}
-use Rattle.vms_rules.proofs.Facade.{and-true, or-false, and_assoc, or_assoc, or_comm, Bor, is_name, is_sub_name, is_one_of, or_turned, drop_is, get_map_at, key}
-use Rattle.vms_rules.proofs.Facade.{by_key, has_name, with_name, are_new_to}
-use Rattle.std.specs.Cmp.{eq_by_cmp_equiv}
+-- Names that are distinct, and the earlier fields that a field may name.
+use Rattle.vms_rules.proofs.Facade.{◌≡◌, ℕ, ◌+◌, ◌<◌, ◌≤◌, List, ◌∷◌, ◌++◌, length, length-take, length-append, get_or, drop}
+use Rattle.vms_rules.proofs.Facade.{take, map, Bool, true, false, Ordering, Equal, refl, sym, ap, subst, ◌∙◌, arith, [], ◌&&◌, not, nat_eq, ◌||◌}
+use Rattle.vms_rules.proofs.Facade.{BTreeSet, UpdatesBy, KeepsOthers, IsKeyTest, AreApart, IsTotalOrder, then_total, on_total, nat_cmp_total, unequal}
+use Rattle.vms_rules.proofs.Facade.{slice_cmp, nat_list_cmp_total, nat_cmp, is_eq, eq_by_cmp, ordering_then, list_any, bytes_eq, length-map, map-append}
+use Rattle.vms_rules.proofs.Facade.{take_more, is_eq-slice_cmp, bytes_eq-Decides, and-true, or-false, and_assoc, or_assoc, or_comm, Bor, is_name, is_sub_name}
+use Rattle.vms_rules.proofs.Facade.{is_one_of, or_turned, drop_is, get_map_at, key, by_key, has_name, with_name, are_new_to, one_of_both, Field, field_of, zero}
+use Rattle.vms_rules.proofs.Facade.{suc, append_assoc, nat_lt, slice_get, nat_tests, take-map, and-false, Formula, is_steady, names_well, all_names, are_new}
+use Rattle.vms_rules.proofs.Facade.{append-nil, IsDistinct, AllByRecursion, IsStrictlyIncreasing, IsPermutation, eq_by_cmp_equiv, take-append-drop}
+use Rattle.vms_rules.proofs.Facade.{IsPermutation-sym, IsDistinct-IsPermutation, IsDistinct-from_sorted, sorted_from_strictly_increasing, all_right, either_of}
+use Rattle.vms_rules.proofs.WalkLaws.{needed_names}
+use Rattle.std.specs.Cmp.{eq_by_cmp_equiv as equiv_by}
+use Rattle.vms_spec.specs.Sets as sets
 
 -- ---- sets
 
@@ -19,7 +24,7 @@ second_differs _ b e = refl
 apart_in_order : (name n : List ℕ) (k : ℕ × List ℕ) → bytes_eq name n ≡ false → eq_by_cmp by_key (key name, name) k ≡ true
     → eq_by_cmp by_key (key n, n) k ≡ false
 apart_in_order name n k differ same =
-    let equal = eq_by_cmp_equiv in_order in
+    let equal = equiv_by in_order in
     let other : ℕ × List ℕ = (key n, n) in
     equal.symm other k ∙ sym (equal.congr (key name, name) k other same)
     ∙ second_differs (nat_cmp (key name) (key n)) (slice_cmp nat_cmp name n) (is_eq-slice_cmp name n ∙ differ)
@@ -41,7 +46,7 @@ pub name_added : (names after : BTreeSet (ℕ × Bor (List ℕ))) (name : List �
     → (n : List ℕ) → has_name after n ≡ with_name (has_name names) name n
 name_added names after name h n =
     or_is (bytes_eq name n) (has_name names n) (has_name after n) (λ y. subst (λ l. has_name after l ≡ true) ((bytes_eq-Decides name n).0 y) h.1)
-    (λ e. other_keys _ _ _ _ h.3 _ (λ x y. (eq_by_cmp_equiv in_order).congr (key n, n) (seen x) (seen y)) (λ k. apart_in_order name n (seen k) e))
+    (λ e. other_keys _ _ _ _ h.3 _ (λ x y. (equiv_by in_order).congr (key n, n) (seen x) (seen y)) (λ k. apart_in_order name n (seen k) e))
 
 -- ---- lists of names that are new to a set
 
@@ -103,3 +108,149 @@ no_sub_name device name le =
     (λ e. omega (arith, length-take (length device + 1) name, length-append device (47 ∷ []))))
 
 pub ruleset sub_name_laws = (sub_name_parts, no_sub_name)
+
+-- ---- the earlier fields that a field may name
+
+one_less : (i k : ℕ) → nat_lt (suc i) (suc k) ≡ nat_lt i k
+one_less i k = grind (arith, nat_tests)
+
+none_before : (i : ℕ) → nat_lt i 0 ≡ false
+none_before i = grind (arith, nat_tests)
+
+first_before : (k : ℕ) → nat_lt 0 (suc k) ≡ true
+first_before k = grind (arith, nat_tests)
+
+pub earlier_is : (fields : List Field) (m k i : ℕ)
+    → is_steady m (slice_get (map field_of (take k fields)) i) ≡ (nat_lt i k && is_steady m (slice_get (map field_of fields) i))
+earlier_is [] m zero i = sym (and-false (nat_lt i 0))
+earlier_is [] m (suc k) i = sym (and-false (nat_lt i (suc k)))
+earlier_is (f ∷ fields) m zero i = ap (λ (b : Bool). b && is_steady m (slice_get (map field_of (f ∷ fields)) i)) (sym (none_before i))
+earlier_is (f ∷ fields) m (suc k) zero = ap (λ (b : Bool). b && is_steady m (slice_get (map field_of (f ∷ fields)) 0)) (sym (first_before k))
+earlier_is (f ∷ fields) m (suc k) (suc i) = cc (earlier_is fields m k i, one_less i k)
+
+pub named_in : (own known parent : ℕ → Bool) (t : Formula) → ((i : ℕ) → own i ≡ known i) → names_well own parent t ≡ names_well known parent t
+named_in own known parent t same = needed_names own known parent parent t same (λ i. refl)
+
+-- ---- names so far
+
+pub new_is : (earlier names : List (List ℕ)) → are_new earlier names ≡ are_new_to (is_one_of earlier) names
+new_is earlier [] = refl
+new_is earlier (n ∷ names) = ap (λ (b : Bool). not (is_one_of earlier n) && b) (new_is (n ∷ earlier) names)
+
+pub names_of_both : (fs gs : List sets.Field) → all_names (fs ++ gs) ≡ all_names fs ++ all_names gs
+names_of_both [] gs = refl
+names_of_both (f ∷ fs) gs = cc (names_of_both fs gs, append_assoc f.former (all_names fs) (all_names gs))
+
+-- the names of one more field
+pub names_more : (fields : List Field) (i : ℕ) (f : Field) (had have : List ℕ → Bool) → i < length fields → f ≡ get_or fields i f
+    → ((n : List ℕ) → had n ≡ is_one_of (all_names (map field_of (take i fields))) n) → ((n : List ℕ) → have n ≡ (is_one_of (f.name ∷ f.former) n || had n))
+    → (n : List ℕ) → have n ≡ is_one_of (all_names (map field_of (take (i + 1) fields))) n
+names_more fields i f had have lt is before now n =
+    let fs = map field_of (take i fields) in
+    now n ∙ ap (λ (b : Bool). is_one_of (f.name ∷ f.former) n || b) (before n) ∙ or_comm (is_one_of (f.name ∷ f.former) n) (is_one_of (all_names fs) n)
+    ∙ ap (λ (b : Bool). is_one_of (all_names fs) n || (bytes_eq f.name n || b)) (sym (one_of_both f.former [] n ∙ or-false (is_one_of f.former n)))
+    ∙ sym (one_of_both (all_names fs) (all_names (field_of f ∷ [])) n) ∙ ap (λ (l : List (List ℕ)). is_one_of l n) (sym (names_of_both fs (field_of f ∷ [])))
+    ∙ ap (λ (l : List sets.Field). is_one_of (all_names l) n) (sym (cc (take_more fields i f lt, map-append field_of (take i fields) (f ∷ []))))
+
+-- the names of a field are new to the set of the earlier ones
+pub names_new : (fields : List Field) (i : ℕ) (names : List (List ℕ)) (had : List ℕ → Bool) (is_new : Bool)
+    → ((n : List ℕ) → had n ≡ is_one_of (all_names (map field_of (take i fields))) n) → is_new ≡ are_new_to had names
+    → is_new ≡ are_new (all_names (take i (map field_of fields))) names
+names_new fields i names had is_new before e =
+    cc (same_new had (is_one_of (all_names (map field_of (take i fields)))) names before, new_is (all_names (map field_of (take i fields))) names, take-map field_of i fields)
+
+-- ---- names whose keys differ are distinct
+
+abbrev pub same : ℕ → ℕ → Bool
+same = eq_by_cmp nat_cmp
+
+-- ---- rising numbers are distinct, whatever their order was
+
+pub distinct_before : (before rising : List ℕ) → IsPermutation before rising → IsStrictlyIncreasing rising → IsDistinct same before
+distinct_before before rising moved up =
+    IsDistinct-IsPermutation same (eq_by_cmp_equiv nat_cmp_total).symm rising before (IsPermutation-sym before rising moved)
+    (IsDistinct-from_sorted nat_cmp rising (sorted_from_strictly_increasing rising up))
+
+-- ---- the names of one more field
+
+module _ (fields : List Field) (i : ℕ) (f : Field) (lt : i < length fields) (is : f ≡ get_or fields i f) where
+  pub names_with : all_names (map field_of (take (i + 1) fields)) ≡ all_names (map field_of (take i fields)) ++ (f.name ∷ f.former)
+  names_with =
+      ap all_names (cc (take_more fields i f lt, map-append field_of (take i fields) (f ∷ []))) ∙ names_of_both (map field_of (take i fields)) (field_of f ∷ [])
+      ∙ ap (λ (l : List (List ℕ)). all_names (map field_of (take i fields)) ++ f.name ∷ l) (append-nil f.former)
+
+  pub keys_with : map key (all_names (map field_of (take (i + 1) fields)))
+      ≡ (map key (all_names (map field_of (take i fields))) ++ key f.name ∷ []) ++ map key f.former
+  keys_with =
+      let before = all_names (map field_of (take i fields)) in
+      ap (map key) names_with ∙ map-append key before (f.name ∷ f.former) ∙ sym (append_assoc (map key before) (key f.name ∷ []) (map key f.former))
+
+-- ---- names with distinct keys
+
+all_left : (P : ℕ → Type 0) (xs ys : List ℕ) → AllByRecursion P (xs ++ ys) → AllByRecursion P xs
+all_left P [] ys h = tt
+all_left P (x ∷ xs) ys h = (h.0, all_left P xs ys h.1)
+
+distinct_left : (xs ys : List ℕ) → IsDistinct same (xs ++ ys) → IsDistinct same xs
+unfolding IsDistinct
+distinct_left [] ys h = tt
+distinct_left (x ∷ xs) ys h = (all_left (λ y. same x y ≡ false) xs ys h.0, distinct_left xs ys h.1)
+
+distinct_right : (xs ys : List ℕ) → IsDistinct same (xs ++ ys) → IsDistinct same ys
+unfolding IsDistinct
+distinct_right [] ys h = h
+distinct_right (x ∷ xs) ys h = distinct_right xs ys h.1
+
+-- no name of the list has the key of this one
+abbrev pub KeysApart : List ℕ → List (List ℕ) → Type 0
+KeysApart n names = AllByRecursion (λ e. same (key n) e ≡ false) (map key names)
+
+is_same : (x n : List ℕ) → bytes_eq x n ≡ true → x ≡ n
+is_same x n e = (bytes_eq-Decides x n).0 e
+
+-- the earlier names and the others
+apart_from : (earlier names : List (List ℕ)) → IsDistinct same (map key (earlier ++ names)) → (n : List ℕ) → is_one_of earlier n ≡ true → KeysApart n names
+unfolding IsDistinct
+apart_from [] names h n e = cc
+apart_from (x ∷ earlier) names h n e =
+    either_of (bytes_eq x n) (is_one_of earlier n) e
+    (λ y. subst (λ m. KeysApart m names) (is_same x n y)
+    (all_right (λ e. same (key x) e ≡ false) (map key earlier) (map key names)
+    (subst (AllByRecursion (λ e. same (key x) e ≡ false)) (map-append key earlier names) h.0))) (λ y. apart_from earlier names h.1 n y)
+
+is_itself : (n : ℕ) → same n n ≡ false → ⊥
+is_itself n e = let r : same n n ≡ true = (eq_by_cmp_equiv nat_cmp_total).refl n in cc
+
+false_of : (b : Bool) → (b ≡ true → ⊥) → not b ≡ true
+false_of b h = grind arith
+
+new_to : (had : List ℕ → Bool) (names : List (List ℕ)) → ((n : List ℕ) → had n ≡ true → KeysApart n names) → IsDistinct same (map key names)
+    → are_new_to had names ≡ true
+unfolding IsDistinct
+new_to had [] h d = refl
+new_to had (y ∷ names) h d =
+    cc (false_of (had y) (λ e. is_itself (key y) (h y e).0), new_to (with_name had y) names (λ n e. either_of (bytes_eq y n) (had n) e (λ z. subst (λ m. KeysApart m names) (is_same y n z) d.0) (λ z. (h n z).1)) d.1)
+
+-- the names of a field are new if the keys of all fields' names are distinct
+pub new_names : (fields : List Field) (i : ℕ) (f : Field) → i < length fields → f ≡ get_or fields i f
+    → IsDistinct same (map key (all_names (map field_of fields))) → are_new (all_names (take i (map field_of fields))) (f.name ∷ f.former) ≡ true
+new_names fields i f lt is d =
+    let before = all_names (map field_of (take i fields)) in
+    let names : List (List ℕ) = f.name ∷ f.former in
+    let rest = all_names (map field_of (drop (i + 1) fields)) in
+    let whole : all_names (map field_of fields) ≡ before ++ (names ++ rest) =
+    cc (take-append-drop i fields, drop_is fields i f lt is, map-append field_of (take i fields) (f ∷ drop (i + 1) fields), names_of_both (map field_of (take i fields)) (map field_of (f ∷ drop (i + 1) fields))) in
+    let split : map key (all_names (map field_of fields)) ≡ map key (before ++ names) ++ map key rest =
+    cc (append_assoc before names rest, map-append key (before ++ names) rest) in
+    let both : IsDistinct same (map key (before ++ names)) = distinct_left (map key (before ++ names)) (map key rest) (subst (IsDistinct same) split d) in
+    let own : IsDistinct same (map key names) = distinct_right (map key before) (map key names) (subst (IsDistinct same) (map-append key before names) both) in
+    ap (λ (l : List sets.Field). are_new (all_names l) names) (take-map field_of i fields) ∙ new_is before names
+    ∙ new_to (is_one_of before) names (apart_from before names both) own
+
+-- whether they are new: the keys of all differ, or they are looked up
+pub names_known : (fields : List Field) (i : ℕ) (f : Field) (had : List ℕ → Bool) (differ is_new : Bool) → i < length fields → f ≡ get_or fields i f
+    → (differ ≡ true → IsDistinct same (map key (all_names (map field_of fields))))
+    → (differ ≡ false → (n : List ℕ) → had n ≡ is_one_of (all_names (map field_of (take i fields))) n) → is_new ≡ (differ || are_new_to had (f.name ∷ f.former))
+    → is_new ≡ are_new (all_names (take i (map field_of fields))) (f.name ∷ f.former)
+names_known fields i f had true is_new lt is distinct before e = cc (new_names fields i f lt is (distinct refl))
+names_known fields i f had false is_new lt is distinct before e = names_new fields i (f.name ∷ f.former) had is_new (before refl) e

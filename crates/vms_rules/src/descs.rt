@@ -66,7 +66,7 @@ fn check_validations(desc: &Desc, part: Part) -> Result<(), DescFault>
     Ok(())
 }
 
-#[tactic(auto, using(crate::proofs::FieldLaws::named_in))]
+#[tactic(auto, using(crate::proofs::NameLaws::named_in))]
 fn validation_rules(desc: &Desc, test: &Test) -> [bool; 8]
     ensures { result ≡ validation_rules (desc_of desc.now) (formula test.now) }
 {

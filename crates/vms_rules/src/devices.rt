@@ -81,7 +81,7 @@ fn is_small_device(device: &Device) -> bool
 }
 
 // Returns whether an earlier device has the same name and instance. There are at most 63.
-#[tactic(auto, using(crate::proofs::DeviceLaws::same_device))]
+#[tactic(auto, using(crate::proofs::WalkLaws::same_device))]
 fn is_taken(devices: &[Device], number: usize) -> bool
     requires { number < length devices.now }
     ensures { result ≡ list_any
@@ -151,7 +151,7 @@ fn check_sub(alloc: Global, within: Within, number: usize, is_new: bool) -> Resu
 }
 
 // Returns the rules at subsection `number` itself, given whether its name is new.
-#[tactic(auto, using(crate::proofs::DeviceLaws::needed_names))]
+#[tactic(auto, using(crate::proofs::WalkLaws::needed_names))]
 fn sub_rules(device: &Device, number: usize, is_new: bool) -> [bool; 8]
     requires there { number < length device.now.subs }
     requires new { is_new ≡ not (is_one_of

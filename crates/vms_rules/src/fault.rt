@@ -26,7 +26,7 @@ impl From<AllocError> for DescFault {
 }
 
 // Finds the lowest rule that fails at a place.
-#[tactic(auto, using(crate::proofs::RuleLaws::lowest_laws))]
+#[tactic(auto, using(crate::proofs::WalkLaws::lowest_laws))]
 pub(crate) fn lowest(rules: [bool; 8], place: Place) -> Result<(), DescFault>
     ensures { Judges (failing 1 rules place) result }
 {

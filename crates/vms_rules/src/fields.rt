@@ -29,7 +29,7 @@ use vms_spec::MOST_UNUSED;
 use vms_words::is_name;
 
 // Returns the fields before field `number`, which its test and its count may name.
-#[tactic(auto, using(crate::proofs::FieldLaws::earlier_is))]
+#[tactic(auto, using(crate::proofs::NameLaws::earlier_is))]
 fn earlier(desc: &Desc, number: usize) -> Scope<'_>
     requires { number ≤ length desc.now.fields }
     ensures { (i : ℕ) → may_name result i ≡ is_earlier_in (desc_of desc.now) number i }
@@ -47,7 +47,7 @@ fn has_good_names(field: &Field) -> bool
     is_name(32, field.name.as_bytes()) && are_names(32, field.former.as_slice())
 }
 
-#[tactic(auto, using(crate::proofs::FieldLaws::named_in))]
+#[tactic(auto, using(crate::proofs::NameLaws::named_in))]
 fn test_names_well(desc: &Desc, number: usize, test: &Option<Box<Test>>) -> bool
     requires { number ≤ length desc.now.fields }
     ensures { result ≡ test_names_well (desc_of desc.now) number (option_map formula_in test.now) }

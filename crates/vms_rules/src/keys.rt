@@ -21,7 +21,7 @@ fn put_keys(keys: &mut Vec<u32>, names: &[Text]) -> Result<(), AllocError>
 }
 
 // Returns the keys of all names of fields, former names included.
-#[tactic(auto, using(crate::proofs::KeyLaws::keys_with))]
+#[tactic(auto, using(crate::proofs::NameLaws::keys_with))]
 fn keys(alloc: Global, fields: &[Field]) -> Result<Vec<u32>, AllocError>
     ensures { IfOk result (λ list.
         list.items ≡ map key (all_names (map field_of fields.now))) }

@@ -1,13 +1,13 @@
 -- The eight rules hold exactly if the walk finds no fault.
-use Rattle.vms_rules_laws.proofs.{Depths.deep_struct, Depths.shallow_struct, Items.set_counts, Fields.all_eight, Fields.field_decides}
-use Rattle.vms_rules_laws.proofs.{Fields.validation_decides, Names.distinct_decides, Names.name_decides, Names.sub_name_decides}
-use Rattle.vms_rules_laws.proofs.Facade.{◌≡◌, ℕ, zero, suc, ◌+◌, ◌<◌, ◌≤◌, Bool, true, false, not, nat_le, List, [], ◌∷◌, length, get_or, take, Option, None}
-use Rattle.vms_rules_laws.proofs.Facade.{le_decides, set_clean, inl, inr, refl, arith, Decides, list_any, leb-true, le-leb, or_left, or_right, Decides-and}
-use Rattle.vms_rules_laws.proofs.Facade.{Decides-eqb, Decides-like, Decides-not, slice_get_within, bytes_eq-Decides, Part, Place, first_answer, field_rules}
-use Rattle.vms_rules_laws.proofs.Facade.{validation_rules, Desc, Sub, Device, Set, desc_fault, device_fault, device_rules, failing, first_fault, has_few, here}
-use Rattle.vms_rules_laws.proofs.Facade.{in_field, is_same_device, set_rules, size_rules, struct_depths, struct_fault, struct_rules, sub_fault, sub_rules}
-use Rattle.vms_rules_laws.proofs.Facade.{AllTrue, both_none, Clean, device_parts, struct_clean, sub_clean, At, IsDesc, IsDevice, IsStruct, IsSub, EightLaw}
-use Rattle.vms_rules_laws.proofs.Tests.{all_decides, names_decides, never, new_decides, small_decides, split, steady_decides}
+use Rattle.vms_rules_laws.proofs.{Tests.split, Facade.sub_clean, Facade.At, Facade.IsDesc, Facade.IsDevice, Facade.IsStruct}
+use Rattle.vms_rules_laws.proofs.Facade.{IsSub, EightLaw, ◌≡◌, ℕ, zero, suc, ◌+◌, ◌<◌, ◌≤◌, Bool, true, false, not, nat_le, List, []}
+use Rattle.vms_rules_laws.proofs.Facade.{◌∷◌, length, get_or, take, Option, None, le_decides, set_clean, inl, inr, refl, arith, Decides, list_any}
+use Rattle.vms_rules_laws.proofs.Facade.{leb-true, le-leb, or_left, or_right, Decides-and, Decides-eqb, Decides-like, Decides-not, slice_get_within}
+use Rattle.vms_rules_laws.proofs.Facade.{bytes_eq-Decides, Part, Place, first_answer, field_rules, validation_rules, Desc, Sub, Device, Set, desc_fault}
+use Rattle.vms_rules_laws.proofs.Facade.{device_fault, device_rules, failing, first_fault, has_few, here, in_field, is_same_device, set_rules, size_rules}
+use Rattle.vms_rules_laws.proofs.Facade.{struct_depths, struct_fault, struct_rules, sub_fault, sub_rules, AllTrue, both_none, Clean, device_parts, struct_clean}
+use Rattle.vms_rules_laws.proofs.Fields.{distinct_decides, name_decides, sub_name_decides, all_eight, field_decides, validation_decides}
+use Rattle.vms_rules_laws.proofs.Tests.{steady_decides, deep_struct, shallow_struct, set_counts, all_decides, names_decides, never, new_decides, small_decides}
 use Rattle.vms_spec.specs.declared.Part.TheVariants as parts
 
 -- ---- nothing fails

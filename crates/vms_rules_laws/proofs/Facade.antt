@@ -11,9 +11,8 @@ pub use Rattle.std.specs.{Bool.Decides, List.AllByRecursion, List.list_all, List
 pub use Rattle.vms_kinds.specs.{Codes.InRange, declared.Item.Item, declared.Kind.Kind}
 pub use Rattle.vms_kinds.specs.declared.Item.TheVariants.{Equal, Num, Struct, Unused}
 pub use Rattle.vms_kinds.specs.declared.Kind.TheVariants.{U16, U32, U8}
-pub use Rattle.vms_spec.proofs.{ListLaws.both_none, NumberLaws.same_number_is, Faultless.AllTrue, Faultless.set_clean}
-pub use Rattle.vms_spec.proofs.Tables.{first_at, first_long, two_more}
-pub use Rattle.vms_spec.proofs.WellFormedLaws.{Clean, device_parts, ranges, struct_clean, sub_clean, untested, within}
+pub use Rattle.vms_spec.proofs.{ListsAndNumbers.both_none, ListsAndNumbers.same_number_is, Tables.first_at, Tables.first_long, Tables.two_more}
+pub use Rattle.vms_spec.proofs.WellFormedLaws.{AllTrue, set_clean, Clean, device_parts, ranges, struct_clean, sub_clean, untested, within}
 pub use Rattle.vms_spec.specs.{Lists.first_answer, Numbers.same_number, Streams.is_one_of, declared.Count.Count, declared.Part.Part, declared.Place.Place}
 pub use Rattle.vms_spec.specs.{declared.TheConstants.MOST_UNUSED, Images.default_image, Images.own_cells}
 pub use Rattle.vms_spec.specs.Layout.{all_hold, capacity_of, counted, desc_cells, no_desc, numbers_of, struct_cells, field_cells}
@@ -28,7 +27,7 @@ pub use Rattle.vms_spec.specs.WellFormed.{struct_rules, sub_fault, sub_rules, su
 pub use Rattle.vms_spec.specs.declared.Count.TheVariants.{Counted, Fixed, One}
 pub use Rattle.vms_spec.specs.declared.Whose.TheVariants.{Own, Parent}
 unfoldable pub use Rattle.vms_spec.specs.{Layout.first, WellFormed.first_fault}
-pub use Rattle.vms_bodies.proofs.ReadyLaws.{counted_well, is_same, le_decides, ranged}
+pub use Rattle.vms_bodies.proofs.Stated.{counted_well, is_same, le_decides, ranged}
 pub use Rattle.vms_elements.specs.Elements.{Element, Rule, Shape, Stand, array_elements, behind, cells_in, desc_elements, dotted, elements_from, field_elements}
 pub use Rattle.vms_elements.specs.Elements.{index_text, item_elements, no_shape, shape, single}
 pub use Rattle.vms_elements.specs.Parts.{absent, elements_in, subs_elements}

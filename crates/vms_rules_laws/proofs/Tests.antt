@@ -1,10 +1,126 @@
--- The relations that the tests of lists and of formulas decide.
-use Rattle.vms_rules_laws.proofs.Facade.{◌≡◌, ◌⊎◌, ℕ, zero, suc, ◌<◌, ◌≤◌, Bool, true, false, not, ◌||◌, List, [], ◌∷◌, take, map, Option, Some}
-use Rattle.vms_rules_laws.proofs.Facade.{le_decides, None, inl, inr, refl, ap, subst, arith, Decides, list_all, slice_get, Decides-and, Decides-like}
-use Rattle.vms_rules_laws.proofs.Facade.{Decides-ltb, Decides-not, Decides-or, bytes_eq-Decides, Kind, Item, Num, Count, One, Own, Parent, depth, has_no_test}
-use Rattle.vms_rules_laws.proofs.Facade.{is_earlier_in, is_num, is_one, is_small_test, is_steady, is_steady_in, names_well, nobody, nodes, Formula, Cell, Not}
-use Rattle.vms_rules_laws.proofs.Facade.{And, Or, Field, Desc, is_one_of, untested, At, IsEarlier, IsNew, IsSmall, IsSteady, NamesOnly, Nobody}
-use Rattle.vms_rules_laws.proofs.Depths.{part_count, deep_test, shallow_test}
+-- The levels, tests of lists and of formulas, and numbers of items that the walk computes.
+use Rattle.vms_rules_laws.proofs.Facade.{◌≡◌, ◌⊎◌, ℕ, zero, suc, ◌+◌, ◌<◌, ◌≤◌, max, nat_lt, true, false, List, [], ◌∷◌}
+use Rattle.vms_rules_laws.proofs.Facade.{length, get_or, length-append, inl, inr, refl, ap, arith, max-le, le-max_left, le-max_right, cases_Bool, ltb-true}
+use Rattle.vms_rules_laws.proofs.Facade.{nat_tests, get_or_past, get_or_from_slice_get, slice_get-get_or, slice_get_within, Item, Struct, first, no_desc, depth}
+use Rattle.vms_rules_laws.proofs.Facade.{nodes, Formula, AtLeast, Not, And, Or, Field, Desc, deepest, item_depth, struct_depths, first_at, first_long, At}
+use Rattle.vms_rules_laws.proofs.Facade.{IsWithinTest, Nests, UsesOn, parts_of, Bool, not, ◌||◌, take, map, Option, Some, le_decides, None, subst, Decides}
+use Rattle.vms_rules_laws.proofs.Facade.{list_all, slice_get, Decides-and, Decides-like, Decides-ltb, Decides-not, Decides-or, bytes_eq-Decides, Kind, Num}
+use Rattle.vms_rules_laws.proofs.Facade.{Count, One, Own, Parent, has_no_test, is_earlier_in, is_num, is_one, is_small_test, is_steady, is_steady_in}
+use Rattle.vms_rules_laws.proofs.Facade.{names_well, nobody, Cell, is_one_of, untested, IsEarlier, IsNew, IsSmall, IsSteady, NamesOnly, Nobody, ◌*◌}
+use Rattle.vms_rules_laws.proofs.Facade.{◌++◌, ℤ, ◌&&◌, sym, ◌∙◌, field_cells, suc-mul, Sub, Device, Set, capacity_of, desc_cells, struct_cells}
+use Rattle.vms_rules_laws.proofs.Facade.{numbers_of, all_hold, default_image, own_cells, item_count, items_in, struct_items, subs_items, devices_items, Element}
+use Rattle.vms_rules_laws.proofs.Facade.{Shape, no_shape, shape, cells_in, dotted, behind, single, Rule, item_elements, Stand, array_elements, field_elements}
+use Rattle.vms_rules_laws.proofs.Facade.{elements_from, desc_elements, index_text, absent, elements_in, subs_elements, two_more, items_among, items_of}
+
+-- ---- tests
+
+pub part_count : (t : Formula) → length (parts_of t) ≡ nodes t
+part_count (Not t) = omega (arith, part_count t)
+part_count (And s t) = omega (arith, part_count s, part_count t, length-append (parts_of s) (parts_of t))
+part_count (Or s t) = omega (arith, part_count s, part_count t, length-append (parts_of s) (parts_of t))
+part_count _ = refl
+
+pub shallow_test : (n : ℕ) (t : Formula) → (Nests n t → ⊥) → depth t ≤ n
+shallow_test zero t h = absurd (h tt)
+shallow_test (suc n) (Not t) h = omega (arith, shallow_test n t (λ nests. h (t, refl, nests)))
+shallow_test (suc n) (And s t) h =
+    let both = max-le (shallow_test n s (λ nests. h (s, inl refl, nests))) (shallow_test n t (λ nests. h (t, inr refl, nests))) in omega arith
+shallow_test (suc n) (Or s t) h =
+    let both = max-le (shallow_test n s (λ nests. h (s, inl refl, nests))) (shallow_test n t (λ nests. h (t, inr refl, nests))) in omega arith
+shallow_test (suc n) _ h = omega arith
+
+some_depth : (t : Formula) → 1 ≤ depth t
+some_depth (AtLeast m) = omega arith
+some_depth _ = omega arith
+
+-- a test within another has fewer levels
+within_either : (s t u : Formula) → (s ≡ t) ⊎ (s ≡ u) → depth s < 1 + max (depth t) (depth u)
+within_either s t u w =
+    let l = le-max_left (depth t) (depth u) in
+    let r = le-max_right (depth t) (depth u) in
+    elim w [ inl e ↦ let same = ap depth e in omega arith | inr e ↦ let same = ap depth e in omega arith ]
+
+within_less : (s t : Formula) → IsWithinTest s t → depth s < depth t
+within_less s (Not t) w = rw w (omega arith)
+within_less s (And t u) w = within_either s t u w
+within_less s (Or t u) w = within_either s t u w
+within_less s _ w = absurd w
+
+pub deep_test : (n : ℕ) (t : Formula) → Nests n t → n < depth t
+deep_test zero t h = some_depth t
+deep_test (suc n) t h = let inner = deep_test n h.0 h.2 in let less = within_less h.0 t h.1 in omega arith
+
+-- ---- structures
+
+-- the depths of the first k structures
+abbrev depths : List Desc → ℕ → List ℕ
+depths ds k = first (λ earlier d. 1 + deepest earlier d.fields) ds k
+
+abbrev depth_at : List Desc → ℕ → ℕ
+depth_at ds i = get_or (struct_depths ds) i 0
+
+most-deep : (sizes : List ℕ) (n : ℕ) (fs : List Field) → ((k : ℕ) (f : Field) → At fs k f → item_depth sizes f.item ≤ n) → deepest sizes fs ≤ n
+most-deep sizes n [] h = omega arith
+most-deep sizes n (f ∷ fs) h = max-le (h 0 f refl) (most-deep sizes n fs (λ k g e. h (suc k) g e))
+
+as-deep : (sizes : List ℕ) (fs : List Field) (k : ℕ) (f : Field) → At fs k f → item_depth sizes f.item ≤ deepest sizes fs
+as-deep sizes [] k f e = cc
+as-deep sizes (g ∷ fs) zero f e = let same : g ≡ f = cc in rw (← same) (le-max_left (item_depth sizes g.item) (deepest sizes fs))
+as-deep sizes (g ∷ fs) (suc k) f e = let inner = as-deep sizes fs k f e in let l = le-max_right (item_depth sizes g.item) (deepest sizes fs) in omega arith
+
+module _ (ds : List Desc) where
+  own-depth : (i : ℕ) (d : Desc) → At ds i d → depth_at ds i ≡ 1 + deepest (depths ds i) d.fields
+  own-depth i d e =
+      cc (first_at (λ earlier d. 1 + deepest earlier d.fields) ds 0 (length ds) i (slice_get_within ds i d e), get_or_from_slice_get ds i d no_desc e)
+
+  -- the depth of an earlier structure
+  earlier-depth : (i j : ℕ) → i < length ds → j < i → get_or (depths ds i) j 0 ≡ depth_at ds j
+  earlier-depth i j l e =
+      cc (
+        first_at (λ earlier d. 1 + deepest earlier d.fields) ds 0 i j e,
+        first_at (λ earlier d. 1 + deepest earlier d.fields) ds 0 (length ds) j (omega arith),
+      )
+
+  later-depth : (i j : ℕ) → i ≤ j → get_or (depths ds i) j 0 ≡ 0
+  later-depth i j l = let long = first_long (λ earlier d. 1 + deepest earlier d.fields) ds i in get_or_past _ j 0 (omega arith)
+
+  pub deep_struct : (n i : ℕ) → i < length ds → UsesOn ds n i → n < depth_at ds i
+  deep_struct zero i l h = let own = own-depth i (get_or ds i no_desc) (slice_get-get_or ds i no_desc l) in omega arith
+  deep_struct (suc n) i l h =
+      let j = h.0 in
+      let uses = h.1 in
+      let own = own-depth i uses.desc uses.there in
+      let same = earlier-depth i j l uses.earlier in
+      let among : item_depth (depths ds i) uses.field.item ≤ deepest (depths ds i) uses.desc.fields =
+      as-deep (depths ds i) uses.desc.fields uses.place uses.field uses.among in
+      let here : get_or (depths ds i) j 0 ≤ deepest (depths ds i) uses.desc.fields = rw uses.is at among in
+      omega (arith, deep_struct n j (omega arith) h.2)
+
+  -- a structure in which uses nest less than n times has depth at most n
+  abbrev IsBounded : ℕ → Type 0
+  IsBounded n = (i : ℕ) (d : Desc) → At ds i d → (UsesOn ds n i → ⊥) → depth_at ds i ≤ n
+
+  bounded-item : (n i : ℕ) (d : Desc) → At ds i d → IsBounded n → (UsesOn ds (suc n) i → ⊥) → (k : ℕ) (f : Field) → At d.fields k f → (item : Item)
+      → f.item ≡ item → item_depth (depths ds i) item ≤ n
+  bounded-item n i d there before h k f e (Struct j) is = by (cases_Bool (nat_lt j i))
+    where
+      by : (nat_lt j i ≡ true) ⊎ (nat_lt j i ≡ false) → get_or (depths ds i) j 0 ≤ n
+      by (inl before_i) =
+          let less : j < i = ltb-true j i before_i in
+          let l = slice_get_within ds i d there in
+          let same = earlier-depth i j l less in
+          let most =
+          before j (get_or ds j no_desc) (slice_get-get_or ds j no_desc (omega arith))
+          (λ on. h (j, record { desc = d; there = there; place = k; field = f; among = e; is = is; earlier = less }, on)) in
+          omega arith
+      by (inr behind_i) = let past = later-depth i j (grind (arith, nat_tests, behind_i)) in omega arith
+  bounded-item n i d there before h k f e _ is = omega arith
+
+  pub shallow_struct : (n i : ℕ) (d : Desc) → At ds i d → (UsesOn ds n i → ⊥) → depth_at ds i ≤ n
+  shallow_struct zero i d e h = absurd (h tt)
+  shallow_struct (suc n) i d e h = omega (arith, most-deep _ n _ (λ k f g. bounded-item n i d e (shallow_struct n) h k f g f.item refl), own-depth i d e)
+
+-- ---- the relations that the tests of lists and of formulas decide
 
 pub split : (b c : Bool) → (b || c) ≡ true → (b ≡ true) ⊎ (c ≡ true)
 split true c e = inl refl
@@ -119,3 +235,86 @@ module _ (own parent : ℕ → Bool) (O P : ℕ → Type 0) where
   names_decides o p (And s t) = both_name s t (names_decides o p s) (names_decides o p t)
   names_decides o p (Or s t) = or_names s t (both_name s t (names_decides o p s) (names_decides o p t))
   names_decides o p _ = (λ e. record { own = λ k x. absurd x; parent = λ k x. absurd x }, λ h. refl)
+
+-- ---- a set has the number of items that the walk computes
+
+items_append : (xs ys : List Element) → items_among (xs ++ ys) ≡ items_among xs + items_among ys
+items_append [] ys = omega arith
+items_append (x ∷ xs) ys = omega (arith, items_append xs ys)
+
+items_behind : (step : ℕ × ℕ) (text : List ℕ) (c p : Bool) (xs : List Element) → items_among (map (behind step text c p) xs) ≡ items_among xs
+items_behind step text c p [] = refl
+items_behind step text c p (x ∷ xs) = rw (items_behind step text c p xs)
+
+items_dotted : (xs : List Element) → items_among (map dotted xs) ≡ items_among xs
+items_dotted [] = refl
+items_dotted (x ∷ xs) = rw (items_dotted xs)
+
+items_absent : (xs : List Element) → items_among (map absent xs) ≡ items_among xs
+items_absent [] = refl
+items_absent (x ∷ xs) = rw (items_absent xs)
+
+-- each structure's elements have the number of items that its size says
+abbrev AreCounted : List Shape → List ℕ → Type 0
+AreCounted ss sizes = (j : ℕ) (numbers : List ℤ) (at : ℕ) → items_among ((get_or ss j no_shape).elements numbers at) ≡ get_or sizes j 0
+
+module _ (ss : List Shape) (sizes : List ℕ) (good : AreCounted ss sizes) where
+  item_counts : (item : Item) (caps : List ℕ) (z : ℤ) (n : List ℤ) (at : ℕ) → items_among (item_elements ss item caps z n at) ≡ item_count sizes item
+  item_counts (Struct j) caps z n at = items_dotted ((get_or ss j no_shape).elements n at) ∙ good j n at
+  item_counts _ caps z n at = refl
+
+  array_counts : (f : Field) (stand : Stand) (part : ℕ → List Element) (size : ℕ) → ((at : ℕ) → items_among (part at) ≡ size)
+      → (step e n at : ℕ) → items_among (array_elements f stand part step e n at) ≡ n * size
+  array_counts f stand part size h step e zero at = omega arith
+  array_counts f stand part size h step e (suc n) at =
+      let here = map (behind (stand.number, e) (f.name ++ index_text f.count e) (nat_lt e stand.count) (stand.there && nat_lt e stand.count)) (part at) in
+      let own = items_behind (stand.number, e) (f.name ++ index_text f.count e) (nat_lt e stand.count) (stand.there && nat_lt e stand.count) (part at) ∙ h at in
+      let rest = array_counts f stand part size h step (suc e) n (at + step) in
+      items_append here (array_elements f stand part step (suc e) n (at + step)) ∙ omega (arith, suc-mul n size)
+
+  module _ (fields : List Field) (v : ℕ) (own : ℕ → ℕ) (n : List ℤ) where
+    field_counts : (i at : ℕ) (f : Field) → items_among (field_elements ss fields v own n i at f) ≡ capacity_of f.count * item_count sizes f.item
+    field_counts i at f = array_counts f _ _ _ (λ a. item_counts f.item _ _ n a) _ 0 _ at
+
+    fields_count : (i at : ℕ) (fs : List Field) → items_among (elements_from ss fields v own n i at fs) ≡ items_in sizes fs
+    fields_count i at [] = refl
+    fields_count i at (f ∷ fs) = rw (items_append, field_counts i at f, fields_count (suc i) (at + length (field_cells (cells_in ss) fields i f)) fs) refl
+
+  desc_counts : (d : Desc) (v : ℕ) (n : List ℤ) (at : ℕ) → items_among (desc_elements ss d v n at) ≡ items_in sizes d.fields
+  desc_counts d v n at =
+      let own = numbers_of (cells_in ss) d n at in
+      let end = single (at + length (desc_cells (cells_in ss) d)) (Rule (all_hold d.validate v own)) in
+      omega (arith, fields_count d.fields v own n 0 at d.fields, items_append (elements_from ss d.fields v own n 0 at d.fields) (end ∷ []))
+
+are_counted : (ds : List Desc) (k : ℕ) → AreCounted (first shape ds k) (first (λ sizes d. items_in sizes d.fields) ds k)
+unfolding first
+are_counted ds zero j n at = refl
+are_counted ds (suc k) j n at =
+    let earlier = first shape ds k in
+    let sizes = first (λ sizes d. items_in sizes d.fields) ds k in
+    two_more (λ (s : Shape) (m : ℕ). (n : List ℤ) (at : ℕ) → items_among (s.elements n at) ≡ m) no_shape 0 (λ n at. refl) earlier sizes
+    (first_long shape ds k ∙ sym (first_long (λ sizes d. items_in sizes d.fields) ds k)) (are_counted ds k) (shape earlier (get_or ds k no_desc))
+    (items_in sizes (get_or ds k no_desc).fields)
+    (λ n at. desc_counts earlier sizes (are_counted ds k) (get_or ds k no_desc) (get_or ds k no_desc).version n at) j n at
+
+module _ (set : Set) where
+  part_counts : (d : Desc) (v : ℕ) (n : List ℤ) (at : ℕ) → items_among (elements_in set d v n at) ≡ items_in (struct_items set.structs) d.fields
+  part_counts d v n at = desc_counts _ _ (are_counted _ _) d v n at
+
+  subs_count : (subs : List Sub) (n : List ℤ) (at : ℕ)
+      → items_among (subs_elements set subs (map (λ s. None) subs) n at) ≡ subs_items (struct_items set.structs) subs
+  subs_count [] n at = refl
+  subs_count (s ∷ subs) n at =
+      let next = at + length (desc_cells (struct_cells set) s.desc) in
+      let own = items_absent (elements_in set s.desc s.desc.version n at) ∙ part_counts s.desc s.desc.version n at in
+      let rest = subs_count subs n next in
+      omega (arith, items_append (map absent (elements_in set s.desc s.desc.version n at)) (subs_elements set subs (map (λ s. None) subs) n next))
+
+  pub set_counts : (devices : List Device) → items_of set devices ≡ devices_items (struct_items set.structs) devices
+  set_counts [] = refl
+  set_counts (d ∷ devices) =
+      let image = default_image set d in
+      let here = part_counts d.desc image.version image.numbers 0 in
+      let later = subs_count d.subs image.numbers (own_cells set d) in
+      let rest = set_counts devices in
+      omega (arith, items_append (elements_in set d.desc image.version image.numbers 0) (subs_elements set d.subs image.came image.numbers (own_cells set d)))

@@ -7,7 +7,7 @@ pub use Rattle.std.proofs.Common.{◌==◌, ◌^◌, ◌∙◌, ◌∷◌, ◌�
 pub use Rattle.std.proofs.lemmas.Bool.{not-true, and_parts, and_right, cases_lt, eq-eqb, eqb-true, leb-true, ne_eqb, Decides.nat_tests}
 pub use Rattle.std.proofs.lemmas.List.{append-nil, drop_all, drop_more}
 pub use Rattle.std.specs.{Char.digit_char, Fmt.decimal, List.list_all, Prelude.IsAscii, Prelude.codes, Prelude.slice_index, Str.bytes_eq}
-pub use Rattle.vms_spec.proofs.{ListLaws.natural_up, NameBytes.name_byte_high, NameBytes.name_byte_low}
+pub use Rattle.vms_spec.proofs.ListsAndNumbers.{natural_up, name_byte_high, name_byte_low}
 pub use Rattle.vms_spec.specs.Names.{is_name, is_name_byte}
 pub use Rattle.vms_spec.specs.Spelling.{first_line, is_digit, longer_line, natural_from, number_spelled}
 pub use Rattle.vms_words.proofs.{LineLaws.first_is, LineLaws.first_none, Spells.number_holds, Spells.numerals, Spells.spelled_holds}

@@ -1,7 +1,4 @@
 pub mod Facade
-pub mod GrammarLemmas
-pub mod GrammarOnly
+pub mod GrammarLaws
 pub mod NumberLemmas
-pub mod RefusalLaws
-pub mod Rows
 pub mod ScriptLemmas

@@ -1,10 +1,12 @@
--- A script, line by line.
-use Rattle.vms_script.proofs.Facade.{◌≡◌, ℕ, ◌+◌, ◌<◌, Bool, true, false, ◌==◌, List, [], ◌∷◌, ◌++◌, length, Option, Some, None, Ok, Err, if◌then◌else◌, refl}
-use Rattle.vms_script.proofs.Facade.{sym, ap, ◌∙◌, arith, append_assoc, eqb-true, append-nil, first_line, longer_line, ScriptLine, Read, line_read, Split}
-use Rattle.vms_script.proofs.Facade.{Reading, lines_of, begun, bad, also, with_line, unended, tail_read, lines_read, text_read, SaysLines, IsBadAt, IsPut}
-use Rattle.vms_script.proofs.Facade.{IsRefusal, ReadsLines, ScriptFault, Bad, NoMemory, ScriptReason, zero, suc, ◌≤◌, get_or, take, drop, ⊎_elim, codes}
-use Rattle.vms_script.proofs.Facade.{bytes_eq, cases_lt, ne_eqb, eq-eqb, none-some, Ack, Happens, line_split, first_word, longer_word, ◌&&◌, nat_le, not}
-use Rattle.vms_script.proofs.Facade.{list_all, IsAscii, slice_index, and_parts, is_name_byte, is_name, name_byte_low, is_shelf_name}
+-- Scripts line by line, and the line that is refused.
+use Rattle.vms_script.proofs.{Facade.RefusesFirst, Facade.BadLine, NumberLemmas.lacks, GrammarLaws.unsplit, GrammarLaws.text_split, GrammarLaws.line_is}
+use Rattle.vms_script.proofs.Facade.{◌≡◌, ℕ, ◌+◌, ◌<◌, Bool, true, false, ◌==◌, List, [], ◌∷◌, ◌++◌, length, Option, Some, None}
+use Rattle.vms_script.proofs.Facade.{Ok, Err, if◌then◌else◌, refl, sym, ap, ◌∙◌, arith, append_assoc, eqb-true, append-nil, first_line, longer_line}
+use Rattle.vms_script.proofs.Facade.{ScriptLine, Read, line_read, Split, Reading, lines_of, begun, bad, also, with_line, unended, tail_read, lines_read}
+use Rattle.vms_script.proofs.Facade.{text_read, SaysLines, IsBadAt, IsPut, IsRefusal, ReadsLines, ScriptFault, Bad, NoMemory, ScriptReason, zero, suc}
+use Rattle.vms_script.proofs.Facade.{◌≤◌, get_or, take, drop, ⊎_elim, codes, bytes_eq, cases_lt, ne_eqb, eq-eqb, none-some, Ack, Happens, line_split}
+use Rattle.vms_script.proofs.Facade.{first_word, longer_word, ◌&&◌, nat_le, not, list_all, IsAscii, slice_index, and_parts, is_name_byte, is_name}
+use Rattle.vms_script.proofs.Facade.{name_byte_low, is_shelf_name, script_read, subst, not-true, line_text, script_text, unended_reason, IsBadHere, IsRefused}
 use Rattle.vms_script.specs.declared.line.ScriptReason.TheVariants as reasons
 
 -- ---- the lines of a text by its first line
@@ -177,3 +179,95 @@ pub name_ascii : (name : List ℕ) → is_shelf_name name ≡ true → IsAscii n
 name_ascii name e =
     let named = and_parts (is_name 64 name) (not (get_or name 0 46 == 46)) e in
     bytes_ascii name (and_parts (nat_le 1 (length name) && nat_le (length name) 64) (list_all is_name_byte name) named.0).1
+
+-- ---- a text is refused at its first bad line: the lines of a text have no line feed
+
+abbrev AllLack : List (List ℕ) → Type 0
+AllLack [] = Unit {0}
+AllLack (line ∷ lines) = (lacks 10 line ≡ true) × AllLack lines
+
+abbrev SplitLacks : Split → Type 0
+SplitLacks split = AllLack split.lines × (lacks 10 split.tail ≡ true)
+
+begun_lacks : (b : ℕ) (lines : List (List ℕ)) (tail : List ℕ) → (b == 10) ≡ false → AllLack lines → lacks 10 tail ≡ true → SplitLacks (begun b lines tail)
+begun_lacks b [] tail e h i = (tt, rw (e, i) refl)
+begun_lacks b (line ∷ lines) tail e h i = ((rw (e, h.0) refl, h.1), i)
+
+lines_lack : (text : List ℕ) → SplitLacks (lines_of text)
+lines_lack [] = (tt, refl)
+lines_lack (b ∷ text) = by (b == 10) refl (lines_lack text) where
+  by : (t : Bool) → (b == 10) ≡ t → SplitLacks (lines_of text) → SplitLacks (if t then record { lines = [] ∷ (lines_of text).lines; tail = (lines_of text).tail } else begun b (lines_of text).lines (lines_of text).tail)
+  by true e h = ((refl, h.0), h.1)
+  by false e h = begun_lacks b (lines_of text).lines (lines_of text).tail e h.0 h.1
+
+line_first : (line after : List ℕ) → lacks 10 line ≡ true → first_line (line ++ 10 ∷ after) ≡ Some (line, after)
+line_first [] after h = refl
+line_first (b ∷ line) after h =
+    let parts = and_parts (not (b == 10)) (lacks 10 line) h in
+    rw (not-true (b == 10) parts.0) (ap (longer_line b) (line_first line after parts.1))
+
+no_first : (text : List ℕ) → lacks 10 text ≡ true → first_line text ≡ None
+no_first [] h = refl
+no_first (b ∷ text) h =
+    let parts = and_parts (not (b == 10)) (lacks 10 text) h in
+    rw (not-true (b == 10) parts.0) (ap (longer_line b) (no_first text parts.1))
+
+abbrev refused_for : BadLine → Reading
+refused_for fault = Err fault
+
+fault_same : (a b : BadLine) → refused_for a ≡ refused_for b → a ≡ b
+fault_same a b e = cc
+
+abbrev fault_at : ℕ → ScriptReason → BadLine
+fault_at number reason = record { line = number; reason = reason }
+
+-- a bad line with none before it
+here : (play : Option ℕ) (number : ℕ) (left : List ℕ) (found : Option (List ℕ × List ℕ)) (reason : ScriptReason) (fault : BadLine) → first_line left ≡ found → fault_at number reason ≡ fault → IsBadHere play left found reason → IsRefused play number left fault
+here play number left found reason fault first is h =
+    subst (IsRefused play number left) is (record {
+      before = [];
+      left = left;
+      good = tt;
+      whole = refl;
+      number = omega arith;
+      bad = rw first h;
+    })
+
+tail_bad : (play : Option ℕ) (number : ℕ) (tail : List ℕ) (fault : BadLine) → lacks 10 tail ≡ true → tail_read play number tail ≡ refused_for fault → IsRefused play number tail fault
+tail_bad play number [] fault h e = cc
+tail_bad play number (b ∷ tail) fault h e =
+    here play number (b ∷ tail) None (unended_reason (line_read play (b ∷ tail))) fault (no_first (b ∷ tail) h) (fault_same _ fault (sym (unended_is (line_read play (b ∷ tail))) ∙ e)) (omega arith, refl) where
+      unended_is : (r : Read) → unended number r ≡ refused_for (fault_at number (unended_reason r))
+      unended_is (Ok line) = refl
+      unended_is (Err reason) = refl
+
+lines_bad : (play : Option ℕ) (number : ℕ) (texts : List (List ℕ)) (tail : List ℕ) (fault : BadLine) → AllLack texts → lacks 10 tail ≡ true → lines_read play number texts tail ≡ refused_for fault → IsRefused play number (unsplit texts tail) fault
+lines_bad play number [] tail fault h i e = tail_bad play number tail fault i e
+lines_bad play number (text ∷ texts) tail fault h i e =
+    by (line_read play text) (lines_read play (number + 1) texts tail) refl refl e (λ other q. lines_bad play (number + 1) texts tail other h.1 i q) where
+      by : (r : Read) (later : Reading) → line_read play text ≡ r → lines_read play (number + 1) texts tail ≡ later → with_line number r later ≡ refused_for fault
+          → ((other : BadLine) → lines_read play (number + 1) texts tail ≡ refused_for other → IsRefused play (number + 1) (unsplit texts tail) other) → IsRefused play number (text ++ 10 ∷ unsplit texts tail) fault
+      by (Err reason) later p q is go =
+          here play number (text ++ 10 ∷ unsplit texts tail) (Some (text, unsplit texts tail)) reason fault (line_first text (unsplit texts tail) h.0) (fault_same (fault_at number reason) fault is) p
+      by (Ok line) (Ok more) p q is go = cc
+      by (Ok line) (Err other) p q is go =
+          let same : other ≡ fault = fault_same other fault is in
+          let r = go other q in
+          let said = line_is play text line p in
+          subst (IsRefused play number (text ++ 10 ∷ unsplit texts tail)) same (record {
+            before = line ∷ r.before;
+            left = r.left;
+            good = (said.0, r.good);
+            whole = rw (said.1, r.whole) (sym (append_assoc (line_text line) (10 ∷ script_text r.before) r.left));
+            number = omega arith;
+            bad = r.bad;
+          })
+
+refused_at : (play : Option ℕ) (text : List ℕ) (fault : BadLine) → script_read play text ≡ refused_for fault → IsRefused play 1 text fault
+unfolding script_read
+refused_at play text fault e =
+    let lack = lines_lack text in
+    rw (text_split text) (lines_bad play 1 (lines_of text).lines (lines_of text).tail fault lack.0 lack.1 e)
+
+pub refuses_first : RefusesFirst
+refuses_first = record { at = refused_at }

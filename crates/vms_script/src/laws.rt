@@ -5,7 +5,7 @@ ghost use Rattle.vms_script.specs.Refusal.{RefusesFirst};
 /// States that exactly the texts of valid lines are read, and as these lines.
 ///
 /// Each line is spelled in its one way and ends with a line feed.
-#[tactic(auto, using(crate::proofs::GrammarOnly::reads_exactly))]
+#[tactic(auto, using(crate::proofs::GrammarLaws::reads_exactly))]
 pub fn grammar_law()
     ensures { ReadsExactly }
 {}
@@ -15,7 +15,7 @@ pub fn grammar_law()
 ///
 /// Either that line is invalid for the returned reason, or it has no line feed. In the second case
 /// the reason is what else is wrong with it, if anything, and else the missing line feed.
-#[tactic(auto, using(crate::proofs::RefusalLaws::refuses_first))]
+#[tactic(auto, using(crate::proofs::ScriptLemmas::refuses_first))]
 pub fn refusal_law()
     ensures { RefusesFirst }
 {}

@@ -15,10 +15,10 @@ unfoldable pub use Rattle.std.specs.Fmt.{digits}
 pub use Rattle.vms_kinds.specs.{Codes.highest, Codes.lowest, Codes.width, declared.Item.Item, declared.Kind.Kind, declared.Kind.TheVariants.U8}
 pub use Rattle.vms_kinds.specs.declared.Item.TheVariants.{Equal, Num, Struct, Unused}
 unfoldable pub use Rattle.vms_kinds.specs.Codes.{code}
-pub use Rattle.vms_spec.proofs.{Faultless.AllTrue, KindLaws.width_small, ListLaws.versions_long, Tables.first_at, Tables.first_long}
-pub use Rattle.vms_spec.proofs.Boxes.{constant_set, counted_set, mixed_set, subsection_set, tested_set}
-pub use Rattle.vms_spec.proofs.Prefixes.{FieldsBelow, ItemBelow, all_below, desc_cells_same, field_cells_same, first_same, item_cells_same, own_same, row_same}
-pub use Rattle.vms_spec.proofs.Sizes.{elements_fit, field_size, one_fits, room_for_less}
+pub use Rattle.vms_spec.proofs.{WellFormedLaws.AllTrue, ListsAndNumbers.width_small, ListsAndNumbers.versions_long}
+pub use Rattle.vms_spec.proofs.Examples.{constant_set, counted_set, mixed_set, subsection_set, tested_set}
+pub use Rattle.vms_spec.proofs.Tables.{first_at, first_long, FieldsBelow, ItemBelow, all_below, desc_cells_same, field_cells_same, first_same, item_cells_same}
+pub use Rattle.vms_spec.proofs.Tables.{own_same, row_same, elements_fit, field_size, one_fits, room_for_less}
 pub use Rattle.vms_spec.specs.{Heads.FitsHeads, Images.Image, Images.own_cells, Layout.numbers_of, Shipped.set_0, Shipped.shipped_sets, Streams.AreReady}
 pub use Rattle.vms_spec.specs.{Streams.longest_text, Streams.written, Tests.is_there, WellFormed.struct_items, declared.Count.Count, declared.Part.Part}
 pub use Rattle.vms_spec.specs.{Names.is_name, Names.is_name_byte, Names.is_sub_name, declared.TheConstants.MOST_ITEMS, declared.TheConstants.MOST_UNUSED}
@@ -29,20 +29,19 @@ pub use Rattle.vms_spec.specs.WellFormed.{subs_items, deepest, devices_items, fi
 pub use Rattle.vms_spec.specs.declared.Count.TheVariants.{Counted, Fixed, One}
 unfoldable pub use Rattle.vms_spec.specs.Layout.{first}
 pub use Rattle.vms_words.specs.Words.{kind_word}
-pub use Rattle.vms_elements.proofs.{Arrays.array_of, Arrays.outs, Members.all_both, Members.decimal_all, Tables.shapes_cells}
+pub use Rattle.vms_elements.proofs.{LinesOf.array_of, LinesOf.outs, Members.all_both, Members.decimal_all, Members.shapes_cells}
 pub use Rattle.vms_elements.specs.Elements.{Element, Number, Shape, What, array_elements, behind, cells_in, desc_elements, dotted, elements_from}
 pub use Rattle.vms_elements.specs.Elements.{field_elements, index_text, item_elements, no_shape, shape, shapes}
-pub use Rattle.vms_desc.proofs.{ClockHeads.clock_heads, EvalLaws.place_after, EvalLaws.place_is, EvalLaws.place_within, Formed.by_number, Formed.clock_formed}
-pub use Rattle.vms_desc.proofs.{Formed.fit_number, Bounds.few_devices, Bounds.few_items, Bounds.few_structs, Bounds.none_is}
 pub use Rattle.vms_desc.proofs.AskLaws.{few_cells, found_field, here_fields, own_inside_device, sub_first, sub_inside, sub_next}
-pub use Rattle.vms_desc.proofs.Clean.{device_clean, few_subs, field_clean, field_sound, reach, struct_clean, sub_clean}
-pub use Rattle.vms_desc.proofs.Ranks.{item_rank, part_rank, rank_below, reach_whole, uses_more}
+pub use Rattle.vms_desc.proofs.Clean.{clock_heads, by_number, clock_formed, fit_number, few_devices, few_items, few_structs, none_is, device_clean, few_subs}
+pub use Rattle.vms_desc.proofs.Clean.{field_clean, field_sound, reach, struct_clean, sub_clean, item_rank, part_rank, rank_below, reach_whole, uses_more}
+pub use Rattle.vms_desc.proofs.EvalLaws.{place_after, place_is, place_within}
 pub use Rattle.vms_desc.specs.{Asks.field_at, Asks.field_start, Asks.first_cell, Asks.own_numbers, Described.described, Described.device_at, Formed.clock_set}
 pub use Rattle.vms_desc.specs.{Formed.is_well_formed, Formed.shipped_set, Parts.HasPart, Parts.desc_at, Parts.sub_at}
 pub use Rattle.vms_image.proofs.States.{state_at, states_long}
 pub use Rattle.vms_image.specs.Typed.{IsOfDevice, state_of}
 pub use Rattle.vms_parts.specs.Views.{field_of}
-pub use Rattle.vms_rules.proofs.StructLaws.{deepest_small}
+pub use Rattle.vms_rules.proofs.WalkLaws.{deepest_small}
 pub use Rattle.vms_selfdesc.specs.{Drafts.member_text, Needs.HasElements, Needs.HasPlace, Needs.item_levels, Needs.part_levels, Tree.entry_tree, Tree.list_tree}
 pub use Rattle.vms_selfdesc.specs.{Tree.natural, Tree.sent_members, declared.draft.Draft.Draft, declared.path.Path.Path, declared.text.Text.Text}
 pub use Rattle.vms_selfdesc.specs.Drafts.{texts, Adds, AreSound, Begins, Extends, IsEmpty, IsPlain, IsSound, Lays, Puts, absent_tail, after, cell_tail}

@@ -1,15 +1,21 @@
--- The length and the number of the entries of fields, for a path that begins with a number of bytes. They depend on
--- the depth of structures and the number of items.
-use Rattle.vms_selfdesc.proofs.Facade.{cases_lt, inl, inr, ◌≡◌, ℕ, zero, suc, ◌+◌, ◌*◌, ◌<◌, ◌≤◌, List, ◌∷◌, ◌++◌, length, length-append, get_or, ℤ, Bool, true}
-use Rattle.vms_selfdesc.proofs.Facade.{append-nil, and-true, false, ◌&&◌, refl, arith, codes, [], get_or-eq_default, mul-le-mul_right, quoted, compact_text}
-use Rattle.vms_selfdesc.proofs.Facade.{number_text, of_integer, Item, Kind, Num, Equal, Unused, Struct, width, MOST_ITEMS, MOST_UNUSED, Count, One, Field, Desc}
-use Rattle.vms_selfdesc.proofs.Facade.{is_there, no_desc, no_parent, first, item_size, field_cells, capacity_of, elements_of, numbers_of, item_count, items_in}
-use Rattle.vms_selfdesc.proofs.Facade.{item_depth, deepest, elements_fit, first_at, first_long, width_small, kind_word, Shape, no_shape, shape, cells_in}
-use Rattle.vms_selfdesc.proofs.Facade.{field_elements, elements_from, desc_elements, Entry, cell_entry, listed_if, entries_of, item_entries, element_path}
-use Rattle.vms_selfdesc.proofs.Facade.{element_entries, array_entries, entry_tree, IsPlain}
-use Rattle.vms_selfdesc.proofs.Plain.{IsShort, plain_append, element_plain, element_long, dot_plain, key_long}
+-- The length and the number of the entries of fields, and what well-formed sets say of names, sizes
+-- and depths.
+use Rattle.vms_selfdesc.proofs.Facade.{cases_lt, inl, inr, ◌≡◌, ℕ, zero, suc, ◌+◌, ◌*◌, ◌<◌, ◌≤◌, List, ◌∷◌, ◌++◌, length}
+use Rattle.vms_selfdesc.proofs.Facade.{length-append, get_or, ℤ, Bool, true, append-nil, and-true, false, ◌&&◌, refl, arith, codes, [], get_or-eq_default}
+use Rattle.vms_selfdesc.proofs.Facade.{mul-le-mul_right, quoted, compact_text, number_text, of_integer, Item, Kind, Num, Equal, Unused, Struct, width}
+use Rattle.vms_selfdesc.proofs.Facade.{MOST_ITEMS, MOST_UNUSED, Count, One, Field, Desc, is_there, no_desc, no_parent, first, item_size, field_cells}
+use Rattle.vms_selfdesc.proofs.Facade.{capacity_of, elements_of, numbers_of, item_count, items_in, item_depth, deepest, elements_fit, first_at, first_long}
+use Rattle.vms_selfdesc.proofs.Facade.{width_small, kind_word, Shape, no_shape, shape, cells_in, field_elements, elements_from, desc_elements, Entry}
+use Rattle.vms_selfdesc.proofs.Facade.{cell_entry, listed_if, entries_of, item_entries, element_path, element_entries, array_entries, entry_tree, IsPlain}
+use Rattle.vms_selfdesc.proofs.Facade.{◌^◌, pos, negsuc, nat_le, list_all, and_parts, leb-true, length-decimal-le, lowest, highest, Part, Set, counted}
+use Rattle.vms_selfdesc.proofs.Facade.{no_field, is_name, int_le, in_range, defaults_well, counts_well, is_small_item, is_small_optional, field_rules}
+use Rattle.vms_selfdesc.proofs.Facade.{struct_depths, has_few, deepest_small, is_well_formed, HasPart, desc_at, AllTrue, reach, field_sound, struct_clean}
 use Rattle.vms_selfdesc.proofs.OfElements.{of_append, of_dotted, plain_is, of_field, of_desc}
-use Rattle.vms_selfdesc.proofs.EntryLong.{sent_long, absent_long, word_short}
+use Rattle.vms_selfdesc.proofs.Plain.{IsShort, plain_append, element_plain, element_long, dot_plain, key_long, sent_long, absent_long, word_short, name_short}
+use Rattle.vms_kinds.specs.declared.Kind.TheVariants as kinds
+
+-- ---- the length and the number of the entries of fields, for a path that begins with a number of bytes. They depend on the
+-- depth of structures and the number of items.
 
 -- the texts of these entries are no longer than this
 abbrev pub AreLong : ℕ → List Entry → Type 0
@@ -217,3 +223,59 @@ module _ (ds : List Desc) (most : ℕ) (sound : (j : ℕ) → j < most → AreSo
 
   pub tables_fit : (k : ℕ) → k ≤ most → FitTables (first shape ds k) (first items_of_desc ds k) (first depth_of_desc ds k)
   tables_fit k le = at_number k (λ j lt. each_made k j le lt)
+
+-- ---- what well-formed sets say of names, sizes and depths: a number of 64 bits has at most 20 bytes
+
+pub natural_fits : (kind : Kind) (n : ℕ) → int_le (pos n) (highest kind) ≡ true → n < 2 ^ 64
+natural_fits kinds.U8 n e = omega (arith, leb-true n 0xff e)
+natural_fits _ n e = omega (arith, leb-true n _ e)
+
+pub negative_fits : (kind : Kind) (n : ℕ) → int_le (lowest kind) (negsuc n) ≡ true → n < 2 ^ 63
+negative_fits kinds.I8 n e = omega (arith, leb-true n 0x7f e)
+negative_fits kinds.I16 n e = omega (arith, leb-true n 0x7fff e)
+negative_fits kinds.I32 n e = omega (arith, leb-true n 0x7fff_ffff e)
+negative_fits kinds.I64 n e = omega (arith, leb-true n 0x7fff_ffff_ffff_ffff e)
+negative_fits _ n e = cc
+
+default_short : (kind : Kind) (z : ℤ) → in_range kind z ≡ true → length (number_text (of_integer z)) ≤ 20
+default_short kind (pos n) e =
+    let small = natural_fits kind n (and_parts (int_le (lowest kind) (pos n)) (int_le (pos n) (highest kind)) e).1 in
+    length-decimal-le 20 n (omega arith) (omega arith) small
+default_short kind (negsuc n) e =
+    let small = negative_fits kind n (and_parts (int_le (lowest kind) (negsuc n)) (int_le (negsuc n) (highest kind)) e).0 in
+    omega (arith, length-decimal-le 19 (suc n) (omega arith) (omega arith) (omega arith))
+
+-- ---- fields
+
+small_item : (item : Item) (z : ℤ) → defaults_well item z ≡ true → is_small_item item ≡ true → IsSmall item z
+small_item (Num kind) z e f = default_short kind z e
+small_item (Unused n) z e f = leb-true n MOST_UNUSED (and_parts (nat_le 1 n) (nat_le n MOST_UNUSED) f).1
+small_item _ z e f = tt
+
+sound_field : (k : ℕ) (d : Desc) (i : ℕ) (f : Field) → AllTrue (field_rules k d i f) → IsSoundField f
+sound_field k d i f rules =
+    let names = and_parts (is_name 32 f.name) (list_all (is_name 32) f.former) rules.0 in
+    let defaults = and_parts (defaults_well f.item f.default) (counts_well (counted i d.fields) f.default) rules.1.1.1.1.1.0 in
+    let limits = and_parts (nat_le (length f.former) 8 && is_small_optional f.test) (is_small_item f.item) rules.1.1.1.1.1.1.0 in
+    record { name = name_short 32 f.name names.0; small = small_item f.item f.default defaults.0 limits.1 }
+
+are_sound : (fs : List Field) → ((i : ℕ) → i < length fs → IsSoundField (get_or fs i no_field)) → AreSound fs
+are_sound [] h = tt
+are_sound (f ∷ fs) h = (h 0 (omega arith), are_sound fs (λ i lt. h (suc i) (omega arith)))
+
+module _ (set : Set) (well : is_well_formed set ≡ true) where
+  pub part_sound : (part : Part) → HasPart set part → AreSound (desc_at set part).fields
+  part_sound part h = are_sound (desc_at set part).fields (λ i lt. sound_field (reach set part) (desc_at set part) i _ (field_sound set well part h i lt))
+
+  -- structures nest at most four deep
+  struct_flat : (j : ℕ) → get_or (struct_depths set.structs) j 0 ≤ 4
+  struct_flat j = elim (cases_lt j (length set.structs)) [
+    | inl lt ↦ leb-true (get_or (struct_depths set.structs) j 0) 4 (and_parts (has_few (get_or set.structs j no_desc))
+        (nat_le (get_or (struct_depths set.structs) j 0) 4) (struct_clean set well j lt).own.1.1.1.1.1.1.0).1
+    | inr le ↦
+        let long = first_long (λ depths d. 1 + deepest depths d.fields) set.structs (length set.structs) in
+        omega (arith, get_or-eq_default (struct_depths set.structs) 0 {n = j} (omega arith))
+  ]
+
+  pub fields_flat : (fs : List Field) → deepest (struct_depths set.structs) fs ≤ 4
+  fields_flat fs = deepest_small (struct_depths set.structs) 4 fs struct_flat

@@ -1,17 +1,89 @@
--- How long the text of the described tree is, by the depth of structures and the number of items: at most 300 bytes for each item,
--- subsection and device, and fewer for the items of a part without structures.
-use Rattle.vms_selfdesc.proofs.{Facade.described_text, Plain.quoted_long, Plain.IsShort, Soundness.part_sound, Soundness.fields_flat}
-use Rattle.vms_selfdesc.proofs.EntryLong.{member_long, number_short}
-use Rattle.vms_selfdesc.proofs.Facade.{get_or, ◌≡◌, ℕ, suc, ◌+◌, ◌*◌, ◌<◌, ◌≤◌, List, [], ◌∷◌, length, length-append, map, ℤ, Bool, true, false, arith}
-use Rattle.vms_selfdesc.proofs.Facade.{Option}
-use Rattle.vms_selfdesc.proofs.Facade.{is_some, codes, mul-le-mul_left, mul-le-mul_right, AtLeast, no_desc, escape_byte, Data}
-use Rattle.vms_selfdesc.proofs.Facade.{Members, no_members, member, object, array, quoted, members_text, boolean, items_of, compact_text, items_text}
-use Rattle.vms_selfdesc.proofs.Facade.{MOST_ITEMS, Field, Desc, Sub, Device}
-use Rattle.vms_selfdesc.proofs.Facade.{Set, desc_cells, struct_cells, Image, own_cells, items_in, struct_items, subs_items, devices_items, struct_depths}
-use Rattle.vms_selfdesc.proofs.Facade.{deepest, is_well_formed, shapes, Entry, part_entries, entry_tree, sub_members, sub_trees, device_members}
-use Rattle.vms_selfdesc.proofs.Facade.{device_trees}
-use Rattle.vms_selfdesc.proofs.Fits.{AreLong, longer, AreSound, FitTables, tables_fit, entries_few, entries_long}
+-- How long the text of the described tree is, and that ready images are images of their devices.
+use Rattle.vms_selfdesc.proofs.{Facade.clock_formed, Facade.fit_number, Facade.ShortLaw, ReadBack.reads_whole}
+use Rattle.vms_selfdesc.proofs.Facade.{ShippedLaw, ClockLaw, ◌≡◌, ℕ, suc, ◌+◌, ◌≤◌, length, List, ◌∷◌, map, Bool, false, Option, Some}
+use Rattle.vms_selfdesc.proofs.Facade.{None, ℤ, pos, negsuc, refl, arith, is_some, [], ◌||◌, or_from, Data, object, array, depth, items_depth, items_of}
+use Rattle.vms_selfdesc.proofs.Facade.{has_float, items_have_float, Sub, Device, Set, desc_cells, struct_cells, Image, own_cells, Entry, with_value}
+use Rattle.vms_selfdesc.proofs.Facade.{sent_members, entry_tree, list_tree, sub_members, sub_trees, device_members, device_trees, described_tree}
+use Rattle.vms_selfdesc.proofs.Facade.{described_text, get_or, ◌*◌, ◌<◌, length-append, true, codes, mul-le-mul_left, mul-le-mul_right, AtLeast}
+use Rattle.vms_selfdesc.proofs.Facade.{no_desc, escape_byte, Members, no_members, member, quoted, members_text, boolean, compact_text, items_text, MOST_ITEMS}
+use Rattle.vms_selfdesc.proofs.Facade.{Field, Desc, items_in, struct_items, subs_items, devices_items, struct_depths, deepest, is_well_formed, shapes}
+use Rattle.vms_selfdesc.proofs.Facade.{part_entries, ap, sym, ◌∙◌, zero, is_none, slice_get-get_or, list_all, ltb-true, first, AreReady, longest_text}
+use Rattle.vms_selfdesc.proofs.Facade.{versions_long, device_at, shipped_set, clock_set, few_cells, IsOfDevice, read, FitsHeads, first_fault, none_is}
+use Rattle.vms_selfdesc.proofs.Facade.{few_items, few_devices, IsSound, shipped_sets, sub_at, few_subs, device_clean, sub_clean, clock_heads, by_number}
+use Rattle.vms_selfdesc.proofs.Fits.{part_sound, fields_flat, AreLong, longer, AreSound, FitTables, tables_fit, entries_few, entries_long}
+use Rattle.vms_selfdesc.proofs.Plain.{quoted_long, IsShort, member_long, number_short, name_short, sub_name_short}
+use Rattle.std.specs.Prelude.{nat_lt}
 use Rattle.vms_spec.specs.declared.Part.TheVariants as parts
+
+-- ---- the described tree has no number with a fraction, and nests little
+
+-- without a fraction, and nested at most so deep
+pub record IsPlainTree (deepest : ℕ) (d : Data) : Type 0 where
+  pub whole : has_float d ≡ false
+  pub flat : depth d ≤ deepest
+
+abbrev pub ArePlain : ℕ → List Data → Type 0
+ArePlain deepest [] = Unit {0}
+ArePlain deepest (d ∷ ds) = IsPlainTree deepest d × ArePlain deepest ds
+
+items_whole : (deepest : ℕ) (ds : List Data) → ArePlain deepest ds → items_have_float (items_of ds) ≡ false
+items_whole deepest [] p = refl
+items_whole deepest (d ∷ ds) p = or_from (has_float d) (items_have_float (items_of ds)) p.0.whole (items_whole deepest ds p.1)
+
+items_flat : (deepest : ℕ) (ds : List Data) → ArePlain deepest ds → items_depth (items_of ds) ≤ deepest
+items_flat deepest [] p = omega arith
+items_flat deepest (d ∷ ds) p = omega (arith, items_flat deepest ds p.1)
+
+list_plain : (deepest : ℕ) (ds : List Data) → ArePlain deepest ds → IsPlainTree (suc deepest) (array (items_of ds))
+list_plain deepest ds p = record { whole = items_whole deepest ds p; flat = omega (arith, items_flat deepest ds p) }
+
+entry_plain : (e : Entry) → IsPlainTree 1 (entry_tree e)
+entry_plain e = by_absent e.absent
+  where
+    by_absent : (o : Option ℤ) → IsPlainTree 1 (object (with_value o (sent_members e.path e.size e.type)))
+    by_absent None = record { whole = refl; flat = omega arith }
+    by_absent (Some (pos n)) = record { whole = refl; flat = omega arith }
+    by_absent (Some (negsuc n)) = record { whole = refl; flat = omega arith }
+
+entries_plain : (es : List Entry) → ArePlain 1 (map entry_tree es)
+entries_plain [] = tt
+entries_plain (e ∷ es) = (entry_plain e, entries_plain es)
+
+sub_plain : (es : List Entry) (name : List ℕ) (sent : Bool) (version : ℕ) → IsPlainTree 3 (object (sub_members es name sent version))
+sub_plain es name sent version =
+    let list = list_plain 1 (map entry_tree es) (entries_plain es) in
+    record { whole = or_from (has_float (list_tree entry_tree es)) false list.whole refl; flat = omega (arith, list.flat) }
+
+subs_plain : (set : Set) (n : List ℤ) (at : ℕ) (subs : List Sub) (came : List (Option ℕ)) → ArePlain 3 (sub_trees set n at subs came)
+subs_plain set n at (s ∷ subs) (c ∷ came) =
+    (sub_plain _ s.desc.name (is_some c) s.desc.version, subs_plain set n (at + length (desc_cells (struct_cells set) s.desc)) subs came)
+subs_plain set n at _ _ = tt
+
+device_plain : (es : List Entry) (instance : ℕ) (name : List ℕ) (subs : List Data) (version : ℕ) → ArePlain 3 subs
+    → IsPlainTree 5 (object (device_members es instance name subs version))
+device_plain es instance name subs version p =
+    let list = list_plain 1 (map entry_tree es) (entries_plain es) in
+    let inner = list_plain 3 subs p in
+    record {
+      whole = or_from (has_float (list_tree entry_tree es)) (has_float (array (items_of subs)) || false) list.whole
+          (or_from (has_float (array (items_of subs))) false inner.whole refl);
+      flat = omega (arith, list.flat, inner.flat);
+    }
+
+devices_plain : (set : Set) (devices : List Device) (images : List Image) → ArePlain 5 (device_trees set devices images)
+devices_plain set (d ∷ devices) (image ∷ images) = (
+  device_plain _ d.instance d.desc.name _ d.desc.version (subs_plain set image.numbers (own_cells set d) d.subs image.came),
+  devices_plain set devices images,
+)
+devices_plain set _ _ = tt
+
+pub described_plain : (set : Set) (images : List Image) → IsPlainTree 7 (described_tree set images)
+described_plain set images =
+    let list = list_plain 5 (device_trees set set.devices images) (devices_plain set set.devices images) in
+    record { whole = or_from (has_float (array (items_of (device_trees set set.devices images)))) false list.whole refl; flat = omega arith }
+
+-- ---- how long the text of the described tree is, by the depth of structures and the number of items: at most 300 bytes for each
+-- item, subsection and device, and fewer for the items of a part without structures
 
 -- ---- lists
 
@@ -196,3 +268,87 @@ module _ (set : Set) (well : is_well_formed set ≡ true) where
 
   pub room_less : set_room set ≤ 300 * (devices_items (struct_items set.structs) set.devices + subs_of set.devices + length set.devices) + 14
   room_less = omega (arith, devices_less set.devices)
+
+-- ---- ready images are images of their devices
+
+pub ready_device : (set : Set) → is_well_formed set ≡ true → (images : List Image) → AreReady set images → (i : ℕ) (image : Image) → i < length images
+    → image ≡ get_or images i image → IsOfDevice set i image
+ready_device set well images ready i image lt is =
+    let there : i < length set.devices = omega arith in
+    let at = slice_get-get_or images i image lt ∙ ap (λ x. Some x) (sym is) in
+    let r = ready.ready i (device_at set i) image (slice_get-get_or set.devices i no_device there) at in
+    record {
+      is_device = there;
+      cells = r.normal.cells.long;
+      subs = versions_long (device_at set i).subs image.came r.normal.subs;
+      few = omega (arith, few_cells set well i);
+    }
+
+-- ---- The text of every well-formed set is shorter than what a description section may have, and that of a shipped set is short.
+
+few_of : (devices : List Device) → AreShortDevices devices → subs_of devices ≤ 32 * length devices
+few_of [] h = omega arith
+few_of (d ∷ devices) h = let here = h 0 (omega arith) in omega (arith, few_of devices (λ i lt. h (suc i) (omega arith)))
+
+module _ (set : Set) (well : is_well_formed set ≡ true) (heads : FitsHeads set) where
+  short_device : (i : ℕ) → i < length set.devices → IsShortDevice (device_at set i)
+  short_device i lt =
+      let d = device_at set i in
+      let here = slice_get-get_or set.devices i no_device lt in
+      let name = name_short 100 d.desc.name (device_clean set well i lt).own.0 in
+      record {
+        desc = record { sound = part_sound set well (parts.Device i) lt; name = name; version = omega (arith, (heads.instance i d here).1) };
+        instance = omega (arith, (heads.instance i d here).0);
+        subs = λ j l.
+            record {
+              sound = part_sound set well (parts.Sub i j) (lt, l);
+              name = sub_name_short d.desc.name (sub_at d j).desc.name name (sub_clean set well i j lt l).own.0;
+              version = omega (arith, heads.sub_version i j d (sub_at d j) here (slice_get-get_or d.subs j no_sub l));
+            };
+        few = few_subs set well i lt;
+      }
+
+  pub set_long : (images : List Image) → length (described_text set images) ≤ set_room set
+  set_long images = text_long set well images short_device (few_items set well)
+
+  set_short : (images : List Image) → length (described_text set images) < longest_text
+  set_short images = omega (arith, set_long images, room_less set well, few_items set well, few_of set.devices short_device, few_devices set well)
+
+pub short_holds : ShortLaw
+short_holds = record { short = λ set well heads images. set_short set (ap is_none well) heads images }
+
+-- ---- shipped sets
+
+abbrev has_room : Set → Bool
+has_room set = nat_lt (set_room set) 60000
+
+rooms : list_all has_room shipped_sets ≡ true
+unfolding first
+rooms = refl
+
+pub shipped_holds : ShippedLaw
+shipped_holds = record {
+  shipped = λ s le images.
+      let f = fit_number s in
+      omega (arith, set_long (shipped_set s) (ap is_none f.well) f.heads images, ltb-true (set_room (shipped_set s)) 60000 (by_number has_room rooms s));
+}
+
+-- ---- sets of clock boards
+
+clock_room : (s : ℕ) → set_room (clock_set s) < 60000
+unfolding first
+clock_room zero = omega arith
+clock_room (suc zero) = omega arith
+clock_room (suc (suc s)) = omega arith
+
+pub clock_holds : ClockLaw
+clock_holds = record { clock = λ s images. omega (arith, set_long (clock_set s) (clock_formed s) (clock_heads s) images, clock_room s) }
+
+-- ---- What is known of a description by its text.
+
+module _ (set : Set) (images : List Image) where
+  pub text_reads : IsSound (described_tree set images) → (bytes : List ℕ) → bytes ≡ described_text set images → read bytes ≡ Some (described_tree set images)
+  text_reads sound bytes is = reads_whole (described_tree set images) bytes is sound (omega (arith, described_plain set images))
+
+  pub text_short : is_well_formed set ≡ true → FitsHeads set → length (described_text set images) < longest_text
+  text_short well heads = short_holds.short set (none_is (first_fault set) well) heads images

@@ -1,16 +1,21 @@
--- A structure has the same cells and elements in each table that reaches it.
-use Rattle.vms_selfdesc.proofs.Facade.{decimal, ◌≡◌, ℕ, suc, ◌+◌, ◌<◌, List, [], ◌∷◌, ◌++◌, length, get_or, map, ℤ, pos, refl, ap, ◌∙◌, arith, ◌*◌, ◌≤◌, Bool}
-use Rattle.vms_selfdesc.proofs.Facade.{true, zero, append_assoc, false, ◌&&◌, codes, ltb-true, and_parts, append-nil, and-true, and-false, and_assoc, outs}
-use Rattle.vms_selfdesc.proofs.Facade.{array_of, fun_ext, Item, Struct, Num, Field, Desc, Set, no_desc, item_size, field_cells, desc_cells, struct_cells}
-use Rattle.vms_selfdesc.proofs.Facade.{capacity_of, counted, numbers_of, elements_of, no_parent, ItemBelow, FieldsBelow, item_cells_same, field_cells_same}
-use Rattle.vms_selfdesc.proofs.Facade.{desc_cells_same, own_same, row_same, first_same, all_below, first_at, Element, Shape, no_shape, shape, shapes, cells_in}
-use Rattle.vms_selfdesc.proofs.Facade.{dotted, item_elements, array_elements, field_elements, elements_from, desc_elements, What, Number, index_text, behind}
-use Rattle.vms_selfdesc.proofs.Facade.{shapes_cells, MOST_ITEMS, Count, One, Fixed, Counted, Part, uses_below, defaults_well, counts_well, field_at}
-use Rattle.vms_selfdesc.proofs.Facade.{own_numbers, is_well_formed, desc_at, reach, field_clean, struct_clean, field_sound, Entry, entries_of, sent_entry}
-use Rattle.vms_selfdesc.proofs.Facade.{listed_if, entry_of, is_field_sent, array_entries, element_entries, item_entries, item_list, field_list, part_list}
-use Rattle.vms_selfdesc.proofs.Facade.{element_path, HasPlace, HasElements, item_rank, part_rank, reach_whole, uses_more, rank_below, room_for_less, one_fits}
-use Rattle.vms_selfdesc.proofs.Facade.{elements_fit, is_there}
+-- A structure has the same cells and elements in each table that reaches it, and by two lists of
+-- numbers that agree.
+use Rattle.vms_selfdesc.proofs.Facade.{decimal, ◌≡◌, ℕ, suc, ◌+◌, ◌<◌, List, [], ◌∷◌, ◌++◌, length, get_or, map, ℤ, pos, refl, ap}
+use Rattle.vms_selfdesc.proofs.Facade.{◌∙◌, arith, ◌*◌, ◌≤◌, Bool, true, zero, append_assoc, false, ◌&&◌, codes, ltb-true, and_parts}
+use Rattle.vms_selfdesc.proofs.Facade.{append-nil, and-true, and-false, and_assoc, outs, array_of, fun_ext, Item, Struct, Num, Field, Desc, Set, no_desc}
+use Rattle.vms_selfdesc.proofs.Facade.{item_size, field_cells, desc_cells, struct_cells, capacity_of, counted, numbers_of, elements_of, no_parent, ItemBelow}
+use Rattle.vms_selfdesc.proofs.Facade.{FieldsBelow, item_cells_same, field_cells_same, desc_cells_same, own_same, row_same, first_same, all_below, first_at}
+use Rattle.vms_selfdesc.proofs.Facade.{Element, Shape, no_shape, shape, shapes, cells_in, dotted, item_elements, array_elements, field_elements, elements_from}
+use Rattle.vms_selfdesc.proofs.Facade.{desc_elements, What, Number, index_text, behind, shapes_cells, MOST_ITEMS, Count, One, Fixed, Counted, Part, uses_below}
+use Rattle.vms_selfdesc.proofs.Facade.{defaults_well, counts_well, field_at, own_numbers, is_well_formed, desc_at, reach, field_clean, struct_clean}
+use Rattle.vms_selfdesc.proofs.Facade.{field_sound, Entry, entries_of, sent_entry, listed_if, entry_of, is_field_sent, array_entries, element_entries}
+use Rattle.vms_selfdesc.proofs.Facade.{item_entries, item_list, field_list, part_list, element_path, HasPlace, HasElements, item_rank, part_rank, reach_whole}
+use Rattle.vms_selfdesc.proofs.Facade.{uses_more, rank_below, room_for_less, one_fits, elements_fit, is_there, sub_tree, AllByRecursion, sym, ap₂, Option}
+use Rattle.vms_selfdesc.proofs.Facade.{part_entries, Sub, is_some, object, sub_members}
+use Rattle.vms_selfdesc.specs.Alike.{IsFieldAlike, is_plain}
 use Rattle.vms_spec.specs.declared.Part.TheVariants as parts
+
+-- ---- a structure has the same cells and elements in each table that reaches it
 
 module _ (j : ℕ) (ss Ss : List Shape) (agree : (i : ℕ) → i < j → get_or ss i no_shape ≡ get_or Ss i no_shape) where
   cells_agree : (i : ℕ) → i < j → get_or (cells_in ss) i [] ≡ get_or (cells_in Ss) i []
@@ -223,3 +228,42 @@ module _ (set : Set) (well : is_well_formed set ≡ true) (item : Item) (j : ℕ
   pub struct_list : (z : ℤ) (sent : Bool) (path whole : List ℕ) (n : List ℤ) (cell : ℕ) → whole ≡ path ++ 46 ∷ []
       → part_list set (parts.Struct j) sent n whole cell ≡ item_entries (shapes set) item z sent n path cell
   struct_list z sent path whole n cell e = rw (e, is, of_dotted, struct_elements_are set j struct_there below n cell)
+
+-- ---- parts with the same elements by two lists of numbers
+
+-- field by field
+abbrev pub AreFieldsAlike : ℕ → (ℕ → ℕ) → (ℕ → ℕ) → List Field → Type 0
+AreFieldsAlike v own other = AllByRecursion (IsFieldAlike v own other)
+
+module _ (n m : List ℤ) where
+  plain_same : (ss : List Shape) (item : Item) (caps : List ℕ) (z : ℤ) → is_plain item ≡ true → item_elements ss item caps z n ≡ item_elements ss item caps z m
+  plain_same ss (Struct j) caps z e = cc
+  plain_same ss _ caps z e = refl
+
+  field_same : (ss : List Shape) (fields : List Field) (v : ℕ) (own other : ℕ → ℕ) (i at : ℕ) (f : Field) → IsFieldAlike v own other f
+      → field_elements ss fields v own n i at f ≡ field_elements ss fields v other m i at f
+  field_same ss fields v own other i at f h = rw (h.stand.count, h.stand.there, plain_same ss f.item (counted i fields) f.default h.plain)
+
+  fields_same : (ss : List Shape) (fields : List Field) (v : ℕ) (own other : ℕ → ℕ) (i at : ℕ) (fs : List Field) → AreFieldsAlike v own other fs
+      → elements_from ss fields v own n i at fs ≡ elements_from ss fields v other m i at fs
+  fields_same ss fields v own other i at [] h = refl
+  fields_same ss fields v own other i at (f ∷ fs) h =
+      ap₂ (λ (x y : List Element). x ++ y) (field_same ss fields v own other i at f h.0)
+      (fields_same ss fields v own other (suc i) (at + length (field_cells (cells_in ss) fields i f)) fs h.1)
+
+  -- a part's entries, if its fields are alike
+  pub part_same : (set : Set) (d : Desc) (at : ℕ) (sent : Bool)
+      → AreFieldsAlike d.version (numbers_of (struct_cells set) d n at) (numbers_of (struct_cells set) d m at) d.fields
+      → part_entries set d sent n at ≡ part_entries set d sent m at
+  part_same set d at sent h =
+      let ss = shapes set in
+      let here : AreFieldsAlike d.version (numbers_of (cells_in ss) d n at) (numbers_of (cells_in ss) d m at) d.fields = rw (cells_are set) h in
+      of_desc ss d d.version sent [] n at ∙ ap (entries_of sent []) (fields_same ss d.fields d.version _ _ 0 at d.fields here)
+      ∙ sym (of_desc ss d d.version sent [] m at)
+
+-- a subsection's tree, if it came in both or in neither
+pub sub_same : (set : Set) (s : Sub) (at : ℕ) (n m : List ℤ) (came other : Option ℕ) → is_some came ≡ is_some other
+    → ((sent : Bool) → part_entries set s.desc sent n at ≡ part_entries set s.desc sent m at) → sub_tree set n at s came ≡ sub_tree set m at s other
+sub_same set s at n m came other e h =
+    ap (λ (sent : Bool). object (sub_members (part_entries set s.desc sent n at) s.desc.name sent s.desc.version)) e
+    ∙ ap (λ (es : List Entry). object (sub_members es s.desc.name (is_some other) s.desc.version)) (h (is_some other))

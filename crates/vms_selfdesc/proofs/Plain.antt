@@ -1,12 +1,16 @@
--- Names and paths are written as they are, and the texts of members and entries piece by piece.
-use Rattle.vms_selfdesc.proofs.Facade.{nat_tests, ◌≡◌, ℕ, ◌<◌, length, true, ◌≤◌, List, [], ◌++◌, length-append, string_bytes, append_assoc, subst, sym, ap}
-use Rattle.vms_selfdesc.proofs.Facade.{arith, ◌∷◌, codes, decimal, ◌+◌, ◌&&◌, nat_le, drop, take, refl, ◌^◌, ◌%◌, list_all, and_parts, leb-true, digits}
-use Rattle.vms_selfdesc.proofs.Facade.{decimal_by_steps, length-decimal-le, take-append-drop, bytes_eq-Decides, bytes_eq, Part, is_name, is_name_byte}
-use Rattle.vms_selfdesc.proofs.Facade.{is_sub_name, Set, field_at, device_at, is_well_formed, HasPart, desc_at, sub_at, device_clean, sub_clean, field_sound}
-use Rattle.vms_selfdesc.proofs.Facade.{IsPlain, Extends, IsEmpty, IsSound, Puts, Adds, Begins, member_text, cell_tail, absent_tail, Text, escape_byte, quoted}
-use Rattle.vms_selfdesc.proofs.Facade.{escape, Data, string, object, Members, no_members, member, compact_text, members_text, Kind, width, kind_word, natural}
-use Rattle.vms_selfdesc.proofs.Facade.{Draft, MOST_ITEMS, element_path, U8}
+-- Names, paths, members and entries as they are written, and how long they are.
+use Rattle.vms_selfdesc.proofs.Facade.{nat_tests, ◌≡◌, ℕ, ◌<◌, length, true, ◌≤◌, List, [], ◌++◌, length-append, string_bytes}
+use Rattle.vms_selfdesc.proofs.Facade.{append_assoc, subst, sym, ap, arith, ◌∷◌, codes, decimal, ◌+◌, ◌&&◌, nat_le, drop, take, refl, ◌^◌}
+use Rattle.vms_selfdesc.proofs.Facade.{◌%◌, list_all, and_parts, leb-true, digits, decimal_by_steps, length-decimal-le, take-append-drop, bytes_eq-Decides}
+use Rattle.vms_selfdesc.proofs.Facade.{bytes_eq, Part, is_name, is_name_byte, is_sub_name, Set, field_at, device_at, is_well_formed, HasPart, desc_at, sub_at}
+use Rattle.vms_selfdesc.proofs.Facade.{device_clean, sub_clean, field_sound, IsPlain, Extends, IsEmpty, IsSound, Puts, Adds, Begins, member_text, cell_tail}
+use Rattle.vms_selfdesc.proofs.Facade.{absent_tail, Text, escape_byte, quoted, escape, Data, string, object, Members, no_members, member, compact_text}
+use Rattle.vms_selfdesc.proofs.Facade.{members_text, Kind, width, kind_word, natural, Draft, MOST_ITEMS, element_path, U8, ◌*◌, String, IsUtf8}
+use Rattle.vms_selfdesc.proofs.Facade.{IsUtf8-string_bytes, take-append_seam, Item, Struct, few_structs, item_rank, part_rank, item_levels, part_levels, suc}
+use Rattle.vms_selfdesc.proofs.Facade.{ℤ, Bool, false, number, of_integer, number_text, comma_if, MOST_UNUSED, sent_entry, absent_entry, entry_tree}
 use Rattle.std.proofs.Common.{append-nil}
+use Rattle.vms_spec.specs.declared.Part.TheVariants as parts
+use Rattle.vms_kinds.specs.declared.Kind.TheVariants as kinds
 
 -- ---- Texts in which JSON escapes nothing: names of a set, and paths.
 
@@ -208,3 +212,97 @@ absent_text kind d =
       append_assoc word (codes "\",\"value\":") value,
       append_assoc word (34 ∷ []) (codes ",\"value\":" ++ value),
     )
+
+-- ---- the tails of a kind that is known
+
+pub absent_same : (kind k : Kind) → kind ≡ k → absent_tail k ≡ absent_tail kind
+absent_same kind k e = ap absent_tail (sym e)
+
+-- a width is one digit
+abbrev shown_tail : Kind → List ℕ
+shown_tail kind = codes "\",\"size\":" ++ ((48 + width kind) ∷ (codes ",\"type\":\"" ++ (kind_word kind ++ codes "\"}")))
+
+shown_is : (kind : Kind) → shown_tail kind ≡ cell_tail kind
+unfolding digits
+shown_is U8 = refl
+shown_is _ = refl
+
+pub cell_same : (kind k : Kind) → kind ≡ k → shown_tail k ≡ cell_tail kind
+cell_same kind k e = cc (shown_is k)
+
+-- ---- paths that are gone into and left again, and how long they get
+
+-- the first bytes of these are the path before
+pub record Enters {Z : Type 0} (old : String Z) (now : List ℕ) (kept : ℕ) : Type 0 where
+  pub within : kept ≤ length now
+  pub text : IsUtf8 (take kept now)
+  pub back : take kept now ≡ string_bytes old
+
+pub enters : {Z : Type 0} (old : String Z) {now : List ℕ} {kept : ℕ} (more : List ℕ) → kept ≡ length (string_bytes old) → now ≡ string_bytes old ++ more
+    → Enters old now kept
+enters old {now} {kept} more is e =
+    let back : take kept now ≡ string_bytes old = rw (is, e) (take-append_seam (string_bytes old) more) in
+    record { within = omega (arith, ap length e, length-append (string_bytes old) more); text = rw back (IsUtf8-string_bytes old); back = back }
+
+-- ---- lengths
+
+pub index_long : (path : List ℕ) (i : ℕ) → i < 2 ^ 32 → length (element_path path i) ≤ length path + 12
+index_long path i lt =
+    let digits = length-decimal-le 10 i (omega arith) (omega arith) (omega arith) in
+    omega (arith, length-append path (91 ∷ (decimal i ++ 93 ∷ [])), length-append (decimal i) (93 ∷ []))
+
+pub item_levels_are : (item : Item) → item_rank item ≡ 5 * item_levels item
+item_levels_are (Struct j) = omega arith
+item_levels_are _ = omega arith
+
+pub levels_are : (set : Set) (part : Part) → part_rank set part ≡ 5 * part_levels set part
+levels_are set (parts.Struct j) = omega arith
+levels_are set _ = omega arith
+
+pub few_levels : (set : Set) → is_well_formed set ≡ true → (part : Part) → HasPart set part → part_levels set part ≤ 64
+few_levels set well parts.Set h = absurd h
+few_levels set well (parts.Struct j) h = omega (arith, few_structs set well)
+few_levels set well _ h = few_structs set well
+
+-- ---- how long the text of an entry is
+
+-- a member of an object, with what comes after it
+pub member_long : (later : Bool) (k : List ℕ) (d : Data) (ms : Members)
+    → length (members_text later (member k d ms)) ≡ length
+    (comma_if later) + (length (quoted k) + suc (length (compact_text d) + length (members_text true ms)))
+member_long later k d ms = simp length-append
+
+-- a type is one of at most 6 bytes
+pub word_short : (kind : Kind) → length (quoted (kind_word kind)) ≤ 8
+word_short kinds.U8 = omega (arith, key_long (codes "u8") refl)
+word_short kind = omega (arith, key_long (kind_word kind) (word_plain kind))
+
+pub number_short : (n : ℕ) → n < 4294967296 → length (decimal n) ≤ 10
+number_short n lt = length-decimal-le 10 n (omega arith) (omega arith) (omega arith)
+
+-- ---- entries
+
+sent_members_long : (path type : List ℕ) (size : ℕ) (ms : Members) → IsPlain path → size ≤ MOST_UNUSED → length (quoted type) ≤ 8
+    → length (members_text false (member (codes "name") (string path) (member (codes "size") (natural size) (member (codes "type") (string type) ms))))
+    ≤ length path + 37 + length (members_text true ms)
+unfolding escape_byte
+sent_members_long path type size ms p small word =
+    let rest = member (codes "type") (string type) ms in
+    omega (
+      arith,
+      member_long false (codes "name") (string path) (member (codes "size") (natural size) rest),
+      member_long true (codes "size") (natural size) rest,
+      member_long true (codes "type") (string type) ms,
+      quoted_long path p,
+      length-decimal-le 4 size (omega arith) (omega arith) (omega arith),
+    )
+
+pub sent_long : (path : List ℕ) (size : ℕ) (type : List ℕ) → IsPlain path → size ≤ MOST_UNUSED → length (quoted type) ≤ 8
+    → length (compact_text (entry_tree (sent_entry path size type))) ≤ length path + 39
+sent_long path size type p small word = omega (arith, sent_members_long path type size no_members p small word)
+
+pub absent_long : (path type : List ℕ) (z : ℤ) → IsPlain path → length (quoted type) ≤ 8 → length (number_text (of_integer z)) ≤ 20
+    → length (compact_text (entry_tree (absent_entry path type z))) ≤ length path + 68
+absent_long path type z p word short =
+    let last = member_long true (codes "value") (number (of_integer z)) no_members in
+    omega (arith, sent_members_long path type 0 (member (codes "value") (number (of_integer z)) no_members) p (omega arith) word, key_long (codes "value") refl)

@@ -10,7 +10,7 @@ use crate::text::Text;
 use vms_kinds::Kind;
 
 // Returns what follows the path of a cell that is in the stream.
-#[tactic(auto, using(crate::proofs::Tails::cell_same))]
+#[tactic(auto, using(crate::proofs::Plain::cell_same))]
 fn cell_tail(kind: Kind) -> &'static str
     ensures { result.now ≡ cell_tail kind }
 {
@@ -29,7 +29,7 @@ fn cell_tail(kind: Kind) -> &'static str
 }
 
 // Returns what follows the path of a cell that isn't in the stream, up to its default.
-#[tactic(auto, using(crate::proofs::Tails::absent_same))]
+#[tactic(auto, using(crate::proofs::Plain::absent_same))]
 fn absent_tail(kind: Kind) -> &'static str
     ensures { result.now ≡ absent_tail kind }
 {

@@ -5,12 +5,12 @@ pub use Rattle.std.proofs.Common.{Bool, Err, List, None, Ok, Option, Result, Som
 pub use Rattle.std.proofs.Common.{inl, inr, length, length-append, map, nat_lt, refl, subst, suc, sym, take, true, zero, ℕ, ◌++◌, ◌+◌, ◌<◌, ◌∙◌, ◌∷◌, ◌≡◌, ◌≢◌}
 pub use Rattle.std.specs.{Io.KnownBytes.Appends, List.slice_get, Prelude.slice_set, Str.bytes_eq}
 pub use Rattle.vms_kinds.specs.Bytes.{IsBytes}
-pub use Rattle.vms_spec.proofs.{ListLaws.none_left}
+pub use Rattle.vms_spec.proofs.ListsAndNumbers.{none_left}
 pub use Rattle.vms_spec.specs.{Images.Image, Images.IsNormal, Sets.Device, Sets.Set, Streams.EachOnce, declared.Reason.Reason}
 pub use Rattle.vms_stream.specs.Streams.{HasSection, SectionsSpell}
 pub use Rattle.vms_board.specs.{Family.Family, Family.MaySaveIn, Isa.isa, Saving.saved_stream}
 pub use Rattle.vms_board.specs.Restoring.{Back, Refused, Restore, Restores, TakesBoard}
-pub use Rattle.vms_board_streams.proofs.{IsaBytes.streams_are_bytes, IsaStreams.isa_laws}
+pub use Rattle.vms_board_streams.proofs.BoardStreams.{isa_are_bytes as streams_are_bytes, isa_laws}
 pub use Rattle.vms_board_streams.specs.{Sets.AreOf, Streams.after_events}
 pub use Rattle.vms_commands.specs.Fetching.{longest_file}
 pub use Rattle.vms_commands.specs.Outcomes.{FailsToStore, HoldsBut, Part, held_after, stored_next, text_begun, text_of}
@@ -29,9 +29,9 @@ pub use Rattle.vms_session.specs.Playing.{DoesSome, Goes, HasPlayCause, LinesEnd
 pub use Rattle.vms_session.specs.Session.{ComesTo, Does, IsLoaded, IsTooLarge, Leaves, LoadsBytes, LoadsHeld, Session}
 pub use Rattle.vms_session.specs.declared.line.PlayFault.TheVariants.{NoMemory, ShelfFault, WriteFault}
 pub use Rattle.dev_base.specs.{Levels.IsLevel, declared.limits.TheConstants.NEWEST}
-pub use Rattle.dev_board.proofs.{ClockLaws.clock_goes_on, RestoredLaws.restored_is_sound, SoundLaws.sound_stays_on, WireBits.names}
+pub use Rattle.dev_board.proofs.{SoundLaws.clock_goes_on, SoundLaws.sound_stays_on, RestoredLaws.restored_is_sound, WireLaws.names}
 pub use Rattle.dev_board.specs.{Saved.AreBoardCells, Sound.IsSound, State.State, Step.step, declared.event.Event.Event, Laws.AreEvents, Laws.IsEvent}
 pub use Rattle.dev_board.specs.declared.event.Event.TheVariants.{Byte, Read, Wire, Write}
 unfoldable pub use Rattle.dev_board.specs.Step.{after_by, answers_by}
-pub use Rattle.dev_images.proofs.NormalBoard.{normal_may_be_restored}
+pub use Rattle.dev_images.proofs.NormalCells.{normal_may_be_restored}
 pub use Rattle.dev_images.specs.Images.{cells_in}

@@ -1,10 +1,4 @@
 pub mod CourseLemmas
 pub mod EndLaws
 pub mod Facade
-pub mod OneLaws
-pub mod PartLemmas
-pub mod RefusalLaws
-pub mod RunLemmas
-pub mod ScriptLaws
-pub mod SessionLaws
 pub mod SoundLaws

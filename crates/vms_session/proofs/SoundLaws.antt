@@ -1,9 +1,13 @@
--- What is restored is sound, and so a session keeps its board sound.
-use Rattle.vms_session.proofs.Facade.{◌≡◌, ◌⊎◌, inl, inr, ℕ, zero, suc, ◌∙◌, Bool, true, false, List, ◌∷◌, map, Option, Some, None, refl, sym, ap, subst, []}
-use Rattle.vms_session.proofs.Facade.{slice_set, slice_get, NEWEST, IsLevel, restored_is_sound, sound_stays_on, IsEvent, AreBoardCells, IsSound, State, Event}
-use Rattle.vms_session.proofs.Facade.{Write, Byte, Wire, normal_may_be_restored, cells_in, shipped_set, IsLine, AreLines, ScriptLine, Happens}
-use Rattle.vms_session.proofs.Facade.{Saves, Image, IsNormal, Device, Set, EachOnce, none_left, HasSection, SectionsSpell, TakesBoard, Back, Refused, Restores}
-use Rattle.vms_session.proofs.Facade.{Part, Plays, SessionsStaySound, Session, IsTooLarge, IsLoaded, LoadsBytes, LoadsHeld, Does, isa}
+-- What a line of a session does: one thing, which keeps the level and a sound board.
+use Rattle.vms_session.proofs.Facade.{◌≡◌, ◌⊎◌, inl, inr, ℕ, zero, suc, ◌∙◌, Bool, true, false, List, ◌∷◌, map, Option, Some, None}
+use Rattle.vms_session.proofs.Facade.{refl, sym, ap, subst, [], slice_set, slice_get, NEWEST, IsLevel, restored_is_sound, sound_stays_on, IsEvent}
+use Rattle.vms_session.proofs.Facade.{AreBoardCells, IsSound, State, Event, Write, Byte, Wire, normal_may_be_restored, cells_in, shipped_set, IsLine, AreLines}
+use Rattle.vms_session.proofs.Facade.{ScriptLine, Happens, Saves, Image, IsNormal, Device, Set, EachOnce, none_left, HasSection, SectionsSpell, TakesBoard}
+use Rattle.vms_session.proofs.Facade.{Back, Refused, Restores, Part, Plays, SessionsStaySound, Session, IsTooLarge, IsLoaded, LoadsBytes, LoadsHeld, Does, isa}
+use Rattle.vms_session.proofs.Facade.{clock_goes_on, LevelStays, ◌≢◌, arith, bytes_eq, bytes_eq-Decides, step, Held, PutsUnder, trace_line, IsBytes}
+use Rattle.vms_session.proofs.Facade.{isa_laws, Restore, HoldsBytes, ReadsBytes, LinesAreOne, IsOneEnd, Leaves, ComesTo, ◌≤◌, append-nil, length, Result}
+use Rattle.vms_session.proofs.Facade.{Ok, Err, ◌<◌, Outlet, Stock, refused_line, too_large_line, longest_file, Reason, LinesEnd, WritesText, part_of}
+use Rattle.vms_session.proofs.Facade.{PlayFault, WriteFault, BringsNone, IsMissing, IsLarge, IsRefused, GoesOnWithout, RefusalsLeave}
 use Rattle.vms_script.specs.{Grammar.IsEvent as IsSpelled, Lines.Restores as Loads}
 
 -- ---- each device of a stream that is taken has a normal image
@@ -100,3 +104,128 @@ lines-sound play (line ∷ lines) old parts new good plays s =
 
 pub sessions_stay_sound : SessionsStaySound
 sessions_stay_sound = record { line = line_sound; lines = lines-sound }
+
+-- ---- the level of a session never changes
+
+abbrev level_of : Session → ℕ
+level_of s = s.board.level
+
+pub line_level : (line : ScriptLine) (old : Session) (text : List ℕ) (new : Session) → Does line old text new → level_of new ≡ level_of old
+line_level (Happens event) old text new does = cc (clock_goes_on.level event old.board)
+line_level (Saves set name) old text new does = rw (does.board)
+line_level (Loads name) old text new does = (load_keeps _ old text new does).level
+
+lines-level : (lines : List ScriptLine) (old : Session) (parts : List Part) (new : Session) → Plays lines old parts new → level_of new ≡ level_of old
+lines-level [] old parts new plays = ap level_of plays.1
+lines-level (line ∷ lines) old parts new plays = lines-level lines plays.2 plays.1 new plays.4 ∙ line_level line old _ _ plays.3
+
+pub level_stays : LevelStays
+level_stays = record { level = lines-level }
+
+-- ---- what bytes are to a restore is one thing, and what a line does is one thing: lines
+
+same-held : (old a b : Held) (name bytes : List ℕ) → PutsUnder old a name bytes → PutsUnder old b name bytes → (other : List ℕ) → a other ≡ b other
+same-held old a b name bytes p q other = by _ refl
+  where
+    by : (t : Bool) → bytes_eq other name ≡ t → a other ≡ b other
+    by true e =
+        let same : other ≡ name = (bytes_eq-Decides other name).0 e in
+        ap a same ∙ p.there ∙ sym q.there ∙ ap b (sym same)
+    by false e =
+        let ne : other ≢ name = λ same. let f = (bytes_eq-Decides other name).1 same in cc (sym e ∙ f) in
+        p.others other ne ∙ sym (q.others other ne)
+
+-- what is held after bytes were put under a name is one map
+pub one_map : (old a b : Held) (name bytes : List ℕ) → PutsUnder old a name bytes → PutsUnder old b name bytes → a ≡ b
+one_map old a b name bytes p q = let same = same-held old a b name bytes p q in λ i other. same other i
+
+abbrev session : State → Held → Session
+session board held = record { board = board; held = held }
+
+same-left : (said : List ℕ) (after : Session) (text text' : List ℕ) (new new' : Session) → Leaves said after text new → Leaves said after text' new'
+    → IsOneEnd text text' new new'
+same-left said after text text' new new' a b = record { texts = cc; ends = cc }
+
+same-bytes : (bytes : List ℕ) (old : Session) (text text' : List ℕ) (new new' : Session) → IsBytes bytes → LoadsBytes bytes old text new
+    → LoadsBytes bytes old text' new' → IsOneEnd text text' new new'
+same-bytes bytes old text text' new new' ok (IsTooLarge long a) (IsTooLarge long' b) = same-left _ old text text' new new' a b
+same-bytes bytes old text text' new new' ok (IsTooLarge long a) (IsLoaded r few restores b) = absurd (omega arith)
+same-bytes bytes old text text' new new' ok (IsLoaded r few restores a) (IsTooLarge long b) = absurd (omega arith)
+same-bytes bytes old text text' new new' ok (IsLoaded r few restores a) (IsLoaded r' few' restores' b) =
+    come r' (rw (isa_laws.one.one old.board.level bytes ok r r' restores restores') at a) b
+  where
+    come : (x : Restore State) → ComesTo x old text new → ComesTo x old text' new' → IsOneEnd text text' new new'
+    come (Back m taken) a b = same-left _ _ text text' new new' a b
+    come (Refused place section reason) a b = same-left _ old text text' new new' a b
+
+same-under : (held : Option (List ℕ)) (old : Session) (text text' : List ℕ) (new new' : Session) → HoldsBytes held → LoadsHeld held old text new
+    → LoadsHeld held old text' new' → IsOneEnd text text' new new'
+same-under None old text text' new new' ok a b = same-left _ old text text' new new' a b
+same-under (Some bytes) old text text' new new' ok a b = same-bytes bytes old text text' new new' ok a b
+
+pub one_end : (line : ScriptLine) (old : Session) (text text' : List ℕ) (new new' : Session) → ReadsBytes line old → Does line old text new
+    → Does line old text' new' → IsOneEnd text text' new new'
+one_end (Happens event) old text text' new new' ok a b =
+    same-left (trace_line (step event old.board).0) (record old { board = (step event old.board).1 }) text text' new new' a b
+one_end (Saves set name) old text text' new new' ok a b =
+    record {
+      texts = cc;
+      ends = rw (a.board ∙ sym b.board) (ap (session new'.board) (one_map _ _ _ name _ a.held b.held));
+    }
+one_end (Loads name) old text text' new new' ok a b = same-under _ old text text' new new' ok a b
+
+pub lines_are_one : LinesAreOne
+lines_are_one = record { line = one_end }
+
+-- ---- The result of a stream on the shelf, and a line that is written.
+
+-- bytes that a board reads have the result of their restore
+pub comes : (bytes : List ℕ) (old : Session) (text : List ℕ) (new : Session) (r : Restore State) → IsBytes bytes → length bytes ≤ longest_file
+    → Restores isa old.board.level bytes r
+    → LoadsBytes bytes old text new → ComesTo r old text new
+comes bytes old text new r ok few restores (IsTooLarge long left) = absurd (omega arith)
+comes bytes old text new r ok few restores (IsLoaded other some others left) = rw (isa_laws.one.one old.board.level bytes ok other r others restores) at left
+
+-- a line's text is written once the line is done
+pub line_ends : (line : ScriptLine) (text mark : List ℕ) (new : Session) (o o' : Outlet) (s s' : Stock) (m : State) (r : Result Unit PlayFault) → mark ≡ text
+    → WritesText mark o o' r
+    → s'.held ≡ Some new.held → m ≡ new.board → LinesEnd (part_of line text new ∷ []) new o o' s s' m r
+line_ends line text mark new o o' s s' m (Ok u) e h held board = (rw (e ∙ sym (append-nil text)) at h.told, held, board)
+line_ends line text mark new o o' s s' m (Err WriteFault) e h held board = record { begun = 1; bytes = h.n; text = rw e at h.puts.told; held = held }
+line_ends line text mark new o o' s s' m _ e h held board = absurd h
+
+-- ---- What a restore leaves that brings no board back.
+
+large-leaves : (bytes : List ℕ) (old : Session) (said : List ℕ) (new : Session) → longest_file < length bytes → LoadsBytes bytes old said new
+    → Leaves too_large_line old said new
+large-leaves bytes old said new long (IsTooLarge far left) = left
+large-leaves bytes old said new long (IsLoaded restore few restores left) = absurd (omega arith)
+
+refused-leaves : (bytes : List ℕ) (place : ℕ) (section : Option ℕ) (reason : Reason) (old : Session) (said : List ℕ) (new : Session) → IsBytes bytes
+    → length bytes ≤ longest_file
+    → Restores isa old.board.level bytes (Refused place section reason) → LoadsBytes bytes old said new
+    → Leaves (refused_line (shipped_set NEWEST) place section reason) old said new
+refused-leaves bytes place section reason old said new ok few refused (IsTooLarge far left) = absurd (omega arith)
+refused-leaves bytes place section reason old said new ok few refused (IsLoaded restore some restores left) =
+    rw (isa_laws.one.one old.board.level bytes ok restore (Refused place section reason) restores refused) at left
+
+leaves-so : (name : List ℕ) (old : Session) (text said : List ℕ) (new : Session) → BringsNone name old text → Does (Loads name) old said new
+    → Leaves text old said new
+leaves-so name old text said new (IsMissing none is) does = rw is (rw none at does)
+leaves-so name old text said new (IsLarge bytes there long is) does = rw is (large-leaves bytes old said new long (rw there at does))
+leaves-so name old text said new (IsRefused bytes place section reason there ok few refused is) does =
+    rw is (refused-leaves bytes place _ reason old said new ok few refused (rw there at does))
+
+later-so : (name : List ℕ) (lines : List ScriptLine) (old : Session) (text : List ℕ) (parts : List Part) (new : Session) → BringsNone name old text
+    → Plays (Loads name ∷ lines) old parts new → GoesOnWithout (Loads name) lines old text parts new
+later-so name lines old text parts new none plays =
+    let left = leaves-so name old text _ _ none plays.3 in
+    record {
+      later = plays.1;
+      parts_are = plays.5 ∙ ap (λ (t : List ℕ). part_of (Loads name) t plays.2 ∷ plays.1) left.text_is
+          ∙ ap (λ (s : Session). part_of (Loads name) text s ∷ plays.1) left.new_is;
+      plays = rw left.new_is at plays.4;
+    }
+
+pub refusals_leave : RefusalsLeave
+refusals_leave = record { leaves = leaves-so; later = later-so }

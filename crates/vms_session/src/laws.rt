@@ -4,13 +4,13 @@ ghost use Rattle.vms_session.specs.Laws.{LevelStays, SessionsStaySound, Sessions
 
 /// States that a `restore` of a stream that isn't there, is too large or is refused leaves only its
 /// line: the session is unchanged, and all later lines do what they do without it.
-#[tactic(auto, using(crate::proofs::RefusalLaws::refusals_leave))]
+#[tactic(auto, using(crate::proofs::SoundLaws::refusals_leave))]
 pub fn refusal_law()
     ensures { RefusalsLeave }
 {}
 
 /// States that no session changes its board's level.
-#[tactic(auto, using(crate::proofs::SessionLaws::level_stays))]
+#[tactic(auto, using(crate::proofs::SoundLaws::level_stays))]
 pub fn level_law()
     ensures { LevelStays }
 {}
@@ -28,14 +28,14 @@ pub fn end_law()
 {}
 
 /// States that a line of a session has exactly one text and one session after it.
-#[tactic(auto, using(crate::proofs::OneLaws::lines_are_one))]
+#[tactic(auto, using(crate::proofs::SoundLaws::lines_are_one))]
 pub fn line_law()
     ensures { LinesAreOne }
 {}
 
 /// States that a script of a session has exactly one trace and one session after it, if the shelf
 /// holds bytes; and that it holds bytes afterwards.
-#[tactic(auto, using(crate::proofs::ScriptLaws::sessions_are_one))]
+#[tactic(auto, using(crate::proofs::EndLaws::sessions_are_one))]
 pub fn script_law()
     ensures { SessionsAreOne }
 {}

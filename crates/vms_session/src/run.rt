@@ -61,7 +61,7 @@ pub fn trace<M: Machine, K: Sink>(
 }
 
 // Runs an event on a board, and appends the line of its answer.
-#[tactic(auto, using(dev_board::proofs::WireBits::names))]
+#[tactic(auto, using(dev_board::proofs::WireLaws::names))]
 fn trace_event<M: Machine, K: Sink>(
     board: &mut MachineBoard<M>,
     event: Event,

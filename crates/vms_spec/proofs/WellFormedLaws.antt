@@ -1,21 +1,91 @@
--- A set that is well formed is good.
-use Rattle.vms_spec.proofs.Facade.{IsGood, FitsHeads, ◌≡◌, ℕ, zero, suc, ◌+◌, ◌<◌, List, ◌∷◌, ◌++◌, length, get_or, map, take, Option, Some, None, ℤ, pos}
-use Rattle.vms_spec.proofs.Facade.{negsuc, ◌≤ℤ◌, refl, sym, ap, ◌∙◌, subst, arith, Bool, true, false, ◌&&◌, ◌==◌, nat_lt, nat_le, if◌then◌else◌, []}
-use Rattle.vms_spec.proofs.Facade.{AllByRecursion, flat_map, slice_get, list_any, bytes_eq, and_parts, not-true, ltb-true, leb-true, eq-eqb, and_from, or_parts}
-use Rattle.vms_spec.proofs.Facade.{bytes_eq-Decides, ints, slice_get_within, get_or_from_slice_get, Kind, Item, Num, Equal, Struct, lowest, highest, InRange}
-use Rattle.vms_spec.proofs.Facade.{Count, One, Counted, Own, Parent, Part, position, or_else, first_answer, Formula, Cell, Not, And, Or, Field, Desc, Sub}
-use Rattle.vms_spec.proofs.Facade.{Device, Set, no_field, no_desc, times, counted, capacity_of, item_cells, field_cells, cells_from, desc_cells, struct_cells}
-use Rattle.vms_spec.proofs.Facade.{device_cells, first, FitsCell, is_one_of, find_device, find_sub, is_num, is_one, has_no_test, is_steady, is_steady_in}
-use Rattle.vms_spec.proofs.Facade.{is_earlier_in, names_well, nobody, test_names_well, count_names_well, is_counting, defaults_well, counts_well, int_le}
-use Rattle.vms_spec.proofs.Facade.{in_range, field_rules, validation_rules, failing, here, in_field, fields_fault, validations_fault, desc_fault, struct_fault}
-use Rattle.vms_spec.proofs.Facade.{struct_rules, sub_fault, sub_rules, device_fault, device_rules, is_same_device, WellFormed, IsNumber, IsOne, IsEarlier}
-use Rattle.vms_spec.proofs.Facade.{NamesEarlier, IsSoundTest, IsSoundCount, IsSoundField, AreSoundFields, IsSound, DefaultsFit, ConstantFits, ConstantsFit}
-use Rattle.vms_spec.proofs.Faultless.{or_else_none, answers_none, AllTrue, all_true, set_clean}
-use Rattle.vms_spec.proofs.Tables.{one_more}
-use Rattle.vms_spec.specs.Layout.{Cell as OneCell}
+-- A set that is well formed has no fault, and is good.
+use Rattle.vms_spec.proofs.{Facade.ConstantFits, Facade.ConstantsFit, Tables.one_more}
+use Rattle.vms_spec.proofs.Facade.{◌≡◌, ℕ, zero, suc, ◌+◌, ◌≤◌, List, [], ◌∷◌, length, Option, Some, None, refl, sym, ap, ◌∙◌}
+use Rattle.vms_spec.proofs.Facade.{arith, Bool, true, false, ◌&&◌, struct_fault, device_fault, size_rules, ◌||◌, nat_le, slice_get, list_all, bytes_eq}
+use Rattle.vms_spec.proofs.Facade.{bytes_eq-Decides, and_parts, leb-true, Place, or_else, first_answer, is_name, is_name_byte, Set, is_one_of, failing}
+use Rattle.vms_spec.proofs.Facade.{first_fault, here, set_rules, WellFormed, IsGood, FitsHeads, ◌<◌, ◌++◌, get_or, map, take, ℤ, pos, negsuc}
+use Rattle.vms_spec.proofs.Facade.{◌≤ℤ◌, subst, ◌==◌, nat_lt, if◌then◌else◌, AllByRecursion, flat_map, list_any, not-true, ltb-true, eq-eqb}
+use Rattle.vms_spec.proofs.Facade.{and_from, or_parts, ints, slice_get_within, get_or_from_slice_get, Kind, Item, Num, Equal, Struct, lowest, highest, InRange}
+use Rattle.vms_spec.proofs.Facade.{Count, One, Counted, Own, Parent, Part, position, Formula, Cell, Not, And, Or, Field, Desc, Sub, Device, no_field, no_desc}
+use Rattle.vms_spec.proofs.Facade.{times, counted, capacity_of, item_cells, field_cells, cells_from, desc_cells, struct_cells, device_cells, first, FitsCell}
+use Rattle.vms_spec.proofs.Facade.{find_device, find_sub, is_num, is_one, has_no_test, is_steady, is_steady_in, is_earlier_in, names_well, nobody}
+use Rattle.vms_spec.proofs.Facade.{test_names_well, count_names_well, is_counting, defaults_well, counts_well, int_le, in_range, field_rules, validation_rules}
+use Rattle.vms_spec.proofs.Facade.{in_field, fields_fault, validations_fault, desc_fault, struct_rules, sub_fault, sub_rules, device_rules, is_same_device}
+use Rattle.vms_spec.proofs.Facade.{IsNumber, IsOne, IsEarlier, NamesEarlier, IsSoundTest, IsSoundCount, IsSoundField, AreSoundFields, IsSound, DefaultsFit}
+use Rattle.vms_spec.specs.{Layout.Cell as OneCell}
 use Rattle.vms_spec.specs.declared.Part.TheVariants as parts
 
--- ---- no fault anywhere
+-- ---- a set without a fault: each test in the walk finds nothing, and each rule holds
+
+pub or_else_none : {X : Type 0} (x y : Option X) → or_else x y ≡ None → (x ≡ None) × (y ≡ None)
+or_else_none (Some x) y e = cc
+or_else_none None y e = (refl, e)
+
+-- the element at a number is tested with that number
+pub answers_none : {X Y : Type 0} (f : ℕ → X → Option Y) (i : ℕ) (xs : List X) → first_answer f i xs ≡ None → (j : ℕ) (x : X) → slice_get xs j ≡ Some x → f (i + j) x ≡ None
+answers_none f i [] e j x h = cc
+answers_none f i (y ∷ xs) e zero x h = ap (λ k. f k x) (omega arith) ∙ ap (f i) (sym cc) ∙ (or_else_none (f i y) (first_answer f (suc i) xs) e).0
+answers_none f i (y ∷ xs) e (suc j) x h =
+    ap (λ k. f k x) (omega arith) ∙ answers_none f (suc i) xs (or_else_none (f i y) (first_answer f (suc i) xs) e).1 j x h
+
+-- ---- rules
+
+abbrev pub AllTrue : List Bool → Type 0
+AllTrue [] = Unit {0}
+AllTrue (b ∷ rules) = (b ≡ true) × AllTrue rules
+
+pub all_true : (r : ℕ) (rules : List Bool) (p : Place) → failing r rules p ≡ None → AllTrue rules
+all_true r [] p e = tt
+all_true r (true ∷ rules) p e = (refl, all_true (suc r) rules p e)
+all_true r (false ∷ rules) p e = cc
+
+-- ---- the set itself
+
+-- a test that holds of all names holds of each of them
+pub every_one : (p : List ℕ → Bool) (names : List (List ℕ)) (name : List ℕ) → list_all p names ≡ true → is_one_of names name ≡ true → p name ≡ true
+every_one p [] name h e = absurd (cc)
+every_one p (n ∷ names) name h e =
+    let both = and_parts (p n) (list_all p names) h in
+    go (bytes_eq n name) refl e both.0 (λ g. every_one p names name both.1 g)
+  where
+    go : (c : Bool) → bytes_eq n name ≡ c → (c || is_one_of names name) ≡ true → p n ≡ true → (is_one_of names name ≡ true → p name ≡ true) → p name ≡ true
+    go true is g here later = cc ((bytes_eq-Decides n name).0 is)
+    go false is g here later = later g
+
+pub name_short : (most : ℕ) (name : List ℕ) → is_name most name ≡ true → length name ≤ most
+name_short most name e =
+    let p = and_parts (nat_le 1 (length name) && nat_le (length name) most) (list_all is_name_byte name) e in
+    leb-true (length name) most (and_parts (nat_le 1 (length name)) (nat_le (length name) most) p.0).1
+
+-- the rules of the set, and its parts without a fault
+pub record SetClean (set : Set) : Type 0 where
+  pub own : AllTrue (set_rules set)
+  pub structs : first_answer (struct_fault set.structs) 0 set.structs ≡ None
+  pub devices : first_answer (device_fault set) 0 set.devices ≡ None
+  pub sizes : AllTrue (size_rules set)
+
+module _ (set : Set) (well : WellFormed set) where
+  pub set_clean : SetClean set
+  unfolding first_fault
+  set_clean =
+      let a = or_else_none (failing 1 (set_rules set) (here parts.Set)) _ well in
+      let b = or_else_none (first_answer (struct_fault set.structs) 0 set.structs) _ a.1 in
+      let c = or_else_none (first_answer (device_fault set) 0 set.devices) (failing 1 (size_rules set) (here parts.Set)) b.1 in
+      record {
+        own = all_true 1 (set_rules set) (here parts.Set) a.0;
+        structs = b.0;
+        devices = c.0;
+        sizes = all_true 1 (size_rules set) (here parts.Set) c.1;
+      }
+
+  pub machine_short : (name : List ℕ) → is_one_of set.machines name ≡ true → length name ≤ 64
+  machine_short name h = name_short 64 name (every_one (is_name 64) set.machines name set_clean.own.0 h)
+
+  pub few_devices : length set.devices ≤ 64
+  few_devices =
+      leb-true (length set.devices) 64 (and_parts (nat_le (length set.machines) 16 && nat_le (length set.structs) 64) (nat_le (length set.devices) 64) set_clean.own.1.1.1.1.1.1.0).1
+
+-- ---- a set that is well formed is good: no fault anywhere
 
 -- the properties of a description without a fault
 pub record Clean (k : ℕ) (d : Desc) (rules : List Bool) : Type 0 where

@@ -11,7 +11,7 @@ pub use Rattle.vms_kinds.proofs.{ByteLemmas.bytes_first, ByteLemmas.bytes_rest, 
 pub use Rattle.vms_kinds.specs.{Bytes.IsBytes, Codes.InRange, Codes.IsBadBool, Codes.value_of, Codes.width, declared.Kind.Kind}
 pub use Rattle.vms_kinds.specs.declared.Kind.TheVariants.{Bool, U16, U8}
 unfoldable pub use Rattle.vms_kinds.specs.Codes.{code}
-pub use Rattle.vms_spec.proofs.KindLaws.{length-code, value_code}
+pub use Rattle.vms_spec.proofs.ListsAndNumbers.{length-code, value_code}
 pub use Rattle.vms_spec.specs.declared.TheConstants.{MOST_ITEMS}
 pub use Rattle.vms_spots.specs.{declared.layout.Spot.Spot, declared.layout.TheConstants.MOST_BYTES}
 pub use Rattle.vms_spots.specs.Spots.{AreApart, AreOf, AreOne, Held, IsHeld, aligned, bytes_of, codes_of, end_from, held, kinds_of, no_spot, number_at}

@@ -1,9 +1,8 @@
 -- The names of other crates, and of this crate's `specs`, that the proofs use.
-pub use Rattle.vms_spec.proofs.{ListLaws.sub_first, ListLaws.versions_long, NameBytes.name_byte_low, Faultless.every_one, Faultless.set_clean}
-pub use Rattle.vms_spec.proofs.Boxes.{bare_set, box, constant_set, counted_set, mixed_set, number, subsection_set, tested_set}
-pub use Rattle.vms_spec.proofs.KindLaws.{be32_read, length-code, value_code}
-pub use Rattle.vms_spec.proofs.Rows.{box_end, box_head, head, hex, lines, smallest}
-pub use Rattle.vms_spec.proofs.WellFormedLaws.{device_parts, sub_clean, well_good}
+pub use Rattle.vms_spec.proofs.Examples.{lines, smallest, bare_set, box, constant_set, counted_set, mixed_set, number, subsection_set, tested_set, box_end}
+pub use Rattle.vms_spec.proofs.Examples.{box_head, head, hex}
+pub use Rattle.vms_spec.proofs.ListsAndNumbers.{sub_first, versions_long, name_byte_low, be32_read, length-code, value_code}
+pub use Rattle.vms_spec.proofs.WellFormedLaws.{every_one, set_clean, device_parts, sub_clean, well_good}
 pub use Rattle.vms_spec.specs.{Good.IsGood, Images.own_slots, Lists.at_option, Lists.position, Sound.AreSound, Sound.IsSound, Values.values_text}
 pub use Rattle.vms_spec.specs.{declared.Reason.Reason, declared.TheConstants.LONGEST_NAME, Sets.Desc, Sets.Device, Sets.Set, Sets.Sub, WellFormed.WellFormed}
 pub use Rattle.vms_spec.specs.Images.{sub_place, sub_slots, zeroed, AreVersionsOf, Image, IsNormal, IsValid, IsVersionOf, Spells, default_image, own_cells}
@@ -33,17 +32,15 @@ pub use Rattle.vms_kinds.specs.{Bytes.IsBytes, declared.Kind.Kind, Codes.InRange
 pub use Rattle.vms_kinds.specs.declared.Kind.TheVariants.{U64, U8}
 unfoldable pub use Rattle.vms_kinds.specs.Codes.{code}
 unfoldable pub use Rattle.vms_spec.specs.Layout.{first}
-pub use Rattle.vms_bodies.proofs.{AgreeLaws.its_spelled, BodyLaws.at_set, BodyLaws.set_twice, FaultFields.bad_same, FaultFields.raw_same, FaultFields.raw_take}
-pub use Rattle.vms_bodies.proofs.{FoundLaws.body_found, FrameLaws.one_unit, FrameLaws.unit_read, Names.if_both, Names.if_so, PartLaws.beside_end}
-pub use Rattle.vms_bodies.proofs.{PartLaws.beside_first, Places.same_refl, StepLaws.Is, StepLaws.Walks, StepLaws.step, StepLaws.steps_keep, SubHeads.sub_bytes}
-pub use Rattle.vms_bodies.proofs.{SubHeads.sub_is, Widths.width_positive, WrittenLaws.zeroed_spells, BodyOnly.front_drop, BodyOnly.front_take, BodyOnly.if_true}
-pub use Rattle.vms_bodies.proofs.{BodyOnly.none_taken, SubsOnly.own_taken, SubsOnly.part_taken, SubsOnly.so_at_last, SubsOnly.so_far, SubsOnly.sub_so}
-pub use Rattle.vms_bodies.proofs.ComeLaws.{agrees, all_came, came_at, defaults_of, falses, never_true, none_missing, none_versions, same_lists, sub_front}
-pub use Rattle.vms_bodies.proofs.FineLaws.{Fine, Stays, fine_next, fine_normal, fine_valid, part_place, stays_next, stays_on, stays_refl}
-pub use Rattle.vms_bodies.proofs.HeadFound.{found_is, four_low, head_bytes, is_bytes_drop, split_four, split_one, text_long}
+pub use Rattle.vms_bodies.proofs.{Heads.text_long, Stated.zeroed_spells, WalkLaws.Comes, WalkLaws.drop_next, WalkLaws.set_desc_comes}
+pub use Rattle.vms_bodies.proofs.BodyOnly.{front_drop, front_take, if_true, none_taken, own_taken, part_taken, so_at_last, so_far, sub_so}
+pub use Rattle.vms_bodies.proofs.Heads.{sub_bytes, sub_is, bad_same, raw_same, raw_take, found_is, four_low, head_bytes, is_bytes_drop, split_four, split_one}
+pub use Rattle.vms_bodies.proofs.PartLaws.{agrees, all_came, came_at, defaults_of, falses, never_true, none_missing, none_versions, same_lists, sub_front, Fine}
+pub use Rattle.vms_bodies.proofs.PartLaws.{Stays, fine_next, fine_normal, fine_valid, part_place, stays_next, stays_on, stays_refl, beside_end, beside_first}
 pub use Rattle.vms_bodies.proofs.PartLaws.{beside_next, beside_start, none_came, none_of, sub_are, version_at, Beside, at_other, beside_back, beside_done}
-pub use Rattle.vms_bodies.proofs.SectionLaws.{defaults_at, defaults_long, own_are}
-pub use Rattle.vms_bodies.proofs.WalkLaws.{Comes, drop_next, set_desc_comes}
+pub use Rattle.vms_bodies.proofs.Places.{if_both, if_so, same_refl, width_positive}
+pub use Rattle.vms_bodies.proofs.SettledLaws.{its_spelled, defaults_at, defaults_long, own_are}
+pub use Rattle.vms_bodies.proofs.SpellLaws.{at_set, set_twice, body_found, one_unit, unit_read, Is, Walks, step, steps_keep}
 pub use Rattle.vms_bodies.specs.Whole.{Advances, reading_on}
 pub use Rattle.vms_stream.specs.{Taking.put, Taking.taken_by, StreamLaws.ToldLaw, StreamLaws.UnitsLaw, Table.reason_of, Table.test_some, Table.wants_foot}
 pub use Rattle.vms_stream.specs.Dues.{AMagic, AVersion, AfterEnd, AfterFields, AtConfiguration, AtConstant, AtDescription, AtEnd, AtFiller, AtFoot, AtHead}

@@ -2,9 +2,11 @@ pub mod Bodies
 pub mod Calls
 pub mod Facade
 pub mod Finding
-pub mod Further
+pub mod Inside
 pub mod Judging
 pub mod Rows
 pub mod Stated
-pub mod Streams
-pub mod WrittenBytes
+pub mod Steps
+pub mod StreamFound
+pub mod StreamRead
+pub mod Written

@@ -1,18 +1,40 @@
 -- The laws as they are stated.
-use Rattle.vms_stream.proofs.{Finding.There.only, Finding.Shown.shows, Finding.Advancing.advances, Finding.Advancing.due_solid, Streams.StreamFound.found}
-use Rattle.vms_stream.proofs.{Streams.StreamFound.section_found, Streams.Inside.Agrees, Streams.Written.written_section_is, Streams.Written.written_is_stream}
-use Rattle.vms_stream.proofs.Facade.{get_or, ◌+◌, take, length, Option, Some, None, IfSome, arith, suc, ◌≡◌, ◌≤◌, true, ℕ, List, ◌++◌, refl, sym, ap, ◌∙◌, drop}
-use Rattle.vms_stream.proofs.Facade.{false, slice_get_within, take-append-drop, LONGEST_NAME, Piece, spell, spelled, Due, Whole, unit_at, IsThere, FoundLaw}
-use Rattle.vms_stream.proofs.Facade.{Reason, is_one_of, longest_text, IsConfiguration, IsTrailer, optional, configuration, trailer, written, Reading, Accepted}
-use Rattle.vms_stream.proofs.Facade.{Refused, well_good, Tail, Unknown, Footed, Bare, images, machine, judge, reading, by_units, State, between, by_state}
-use Rattle.vms_stream.proofs.Facade.{at_start, SectionReadLaw, BeginsSection, SectionFoundLaw, ToldLaw, AcceptedLaw, TakenLaw, LocalLaw, UnitsLaw, StreamLaw}
-use Rattle.vms_stream.proofs.Facade.{GoesOn, FrontLaw, OneStreamLaw, Answer, EitherLaw, NeverBothLaw, OneFaultLaw, SectionLaw, WrittenLaw, WholeLaw}
-use Rattle.vms_stream.proofs.Facade.{AreOneFault, reading_on, IsBytes, bytes_rest, front_take}
-use Rattle.vms_stream.proofs.Judging.Mirrors.{solid, state_accepts, state_refuses}
-use Rattle.vms_stream.proofs.Judging.Verdicts.{cut_is, told_from, Says, says, units_mirror}
-use Rattle.vms_stream.proofs.Streams.Steps.{Goes, Opening, Closes, Opens, Names, settled, free_opens}
-use Rattle.vms_stream.proofs.Streams.StreamRead.{read, free_is, section_on}
-use Rattle.vms_stream.specs.StreamLaws.{Taken, Faulty}
+use Rattle.vms_stream.proofs.{StreamFound.found, StreamFound.section_found, Inside.Agrees, Written.written_section_is, Written.written_is_stream}
+use Rattle.vms_stream.proofs.Facade.{◌≡◌, ℕ, List, ◌++◌, Option, refl, append_assoc, Reason, Set, Piece, spell, spelled, IsWhole, Why, Fails, Wrong}
+use Rattle.vms_stream.proofs.Facade.{FurtherLaw, get_or, ◌+◌, take, length, Some, None, IfSome, arith, suc, ◌≤◌, true, sym, ap, ◌∙◌, drop}
+use Rattle.vms_stream.proofs.Facade.{false, slice_get_within, take-append-drop, LONGEST_NAME, Due, Whole, unit_at, IsThere, FoundLaw, is_one_of, longest_text}
+use Rattle.vms_stream.proofs.Facade.{IsConfiguration, IsTrailer, optional, configuration, trailer, written, Reading, Accepted, Refused, well_good, Tail}
+use Rattle.vms_stream.proofs.Facade.{Unknown, Footed, Bare, images, machine, judge, reading, by_units, State, between, by_state, at_start, SectionReadLaw}
+use Rattle.vms_stream.proofs.Facade.{BeginsSection, SectionFoundLaw, ToldLaw, AcceptedLaw, TakenLaw, LocalLaw, UnitsLaw, StreamLaw, GoesOn, FrontLaw}
+use Rattle.vms_stream.proofs.Facade.{OneStreamLaw, Answer, EitherLaw, NeverBothLaw, OneFaultLaw, SectionLaw, WrittenLaw, WholeLaw, AreOneFault, reading_on}
+use Rattle.vms_stream.proofs.Facade.{IsBytes, bytes_rest, front_take}
+use Rattle.vms_stream.proofs.Finding.{only, shows, advances, due_solid}
+use Rattle.vms_stream.proofs.Judging.{solid, state_accepts, state_refuses, cut_is, told_from, Says, says, units_mirror}
+use Rattle.vms_stream.proofs.Steps.{Goes, Opening, Closes, Opens, Names, settled, free_opens}
+use Rattle.vms_stream.proofs.StreamRead.{read, free_is, section_on}
+use Rattle.vms_stream.specs.{Faults.Cut, StreamLaws.Taken, StreamLaws.Faulty}
+use Rattle.vms_spec.specs.declared.Reason.TheVariants as reasons
+
+-- ---- a fault stays whatever follows the input, unless the input ends there
+
+whole_on : (set : Set) (u : List Piece) (rest more : List ℕ) (x : Piece) → IsWhole set u rest x → IsWhole set u (rest ++ more) x
+whole_on set u rest more x w = record { may = w.may; more = w.more ++ more; there = rw (w.there) (append_assoc (spell x) w.more more) }
+
+why_on : (set : Set) (names : List (List ℕ)) (u : List Piece) (rest more : List ℕ) (section : Option ℕ) (reason : Reason) (size : ℕ)
+    → (reason ≡ reasons.Truncated → ⊥) → Why set names u rest section reason size → Why set names u (rest ++ more) section reason size
+why_on set names u rest more _ _ _ other (Fails h) = Fails h
+why_on set names u rest more _ _ _ other (Cut h owes none) = absurd (other refl)
+why_on set names u rest more _ _ _ other (Wrong x section reason h whole row) = Wrong x section reason h (whole_on set u rest more x whole) row
+
+pub further_holds : FurtherLaw
+further_holds set names input more place section reason size other f = record {
+  units = f.units;
+  rest = f.rest ++ more;
+  front = f.front;
+  whole = rw (f.whole) (append_assoc (spelled f.units) f.rest more);
+  long = f.long;
+  why = why_on set names f.units f.rest more section reason size other f.why;
+}
 
 shown : (d : Due) (rest : List ℕ) (x : Piece) (n : ℕ) → IsBytes rest → unit_at d rest ≡ Whole x n → IsThere d rest x n
 shown d rest x n ok e = rw e at (shows d rest ok)

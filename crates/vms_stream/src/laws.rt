@@ -114,7 +114,7 @@ pub fn one_fault_law()
 {}
 
 /// States that a fault stays the same whatever follows the input, unless its reason is `Truncated`.
-#[tactic(auto, using(crate::proofs::Further::further_holds))]
+#[tactic(auto, using(crate::proofs::Stated::further_holds))]
 pub fn further_law()
     ensures { FurtherLaw }
 {}
@@ -146,7 +146,7 @@ pub fn whole_law()
 ///
 /// It decides a fault with its size, and a cut. For a good unit, only the rows of `asking` are
 /// still open: those that need the set, the machines or the units so far.
-#[tactic(auto, using(crate::proofs::Calls::Judged::judged_holds))]
+#[tactic(auto, using(crate::proofs::Calls::judged_holds))]
 pub fn judged_law()
     ensures { JudgedLaw }
 {}
@@ -155,14 +155,14 @@ pub fn judged_law()
 /// without a footer.
 ///
 /// The unit is judged as between sections, in a bare stream.
-#[tactic(auto, using(crate::proofs::Calls::Judged::next_holds))]
+#[tactic(auto, using(crate::proofs::Calls::next_holds))]
 pub fn next_law()
     ensures { NextLaw }
 {}
 
 /// States that what a cursor sees after fields (`seen`) depends only on the id of the open section,
 /// and on nothing else known.
-#[tactic(auto, using(crate::proofs::Calls::Judged::seen_holds))]
+#[tactic(auto, using(crate::proofs::Calls::seen_holds))]
 pub fn seen_law()
     ensures { SeenLaw }
 {}

@@ -1,9 +1,5 @@
 pub mod Bounds
 pub mod Facade
-pub mod Fronts
-pub mod Lists
 pub mod Onward
 pub mod Parts
-pub mod SoFar
-pub mod Units
 pub mod WellFormed

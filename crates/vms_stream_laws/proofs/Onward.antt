@@ -1,20 +1,108 @@
--- Units without a fault go on to an end, if every validation holds. The open section's fields come with the
--- number 0, its constants and unused bytes. Then come its footer, a section of each device that hasn't come,
--- and the end mark.
-use Rattle.vms_stream_laws.proofs.Facade.{◌≡◌, ℕ, zero, suc, ◌+◌, ◌<◌, ◌≤◌, Bool, true, false, List, [], ◌∷◌, ◌++◌, append_assoc, length, length-drop}
-use Rattle.vms_stream_laws.proofs.Facade.{length-set, drop, slice_set, ℤ, pos, Option, Some, None, refl, sym, ap, ◌∙◌, arith, replicate, slice_get, leb-true}
-use Rattle.vms_stream_laws.proofs.Facade.{length-map, length-replicate, slice_get_within, IsBytes, Kind, bytes_both, IsGood, FitsHeads, Image, own_cells}
-use Rattle.vms_stream_laws.proofs.Facade.{sub_place, Slot, at_option, Device, Set, Sub, come, device, device_named, id_of, image, mark_come, opened, part}
-use Rattle.vms_stream_laws.proofs.Facade.{part_slots, slots, slots_of_sub, AllCame, magic, Piece, Magic, Version, Configuration, Head, Number, Constant, Filler}
-use Rattle.vms_stream_laws.proofs.Facade.{Foot, End, spell, spelled, WellFormed, device_parts, well_good, none_missing, own_constants, part_constants}
-use Rattle.vms_stream_laws.proofs.Facade.{AreConstants, Due, AVersion, Between, AfterFields, May, AtMagic, AtVersion, AtHead, AtEnd, AtNumber, AtConstant}
-use Rattle.vms_stream_laws.proofs.Facade.{AtFiller, AtFoot, AtNext, due, due_field, fits_four, holds, is_foot, Front, owes, Tail, Unknown, Footed, Bare, known}
-use Rattle.vms_stream_laws.proofs.Facade.{passed, skipped, tail, reason_of, end_passes, foot_passes, head_passes, AreBytes, be32_bytes, bytes_at, code_bytes}
-use Rattle.vms_stream_laws.proofs.Facade.{foot_bytes, head_bytes, parts_named, zeros_bytes}
+-- Units with which a stream can go on. Units without a fault go on to an end, if every validation
+-- holds.
+use Rattle.vms_stream_laws.proofs.{Bounds.bounded, WellFormed.still_fits, WellFormed.still_well, Parts.every_holds as all_hold, Parts.from_bare, Parts.to_bare}
+use Rattle.vms_stream_laws.proofs.Facade.{◌≡◌, ℕ, zero, suc, ◌+◌, ◌<◌, Bool, true, false, ◌&&◌, List, [], ◌∷◌, length, drop}
+use Rattle.vms_stream_laws.proofs.Facade.{slice_set, ℤ, pos, negsuc, Some, None, refl, ◌∙◌, arith, slice_get, le-ltb, ltb-false, InRange, Kind, U8}
+use Rattle.vms_stream_laws.proofs.Facade.{Slot, raw, exceeds, is_above, is_truth, Set, slots, AllCame, Number, Constant, is_below, not_above}
+use Rattle.vms_stream_laws.proofs.Facade.{same_number_itself, AreConstants, AfterFields, due_field, Known, Tail, skipped, first_of, ◌≤◌, ◌++◌}
+use Rattle.vms_stream_laws.proofs.Facade.{append_assoc, length-drop, length-set, Option, sym, ap, replicate, leb-true, length-map, length-replicate}
+use Rattle.vms_stream_laws.proofs.Facade.{slice_get_within, IsBytes, bytes_both, IsGood, FitsHeads, Image, own_cells, sub_place, at_option, Device, Sub, come}
+use Rattle.vms_stream_laws.proofs.Facade.{device, device_named, id_of, image, mark_come, opened, part, part_slots, slots_of_sub, magic, Piece, Magic, Version}
+use Rattle.vms_stream_laws.proofs.Facade.{Configuration, Head, Filler, Foot, End, spell, spelled, WellFormed, device_parts, well_good, none_missing}
+use Rattle.vms_stream_laws.proofs.Facade.{own_constants, part_constants, Due, AVersion, Between, May, AtMagic, AtVersion, AtHead, AtEnd, AtNumber, AtConstant}
+use Rattle.vms_stream_laws.proofs.Facade.{AtFiller, AtFoot, AtNext, due, fits_four, holds, is_foot, Front, owes, Unknown, Footed, Bare, known, passed, tail}
+use Rattle.vms_stream_laws.proofs.Facade.{reason_of, end_passes, foot_passes, head_passes, AreBytes, be32_bytes, bytes_at, code_bytes, foot_bytes, head_bytes}
+use Rattle.vms_stream_laws.proofs.Facade.{parts_named, zeros_bytes, RefusedLaw, unruled, subst, append-nil, take-append_seam, bytes_first, Ends, units_hold}
+use Rattle.vms_stream_laws.proofs.Facade.{BeginningLaw, Begins, HoldsBefore}
+use Rattle.vms_kinds.specs.declared.Kind.TheVariants.{Bool as Truth}
 use Rattle.vms_spec.proofs.WellFormedLaws.{beyond as is_beyond}
-use Rattle.vms_stream.proofs.WrittenBytes.{spelled as spelled_bytes}
-use Rattle.vms_stream_laws.proofs.Bounds.{bounded}
-use Rattle.vms_stream_laws.proofs.Units.{AllPassed, ANumber, AConstant, AFiller, Next, NoneWaits, OneWaits, Waits, constant_passes, constants_left, next_of, number_passes, raw_in, waiting, waits, zero_in}
+use Rattle.vms_spec.specs.Layout.{Number as NumberSlot, Constant as ConstantSlot, Filler as FillerSlot, Rule as RuleSlot}
+use Rattle.vms_stream.proofs.Written.{spelled as spelled_bytes}
+use Rattle.vms_stream.specs.Dues.{Field}
+
+-- ---- units of a part that no row takes
+
+pub zero_in : (kind : Kind) → InRange (raw kind) (pos 0)
+zero_in U8 = (omega arith, omega arith)
+zero_in _ = (omega arith, omega arith)
+
+pub raw_in : (kind : Kind) (z : ℤ) → InRange kind z → InRange (raw kind) z
+raw_in Truth (pos n) r = (r.0, not_above (pos n) 255 (le-ltb 255 n (omega (arith, ltb-false 1 n (is_below (pos n) 1 r.1)))))
+raw_in Truth (negsuc n) r = (r.0, not_above (negsuc n) 255 refl)
+raw_in kind z r = r
+
+-- a truth value that is in range is 0 or 1
+fits_truth : (kind : Kind) (z : ℤ) → InRange kind z → (is_truth kind && is_above z 1) ≡ false
+fits_truth Truth z r = is_below z 1 r.1
+fits_truth kind z r = refl
+
+zero_fits : (capacities : List ℕ) → exceeds capacities (pos 0) ≡ false
+zero_fits [] = refl
+zero_fits (most ∷ capacities) = rw (le-ltb most 0 (omega arith)) (zero_fits capacities)
+
+module _ (set : Set) (names : List (List ℕ)) (so_far : Known) where
+  zero_kind : (kind : Kind) → (is_truth kind && is_above (pos 0) 1) ≡ false
+  zero_kind Truth = refl
+  zero_kind kind = refl
+
+  pub number_passes : (k c : ℕ) (kind : Kind) (capacities : List ℕ) → first_of set names (Field k (NumberSlot c kind capacities)) so_far (Number c kind (pos 0)) ≡ None
+  number_passes k c kind capacities = rw (zero_kind kind, zero_fits capacities)
+
+  pub constant_passes : (k : ℕ) (kind : Kind) (z : ℤ) → InRange kind z → first_of set names (Field k (ConstantSlot kind z)) so_far (Constant kind z) ≡ None
+  constant_passes k kind z r = rw (fits_truth kind z r, same_number_itself z)
+
+-- ---- the slot that is due
+
+-- What comes next of the slots that are left: nothing, a number, a constant, or unused bytes.
+pub data Next (t : Tail) (k : ℕ) (left : List Slot) : Type 0 where
+  AllPassed : due_field t (Some k) left ≡ AfterFields k t → Next t k left
+  ANumber : (c : ℕ) (kind : Kind) (capacities : List ℕ) → due_field t (Some k) left ≡ Field k (NumberSlot c kind capacities) → skipped left < length left → Next t k left
+  AConstant : (kind : Kind) (z : ℤ) → InRange kind z → due_field t (Some k) left ≡ Field k (ConstantSlot kind z) → skipped left < length left → Next t k left
+  AFiller : (n : ℕ) → due_field t (Some k) left ≡ Field k (FillerSlot n) → skipped left < length left → Next t k left
+
+skips : (t : Tail) (k : ℕ) (slot : Slot) (left : List Slot) → due_field t (Some k) (slot ∷ left) ≡ due_field t (Some k) left → skipped (slot ∷ left) ≡ suc (skipped left)
+    → Next t k left → Next t k (slot ∷ left)
+skips t k slot left same more (AllPassed e) = AllPassed (same ∙ e)
+skips t k slot left same more (ANumber c kind capacities e lt) = ANumber c kind capacities (same ∙ e) (omega arith)
+skips t k slot left same more (AConstant kind z r e lt) = AConstant kind z r (same ∙ e) (omega arith)
+skips t k slot left same more (AFiller n e lt) = AFiller n (same ∙ e) (omega arith)
+
+pub next_of : (t : Tail) (k : ℕ) (left : List Slot) → AreConstants left → Next t k left
+next_of t k [] a = AllPassed refl
+next_of t k (RuleSlot b ∷ left) a = skips t k (RuleSlot b) left refl refl (next_of t k left a)
+next_of t k (FillerSlot zero ∷ left) a = skips t k (FillerSlot zero) left refl refl (next_of t k left a)
+next_of t k (FillerSlot (suc n) ∷ left) a = AFiller (suc n) refl (omega arith)
+next_of t k (NumberSlot c kind capacities ∷ left) a = ANumber c kind capacities refl (omega arith)
+next_of t k (ConstantSlot kind z ∷ left) a = AConstant kind z a.0 refl (omega arith)
+
+pub constants_left : (n : ℕ) (slots : List Slot) → AreConstants slots → AreConstants (drop n slots)
+constants_left zero slots a = a
+constants_left (suc n) [] a = tt
+constants_left (suc n) (ConstantSlot kind z ∷ slots) a = constants_left n slots a.1
+constants_left (suc n) (_ ∷ slots) a = constants_left n slots a
+
+-- ---- devices that have not come
+
+abbrev pub waiting : List Bool → ℕ
+waiting [] = 0
+waiting (true ∷ came) = waiting came
+waiting (false ∷ came) = suc (waiting came)
+
+pub data Waits (came : List Bool) : Type 0 where
+  NoneWaits : AllCame came → Waits came
+  OneWaits : (k : ℕ) → slice_get came k ≡ Some false → waiting (slice_set came k true) + 1 ≡ waiting came → Waits came
+
+pub waits : (came : List Bool) → Waits came
+waits [] = NoneWaits tt
+waits (false ∷ came) = OneWaits 0 refl (omega arith)
+waits (true ∷ came) = by (waits came)
+  where
+    by : Waits came → Waits (true ∷ came)
+    by (NoneWaits all) = NoneWaits all
+    by (OneWaits k e less) = OneWaits (suc k) e less
+
+-- ---- units without a fault go on to an end, if every validation holds. The open section's fields come with the number 0, its
+-- constants and unused bytes. Then come its footer, a section of each device that hasn't come, and the end mark.
 
 -- ---- units go on
 
@@ -237,3 +325,46 @@ module _ (set : Set) (names : List (List ℕ)) (well : WellFormed set) (heads : 
   goes_on (Foot id ∷ u) front = sections_on (Foot id ∷ u) front (opens_between (Foot id ∷ u) false false refl)
   goes_on (End ∷ u) front = over_here (End ∷ u) front refl
   goes_on (x ∷ u) front = inside_on (x ∷ u) front (opened set (x ∷ u)) refl refl
+
+-- ---- units without a fault are those with which some stream of the set begins, validations aside
+
+module _ (set : Set) (names : List (List ℕ)) where
+  begins : WellFormed set → FitsHeads set → (u : List Piece) → IsBytes (spelled u) → Front set names u → Begins set names u
+  begins well heads u ok front =
+      let bare = unruled set in
+      let e = goes_on bare names (still_well set well) (still_fits set heads) (all_hold set) u (to_bare set names u front) in
+      let input = spelled (e.more ++ u) in
+      let ends : Ends bare names input (length input) (e.more ++ u) =
+      record { rest = []; front = e.front; held = all_hold set (e.more ++ u); over = e.over; whole = sym (append-nil input); long = refl } in
+      record {
+        input = input;
+        octets = e.octets ok;
+        goes_on = record {
+          taken = length input;
+          more = e.more;
+          ends = ends;
+          takes = units_hold bare names (still_well set well) (still_fits set heads) input (length input) (e.more ++ u) (e.octets ok) ends;
+        };
+      }
+
+  before : (u : List Piece) → Front set names u → HoldsBefore set u
+  before [] front = tt
+  before (x ∷ u) front = (before u front.0, front.1)
+
+  first_of_more : (more u : List Piece) → Front (unruled set) names (more ++ u) → Front (unruled set) names u
+  first_of_more [] u front = front
+  first_of_more (x ∷ more) u front = first_of_more more u front.0
+
+pub beginnings_hold : BeginningLaw
+beginnings_hold set names well heads u ok = record {
+  begins = begins set names well heads u ok;
+  before = before set names u;
+  front = λ b held. from_bare set names u (first_of_more set names b.goes_on.more u b.goes_on.ends.front) held;
+}
+
+bytes_before : (xs ys : List ℕ) → IsBytes (xs ++ ys) → IsBytes xs
+bytes_before xs ys ok = subst IsBytes (take-append_seam xs ys) (bytes_first (length xs) (xs ++ ys) ok)
+
+pub refused_hold : RefusedLaw
+refused_hold set names well heads input place section reason size ok fault =
+    begins set names well heads fault.units (bytes_before (spelled fault.units) fault.rest (subst IsBytes fault.whole ok)) fault.front

@@ -1,14 +1,55 @@
--- The slots of a set without its validations are those of the set, with every rule true.
-use Rattle.vms_stream_laws.proofs.Facade.{unruled_device, unruled_sub, map-map}
-use Rattle.vms_stream_laws.proofs.Facade.{◌≡◌, ℕ, zero, suc, ◌+◌, Bool, true, false, if◌then◌else◌, List, [], ◌∷◌, length, map, get_or, drop, Option, Some}
-use Rattle.vms_stream_laws.proofs.Facade.{None, ℤ, refl, sym, ap, ◌∙◌, flat_map, slice_get, option_map, drop-map, length-map, map-append, slice_get-map}
-use Rattle.vms_stream_laws.proofs.Facade.{fun_ext, Item, Struct, Image, default_image, own_cells, sub_place, Cell, Slot, Rule, Meaning, no_meaning, no_desc}
-use Rattle.vms_stream_laws.proofs.Facade.{all_hold, counted, desc_cells, desc_slots, device_cells, field_cells, field_slots, first, item_slots, meaning}
-use Rattle.vms_stream_laws.proofs.Facade.{meanings, no_parent, numbers_of, slots_from, struct_cells, times, Desc, Device, Field, Set, Sub, fresh, part_slots}
-use Rattle.vms_stream_laws.proofs.Facade.{slots_of_sub, subs_of, is_there, Tail, Footed, beyond, skipped, due_field, rules_hold, unruled, unruled_desc}
-use Rattle.vms_spec.specs.Layout.{Filler}
+-- The slots of a set without its validations, and what the units so far say of it.
+use Rattle.vms_stream_laws.proofs.Facade.{◌≡◌, ℕ, zero, suc, Bool, List, [], ◌∷◌, map, Option, Some, None, refl, list_any, slice_get, option_map}
+use Rattle.vms_stream_laws.proofs.Facade.{slice_get-map, at_option, first_answer, position, or_else_none, both_none, test_some, unruled_device, unruled_sub}
+use Rattle.vms_stream_laws.proofs.Facade.{map-map, ◌+◌, true, false, if◌then◌else◌, length, get_or, drop, ℤ, sym, ap, ◌∙◌, flat_map, drop-map}
+use Rattle.vms_stream_laws.proofs.Facade.{length-map, map-append, fun_ext, Item, Struct, Image, default_image, own_cells, sub_place, Cell, Slot, Rule, Meaning}
+use Rattle.vms_stream_laws.proofs.Facade.{no_meaning, no_desc, all_hold, counted, desc_cells, desc_slots, device_cells, field_cells, field_slots, first}
+use Rattle.vms_stream_laws.proofs.Facade.{item_slots, meaning, meanings, no_parent, numbers_of, slots_from, struct_cells, times, Desc, Device, Field, Set, Sub}
+use Rattle.vms_stream_laws.proofs.Facade.{fresh, part_slots, slots_of_sub, subs_of, is_there, Tail, Footed, beyond, skipped, due_field, rules_hold, unruled}
+use Rattle.vms_stream_laws.proofs.Facade.{unruled_desc, first_of, nat_lt, ◌++◌, bytes_eq, come, device, device_named, image, mark_come, opened, part, slots}
+use Rattle.vms_stream_laws.proofs.Facade.{sub_named, Piece, Head, Number, Constant, Filler, SubHead, End, due, holds, Front, Known, behind, known, passed, tail}
+use Rattle.vms_stream_laws.proofs.Facade.{alone, asking, first_row, reason_of, HoldsBefore}
+use Rattle.vms_spec.specs.Layout as slots
 
--- ---- slots whose rules hold
+-- ---- lists whose elements are put to others: what is found in them is what was found before
+
+module _ {X Y : Type 0} (f : X → Y) where
+  pub position_map : (p : Y → Bool) (k : ℕ) (xs : List X) → position p k (map f xs) ≡ position (λ x. p (f x)) k xs
+  position_map p k [] = refl
+  position_map p k (x ∷ xs) = rw (position_map p (suc k) xs)
+
+  pub any_map : (p : Y → Bool) (xs : List X) → list_any p (map f xs) ≡ list_any (λ x. p (f x)) xs
+  any_map p [] = refl
+  any_map p (x ∷ xs) = rw (any_map p xs)
+
+  pub at_map : (xs : List X) (o : Option ℕ) → at_option (map f xs) o ≡ option_map f (at_option xs o)
+  at_map xs None = refl
+  at_map xs (Some k) = slice_get-map f xs k
+
+  pub test_map : (p : Y → Bool) (o : Option X) → test_some p (option_map f o) ≡ test_some (λ x. p (f x)) o
+  test_map p None = refl
+  test_map p (Some x) = refl
+
+  -- what is in the other list came from the first
+  pub record CameFrom (xs : List X) (k : ℕ) (y : Y) : Type 0 where
+    pub first : X
+    pub there : slice_get xs k ≡ Some first
+    pub is : f first ≡ y
+
+  pub came_from : (xs : List X) (k : ℕ) (y : Y) → slice_get (map f xs) k ≡ Some y → CameFrom xs k y
+  came_from [] k y e = absurd (cc)
+  came_from (x ∷ xs) zero y e = record { first = x; there = refl; is = cc }
+  came_from (x ∷ xs) (suc k) y e = let r = came_from xs k y e in record { first = r.first; there = r.there; is = r.is }
+
+  -- if nothing is found in the first list, nothing is found in the other
+  pub none_after : {Z : Type 0} (a : ℕ → X → Option Z) (b : ℕ → Y → Option Z) → ((i : ℕ) (x : X) → a i x ≡ None → b i (f x) ≡ None) → (i : ℕ) (xs : List X)
+      → first_answer a i xs ≡ None → first_answer b i (map f xs) ≡ None
+  none_after a b h i [] e = refl
+  none_after a b h i (x ∷ xs) e =
+      let both = or_else_none (a i x) (first_answer a (suc i) xs) e in
+      both_none (b i (f x)) (first_answer b (suc i) (map f xs)) (h i x both.0) (none_after a b h (suc i) xs both.1)
+
+-- ---- the slots of a set without its validations are those of the set, with every rule true: slots whose rules hold
 
 abbrev pub held_slot : Slot → Slot
 held_slot (Rule b) = Rule true
@@ -21,7 +62,7 @@ held slots = map held_slot slots
 held_as : (t : Tail) (k : ℕ) (slots : List Slot)
     → (due_field t (Some k) (held slots) ≡ due_field t (Some k) slots) × (rules_hold (held slots) ≡ true) × (skipped (held slots) ≡ skipped slots)
 held_as t k (Rule b ∷ slots) = let h = held_as t k slots in (h.0, h.1, ap suc h.2)
-held_as t k (Filler zero ∷ slots) = let h = held_as t k slots in (h.0, h.1, ap suc h.2)
+held_as t k (slots.Filler zero ∷ slots) = let h = held_as t k slots in (h.0, h.1, ap suc h.2)
 held_as t k _ = (refl, refl, refl)
 
 pub due_held : (t : Tail) (o : Option ℕ) (slots : List Slot) → due_field t o (held slots) ≡ due_field t o slots
@@ -160,3 +201,122 @@ module _ (set : Set) where
   pub subs_held : (o : Option Device) → subs_of (option_map unruled_device o) ≡ map unruled_sub (subs_of o)
   subs_held None = refl
   subs_held (Some d) = refl
+
+-- ---- what the units so far say of a set without its validations is what they say of the set; its validations hold, since it has none
+
+module _ (set : Set) where
+  abbrev bare : Set
+  bare = unruled set
+
+  named_same : (name : List ℕ) (instance : ℕ) → device_named bare name instance ≡ device_named set name instance
+  named_same name instance = position_map unruled_device _ 0 set.devices
+
+  at_same : (o : Option ℕ) → at_option bare.devices o ≡ option_map unruled_device (at_option set.devices o)
+  at_same o = at_map unruled_device set.devices o
+
+  come_same : (u : List Piece) → come bare u ≡ come set u
+  come_same [] = map-map (λ (d : Device). false) unruled_device set.devices
+  come_same (Head id name instance v ∷ u) = rw (come_same u) (ap (mark_come (come set u)) (named_same name instance))
+  come_same (x ∷ u) = come_same u
+
+  opened_same : (u : List Piece) → opened bare u ≡ opened set u
+  opened_same [] = refl
+  opened_same (Head id name instance v ∷ u) = named_same name instance
+  opened_same (x ∷ u) = assumption (opened_same u)
+
+  device_held : (u : List Piece) → device bare u ≡ option_map unruled_device (device set u)
+  device_held u = ap (at_option bare.devices) (opened_same u) ∙ at_same (opened set u)
+
+  sub_same : (u : List Piece) (name : List ℕ) → sub_named bare u name ≡ sub_named set u name
+  sub_same u name =
+      rw (ap subs_of (device_held u) ∙ subs_held set (device set u)) (position_map unruled_sub (λ s. bytes_eq s.desc.name name) 0 (subs_of (device set u)))
+
+  behind_same : (o : Option ℕ) (t : Tail) → behind bare o t ≡ behind set o t
+  behind_same None t = refl
+  behind_same (Some k) t = refl
+
+  tail_same : (u : List Piece) → tail bare u ≡ tail set u
+  tail_same [] = refl
+  tail_same (Head id name instance v ∷ u) = rw (opened_same u, tail_same u) (behind_same (opened set u) (tail set u))
+  tail_same (End ∷ u) = rw (opened_same u, tail_same u) (behind_same (opened set u) (tail set u))
+  tail_same (x ∷ u) = assumption (tail_same u)
+
+  part_same : (u : List Piece) → part bare u ≡ part set u
+  part_same [] = refl
+  part_same (SubHead name v ∷ u) = sub_same u name
+  part_same (x ∷ u) = assumption (part_same u)
+
+  image_same : (u : List Piece) → image bare u ≡ image set u
+  image_same [] = refl
+  image_same (Head id name instance v ∷ u) =
+      rw (named_same name instance, at_same (device_named set name instance)) (fresh_same set (at_option set.devices (device_named set name instance)) v)
+  image_same (Number c kind z ∷ u) = rw (image_same u)
+  image_same (SubHead name v ∷ u) = rw (image_same u, sub_same u name)
+  image_same (x ∷ u) = assumption (image_same u)
+
+  slots_held : (u : List Piece) → slots bare u ≡ held (slots set u)
+  slots_held u = rw (device_held u, image_same u, part_same u) (part_held set (device set u) (image set u) (part set u))
+
+  passed_same : (u : List Piece) → passed bare u ≡ passed set u
+  passed_same (Number c kind z ∷ u) = rw (passed_same u, slots_held u) (beyond_held (passed set u) (slots set u))
+  passed_same (Constant kind z ∷ u) = rw (passed_same u, slots_held u) (beyond_held (passed set u) (slots set u))
+  passed_same (Filler bytes ∷ u) = rw (passed_same u, slots_held u) (beyond_held (passed set u) (slots set u))
+  passed_same u = refl
+
+  left_held : (u : List Piece) → drop (passed bare u) (slots bare u) ≡ held (drop (passed set u) (slots set u))
+  left_held u = rw (passed_same u, slots_held u) (drop_held (passed set u) (slots set u))
+
+  field_same : (u : List Piece)
+      → due_field (tail bare u) (opened bare u) (drop (passed bare u) (slots bare u)) ≡ due_field (tail set u) (opened set u)
+      (drop (passed set u) (slots set u))
+  field_same u = rw (left_held u, tail_same u, opened_same u) (due_held (tail set u) (opened set u) _)
+
+  pub due_same : (u : List Piece) → due bare u ≡ due set u
+  due_same [] = refl
+  due_same (End ∷ u) = refl
+  due_same (x ∷ u) = assumption (field_same (x ∷ u))
+
+  -- no validation fails
+  pub every_holds : (u : List Piece) → holds bare u ≡ true
+  every_holds u = ap rules_hold (left_held u) ∙ rules_held (drop (passed set u) (slots set u))
+
+  -- ---- the rows
+
+  known_same : (u : List Piece) → known bare u ≡ known set u
+  known_same u = rw (come_same u, opened_same u, image_same u) refl
+
+  asking_same : (names : List (List ℕ)) (k : Known) (x : Piece) → asking bare names k x ≡ asking set names k x
+  asking_same names k (Head id name instance v) =
+      let o = device_named set name instance in
+      rw (
+        named_same name instance,
+        at_same o,
+        test_map unruled_device (λ (d : Device). nat_lt d.desc.version v) (at_option set.devices o),
+        test_map unruled_device (λ (d : Device). nat_lt v d.desc.minimum) (at_option set.devices o),
+      ) refl
+  asking_same names k (SubHead name v) =
+      let subs = subs_of (at_option set.devices k.section) in
+      let s = at_option subs (position (λ (s : Sub). bytes_eq s.desc.name name) 0 subs) in
+      rw (
+        ap subs_of (at_same k.section) ∙ subs_held set (at_option set.devices k.section),
+        position_map unruled_sub (λ s. bytes_eq s.desc.name name) 0 subs,
+        at_map unruled_sub subs,
+        test_map unruled_sub (λ (s : Sub). nat_lt s.desc.version v) s,
+        test_map unruled_sub (λ (s : Sub). nat_lt v s.desc.minimum) s,
+      ) refl
+  asking_same names k x = refl
+
+  pub reason_same : (names : List (List ℕ)) (u : List Piece) (x : Piece) → reason_of bare names u x ≡ reason_of set names u x
+  reason_same names u x =
+      ap (λ d. first_of bare names d (known bare u) x) (due_same u) ∙ ap (λ k. first_of bare names (due set u) k x) (known_same u)
+      ∙ ap (λ rows. first_row (alone (due set u) (known set u) x ++ rows)) (asking_same names (known set u) x)
+
+  -- ---- fronts
+
+  pub to_bare : (names : List (List ℕ)) (u : List Piece) → Front set names u → Front bare names u
+  to_bare names [] f = tt
+  to_bare names (x ∷ u) f = (to_bare names u f.0, every_holds u, rw (due_same u) f.2, reason_same names u x ∙ f.3)
+
+  pub from_bare : (names : List (List ℕ)) (u : List Piece) → Front bare names u → HoldsBefore set u → Front set names u
+  from_bare names [] f h = tt
+  from_bare names (x ∷ u) f h = (from_bare names u f.0 h.0, h.1, rw (due_same u) at f.2, sym (reason_same names u x) ∙ f.3)

@@ -1,11 +1,11 @@
 -- A well-formed set is well formed without its validations.
-use Rattle.vms_stream_laws.proofs.{Lists.any_map, Lists.came_from, Lists.none_after, Parts.first_unruled}
-use Rattle.vms_stream_laws.proofs.Facade.{◌≡◌, ℕ, suc, ◌^◌, ◌<◌, Bool, true, false, not, ◌&&◌, nat_le, List, [], ◌∷◌, ◌+◌, length, get_or, map, take, None}
-use Rattle.vms_stream_laws.proofs.Facade.{refl, ap, ◌∙◌, subst, slice_get, and_from, and_parts, length-map, map-map, take-map, Part, FitsHeads, first_answer, or_else}
-use Rattle.vms_stream_laws.proofs.Facade.{is_small_test, Desc, Device, Set, Sub, WellFormed, deepest, desc_fault, device_fault, device_rules, devices_items}
-use Rattle.vms_stream_laws.proofs.Facade.{failing, fields_fault, first_fault, has_few, here, is_same_device, items_in, set_rules, size_rules, struct_depths}
-use Rattle.vms_stream_laws.proofs.Facade.{struct_fault, struct_items, struct_rules, sub_fault, sub_rules, subs_items, validations_fault, AllTrue, all_true}
-use Rattle.vms_stream_laws.proofs.Facade.{or_else_none, unruled, unruled_desc, unruled_device, unruled_sub, both_none}
+use Rattle.vms_stream_laws.proofs.{Parts.any_map, Parts.came_from, Parts.none_after, Parts.first_unruled, Facade.both_none}
+use Rattle.vms_stream_laws.proofs.Facade.{◌≡◌, ℕ, suc, ◌^◌, ◌<◌, Bool, true, false, not, ◌&&◌, nat_le, List, [], ◌∷◌, ◌+◌, length}
+use Rattle.vms_stream_laws.proofs.Facade.{get_or, map, take, None, refl, ap, ◌∙◌, subst, slice_get, and_from, and_parts, length-map, map-map, take-map}
+use Rattle.vms_stream_laws.proofs.Facade.{Part, FitsHeads, first_answer, or_else, is_small_test, Desc, Device, Set, Sub, WellFormed, deepest, desc_fault}
+use Rattle.vms_stream_laws.proofs.Facade.{device_fault, device_rules, devices_items, failing, fields_fault, first_fault, has_few, here, is_same_device}
+use Rattle.vms_stream_laws.proofs.Facade.{items_in, set_rules, size_rules, struct_depths, struct_fault, struct_items, struct_rules, sub_fault, sub_rules}
+use Rattle.vms_stream_laws.proofs.Facade.{subs_items, validations_fault, AllTrue, all_true, or_else_none, unruled, unruled_desc, unruled_device, unruled_sub}
 use Rattle.vms_spec.specs.declared.Part.TheVariants as parts
 
 none_failing : (r : ℕ) (rules : List Bool) (part : Part) → AllTrue rules → failing r rules (here part) ≡ None

@@ -6,7 +6,7 @@ ghost use Rattle.vms_stream_laws.specs.Laws.{BeginningLaw, RefusedLaw};
 ///
 /// `Begins` leaves the set's validations out. They must hold of the descriptions that ended before
 /// the last unit.
-#[tactic(auto, using(crate::proofs::Fronts::beginnings_hold))]
+#[tactic(auto, using(crate::proofs::Onward::beginnings_hold))]
 pub fn beginning_law()
     ensures { BeginningLaw }
 {}

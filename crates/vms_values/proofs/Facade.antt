@@ -13,9 +13,9 @@ pub use Rattle.std.specs.{Borrow.Bor, Fmt.decimal, Fmt.signed_decimal, Int.w128,
 pub use Rattle.std.specs.List.{flat_map, list_all, slice_get}
 pub use Rattle.vms_kinds.specs.{Codes.InRange, declared.Item.Item, declared.Kind.Kind, declared.Kind.TheVariants.U8}
 pub use Rattle.vms_kinds.specs.declared.Item.TheVariants.{Num, Struct}
-pub use Rattle.vms_spec.proofs.{ListLaws.drop_on, ListLaws.natural_up, Prefixes.item_cells_same, Prefixes.own_same, Prefixes.readers_cells, Sizes.elements_fit}
-pub use Rattle.vms_spec.proofs.{Sizes.field_size, Sizes.one_fits, Sizes.room_for_less, Sizes.size_same, Tables.first_at, Tables.one_more, WellFormedLaws.ranges}
-pub use Rattle.vms_spec.proofs.Prefixes.{row_same, struct_cells_at, FieldsBelow, ItemBelow, all_below, field_cells_same, first_cells, first_same}
+pub use Rattle.vms_spec.proofs.{ListsAndNumbers.drop_on, ListsAndNumbers.natural_up, WellFormedLaws.ranges}
+pub use Rattle.vms_spec.proofs.Tables.{item_cells_same, own_same, readers_cells, elements_fit, field_size, one_fits, room_for_less, size_same, first_at}
+pub use Rattle.vms_spec.proofs.Tables.{one_more, row_same, struct_cells_at, FieldsBelow, ItemBelow, all_below, field_cells_same, first_cells, first_same}
 pub use Rattle.vms_spec.specs.{Heads.FitsHeads, Numbers.exceeds, Numbers.same_number, Places.own_cell_count, Readiness.rules_are_true, Rules.in_range}
 pub use Rattle.vms_spec.specs.{Rules.uses_below, Sets.AtLeast, Sets.Desc, Sets.Device, Sets.Field, Sets.Set, Sets.Sub, Tests.is_there, declared.Count.Count}
 pub use Rattle.vms_spec.specs.{declared.Count.TheVariants.One, declared.Part.Part, declared.TheConstants.MOST_ITEMS, declared.ValuesReason.ValuesReason}
@@ -33,15 +33,14 @@ pub use Rattle.vms_spec.specs.ValuesReading.{read_device, read_devices, read_ele
 pub use Rattle.vms_spec.specs.ValuesReading.{rest_of, section_line, sub_fails, sub_said, then_subs, with_device, ◌>>=◌}
 unfoldable pub use Rattle.vms_spec.specs.{Layout.first, ValuesReading.values_read}
 pub use Rattle.vms_words.specs.{Lines.IsFirstLine, declared.line.NextLine.NextLine}
-pub use Rattle.vms_bodies.proofs.{CellLaws.cells_first, PartLaws.cells_of_sub, WalkLaws.place_first}
-pub use Rattle.vms_elements.proofs.{Names.array_name, Names.names_absent, Tables.shapes_cells, Walk.item_walks, Walk.names_append}
-pub use Rattle.vms_elements.proofs.Walk.{names_long, names_map, walks, AreWalked, are_walked, desc_names_are, desc_walks, field_walks, fields_walk, is_dotted}
+pub use Rattle.vms_bodies.proofs.{Places.cells_first, PartLaws.cells_of_sub, WalkLaws.place_first}
+pub use Rattle.vms_elements.proofs.{Walk.are_walked, Walk.desc_names_are, Walk.desc_walks, Walk.field_walks, Members.shapes_cells}
+pub use Rattle.vms_elements.proofs.Walk.{array_name, names_absent, fields_walk, is_dotted, item_walks, names_append, names_long, names_map, walks, AreWalked}
 pub use Rattle.vms_elements.specs.{Reading.Reads, Reading.Refused, Parts.absent, Parts.cell_name, Parts.elements_in, Parts.names_of, Parts.subs_elements}
 pub use Rattle.vms_elements.specs.Elements.{stand_of, Shape, desc_elements, dotted, elements_from, field_elements, item_elements, no_shape, shape, shapes}
 pub use Rattle.vms_desc.proofs.AskLaws.{few_cells, found_field, here_fields, own_inside_device, sub_first, sub_inside, sub_next}
-pub use Rattle.vms_desc.proofs.Bounds.{few_devices, few_machines, few_structs, fit_of}
-pub use Rattle.vms_desc.proofs.Clean.{few_subs, field_clean, reach, struct_clean}
-pub use Rattle.vms_desc.proofs.Ranks.{item_rank, part_rank, rank_below, reach_whole, uses_more}
+pub use Rattle.vms_desc.proofs.Clean.{few_devices, few_machines, few_structs, fit_of, few_subs, field_clean, reach, struct_clean, item_rank, part_rank}
+pub use Rattle.vms_desc.proofs.Clean.{rank_below, reach_whole, uses_more}
 pub use Rattle.vms_desc.specs.{Described.described, Described.device_at, Formed.is_well_formed, Parts.HasPart, Parts.desc_at, Parts.sub_at, Spots.kinds_at}
 pub use Rattle.vms_desc.specs.Asks.{field_at, first_cell, own_numbers}
 pub use Rattle.vms_image.proofs.States.{state_at, states_long}
@@ -63,8 +62,8 @@ pub use Rattle.vms_values.specs.SubsTaken.{IsAlike, SubReached, SubsReached, sai
 pub use Rattle.vms_values.specs.Taken.{AreKinds, ElementKinds, IsKept, element_cells, number_judged, part_cells, place_of, run_read}
 pub use Rattle.vms_values.specs.declared.line.TheConstants.{INDEX_ROOM, LONGEST_PATH, PART_ROOM}
 pub use Rattle.vms_values_laws.proofs.{SecondPass.or_bad_assoc, Stated.line_holds, Stated.read_holds}
-pub use Rattle.vms_walk.proofs.{Least.exceeds_least, Walking.fields_at, Walking.room_at}
-pub use Rattle.vms_walk.proofs.Spots.{cells_table, next_field, size_code, start_after, start_code, struct_size, width_code}
+pub use Rattle.vms_walk.proofs.Spots.{exceeds_least, cells_table, next_field, size_code, start_after, start_code, struct_size, width_code}
+pub use Rattle.vms_walk.proofs.Walking.{fields_at, room_at}
 pub use Rattle.vms_walk.specs.{declared.fields.PartAt.PartAt}
 pub use Rattle.vms_walk.specs.Steps.{HasSpot, capacities_of, cell_of, cells_in, size_in, spot_slots, steps_of, table}
 pub use Rattle.vms_write.specs.Fine.{no_form, settle}

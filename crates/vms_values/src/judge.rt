@@ -149,7 +149,7 @@ impl Cells for Rules<'_> {
 impl Walker for Rules<'_> {
     ghost use Rattle.std.specs.Prelude.{◌≡◌, true, false, refl};
     ghost use Rattle.std.proofs.Common.{ap, ◌∙◌};
-    ghost use Rattle.vms_walk.proofs.Kept.{keeps_same};
+    ghost use Rattle.vms_walk.proofs.Walking.{keeps_same};
     ghost use Rattle.vms_values.specs.Judging.{steps_hold, hold_then, fail_before};
 
     type Fault = Broken;

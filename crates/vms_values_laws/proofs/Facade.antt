@@ -12,10 +12,9 @@ pub use Rattle.std.proofs.lemmas.Option.{get_or_from_slice_get, same_Some, some_
 pub use Rattle.std.specs.{Fmt.decimal, Fmt.signed_decimal, Str.bytes_eq, List.AllByRecursion, List.flat_map, List.list_all, List.slice_get}
 pub use Rattle.vms_kinds.specs.declared.Item.{Item, TheVariants.Num, TheVariants.Struct}
 pub use Rattle.vms_kinds.specs.declared.Kind.{Kind, TheVariants.I64, TheVariants.U64, TheVariants.U8}
-pub use Rattle.vms_spec.proofs.{ListLaws.either_of, ListLaws.or_second, NameBytes.name_byte_high, Prefixes.readers_cells, Sizes.elements_fit, Sizes.field_size}
-pub use Rattle.vms_spec.proofs.{Tables.first_long, Tables.two_more, NumberLaws.not_exceeds, NumberLaws.same_number_is, NumberLaws.within_all}
-pub use Rattle.vms_spec.proofs.Faultless.{few_devices, machine_short, or_else_none}
-pub use Rattle.vms_spec.proofs.WellFormedLaws.{Clean, device_parts, get_none, ranges, struct_clean, sub_clean, well_good}
+pub use Rattle.vms_spec.proofs.{WellFormedLaws.struct_clean, Tables.readers_cells, Tables.elements_fit, Tables.field_size, Tables.first_long, Tables.two_more}
+pub use Rattle.vms_spec.proofs.ListsAndNumbers.{name_byte_high, either_of, or_second, not_exceeds, same_number_is, within_all}
+pub use Rattle.vms_spec.proofs.WellFormedLaws.{sub_clean, well_good, few_devices, machine_short, or_else_none, Clean, device_parts, get_none, ranges}
 pub use Rattle.vms_spec.specs.{Images.own_cells, Numbers.exceeds, Numbers.same_number, Readiness.rules_are_true, Rules.in_range, Sets.Desc, Sets.Device}
 pub use Rattle.vms_spec.specs.{Sets.Field, Sets.Set, Sets.Sub, Spelling.begins_with, Spelling.first_line, Spelling.number_spelled, Streams.optional}
 pub use Rattle.vms_spec.specs.{Values.values_text, Values.version_text, declared.Count.Count, declared.Place.Place, declared.ValuesReason.ValuesReason}
@@ -36,14 +35,14 @@ pub use Rattle.vms_spec.specs.declared.Count.TheVariants.{Counted, Fixed, One}
 unfoldable pub use Rattle.vms_spec.specs.{Layout.first, ValuesReading.values_read, WellFormed.first_fault}
 pub use Rattle.vms_words.proofs.{Lines.begun, Lines.line_splits, Spells.number_holds, Spells.spelled_holds}
 pub use Rattle.vms_words.specs.{Texts.IsShort}
-pub use Rattle.vms_bodies.proofs.{SpellLaws.rules_append, SubsOnly.rules_split, ReadyLaws.is_same, ReadyLaws.ranged, ReadyLaws.rules_decide, WalkLaws.drop_next}
-pub use Rattle.vms_bodies.proofs.{WalkLaws.place_first, WalkLaws.zero_plus, Names.if_both, Names.names_append, Names.none_joined}
-pub use Rattle.vms_bodies.proofs.Places.{elements_same, place_next, there_same}
+pub use Rattle.vms_bodies.proofs.{SpellLaws.rules_append, BodyOnly.rules_split, Stated.is_same, Stated.ranged, Stated.rules_decide}
+pub use Rattle.vms_bodies.proofs.Places.{if_both, names_append, none_joined, elements_same, place_next, there_same}
+pub use Rattle.vms_bodies.proofs.WalkLaws.{drop_next, place_first, zero_plus}
 pub use Rattle.vms_stream.proofs.Stated.{one_stream_holds, written_holds}
 pub use Rattle.vms_stream.specs.Streams.{Takes}
-pub use Rattle.vms_elements.proofs.{EntryLines.entry_law, SlotsOf.elements_slots, Tables.shapes_cells, Walk.AreCounted, Walk.walks}
-pub use Rattle.vms_elements.proofs.LinesOf.{printed_append, text_append, text_is}
-pub use Rattle.vms_elements.proofs.Members.{all_both, all_from, all_more, all_parts, decimal_all, elements_each}
+pub use Rattle.vms_elements.proofs.LinesOf.{entry_law, elements_slots, printed_append, text_append, text_is}
+pub use Rattle.vms_elements.proofs.Members.{shapes_cells, all_both, all_from, all_more, all_parts, decimal_all, elements_each}
+pub use Rattle.vms_elements.proofs.Walk.{AreCounted, walks}
 pub use Rattle.vms_elements.specs.Elements.{Element, Number, Rule, Shape, Stand, What, array_elements, behind, cells_in, desc_elements, dotted, elements_from}
 pub use Rattle.vms_elements.specs.Elements.{field_elements, index_text, item_elements, no_shape, shape, shapes, single, stand_of}
 pub use Rattle.vms_elements.specs.Entries.{Entry, OfMachine, OfNumber, OfSection, OfSub, came_well, device_entries, devices_entries, element_reason, entries}

@@ -1,7 +1,6 @@
 -- The names of other crates, and of this crate's `specs`, that the proofs use.
-pub use Rattle.vms_bodies.proofs.{Names.if_there, CellLaws.cells_first}
-pub use Rattle.vms_bodies.proofs.AboveLaws.{IsAbove, field_above, item_above, items_above, meanings_above}
-pub use Rattle.vms_bodies.proofs.Places.{SameBelow, elements_same, own_same, place_next, same_less, there_same}
+pub use Rattle.vms_bodies.proofs.Places.{if_there, cells_first, IsAbove, field_above, item_above, items_above, meanings_above, SameBelow, elements_same}
+pub use Rattle.vms_bodies.proofs.Places.{own_same, place_next, same_less, there_same}
 pub use Rattle.vms_bodies.proofs.SettledLaws.{MeanSettled, SameIn, field_settled, item_settled, meanings_settled}
 pub use Rattle.std.proofs.{Math.Bool.or-false, Math.Bool.or_assoc, Math.ListN.get_or-map, lemmas.List.drop_more, lemmas.List.get_or-set_other}
 pub use Rattle.std.proofs.{lemmas.List.take_all, lemmas.Option.slice_get-get_or, lemmas.Result.IfErr-weaker, lemmas.Result.on_ok_weaker}
@@ -11,16 +10,16 @@ pub use Rattle.std.proofs.Common.{true, zero, ℕ, ℤ, ◌*◌, ◌++◌, ◌+�
 pub use Rattle.std.proofs.lemmas.Bool.{eq-eqb, lt-ltb, ltb-false, ltb-true, ne_eqb, or_parts}
 pub use Rattle.std.specs.{Prelude.IsErrAnd}
 pub use Rattle.vms_kinds.specs.{declared.Item.Item, declared.Kind.Kind, declared.Item.TheVariants.Num, declared.Item.TheVariants.Struct}
-pub use Rattle.vms_spec.proofs.{ListLaws.same_tests, Sizes.elements_fit, Sizes.field_size, Sizes.one_fits, Sizes.room_for_less, Tables.one_more}
-pub use Rattle.vms_spec.proofs.Prefixes.{FieldsBelow, all_below, struct_cells_at, struct_slots}
+pub use Rattle.vms_spec.proofs.ListsAndNumbers.{same_tests}
+pub use Rattle.vms_spec.proofs.Tables.{elements_fit, field_size, one_fits, room_for_less, one_more, FieldsBelow, all_below, struct_cells_at, struct_slots}
 pub use Rattle.vms_spec.specs.{Good.IsGood, Images.has_cell, Layout.numbers_of, Layout.place_of, Numbers.exceeds, Numbers.is_above, Rules.uses_below, Sets.Desc}
 pub use Rattle.vms_spec.specs.{Sets.Field, Sets.Set, Tests.is_there, declared.Part.Part, declared.TheConstants.MOST_ITEMS}
 pub use Rattle.vms_spec.specs.Layout.{slots_from, struct_cells, times, Meaning, Rule, Slot, all_hold, capacity_of, cells_from, counted, desc_cells, desc_slots}
 pub use Rattle.vms_spec.specs.Layout.{elements_of, field_cells, field_slots, item_size, item_slots, meaning, meanings, no_desc, no_field, no_meaning, no_parent}
 pub use Rattle.vms_spec.specs.Sound.{AreSoundFields, IsEarlier, IsSound, IsSoundField}
 unfoldable pub use Rattle.vms_spec.specs.Layout.{first}
-pub use Rattle.vms_desc.proofs.{AskLaws.found_field, AskLaws.here_fields, Bounds.good_of, EvalLaws.place_after, EvalLaws.place_within, Clean.field_clean}
-pub use Rattle.vms_desc.proofs.{Clean.reach, Clean.struct_clean, Ranks.item_rank, Ranks.part_rank, Ranks.rank_below, Ranks.reach_whole, Ranks.uses_more}
+pub use Rattle.vms_desc.proofs.{AskLaws.found_field, AskLaws.here_fields, EvalLaws.place_after, EvalLaws.place_within}
+pub use Rattle.vms_desc.proofs.Clean.{good_of, field_clean, reach, struct_clean, item_rank, part_rank, rank_below, reach_whole, uses_more}
 pub use Rattle.vms_desc.specs.{Described.described, Described.device_at, Formed.is_well_formed, Parts.HasPart, Parts.desc_at, Parts.sub_at}
 pub use Rattle.vms_desc.specs.Asks.{field_at, field_start, own_numbers}
 pub use Rattle.vms_parts.specs.{Capacities.least_from, Capacities.least_of, Capacities.lesser, Sizes.in_u32}

@@ -1,14 +1,13 @@
 -- A walk over parts: what is done at each of them is done at the whole.
-use Rattle.vms_walk.proofs.Facade.{◌≡◌, ℕ, ◌+◌, ◌*◌, ◌<◌, ◌≤◌, List, [], ◌∷◌, ◌++◌, length, take, ℤ, refl, sym, ap, ◌∙◌, arith, append_assoc}
-use Rattle.vms_walk.proofs.Facade.{append-nil, pos, Option, Bool, true, take_all, Item, Field, Set, Slot, Rule, item_slots, slots_from, field_slots, all_hold}
-use Rattle.vms_walk.proofs.Facade.{capacity_of, counted, IsGood, SameBelow, IsAbove, item_above, field_above, meanings_above, least_of, field_at}
-use Rattle.vms_walk.proofs.Facade.{is_well_formed, HasPart, desc_at, WalkStep, PartAt, Keeps, steps_of, table, spot_numbers, spot_slots, slots_at, size_in}
-use Rattle.vms_walk.proofs.Facade.{capacities_of, elements_slots, present_of, cell_of, HasSpot, MayCome}
+use Rattle.vms_walk.proofs.{Walking.fields_local, Walking.present_local, Walking.part_sound, Walking.set_settled, Spots.field_needs}
+use Rattle.vms_walk.proofs.Facade.{◌≡◌, ℕ, ◌+◌, ◌*◌, ◌<◌, ◌≤◌, List, [], ◌∷◌, ◌++◌, length, take, ℤ, refl, sym, ap}
+use Rattle.vms_walk.proofs.Facade.{◌∙◌, arith, append_assoc, append-nil, pos, Option, Bool, true, take_all, Item, Field, Set, Slot, Rule, item_slots}
+use Rattle.vms_walk.proofs.Facade.{slots_from, field_slots, all_hold, capacity_of, counted, IsGood, SameBelow, IsAbove, item_above, field_above, meanings_above}
+use Rattle.vms_walk.proofs.Facade.{least_of, field_at, is_well_formed, HasPart, desc_at, WalkStep, PartAt, Keeps, steps_of, table, spot_numbers, spot_slots}
+use Rattle.vms_walk.proofs.Facade.{slots_at, size_in, capacities_of, elements_slots, present_of, cell_of, HasSpot, MayCome}
+use Rattle.vms_walk.proofs.Walking.{steps_append, part_left, times_more, times_split, fields_split, fields_more, keeps_below, keeps_first, items_local}
 use Rattle.vms_walk.specs.declared.step.WalkStep.TheVariants as steps
 use Rattle.std.proofs.lemmas.List.{ext_get_or}
-use Rattle.vms_walk.proofs.Walking.{steps_append, part_left, times_more, times_split, fields_split, fields_more}
-use Rattle.vms_walk.proofs.Spots.{field_needs}
-use Rattle.vms_walk.proofs.Local.{keeps_below, keeps_first, items_local, fields_local, present_local, part_sound, set_settled}
 
 -- the laws of a walker
 pub record Laws {S F : Type 0} (N : S → List ℤ) (goes : List WalkStep → S → S → Type 0) (stops : List WalkStep → S → F → S → Type 0) : Type 0 where

@@ -1,9 +1,4 @@
 pub mod Facade
 pub mod Going
-pub mod Kept
-pub mod Least
-pub mod Local
-pub mod Order
-pub mod Runs
 pub mod Spots
 pub mod Walking

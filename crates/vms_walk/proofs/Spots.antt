@@ -1,13 +1,20 @@
--- The spots of a walk: where fields and structures are, and what they have.
-use Rattle.vms_walk.proofs.Facade.{◌≡◌, ℕ, ◌+◌, ◌*◌, ◌<◌, ◌≤◌, List, ◌++◌, length, get_or, drop, ℤ, refl, sym, ap, ◌∙◌, arith, Bool, true, if◌then◌else◌}
-use Rattle.vms_walk.proofs.Facade.{Option, Item, Struct, MOST_ITEMS, Set, Field, is_there, uses_below, least_of, no_desc, no_parent, item_slots, item_size}
-use Rattle.vms_walk.proofs.Facade.{slots_from, desc_slots, desc_cells, struct_cells, elements_of, capacity_of, counted, times, FieldsBelow, all_below}
-use Rattle.vms_walk.proofs.Facade.{struct_slots, struct_cells_at, room_for_less, one_fits, cells_first, in_u32, field_at, own_numbers, is_well_formed, desc_at}
-use Rattle.vms_walk.proofs.Facade.{reach, field_clean, struct_clean, PartAt, table, cells_in, HasSpot, spot_numbers, spot_slots, slots_at, present_of, size_in}
-use Rattle.vms_walk.proofs.Facade.{elements_slots, steps_of, item_rank, part_rank, reach_whole, uses_more, rank_below, place_of, place_after}
-use Rattle.vms_walk.proofs.Facade.{place_within, field_start, cell_of, all_hold, holds_at}
+-- The spots of a walk, in ascending order; and runs of numbers of one kind.
+use Rattle.vms_walk.proofs.Facade.{◌≡◌, ℕ, ◌+◌, ◌*◌, ◌<◌, ◌≤◌, List, ◌++◌, length, get_or, drop, ℤ, refl, sym, ap, ◌∙◌}
+use Rattle.vms_walk.proofs.Facade.{arith, Bool, true, if◌then◌else◌, Option, Item, Struct, MOST_ITEMS, Set, Field, is_there, uses_below, least_of}
+use Rattle.vms_walk.proofs.Facade.{no_desc, no_parent, item_slots, item_size, slots_from, desc_slots, desc_cells, struct_cells, elements_of, capacity_of}
+use Rattle.vms_walk.proofs.Facade.{counted, times, FieldsBelow, all_below, struct_slots, struct_cells_at, room_for_less, one_fits, cells_first, in_u32}
+use Rattle.vms_walk.proofs.Facade.{field_at, own_numbers, is_well_formed, desc_at, reach, field_clean, struct_clean, PartAt, table, cells_in, HasSpot}
+use Rattle.vms_walk.proofs.Facade.{spot_numbers, spot_slots, slots_at, present_of, size_in, elements_slots, steps_of, item_rank, part_rank, reach_whole}
+use Rattle.vms_walk.proofs.Facade.{uses_more, rank_below, place_of, place_after, place_within, field_start, cell_of, all_hold, holds_at, zero, suc, ◌-◌, []}
+use Rattle.vms_walk.proofs.Facade.{◌∷◌, None, append_assoc, append-nil, Kind, Num, WalkStep, Number, run_of, MayRun, capacities_of, length-append}
+use Rattle.vms_walk.proofs.Facade.{if_there, false, ne_eqb, get_or-map, Desc, has_cell, Slot, Meaning, no_meaning, field_slots, cells_from, field_cells}
+use Rattle.vms_walk.proofs.Facade.{numbers_of, first, meanings, field_size, elements_fit, one_more, meaning, Rule, min, Some, pos, negsuc, nat_lt, ◌||◌}
+use Rattle.vms_walk.proofs.Facade.{ltb-true, ltb-false, lt-ltb, or-false, or_assoc, exceeds, is_above, same_tests, lesser, least_from}
+use Rattle.vms_walk.proofs.Walking.{slots_next, fields_at, present_slots, present_fits, steps_bare, times_split, left_within}
 use Rattle.vms_spec.specs.declared.Part.TheVariants as parts
-use Rattle.vms_walk.proofs.Walking.{slots_next, fields_at, present_slots, present_fits, steps_bare}
+use Rattle.vms_spec.specs.Layout as slots
+
+-- ---- the spots of a walk: where fields and structures are, and what they have
 
 pub cells_table : (set : Set) → cells_in (table set) ≡ struct_cells set
 cells_table set = cells_first set.structs (length set.structs)
@@ -132,3 +139,229 @@ field_needs set well spot n h k cell count item most lt is there least room =
           ∙ ap (λ x. steps_of (times count (item_slots (table set) x caps n) cell (size_in set x))) (sym is)
           ∙ steps_bare (table set) n item caps count cell (size_in set item) ∙ ap (λ o. steps_of (elements_slots set item o n count cell)) (sym least);
     }
+
+-- ---- numbers of one kind whose cells follow one another are the elements of an array
+
+run_is : (set : Set) (kind : Kind) (n : List ℤ) (first count : ℕ) → steps_of (elements_slots set (Num kind) None n count first) ≡ run_of first count kind
+run_is set kind n first zero = refl
+run_is set kind n first (suc count) = rw (run_is set kind n (first + 1) count)
+
+pub run_steps : (set : Set) (item : Item) (most : Option ℕ) (kind : Kind) → item ≡ Num kind → most ≡ None → (n : List ℤ) (first count : ℕ)
+    → steps_of (elements_slots set item most n count first) ≡ run_of first count kind
+run_steps set item most kind e f n first count = rw (e, f) (run_is set kind n first count)
+
+-- the steps of an element of each form
+abbrev pub steps_at : Set → Option ℕ → List ℤ → ℕ → Item → List WalkStep
+steps_at set most n cell item = steps_of (item_slots (table set) item (capacities_of most) n cell)
+
+-- a row of one element
+pub one_slots : (set : Set) (item : Item) (most : Option ℕ) (n : List ℤ) (count first : ℕ) → count ≡ 1
+    → steps_of (elements_slots set item most n count first) ≡ steps_at set most n first item
+one_slots set item most n count first is = rw is (ap steps_of (append-nil (item_slots (table set) item (capacities_of most) n first)))
+
+-- those before one of them, it, and the others
+pub run_split : (first count n : ℕ) (kind : Kind) → n < count
+    → (rest : List WalkStep) × (run_of first count kind ≡ run_of first n kind ++ (Number (first + n) kind None ∷ rest))
+run_split first count n kind lt =
+    let e : first + n * 1 ≡ first + n = omega arith in
+    let parts = times_split count n (λ cell. Number cell kind None ∷ []) first 1 lt in
+    (parts.0, parts.1 ∙ ap (λ k. run_of first n kind ++ (Number k kind None ∷ parts.0)) e)
+
+-- what holds of each step holds of each of their cells
+pub run_each : (P : WalkStep → Type 0) (first count : ℕ) (kind : Kind)
+    → ((ys rest : List WalkStep) (x : WalkStep) → run_of first count kind ≡ ys ++ (x ∷ rest) → P x)
+    → (k : ℕ) → first ≤ k → k < first + count → P (Number k kind None)
+run_each P first count kind each k from below =
+    let n = k - first in
+    let parts = run_split first count n kind (omega arith) in
+    let here : first + n ≡ k = omega arith in
+    rw here at (each (run_of first n kind) parts.0 (Number (first + n) kind None) parts.1)
+
+-- the first few of them, and the others
+pub run_both : (first n m : ℕ) (kind : Kind) → run_of first (n + m) kind ≡ run_of first n kind ++ run_of (first + n) m kind
+run_both first zero m kind =
+    let e : first ≡ first + 0 = omega arith in
+    let none : 0 + m ≡ m = omega arith in
+    ap (λ k. run_of first k kind) none ∙ ap (λ k. run_of k m kind) e
+run_both first (suc n) m kind =
+    let e : (first + 1) + n ≡ first + suc n = omega arith in
+    let one : suc n + m ≡ suc (n + m) = omega arith in
+    rw (one, run_both (first + 1) n m kind ∙ ap (λ (k : ℕ). run_of (first + 1) n kind ++ run_of k m kind) e)
+
+-- some of them after those before them
+pub run_parts : (first n m count : ℕ) (kind : Kind) → n + m ≤ count
+    → run_of first count kind ≡ run_of first n kind ++ (run_of (first + n) m kind ++ run_of (first + (n + m)) (count - (n + m)) kind)
+run_parts first n m count kind le =
+    let all : count ≡ (n + m) + (count - (n + m)) = omega arith in
+    let rest = run_of (first + (n + m)) (count - (n + m)) kind in
+    ap (λ k. run_of first k kind) all ∙ run_both first (n + m) (count - (n + m)) kind ∙ ap (λ l. l ++ rest) (run_both first n m kind)
+    ∙ append_assoc (run_of first n kind) (run_of (first + n) m kind) rest
+
+-- ---- some of them after those before them
+
+module _ {S : Type 0} (goes : List WalkStep → S → S → Type 0) (more : (xs ys : List WalkStep) (a b c : S) → goes xs a b → goes ys b c → goes (xs ++ ys) a c)
+    (first cell : ℕ) (kind : Kind) (a b : S) (from : first ≤ cell) (way : goes (run_of first (cell - first) kind) a b) (some : ℕ) where
+  here : first + (cell - first) ≡ cell
+  here = omega arith
+
+  pub run_next : (c : S) → goes (run_of cell some kind) b c → goes (run_of first ((cell + some) - first) kind) a c
+  run_next c h =
+      let n = cell - first in
+      let sum : (cell + some) - first ≡ n + some = omega arith in
+      rw (ap (λ (k : ℕ). run_of first k kind) sum ∙ run_both first n some kind ∙ ap (λ (k : ℕ). run_of first n kind ++ run_of k some kind) here)
+      (more (run_of first n kind) (run_of cell some kind) a b c way h)
+
+  module _ (count : ℕ) (le : cell + some ≤ first + count) where
+    abbrev behind : List WalkStep
+    behind = run_of (first + ((cell - first) + some)) (count - ((cell - first) + some)) kind
+
+    parts : run_of first count kind ≡ run_of first (cell - first) kind ++ (run_of cell some kind ++ behind)
+    parts = run_parts first (cell - first) some count kind (omega arith) ∙ ap (λ k. run_of first (cell - first) kind ++ (run_of k some kind ++ behind)) here
+
+    pub run_stop : {F : Type 0} (stops : List WalkStep → S → F → S → Type 0)
+        → ((xs ys : List WalkStep) (a b c : S) (f : F) → goes xs a b → stops ys b f c → stops (xs ++ ys) a f c)
+        → ((xs ys : List WalkStep) (a b : S) (f : F) → stops xs a f b → stops (xs ++ ys) a f b)
+        → (c : S) (f : F) → stops (run_of cell some kind) b f c → stops (run_of first count kind) a f c
+    run_stop stops after before c f h =
+        rw parts (after (run_of first (cell - first) kind) (run_of cell some kind ++ behind) a b c f way (before (run_of cell some kind) behind b c f h))
+
+    pub run_may : (may : S → WalkStep → Type 0) → MayRun goes may (run_of first count kind) a → MayRun goes may (run_of cell some kind) b
+    run_may may all = λ ys ws zs x d h e.
+        all (run_of first (cell - first) kind ++ ys) ws (zs ++ behind) x d (more (run_of first (cell - first) kind) ys a b d way h)
+        (left_within (run_of first (cell - first) kind) (run_of cell some kind) behind (run_of first count kind) ys ws zs x parts e)
+
+-- ---- the slots of a description have their cells in ascending order, between its first cell and its end
+
+-- the cells ascend, from one on and below an end
+abbrev pub Ascends : ℕ → ℕ → List Slot → Type 0
+Ascends from end [] = from ≤ end
+Ascends from end (slots.Number c kind caps ∷ xs) = (from ≤ c) × Ascends (c + 1) end xs
+Ascends from end (_ ∷ xs) = Ascends from end xs
+
+-- ---- what follows
+
+pub below_from : (from end : ℕ) (xs : List Slot) → Ascends from end xs → (c : ℕ) → c < from → has_cell xs c ≡ false
+below_from from end [] h c lt = refl
+below_from from end (slots.Number k kind caps ∷ xs) h c lt =
+    let up = h.0 in
+    let less : c < k = omega arith in
+    rw (ne_eqb k c (λ e. omega (arith, e, less))) (below_from (k + 1) end xs h.1 c (omega arith))
+below_from from end (_ ∷ xs) h c lt = below_from from end xs h c lt
+
+pub from_end : (from end : ℕ) (xs : List Slot) → Ascends from end xs → from ≤ end
+from_end from end [] h = h
+from_end from end (slots.Number k kind caps ∷ xs) h = let up = h.0 in omega (arith, from_end (k + 1) end xs h.1)
+from_end from end (_ ∷ xs) h = from_end from end xs h
+
+-- ---- joined
+
+lower : (low from end : ℕ) (xs : List Slot) → low ≤ from → Ascends from end xs → Ascends low end xs
+lower low from end [] le h = omega arith
+lower low from end (slots.Number k kind caps ∷ xs) le h = let up = h.0 in (omega arith, h.1)
+lower low from end (_ ∷ xs) le h = lower low from end xs le h
+
+join : (from mid end : ℕ) (xs ys : List Slot) → Ascends from mid xs → Ascends mid end ys → Ascends from end (xs ++ ys)
+join from mid end [] ys h k = lower from mid end ys h k
+join from mid end (slots.Number c kind caps ∷ xs) ys h k = (h.0, join (c + 1) mid end xs ys h.1 k)
+join from mid end (_ ∷ xs) ys h k = join from mid end xs ys h k
+
+wider : (from mid end : ℕ) (xs : List Slot) → mid ≤ end → Ascends from mid xs → Ascends from end xs
+wider from mid end [] le h = omega arith
+wider from mid end (slots.Number c kind caps ∷ xs) le h = (h.0, wider (c + 1) mid end xs le h.1)
+wider from mid end (_ ∷ xs) le h = wider from mid end xs le h
+
+-- ---- parts of a description
+
+pub record MeansAscends (m : Meaning) : Type 0 where
+  pub means : (at : ℕ) (n : List ℤ) → Ascends at (at + length m.cells) (m.slots n at)
+
+abbrev pub MeanAscends : List Meaning → Type 0
+MeanAscends ms = (j : ℕ) → MeansAscends (get_or ms j no_meaning)
+
+none_ascends : MeansAscends no_meaning
+none_ascends = record { means = λ at n. omega arith }
+
+module _ (ms : List Meaning) (known : MeanAscends ms) where
+  item_ascends : (item : Item) (caps : List ℕ) (n : List ℤ) (at : ℕ) → Ascends at (at + item_size (cells_in ms) item) (item_slots ms item caps n at)
+  item_ascends (Num kind) caps n at = (omega arith, omega arith)
+  item_ascends (Struct j) caps n at = rw (get_or-map (λ (m : Meaning). m.cells) ms j no_meaning) ((known j).means at n)
+  item_ascends _ caps n at = omega arith
+
+  items_ascend : (item : Item) (caps : List ℕ) (n : List ℤ) (k at : ℕ)
+      → Ascends at (at + k * item_size (cells_in ms) item) (times k (item_slots ms item caps n) at (item_size (cells_in ms) item))
+  items_ascend item caps n zero at = omega arith
+  items_ascend item caps n (suc k) at =
+      let size = item_size (cells_in ms) item in
+      let e : (at + size) + k * size ≡ at + suc k * size = grind arith in
+      rw e at (join at (at + size) ((at + size) + k * size) (item_slots ms item caps n at) (times k (item_slots ms item caps n) (at + size) size)
+      (item_ascends item caps n at) (items_ascend item caps n k (at + size)))
+
+  module _ (fields : List Field) (v : ℕ) (own : ℕ → ℕ) (n : List ℤ) where
+    field_ascends : (i at : ℕ) (f : Field) → Ascends at (at + length (field_cells (cells_in ms) fields i f)) (field_slots ms fields v own n i at f)
+    field_ascends i at f =
+        let size = item_size (cells_in ms) f.item in
+        let count = elements_of f.count own in
+        let end = at + capacity_of f.count * size in
+        let room = room_for_less count (capacity_of f.count) size at end (elements_fit f.count own) (omega arith) in
+        let slots = times count (item_slots ms f.item (counted i fields) n) at size in
+        rw field_size (if_there (Ascends at end) (omega arith) (is_there f.test f.since v own no_parent) slots
+        (wider at (at + count * size) end slots (omega arith) (items_ascend f.item (counted i fields) n count at)))
+
+    fields_ascend : (i at : ℕ) (fs : List Field) → Ascends at (at + length (cells_from (cells_in ms) fields i fs)) (slots_from ms fields v own n i at fs)
+    fields_ascend i at [] = omega arith
+    fields_ascend i at (f ∷ fs) =
+        let here = field_cells (cells_in ms) fields i f in
+        let later = cells_from (cells_in ms) fields (suc i) fs in
+        let next = at + length here in
+        let e : next + length later ≡ at + length (here ++ later) = omega (arith, length-append here later) in
+        rw e at (join at next (next + length later) (field_slots ms fields v own n i at f) (slots_from ms fields v own n (suc i) next fs)
+        (field_ascends i at f) (fields_ascend (suc i) next fs))
+
+  pub desc_ascends : (d : Desc) (v : ℕ) (n : List ℤ) (at : ℕ) → Ascends at (at + length (desc_cells (cells_in ms) d)) (desc_slots ms d v n at)
+  desc_ascends d v n at =
+      let own = numbers_of (cells_in ms) d n at in
+      let end = at + length (desc_cells (cells_in ms) d) in
+      let same : end ≤ end = omega arith in
+      join at end end (slots_from ms d.fields v own n 0 at d.fields) (Rule (all_hold d.validate v own) ∷ []) (fields_ascend d.fields v own n 0 at d.fields) same
+
+pub meanings_ascend : (ds : List Desc) (k : ℕ) → MeanAscends (meanings ds k)
+unfolding first
+meanings_ascend ds zero = λ j. none_ascends
+meanings_ascend ds (suc k) =
+    one_more MeansAscends no_meaning none_ascends (meanings ds k) (meanings_ascend ds k) (meaning (meanings ds k) (get_or ds k no_desc))
+    (record { means = λ at n. desc_ascends (meanings ds k) (meanings_ascend ds k) (get_or ds k no_desc) _ n at })
+
+-- ---- a number that counts arrays is within all capacities if it is within the least of them: the least of capacities
+
+above_lesser : (k m n : ℕ) → nat_lt (min k m) n ≡ (nat_lt k n || nat_lt m n)
+above_lesser k m n = same_tests (nat_lt (min k m) n) (nat_lt k n || nat_lt m n) (λ e. forth e (nat_lt k n) refl) (λ e. back (nat_lt k n) refl e)
+  where
+    forth : nat_lt (min k m) n ≡ true → (b : Bool) → nat_lt k n ≡ b → (b || nat_lt m n) ≡ true
+    forth e true f = refl
+    forth e false f =
+        let least : min k m < n = ltb-true (min k m) n e in
+        let up : n ≤ k = ltb-false k n f in
+        lt-ltb m n (omega arith)
+
+    back : (b : Bool) → nat_lt k n ≡ b → (b || nat_lt m n) ≡ true → nat_lt (min k m) n ≡ true
+    back true f e =
+        let lt : k < n = ltb-true k n f in
+        lt-ltb (min k m) n (omega arith)
+    back false f e =
+        let lt : m < n = ltb-true m n e in
+        lt-ltb (min k m) n (omega arith)
+
+exceeds_lesser : (o : Option ℕ) (m : ℕ) (z : ℤ) → exceeds (capacities_of (lesser o m)) z ≡ (exceeds (capacities_of o) z || is_above z m)
+exceeds_lesser None m z = or-false (is_above z m)
+exceeds_lesser (Some k) m (pos n) = or-false (nat_lt (min k m) n) ∙ above_lesser k m n ∙ ap (λ b. b || nat_lt m n) (sym (or-false (nat_lt k n)))
+exceeds_lesser (Some k) m (negsuc n) = refl
+
+exceeds_from : (o : Option ℕ) (caps : List ℕ) (z : ℤ) → exceeds (capacities_of (least_from o caps)) z ≡ (exceeds (capacities_of o) z || exceeds caps z)
+exceeds_from o [] z = sym (or-false (exceeds (capacities_of o) z))
+exceeds_from o (m ∷ caps) z =
+    exceeds_from (lesser o m) caps z ∙ ap (λ b. b || exceeds caps z) (exceeds_lesser o m z)
+    ∙ or_assoc (exceeds (capacities_of o) z) (is_above z m) (exceeds caps z)
+
+-- a number is above the least of these capacities if it is above one of them
+pub exceeds_least : (caps : List ℕ) (z : ℤ) → exceeds (capacities_of (least_of caps)) z ≡ exceeds caps z
+exceeds_least caps z = exceeds_from None caps z

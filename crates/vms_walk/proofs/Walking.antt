@@ -1,10 +1,19 @@
--- The slots of fields and elements, taken apart at one of them.
-use Rattle.vms_walk.proofs.Facade.{◌≡◌, ℕ, zero, suc, ◌+◌, ◌*◌, ◌<◌, List, [], ◌∷◌, ◌++◌, length, get_or, take, ℤ, sym, ap, ◌∙◌, arith, append_assoc}
-use Rattle.vms_walk.proofs.Facade.{append-nil, ◌≤◌, drop, refl, Bool, true, false, if◌then◌else◌, Option, Some, None, drop_more, Field, Slot, Meaning, times}
-use Rattle.vms_walk.proofs.Facade.{field_slots, slots_from, field_cells, place_of, no_field, item_slots, item_size, elements_of, capacity_of, counted}
-use Rattle.vms_walk.proofs.Facade.{no_parent, cells_in, steps_of, present_of, capacities_of, Item, Num, is_there, field_size}
-use Rattle.vms_walk.proofs.Facade.{elements_fit, room_for_less, least_of, WalkStep}
+-- The slots of a walk: taken apart at one of them, what steps keep of the numbers, and on which
+-- cells slots depend.
+use Rattle.vms_walk.proofs.Facade.{◌≡◌, ℕ, zero, suc, ◌+◌, ◌*◌, ◌<◌, List, [], ◌∷◌, ◌++◌, length, get_or, take, ℤ, sym, ap}
+use Rattle.vms_walk.proofs.Facade.{◌∙◌, arith, append_assoc, append-nil, ◌≤◌, drop, refl, Bool, true, false, if◌then◌else◌, Option, Some}
+use Rattle.vms_walk.proofs.Facade.{None, drop_more, Field, Slot, Meaning, times, field_slots, slots_from, field_cells, place_of, no_field, item_slots}
+use Rattle.vms_walk.proofs.Facade.{item_size, elements_of, capacity_of, counted, no_parent, cells_in, steps_of, present_of, capacities_of, Item, Num, is_there}
+use Rattle.vms_walk.proofs.Facade.{field_size, elements_fit, room_for_less, least_of, WalkStep, IsErrAnd, Result, Ok, Err, IfErr, subst, length-set, slice_set}
+use Rattle.vms_walk.proofs.Facade.{pos, ◌==◌, ◌||◌, get_or-set_other, eq-eqb, or_parts, Kind, Number, has_step, Keeps, table, slice_get-get_or, Part}
+use Rattle.vms_walk.proofs.Facade.{Desc, Set, has_cell, numbers_of, IsSound, IsSoundField, AreSoundFields, IsEarlier, IsGood, SameBelow, same_less, place_next}
+use Rattle.vms_walk.proofs.Facade.{own_same, there_same, elements_same, IsAbove, SameIn, MeanSettled, item_settled, field_settled, meanings_settled, device_at}
+use Rattle.vms_walk.proofs.Facade.{HasPart, desc_at, sub_at}
+use Rattle.vms_walk.specs.{Calls.Takes, Inside.is_for}
+use Rattle.std.proofs.lemmas.List.Folds.{list_any-append}
 use Rattle.vms_walk.specs.declared.step.WalkStep.TheVariants as steps
+use Rattle.vms_spec.specs.Layout as slots
+use Rattle.vms_spec.specs.declared.Part.TheVariants as parts
 
 -- ---- elements
 
@@ -138,3 +147,160 @@ pub room_at : (turn count size first cell most : ℕ) → turn < count → cell 
 room_at turn count size first cell most lt e h =
     let one : (turn + 1) * size ≡ turn * size + size = grind arith in
     omega (arith, room_for_less (turn + 1) count size first most (omega arith) h)
+
+-- ---- what steps keep of the numbers, one after the other
+
+pub err_is : {T E : Type 0} (Q : E → Type 0) (r : Result T E) (e : E) → IsErrAnd r (λ x. x ≡ e) → Q e → IfErr r Q
+err_is Q (Ok x) e h q = tt
+err_is Q (Err x) e h q = subst Q (sym h) q
+
+-- it stopped within these steps
+pub err_takes : {S F : Type 0} (goes : List WalkStep → S → S → Type 0) (stops : List WalkStep → S → F → S → Type 0) (steps : List WalkStep)
+    (r : Result (Unit {0}) F) (e : F) (a b : S) → IsErrAnd r (λ x. x ≡ e) → stops steps a e b → Takes goes stops steps r a b
+err_takes goes stops steps (Ok x) e a b h q = absurd h
+err_takes goes stops steps (Err x) e a b h q = record { ok = tt; err = subst (λ f. stops steps a f b) (sym h) q }
+
+-- ---- What steps keep of the numbers, one after the other.
+
+pub has_append : (xs ys : List WalkStep) (c : ℕ) → has_step (xs ++ ys) c ≡ (has_step xs c || has_step ys c)
+has_append xs ys c = list_any-append (is_for c) xs ys
+
+-- no number is put
+pub keeps_same : (xs : List WalkStep) (n m : List ℤ) → m ≡ n → Keeps xs n m
+keeps_same xs n m e = record { long = ap length e; same = λ c h. rw e }
+
+-- steps and further ones
+pub keeps_more : (xs ys : List WalkStep) (n m k : List ℤ) → Keeps xs n m → Keeps ys m k → Keeps (xs ++ ys) n k
+keeps_more xs ys n m k p q = record {
+  long = q.long ∙ p.long;
+  same = λ c e. let none = or_parts (has_step xs c) (has_step ys c) (sym (has_append xs ys c) ∙ e) in q.same c none.1 ∙ p.same c none.0;
+}
+
+-- the first few steps
+pub keeps_front : (xs ys : List WalkStep) (n m : List ℤ) → Keeps xs n m → Keeps (xs ++ ys) n m
+keeps_front xs ys n m p = record {
+  long = p.long;
+  same = λ c e. let none = or_parts (has_step xs c) (has_step ys c) (sym (has_append xs ys c) ∙ e) in p.same c none.0;
+}
+
+-- a number is put
+pub keeps_put : (cell : ℕ) (kind : Kind) (most : Option ℕ) (n : List ℤ) (z : ℤ) → Keeps (Number cell kind most ∷ []) n (slice_set n cell z)
+keeps_put cell kind most n z = record {
+  long = length-set n cell z;
+  same = λ c e. get_or-set_other n cell c z (pos 0) (λ f. by_false c f e);
+}
+  where
+    by_false : (c : ℕ) → c ≡ cell → ((cell == c) || false) ≡ false → ⊥
+    by_false c f e =
+        let t : ((cell == cell) || false) ≡ false = rw f at e in
+        let u = ap (λ b. b || false) (eq-eqb cell cell refl) in
+        cc
+
+-- ---- the slots up to a place depend only on the cells below it: what steps keep
+
+pub has_step_of : (xs : List Slot) (c : ℕ) → has_step (steps_of xs) c ≡ has_cell xs c
+has_step_of [] c = refl
+has_step_of (slots.Number k kind caps ∷ xs) c = rw (has_step_of xs c)
+has_step_of (_ ∷ xs) c = has_step_of xs c
+
+pub keeps_below : (cell : ℕ) (xs : List Slot) (n m : List ℤ) → IsAbove cell xs → Keeps (steps_of xs) n m → SameBelow cell n m
+keeps_below cell xs n m above k = record { same = λ c lt. k.same c (has_step_of xs c ∙ above.below c lt) }
+
+-- the same, after the first few steps
+pub keeps_first : (cell : ℕ) (xs : List Slot) (ys zs : List WalkStep) (n m : List ℤ) → steps_of xs ≡ ys ++ zs → IsAbove cell xs → Keeps ys n m
+    → SameBelow cell n m
+keeps_first cell xs ys zs n m e above k = record {
+  same = λ c lt. k.same c
+      (or_parts (has_step ys c) (has_step zs c) (sym (has_append ys zs c) ∙ ap (λ l. has_step l c) (sym e) ∙ has_step_of xs c ∙ above.below c lt)).0;
+}
+
+pub in_below : (cell : ℕ) (n m : List ℤ) → SameBelow cell n m → SameIn 0 cell n m
+in_below cell n m s = record { same = λ c up lt. s.same c lt }
+
+-- ---- elements
+
+pub items_local : (ms : List Meaning) → MeanSettled ms → (item : Item) (caps : List ℕ) (i at : ℕ) (n m : List ℤ)
+    → SameBelow (at + i * item_size (cells_in ms) item) n m
+    → times i (item_slots ms item caps m) at (item_size (cells_in ms) item) ≡ times i (item_slots ms item caps n) at (item_size (cells_in ms) item)
+items_local ms h item caps zero at n m s = refl
+items_local ms h item caps (suc i) at n m s =
+    let size = item_size (cells_in ms) item in
+    let e : at + suc i * size ≡ (at + size) + i * size = grind arith in
+    let t = rw e at s in
+    rw (
+      item_settled ms h item caps at 0 (at + size) n m (omega arith) (omega arith)
+          (in_below (at + size) n m (same_less (at + size) ((at + size) + i * size) n m (omega arith) t)),
+      items_local ms h item caps i (at + size) n m t,
+    )
+
+-- ---- fields
+
+pub sound_at : (fields : List Field) (j : ℕ) (fs : List Field) (i k : ℕ) → k ≡ j + i → AreSoundFields fields j fs → i < length fs
+    → IsSoundField fields k (get_or fs i no_field)
+sound_at fields j [] i k e h lt = absurd (omega arith)
+sound_at fields j (f ∷ fs) zero k e h lt = let same : j ≡ k = omega arith in rw same at h.0
+sound_at fields j (f ∷ fs) (suc i) k e h lt = sound_at fields (suc j) fs i k (omega arith) h.1 (omega arith)
+
+module _ (ms : List Meaning) (settled : MeanSettled ms) (d : Desc) (sound : IsSound d) (v base : ℕ) where
+  abbrev place : ℕ → ℕ
+  place i = place_of (cells_in ms) d.fields 0 base d.fields i
+
+  pub next_place : (i : ℕ) → i < length d.fields
+      → place_of (cells_in ms) d.fields 0 base d.fields (i + 1) ≡ place_of (cells_in ms) d.fields 0 base d.fields i + length
+      (field_cells (cells_in ms) d.fields i (get_or d.fields i no_field))
+  next_place i lt =
+      let z : 0 + i ≡ i = omega arith in
+      let one : i + 1 ≡ suc i = omega arith in
+      ap (λ k. place_of (cells_in ms) d.fields 0 base d.fields k) one
+      ∙ place_next (cells_in ms) d.fields 0 base d.fields i (get_or d.fields i no_field) (drop (i + 1) d.fields) (drop_more d.fields i no_field lt)
+      ∙ ap (λ k. place_of (cells_in ms) d.fields 0 base d.fields i + length (field_cells (cells_in ms) d.fields k (get_or d.fields i no_field))) z
+
+  pub field_local : (i : ℕ) (n m : List ℤ) → i < length d.fields → SameBelow (place_of (cells_in ms) d.fields 0 base d.fields (i + 1)) n m
+      → field_slots ms d.fields v (numbers_of (cells_in ms) d m base) m i (place_of (cells_in ms) d.fields 0 base d.fields i) (get_or d.fields i no_field)
+      ≡ field_slots ms d.fields v (numbers_of (cells_in ms) d n base) n i (place_of (cells_in ms) d.fields 0 base d.fields i) (get_or d.fields i no_field)
+  field_local i n m lt s =
+      let next = next_place i lt in
+      field_settled ms settled d v base i (place i) 0 (place (i + 1)) (get_or d.fields i no_field) n m
+      (sound_at d.fields 0 d.fields i i (omega arith) sound.fields lt) (omega arith) refl (omega arith) (in_below (place (i + 1)) n m s)
+
+  pub fields_local : (i : ℕ) (n m : List ℤ) → i ≤ length d.fields → SameBelow (place_of (cells_in ms) d.fields 0 base d.fields i) n m
+      → slots_from ms d.fields v (numbers_of (cells_in ms) d m base) m 0 base (take i d.fields) ≡ slots_from ms d.fields v
+      (numbers_of (cells_in ms) d n base) n 0 base (take i d.fields)
+  fields_local zero n m le s = refl
+  fields_local (suc i) n m le s =
+      let one : suc i ≡ i + 1 = omega arith in
+      let lt : i < length d.fields = omega arith in
+      let own = λ (x : List ℤ). numbers_of (cells_in ms) d x base in
+      let up = rw one at s in
+      let here = λ (x : List ℤ). field_slots ms d.fields v (own x) x i (place i) (get_or d.fields i no_field) in
+      let before = λ (x : List ℤ). slots_from ms d.fields v (own x) x 0 base (take i d.fields) in
+      let next = next_place i lt in
+      let whole =
+      λ (x : List ℤ). ap (λ k. slots_from ms d.fields v (own x) x 0 base (take k d.fields)) one
+      ∙ fields_more ms d.fields v (own x) x d.fields 0 base i i (omega arith) lt in
+      whole m ∙ ap (λ l. l ++ here m) (fields_local i n m (omega arith) (same_less (place i) (place (i + 1)) n m (omega arith) up))
+      ∙ ap (λ l. before n ++ l) (field_local i n m lt up) ∙ sym (whole n)
+
+  -- how many elements of field i are there
+  pub present_local : (i : ℕ) (n m : List ℤ) → i < length d.fields → SameBelow (place_of (cells_in ms) d.fields 0 base d.fields i) n m
+      → present_of (get_or d.fields i no_field) v (numbers_of (cells_in ms) d m base) ≡ present_of (get_or d.fields i no_field) v
+      (numbers_of (cells_in ms) d n base)
+  present_local i n m lt s =
+      let f = get_or d.fields i no_field in
+      let own = numbers_of (cells_in ms) d n base in
+      let now = numbers_of (cells_in ms) d m base in
+      let x = sound_at d.fields 0 d.fields i i (omega arith) sound.fields lt in
+      let same : (j : ℕ) → IsEarlier d.fields i j → now j ≡ own j = λ j y. own_same (cells_in ms) d base i (place i) j n m refl s y in
+      rw (there_same d.fields i v f.since own now same f.test x.test, elements_same d.fields i own now same f.count x.count)
+
+-- ---- sound parts
+
+pub part_sound : (set : Set) → IsGood set → (part : Part) → HasPart set part → IsSound (desc_at set part)
+part_sound set g parts.Set h = absurd h
+part_sound set g (parts.Struct j) h = g.structs j h
+part_sound set g (parts.Device i) h = g.devices i (device_at set i) (slice_get-get_or set.devices i _ h)
+part_sound set g (parts.Sub i j) h =
+    g.subs i j (device_at set i) (sub_at (device_at set i) j) (slice_get-get_or set.devices i _ h.0) (slice_get-get_or (device_at set i).subs j _ h.1)
+
+pub set_settled : (set : Set) → IsGood set → MeanSettled (table set)
+set_settled set g = meanings_settled set.structs g.structs (length set.structs) (omega arith)

@@ -8,8 +8,8 @@ pub use Rattle.std.proofs.lemmas.List.{drop_more, get_or-map, length-map, length
 pub use Rattle.std.proofs.lemmas.Option.{get_or_from_slice_get, slice_get-get_or, slice_get_within}
 pub use Rattle.std.specs.{Bool.OnFalse, Bool.OnTrue, List.flat_map, List.slice_get, Option.option_copied, Prelude.Result}
 pub use Rattle.vms_kinds.specs.declared.Kind.{Kind, TheVariants.U8}
-pub use Rattle.vms_spec.proofs.{ListLaws.and_swap, ListLaws.both_below, ListLaws.or_second}
-pub use Rattle.vms_spec.proofs.{ListLaws.versions_long, NumberLaws.same_number_is, WellFormedLaws.ranges, WellFormedLaws.within}
+pub use Rattle.vms_spec.proofs.ListsAndNumbers.{and_swap, both_below, or_second, versions_long, same_number_is}
+pub use Rattle.vms_spec.proofs.WellFormedLaws.{ranges, within}
 pub use Rattle.vms_spec.specs.{Good.DefaultsFit, Good.IsGood, Heads.FitsHeads, Images.zeroed, Layout.struct_cells, Lists.at_option}
 pub use Rattle.vms_spec.specs.{Names.is_name, Numbers.same_number, Places.own_cell_count, Readiness.come_as_needed}
 pub use Rattle.vms_spec.specs.{Rules.counts_well, Rules.in_range, Rules.int_le, Sets.AtLeast, Sets.Desc, Sets.Device, Sets.Set, Sets.Sub}
@@ -18,15 +18,13 @@ pub use Rattle.vms_spec.specs.Images.{AreVersionsOf, FitsCell, Image, RulesHold,
 pub use Rattle.vms_spec.specs.Layout.{Cell, Constant, Filler, Meaning, Number, Rule, Slot, desc_cells, desc_slots, device_cells, meanings, no_cell, no_desc}
 pub use Rattle.vms_spec.specs.Streams.{AreReady, IsReady, configuration, end_mark, foot, is_needed, optional, section_head, sub_head, trailer, written_section}
 unfoldable pub use Rattle.vms_spec.specs.WellFormed.{first_fault}
-pub use Rattle.vms_bodies.proofs.{AgreeLaws.stands_behind, FineLaws.image_are, Names.names_append, NormalFound.named_fits, PartLaws.parts_together}
-pub use Rattle.vms_bodies.proofs.{PartLaws.sub_are, SectionLaws.AreConstants, SectionLaws.fit_slots, SectionLaws.own_are, SpellLaws.FitSlots}
-pub use Rattle.vms_bodies.proofs.AboveLaws.{IsAbove, above_append, above_less, above_none, desc_above, meanings_above}
-pub use Rattle.vms_bodies.proofs.CellLaws.{MeanCells, cells_first, desc_are, meanings_are}
-pub use Rattle.vms_bodies.proofs.ConstantLaws.{constants_append, own_constants, part_constants}
-pub use Rattle.vms_bodies.proofs.ReadyLaws.{are_needed, counted_well, is_same, needed_are, ranged}
+pub use Rattle.vms_bodies.proofs.{PartLaws.image_are, PartLaws.parts_together, PartLaws.sub_are, Places.above_less, Places.above_none, SpellLaws.FitSlots}
+pub use Rattle.vms_bodies.proofs.Places.{desc_above, meanings_above, MeanCells, cells_first, desc_are, meanings_are, names_append, IsAbove, above_append}
+pub use Rattle.vms_bodies.proofs.SettledLaws.{stands_behind, named_fits, constants_append, own_constants, part_constants, AreConstants, fit_slots, own_are}
+pub use Rattle.vms_bodies.proofs.Stated.{are_needed, counted_well, is_same, needed_are, ranged}
 pub use Rattle.vms_bodies.specs.{Cells.AreCells}
-pub use Rattle.vms_desc.proofs.{Bounds.good_of, Bounds.none_is, Clean.device_clean, Clean.sub_clean}
 pub use Rattle.vms_desc.proofs.AskLaws.{few_cells, own_inside_device, sub_first, sub_inside, sub_next}
+pub use Rattle.vms_desc.proofs.Clean.{good_of, none_is, device_clean, sub_clean}
 pub use Rattle.vms_desc.specs.{Asks.first_cell, Formed.is_well_formed, Parts.desc_at, Parts.sub_at, Spots.defaults_at, Spots.kinds_at}
 pub use Rattle.vms_desc.specs.Described.{described, device_at}
 pub use Rattle.vms_image.proofs.States.{at_state, image_at, state_at, states_long}
@@ -36,7 +34,7 @@ pub use Rattle.vms_io.proofs.WritingLemmas.{stops_front, wrote_as, wrote_behind,
 pub use Rattle.vms_io.specs.{Told.Outlet, Told.outlet, Writing.Puts, Writing.Stops, Writing.Wrote}
 pub use Rattle.vms_parts.specs.{Capacities.least_from, Capacities.least_of, Capacities.lesser, Views.device_of, Views.form_of, declared.types.CellForm.CellForm}
 pub use Rattle.vms_spots.specs.Spots.{Held, codes_of}
-pub use Rattle.vms_walk.proofs.{Order.Ascends, Order.below_from, Order.desc_ascends, Order.from_end, Order.meanings_ascend, Runs.run_each}
+pub use Rattle.vms_walk.proofs.Spots.{Ascends, below_from, desc_ascends, from_end, meanings_ascend, run_each}
 pub use Rattle.vms_walk.specs.{Runs.run_of, declared.fields.PartAt.PartAt, declared.step.WalkStep.WalkStep}
 pub use Rattle.vms_walk.specs.Steps.{cells_in, spot_slots, steps_of, table}
 pub use Rattle.vms_write.specs.{Bytes.CanStep, Bytes.CanSteps, Bytes.CanWrite, Bytes.bytes_of, Judged.all_subs_fine, Judged.forms_of, Writing.written_sub}

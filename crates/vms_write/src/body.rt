@@ -48,7 +48,7 @@ impl<K: Sink> Cells for Writer<'_, K> {
 impl<K: Sink> Walker for Writer<'_, K> {
     ghost use Rattle.std.specs.Prelude.{◌≡◌, refl};
     ghost use Rattle.std.proofs.Common.{ap, ◌∙◌};
-    ghost use Rattle.vms_walk.proofs.Kept.{keeps_same};
+    ghost use Rattle.vms_walk.proofs.Walking.{keeps_same};
     ghost use Rattle.vms_write.specs.Bytes.{CanStep};
     ghost use Rattle.vms_io.specs.Told.{outlet};
     ghost use Rattle.vms_io.specs.Writing.{Puts, Stops};

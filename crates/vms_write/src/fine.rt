@@ -57,7 +57,7 @@ impl Cells for Judge<'_> {
 impl Walker for Judge<'_> {
     ghost use Rattle.std.specs.Prelude.{◌≡◌, ◌≤◌, true, false, refl, length};
     ghost use Rattle.std.proofs.Common.{ap, sym, ◌∙◌};
-    ghost use Rattle.vms_walk.proofs.Kept.{keeps_same};
+    ghost use Rattle.vms_walk.proofs.Walking.{keeps_same};
     ghost use Rattle.vms_write.specs.Fine.{formed};
     ghost use Rattle.vms_write.specs.Steps.{behind, behind_append};
     ghost use Rattle.vms_write.specs.Steps.{are_steps_fine, fine_then, fine_before};

@@ -6,7 +6,7 @@ pub use Rattle.std.proofs.alloc.Calls.{Goes-blank, handle_tells, token, α}
 pub use Rattle.std.specs.{Box.Ownership.box_owns}
 pub use Rattle.std.specs.Prelude.{IfSome, MatchOption, None, Some, is_some, nat_lt}
 pub use Rattle.std.specs.contracts.impls.GlobalAllocator.TheImpl.{dict, ghosts}
-pub use Rattle.dev_base.proofs.Choices.{either}
+pub use Rattle.dev_base.proofs.RuleLaws.{either}
 pub use Rattle.dev_board.specs.{State.State, Touch.saying, declared.event.Answer.Answer, declared.event.Event.Event}
 pub use Rattle.dev_board.specs.declared.event.Event.TheVariants.{Ack, Byte, Read, Wait, Wire, Write}
 unfoldable pub use Rattle.dev_board.specs.Step.{acted, after_act, step}

@@ -1,5 +1,2 @@
-mod CallLemmas
-mod CompleteLaws
-mod FileLemmas
-mod StoredLemmas
-mod WordLemmas
+mod CallLaws
+mod StoredFiles

@@ -37,7 +37,7 @@ impl Events {
     }
 
     /// Returns the next event. An event of a wire names a wire that boards have.
-    #[tactic(auto, using(crate::proofs::DrillEventLaws::sum_rest, crate::proofs::DrillEventLaws::names_a_wire), unfolding(crate::specs::DrillEvents::next_number))]
+    #[tactic(auto, using(crate::proofs::DrillLaws::sum_rest, crate::proofs::DrillLaws::names_a_wire), unfolding(crate::specs::DrillEvents::next_number))]
     pub fn next_event(&mut self) -> Event
         ensures number { self.new.number ≡ next_number self.old.number }
         ensures event { result ≡ event_of self.new.number }

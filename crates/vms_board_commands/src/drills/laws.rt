@@ -18,14 +18,14 @@ pub fn size_law()
 {}
 
 /// States that the events of a drill are valid: their bytes are bytes, and their wires are wires.
-#[tactic(auto, using(crate::proofs::DrillEventLaws::events_are_good))]
+#[tactic(auto, using(crate::proofs::DrillLaws::events_are_good))]
 pub fn events_law()
     ensures { EventsAreGood }
 {}
 
 /// States that a drill's counts are those of the same events without any save, and that its board
 /// is like the board after those.
-#[tactic(auto, using(crate::proofs::DrillFoldLaws::saves_leave_counts))]
+#[tactic(auto, using(crate::proofs::DrillLaws::saves_leave_counts))]
 pub fn saves_law()
     ensures { SavesLeaveCounts }
 {}

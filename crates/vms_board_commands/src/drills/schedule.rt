@@ -23,7 +23,7 @@ pub fn is_save_due(events: u32) -> bool
 /// # Requires
 ///
 /// `level` is a board's level, 1 to 4.
-#[tactic(auto, using(crate::proofs::DrillFoldLaws::save_may), unfolding(crate::specs::DrillProgress::set_of))]
+#[tactic(auto, using(crate::proofs::DrillLaws::save_may), unfolding(crate::specs::DrillProgress::set_of))]
 pub fn set_of(level: u8, saves: u32) -> u8
     requires { IsLevel level }
     ensures set { result ≡ set_of level saves }

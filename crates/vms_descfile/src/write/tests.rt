@@ -125,7 +125,7 @@ fn rel_value(alloc: Global, rel: Rel) -> Result<Value, AllocError>
 }
 
 // Returns the name of a field by its number.
-#[tactic(auto, using(crate::proofs::BuiltLaws::name_at))]
+#[tactic(auto, using(crate::proofs::ObjectLaws::name_at))]
 pub(crate) fn name_value(alloc: Global, fields: &[Field], number: u32) -> Result<Value, AllocError>
     ensures { IfOk result (λ v. view v
         ≡ string (get_or (own_names (map field_seen fields.now)) number [])) }

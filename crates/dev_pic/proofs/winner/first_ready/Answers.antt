@@ -1,4 +1,4 @@
-use Rattle.dev_pic.proofs.WinnerLemmas.{wins, loses}
+use Rattle.dev_pic.proofs.WinnerLaws.{wins, loses}
 use Rattle.dev_pic.proofs.winner.first_ready.Goals as goal
 
 pub returns-then-requested-first_place-clause-winner :

@@ -1,4 +1,4 @@
-use Rattle.dev_pic.proofs.WinnerLemmas.{is_highest, has_none}
+use Rattle.dev_pic.proofs.WinnerLaws.{is_highest, has_none}
 use Rattle.dev_pic.proofs.winner.highest.Goals as goal
 
 pub returns-then-first-lt8-clause-highest : goal.returns-then-first-lt8-clause-highest

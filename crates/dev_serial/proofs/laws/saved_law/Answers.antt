@@ -1,4 +1,4 @@
-use Rattle.dev_serial.proofs.CarriedCells.{saved_comes_back}
+use Rattle.dev_serial.proofs.SavedCells.{saved_comes_back}
 use Rattle.dev_serial.proofs.laws.saved_law.Goals as goal
 
 pub returns : goal.returns

@@ -1,4 +1,4 @@
-use Rattle.vms_analyze.proofs.{Facade.intake, Inputs.lists_taken, Inputs.is_too_much}
+use Rattle.vms_analyze.proofs.{Facade.intake, One.lists_taken, One.is_too_much}
 use Rattle.vms_analyze.proofs.call.list_source.Goals as goal
 
 pub returns-in-Ok : goal.returns-in-Ok

@@ -1,5 +1,5 @@
 use Rattle.vms_analyze.proofs.Facade.{ap, map, sym, ◌∙◌, Vec, Global, view, items_left, each}
-use Rattle.vms_analyze.proofs.Inputs.{before, before_none, goes_on, stops, ends}
+use Rattle.vms_analyze.proofs.One.{before, before_none, goes_on, stops, ends}
 use Rattle.vms_analyze.proofs.each.each.Goals as goal
 
 pub loop-item-init : goal.loop-item-init

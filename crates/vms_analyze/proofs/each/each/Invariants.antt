@@ -1,4 +1,4 @@
-use Rattle.vms_analyze.proofs.{Facade.◌≡◌, Facade.length, Facade.map, Facade.items_left, Facade.each, Inputs.before}
+use Rattle.vms_analyze.proofs.{Facade.◌≡◌, Facade.length, Facade.map, Facade.items_left, Facade.each, One.before}
 use Rattle.vms_analyze.proofs.each.each.Given as goal
 
 abbrev pub invariant-loop-item : goal.invariant-loop-item

@@ -1,5 +1,5 @@
 use Rattle.vms_analyze.proofs.Facade.{◌≡◌, length, take, rules, arith, sym, takes_none, takes_as, takes_both}
-use Rattle.vms_analyze.proofs.Inputs.{piece_ends, piece_few, piece_grows, piece_fails}
+use Rattle.vms_analyze.proofs.One.{piece_ends, piece_few, piece_grows, piece_fails}
 use Rattle.vms_analyze.proofs.input.read_input.Goals as goal
 
 pub loop-piece-init : goal.loop-piece-init

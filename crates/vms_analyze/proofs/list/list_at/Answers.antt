@@ -1,5 +1,5 @@
-use Rattle.vms_analyze.proofs.{Facade.wants, Inputs.lists_as, Inputs.text_behind, DevicesRead.tells_if, DevicesRead.not_told}
-use Rattle.vms_analyze.proofs.Facade.{◌≡◌, ◌+◌, map, take, drop, None, sym, value_in, Tells, listing_of, IsRead, HasNoShape, next, devices_in, device_of, found}
+use Rattle.vms_analyze.proofs.{Facade.device_of, Facade.found, One.lists_as, One.text_behind, DevicesRead.tells_if, DevicesRead.not_told}
+use Rattle.vms_analyze.proofs.Facade.{wants, ◌≡◌, ◌+◌, map, take, drop, None, sym, value_in, Tells, listing_of, IsRead, HasNoShape, next, devices_in}
 use Rattle.vms_analyze.proofs.list.list_at.Goals as goal
 
 pub show-requires : goal.show-requires

@@ -1,4 +1,4 @@
-use Rattle.vms_board.proofs.ClockImages.{behind, chip_room, cells-behind}
+use Rattle.vms_board.proofs.Imaging.{behind, chip_room, cells-behind}
 use Rattle.vms_board.proofs.cells.clock_cells_in.Goals as goal
 
 pub image_cells-requires : goal.image_cells-requires

@@ -1,5 +1,5 @@
-use Rattle.vms_board_commands.proofs.{CourseLemmas.drilled_so, RunLemmas.text_runs}
 use Rattle.vms_board_commands.proofs.Facade.{refl, ◌∙◌, outlet, ending_of, ending_passed, Gives, drill_line, same_so, writes_end}
+use Rattle.vms_board_commands.proofs.RunLemmas.{drilled_so, text_runs}
 use Rattle.vms_board_commands.proofs.drill.drill_board.Goals as goal
 
 pub returns : goal.returns

@@ -1,6 +1,6 @@
-use Rattle.vms_board_commands.proofs.{CourseLemmas.stream_asks, LoadLemmas.gives_none, LoadLemmas.gives_some, LoadLemmas.loads_under, RunLemmas.behind_runs}
-use Rattle.vms_board_commands.proofs.{RunLemmas.lacks_runs, SeenLemmas.seen_given, Facade.stream_course, Facade.Loads, Facade.scripted}
-use Rattle.vms_board_commands.proofs.Facade.{List, true, None, refl, Global, Vec, Event, intake, ending_passed, had_by, ScriptLine, event_lines, wrong}
+use Rattle.vms_board_commands.proofs.{ScriptCommands.gives_none, ScriptCommands.gives_some, ScriptCommands.loads_under, Facade.ending_passed, Facade.had_by}
+use Rattle.vms_board_commands.proofs.Facade.{ScriptLine, event_lines, wrong, stream_course, Loads, scripted, List, true, None, refl, Global, Vec, Event, intake}
+use Rattle.vms_board_commands.proofs.RunLemmas.{stream_asks, behind_runs, lacks_runs, seen_given}
 use Rattle.vms_board_commands.proofs.load.load_board.Goals as goal
 
 abbrev view : Vec Event Global → List ScriptLine

@@ -1,5 +1,5 @@
-use Rattle.vms_board_commands.proofs.Facade.{ending_passed, refl, ap, ◌∙◌, arith, Some, Keeps-refl, outlet, comes_to_nothing, event_lines, same_so, NoMemory}
-use Rattle.vms_board_commands.proofs.SeenLemmas.{other_seen}
+use Rattle.vms_board_commands.proofs.{Facade.NoMemory, RunLemmas.other_seen}
+use Rattle.vms_board_commands.proofs.Facade.{ending_passed, refl, ap, ◌∙◌, arith, Some, Keeps-refl, outlet, comes_to_nothing, event_lines, same_so}
 use Rattle.vms_board_commands.proofs.load.load_events.Goals as goal
 
 pub returns : goal.returns

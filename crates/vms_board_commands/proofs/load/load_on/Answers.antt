@@ -1,6 +1,6 @@
-use Rattle.vms_board_commands.proofs.{LoadOutcome.loads_same, RunLemmas.seen_runs, RunLemmas.unread_runs, CourseLemmas.refused_so, CourseLemmas.traced_so}
 use Rattle.vms_board_commands.proofs.Facade.{event_lines, Loads, ending_of, Ok, Err, ap, ◌∙◌, within, outlet, draws_took, refused_line}
-use Rattle.vms_board_commands.proofs.LoadLemmas.{refusal_seen, trace_seen, written_events}
+use Rattle.vms_board_commands.proofs.RunLemmas.{seen_runs, unread_runs, refused_so, traced_so}
+use Rattle.vms_board_commands.proofs.ScriptCommands.{loads_same, refusal_seen, trace_seen, written_events}
 use Rattle.vms_board_commands.proofs.load.load_on.Goals as goal
 
 -- the board was restored, and its trace was written

@@ -1,6 +1,6 @@
-use Rattle.vms_board_commands.proofs.{PlayLemmas.ends_since, CourseLemmas.play_asks, RunLemmas.lacks_runs}
-use Rattle.vms_board_commands.proofs.Facade.{ℕ, List, Option, Some, refl, IsSomeAnd, Global, Vec, Held, outlet, stock, ending_passed, had_by}
-use Rattle.vms_board_commands.proofs.Facade.{Outcome, ScriptLine, lines_view, Line, scripted, so_since, wrong, PlaysAll, ending_of}
+use Rattle.vms_board_commands.proofs.{ScriptCommands.ends_since, RunLemmas.play_asks, RunLemmas.lacks_runs}
+use Rattle.vms_board_commands.proofs.Facade.{ℕ, List, Option, Some, refl, IsSomeAnd, Global, Vec, Held, outlet, stock, ending_passed, had_by, Outcome}
+use Rattle.vms_board_commands.proofs.Facade.{ScriptLine, lines_view, Line, scripted, so_since, wrong, PlaysAll, ending_of}
 use Rattle.vms_board_commands.proofs.play.play_board.Goals as goal
 
 abbrev view : Vec Line Global → List ScriptLine

@@ -1,5 +1,5 @@
-use Rattle.vms_board_commands.proofs.{PlayLemmas.played_by, SaveLemmas.at_level, CourseLemmas.played_so}
-use Rattle.vms_board_commands.proofs.Facade.{refl, ap, ◌∙◌, Keeps-refl, outlet, stock, lines_view, comes_to_nothing, same_so, ending_mapped, ending_passed}
+use Rattle.vms_board_commands.proofs.{ScriptCommands.played_by, ScriptCommands.at_level, RunLemmas.played_so, Facade.ending_mapped}
+use Rattle.vms_board_commands.proofs.Facade.{ending_passed, refl, ap, ◌∙◌, Keeps-refl, outlet, stock, lines_view, comes_to_nothing, same_so}
 use Rattle.vms_board_commands.proofs.play.play_lines.Goals as goal
 
 pub play-requires : goal.play-requires

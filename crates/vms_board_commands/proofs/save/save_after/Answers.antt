@@ -1,4 +1,4 @@
-use Rattle.vms_board_commands.proofs.{CourseLemmas.saved_so, SaveLemmas.saved_ends}
+use Rattle.vms_board_commands.proofs.{RunLemmas.saved_so, ScriptCommands.saved_ends}
 use Rattle.vms_board_commands.proofs.Facade.{◌≡◌, sym, ap, subst, ReachesSet, saved_stream, after_events, outlet, ending_mapped}
 use Rattle.vms_board_commands.proofs.save.save_after.Goals as goal
 

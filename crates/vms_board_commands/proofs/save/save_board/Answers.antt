@@ -1,6 +1,6 @@
-use Rattle.vms_board_commands.proofs.{CourseLemmas.save_asks, RunLemmas.lacks_text, RunLemmas.then_runs}
-use Rattle.vms_board_commands.proofs.Facade.{ScriptLine, event_lines, so_since, wrong, Family, List, ℕ, None, refl, sym, ◌∙◌, Global, Vec, Event, saved_stream}
-use Rattle.vms_board_commands.proofs.Facade.{after_events, stock, ending_passed, Step, Gives, events_back, events_of, scripted}
+use Rattle.vms_board_commands.proofs.Facade.{ScriptLine, event_lines, so_since, wrong, Family, List, ℕ, None, refl, sym, ◌∙◌, Global, Vec, Event}
+use Rattle.vms_board_commands.proofs.Facade.{saved_stream, after_events, stock, ending_passed, Step, Gives, events_back, events_of, scripted}
+use Rattle.vms_board_commands.proofs.RunLemmas.{save_asks, lacks_text, then_runs}
 use Rattle.vms_board_commands.proofs.save.save_board.Goals as goal
 
 abbrev view : Vec Event Global → List ScriptLine

@@ -1,6 +1,6 @@
-use Rattle.vms_board_commands.proofs.Facade.{ℕ, List, None, Global, Vec, err_from_is_err_and, Event, first_err, then_as, fetched, ScriptLine}
-use Rattle.vms_board_commands.proofs.Facade.{script_read, event_lines, longest_script, said_lines}
-use Rattle.vms_board_commands.proofs.ScriptLemmas.{had_events, read_asks, unfetched_asks}
+use Rattle.vms_board_commands.proofs.Facade.{ℕ, List, None, Global, Vec, err_from_is_err_and, Event, first_err, then_as, fetched, ScriptLine, script_read}
+use Rattle.vms_board_commands.proofs.Facade.{event_lines, longest_script, said_lines}
+use Rattle.vms_board_commands.proofs.ScriptCommands.{had_events, read_asks, unfetched_asks}
 use Rattle.vms_board_commands.proofs.scripts.events_of.Goals as goal
 
 abbrev view : Vec Event Global → List ScriptLine

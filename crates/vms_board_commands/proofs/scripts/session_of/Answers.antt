@@ -1,6 +1,6 @@
-use Rattle.vms_board_commands.proofs.Facade.{ℕ, List, Some, Global, Vec, err_from_is_err_and, first_err, then_as, fetched, ScriptLine}
-use Rattle.vms_board_commands.proofs.Facade.{script_read, lines_view, Line, longest_script, said_lines}
-use Rattle.vms_board_commands.proofs.ScriptLemmas.{had_lines, read_asks, unfetched_asks}
+use Rattle.vms_board_commands.proofs.Facade.{ℕ, List, Some, Global, Vec, err_from_is_err_and, first_err, then_as, fetched, ScriptLine, script_read}
+use Rattle.vms_board_commands.proofs.Facade.{lines_view, Line, longest_script, said_lines}
+use Rattle.vms_board_commands.proofs.ScriptCommands.{had_lines, read_asks, unfetched_asks}
 use Rattle.vms_board_commands.proofs.scripts.session_of.Goals as goal
 
 abbrev view : Vec Line Global → List ScriptLine

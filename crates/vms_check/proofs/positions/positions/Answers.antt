@@ -1,5 +1,5 @@
-use Rattle.vms_check.proofs.Facade.{◌≢◌, ◌<◌, length, inl, inr, refl, ◌∙◌, arith, get_or-set_other, get_or-set_same, below_more, length-set, cases_lt}
-use Rattle.vms_check.proofs.PositionLaws.{counted_is, counted_small, entry_is, none_at, position_beyond}
+use Rattle.vms_check.proofs.{Facade.cases_lt, PairLaws.counted_is, PairLaws.counted_small, PairLaws.entry_is, PairLaws.none_at, PairLaws.position_beyond}
+use Rattle.vms_check.proofs.Facade.{◌≢◌, ◌<◌, length, inl, inr, refl, ◌∙◌, arith, get_or-set_other, get_or-set_same, below_more, length-set}
 use Rattle.vms_check.proofs.positions.positions.Goals as goal
 
 pub returns : goal.returns

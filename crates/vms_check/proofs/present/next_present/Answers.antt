@@ -1,5 +1,5 @@
 use Rattle.vms_check.proofs.Facade.{◌∙◌, length, ap, refl, arith, length-map, field_of, described, few_fields}
-use Rattle.vms_check.proofs.PositionLaws.{skip_absent, first_found}
+use Rattle.vms_check.proofs.PairLaws.{skip_absent, first_found}
 use Rattle.vms_check.proofs.present.next_present.Goals as goal
 
 pub overflow_cast-result : goal.overflow_cast-result

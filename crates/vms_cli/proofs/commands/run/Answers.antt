@@ -1,4 +1,4 @@
-use Rattle.vms_cli.proofs.{Facade.intake, Facade.stock, RunLemmas.asked_runs}
+use Rattle.vms_cli.proofs.{Facade.intake, Facade.stock, OutcomeLaws.asked_runs}
 use Rattle.vms_cli.proofs.commands.run.Goals as goal
 
 pub returns-in-Some-Analyze-clause-runs : goal.returns-in-Some-Analyze-clause-runs

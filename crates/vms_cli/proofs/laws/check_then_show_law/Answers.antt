@@ -1,4 +1,4 @@
-use Rattle.vms_cli.proofs.EndLemmas.{check_then_show}
+use Rattle.vms_cli.proofs.RoundTrips.{check_then_show}
 use Rattle.vms_cli.proofs.laws.check_then_show_law.Goals as goal
 
 pub returns : goal.returns

@@ -1,4 +1,4 @@
-use Rattle.vms_cli.proofs.{Facade.OutFlushed, Facade.OutLate, ProgramLemmas.kept_flushed}
+use Rattle.vms_cli.proofs.{Facade.OutFlushed, Facade.OutLate, OutcomeLaws.kept_flushed}
 use Rattle.vms_cli.proofs.running.flush.Goals as goal
 
 pub returns-in-Ok : goal.returns-in-Ok

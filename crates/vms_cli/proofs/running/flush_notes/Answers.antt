@@ -1,4 +1,4 @@
-use Rattle.vms_cli.proofs.{Facade.refl, Facade.inl, Facade.inr, ProgramLemmas.kept_flushed}
+use Rattle.vms_cli.proofs.{Facade.refl, Facade.inl, Facade.inr, OutcomeLaws.kept_flushed}
 use Rattle.vms_cli.proofs.running.flush_notes.Goals as goal
 
 pub returns-in-Ok : goal.returns-in-Ok

@@ -1,4 +1,4 @@
-use Rattle.vms_cli.proofs.ProgramLemmas.{told_late}
+use Rattle.vms_cli.proofs.OutcomeLaws.{told_late}
 use Rattle.vms_cli.proofs.running.tell_late.Goals as goal
 
 pub returns-clause-told : goal.returns-clause-told

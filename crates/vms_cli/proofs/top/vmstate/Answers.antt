@@ -1,5 +1,4 @@
-use Rattle.vms_cli.proofs.Facade.{refl, intake, outlet, stock, serves_none, ending_of}
-use Rattle.vms_cli.proofs.EndLemmas.{answers}
+use Rattle.vms_cli.proofs.{Facade.refl, Facade.intake, Facade.outlet, Facade.stock, Facade.serves_none, Facade.ending_of, RoundTrips.answers}
 use Rattle.vms_cli.proofs.top.vmstate.Goals as goal
 
 -- all is done: notes aren't touched

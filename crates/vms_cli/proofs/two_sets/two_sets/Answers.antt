@@ -1,6 +1,6 @@
-use Rattle.vms_cli.proofs.{StepsOfTwo.second_of, StepsOfTwo.two_of, two_sets.two_sets.Given.Over, two_sets.two_sets.Goals.In_ok-new_text}
-use Rattle.vms_cli.proofs.Facade.{Ok, Err, Result, refl, ap, ◌∙◌, err_from_is_err_and, described, set_asked, SetText, fetched_set}
-use Rattle.vms_cli.proofs.Facade.{named_sets, set_in, sets_in, StepAs, text_of, Both, both, Ending, then_as, sets_of, TwoSets}
+use Rattle.vms_cli.proofs.{StreamCommands.second_of, StreamCommands.two_of, two_sets.two_sets.Given.Over, two_sets.two_sets.Goals.In_ok-new_text}
+use Rattle.vms_cli.proofs.Facade.{Ok, Err, Result, refl, ap, ◌∙◌, err_from_is_err_and, described, set_asked, SetText, fetched_set, named_sets, set_in}
+use Rattle.vms_cli.proofs.Facade.{sets_in, StepAs, text_of, Both, both, Ending, then_as, sets_of, TwoSets}
 use Rattle.vms_commands.specs.declared.fetching.SetText.{SetText as Fetched}
 use Rattle.vms_cli.proofs.two_sets.two_sets.Goals as goal
 

@@ -1,7 +1,7 @@
 use Rattle.std.proofs.Common.{◌≤◌, length, length-append, ap, arith}
 use Rattle.vms_spec.specs.Sets.{Device}
 use Rattle.vms_desc.specs.Described.{described}
-use Rattle.vms_write.proofs.Formed.{device_short}
+use Rattle.vms_write.proofs.Sections.{device_short}
 use Rattle.vms_commands.proofs.{refused.append_device.Given.Over, refused.append_device.Goals.After-as_bytes}
 use Rattle.vms_commands.proofs.refused.append_device.Goals as goal
 

@@ -1,6 +1,6 @@
 use Rattle.std.proofs.{lemmas.Bool.Decides.Decides-eqb, lemmas.Slice.Eq.strip_prefix_is}
 use Rattle.std.proofs.Common.{rules, ◌≡◌, ◌<◌, Some, None, ◌∙◌, arith}
-use Rattle.vms_commands.proofs.NumberedWords.{in_range, no_front, no_number, out_of_range}
+use Rattle.vms_commands.proofs.NamedSets.{in_range, no_front, no_number, out_of_range}
 use Rattle.vms_commands.proofs.words.number_after.Goals as goal
 
 pub returns-in_default-clause-number : goal.returns-in_default-clause-number

@@ -1,4 +1,4 @@
-use Rattle.vms_convert.proofs.{BringLaws.settle_rest, Settling.settled_next, Settling.all_settled}
+use Rattle.vms_convert.proofs.{Converts.settle_rest, Settling.settled_next, Settling.all_settled}
 use Rattle.vms_convert.proofs.Facade.{◌<◌, length, arith, WellFormed, first_fault, described, device_at, none_is}
 use Rattle.vms_convert.proofs.back.settle.Goals as goal
 

@@ -1,6 +1,6 @@
-use Rattle.vms_convert.proofs.{Facade.spot_slots, Facade.steps_of, Facade.takes_keeps, BringLaws.own_spot, BringLaws.sub_spot}
-use Rattle.vms_convert.proofs.Facade.{◌≡◌, ◌<◌, length, refl, ap, ◌∙◌, arith, length-map, IsGood, Cell, device_cells, described, device_at, good_of, Typed}
-use Rattle.vms_convert.proofs.TakeLaws.{put_rest, took_all, took_own, took_sub}
+use Rattle.vms_convert.proofs.{Converts.own_spot, Converts.sub_spot, TakeLaws.put_rest, TakeLaws.took_all, TakeLaws.took_own, TakeLaws.took_sub}
+use Rattle.vms_convert.proofs.Facade.{spot_slots, steps_of, takes_keeps, ◌≡◌, ◌<◌, length, refl, ap, ◌∙◌, arith, length-map, IsGood, Cell}
+use Rattle.vms_convert.proofs.Facade.{device_cells, described, device_at, good_of, Typed}
 use Rattle.vms_convert.proofs.back.take_all.Goals as goal
 
 pub take_part-requires-clause-part : goal.take_part-requires-clause-part

@@ -1,6 +1,6 @@
-use Rattle.vms_convert.proofs.{Converts.puts_kept, call.convert_kept.Given.Over, JudgeLaws.ComesBack, JudgeLaws.backs_are, JudgeLaws.ready_back}
-use Rattle.vms_convert.proofs.Facade.{◌≡◌, map, ◌∙◌, subst, sym, with_items_is, err_from_is_err_and, refl, at_option, fit_of, described, state_of, outlet, Puts}
-use Rattle.vms_convert.proofs.Facade.{Stops, has, loads, name_of, ConvertsKept, stream_of}
+use Rattle.vms_convert.proofs.{Converts.puts_kept, call.convert_kept.Given.Over, Answered.ComesBack, Answered.backs_are, Answered.ready_back}
+use Rattle.vms_convert.proofs.Facade.{◌≡◌, map, ◌∙◌, subst, sym, with_items_is, err_from_is_err_and, refl, at_option, fit_of, described, state_of}
+use Rattle.vms_convert.proofs.Facade.{outlet, Puts, Stops, has, loads, name_of, ConvertsKept, stream_of}
 use Rattle.vms_convert.proofs.call.convert_kept.Goals.{After-deref, After-deref-2}
 use Rattle.vms_convert.proofs.call.convert_kept.Goals as goal
 

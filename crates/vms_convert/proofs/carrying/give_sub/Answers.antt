@@ -1,4 +1,4 @@
-use Rattle.vms_convert.proofs.{Facade.described, BringLaws.sub_spot}
+use Rattle.vms_convert.proofs.{Facade.described, Converts.sub_spot}
 use Rattle.vms_convert.proofs.carrying.give_sub.Goals as goal
 
 pub give_part-requires-clause-part : goal.give_part-requires-clause-part

@@ -1,5 +1,5 @@
+use Rattle.vms_convert.proofs.Answered.{ComesBack, cell_first, device_first, invalid_by, machine_last, writable_back}
 use Rattle.vms_convert.proofs.Facade.{Some, None, ◌∙◌, ap, fit_of, described, has, loads, name_of, Set, first_cell_at}
-use Rattle.vms_convert.proofs.JudgeLaws.{ComesBack, cell_first, device_first, invalid_by, machine_last, writable_back}
 use Rattle.vms_convert.proofs.losing.judge.Goals.{Start}
 use Rattle.vms_convert.proofs.losing.judge.Goals as goal
 

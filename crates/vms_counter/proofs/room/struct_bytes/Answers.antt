@@ -1,4 +1,4 @@
-use Rattle.vms_counter.proofs.{Facade.◌∙◌, Facade.first, ByteLaws.structs_more}
+use Rattle.vms_counter.proofs.{Facade.◌∙◌, Facade.first, RoomLaws.structs_more}
 use Rattle.vms_counter.proofs.room.struct_bytes.Goals as goal
 
 pub loop-desc-init : goal.loop-desc-init

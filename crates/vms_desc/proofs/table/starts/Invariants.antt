@@ -1,4 +1,4 @@
-use Rattle.vms_desc.proofs.{Facade.map, Facade.field_of, TablesMade.StartsTo}
+use Rattle.vms_desc.proofs.{Facade.map, Facade.field_of, EvalLaws.StartsTo}
 use Rattle.vms_desc.proofs.table.starts.Given as goal
 
 abbrev pub invariant-loop-field : goal.invariant-loop-field

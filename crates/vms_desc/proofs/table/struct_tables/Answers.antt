@@ -1,4 +1,4 @@
-use Rattle.vms_desc.proofs.{Facade.[], Facade.desc_of, TablesMade.tables_next}
+use Rattle.vms_desc.proofs.{Facade.[], Facade.desc_of, EvalLaws.tables_next}
 use Rattle.vms_spec.specs.Sets as sets
 use Rattle.vms_desc.proofs.table.struct_tables.Goals as goal
 

@@ -1,6 +1,6 @@
 use Rattle.vms_descfile.proofs.Facade.{ap, subst, ◌∙◌, described, FitsSet, set_file}
+use Rattle.vms_descfile.proofs.FileLaws.{compact_file, file_reads}
 use Rattle.serde_json.specs.View.{view}
-use Rattle.vms_descfile.proofs.WriteLaws.{compact_file, file_reads}
 use Rattle.vms_descfile.proofs.write.write_set.Goals as goal
 
 pub returns-clause-text : goal.returns-clause-text

@@ -1,4 +1,4 @@
-use Rattle.vms_elements.proofs.Counting.{cell_holds as holds}
+use Rattle.vms_elements.proofs.PathsOf.{cell_holds as holds}
 use Rattle.vms_elements.proofs.laws.cell_law.Goals as goal
 
 pub returns : goal.returns

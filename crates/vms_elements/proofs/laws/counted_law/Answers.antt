@@ -1,4 +1,4 @@
-use Rattle.vms_elements.proofs.Counting.{counted_holds as holds}
+use Rattle.vms_elements.proofs.PathsOf.{counted_holds as holds}
 use Rattle.vms_elements.proofs.laws.counted_law.Goals as goal
 
 pub returns : goal.returns

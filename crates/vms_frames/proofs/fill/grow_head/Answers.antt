@@ -1,5 +1,5 @@
-use Rattle.vms_frames.proofs.{HeadLemmas.kept_byte, ReadsParts.grown_both}
-use Rattle.vms_frames.proofs.Facade.{rules, arith, ◌≡◌, ◌+◌, ◌-◌, ◌<◌, get_or, ap, err_from_is_err_and, on_ok_weaker, IfErr-weaker, intake, CutsShort, CutsHead}
+use Rattle.vms_frames.proofs.{HeadLemmas.kept_byte, ReadsUnits.grown_both, Facade.CutsShort, Facade.CutsHead}
+use Rattle.vms_frames.proofs.Facade.{rules, arith, ◌≡◌, ◌+◌, ◌-◌, ◌<◌, get_or, ap, err_from_is_err_and, on_ok_weaker, IfErr-weaker, intake}
 use Rattle.vms_frames.specs.Reads.{InFront, AfterFront}
 use Rattle.vms_frames.proofs.fill.grow_head.Goals as goal
 

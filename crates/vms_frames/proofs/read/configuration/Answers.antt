@@ -1,12 +1,12 @@
-use Rattle.vms_frames.proofs.Facade.{rules, arith, ap, sym, ◌∙◌, ◌≡◌, ◌+◌, ◌≤◌, true, false, length, drop, length-drop, Ok, Err, length-take-le}
-use Rattle.vms_frames.proofs.Facade.{err_from_is_err_and, LONGEST_NAME, number_at, bytes_at, configuration_in, Good, nothing_known, configuration_seen}
+use Rattle.vms_frames.proofs.Facade.{rules, arith, ap, sym, ◌∙◌, ◌≡◌, ◌+◌, ◌≤◌, true, false, length, drop, length-drop, Ok, Err}
+use Rattle.vms_frames.proofs.Facade.{length-take-le, err_from_is_err_and, LONGEST_NAME, number_at, bytes_at, configuration_in, Good, nothing_known}
+use Rattle.vms_frames.proofs.Facade.{configuration_seen}
+use Rattle.vms_frames.proofs.HeadLemmas.{bytes_of_unit, text_begins, text_cut, text_above, text_whole}
+use Rattle.vms_frames.proofs.ReadsUnits.{a_step, unit_on, unit_whole, unit_refused, unit_short}
 use Rattle.vms_spec.specs.declared.Reason.TheVariants as reasons
 use Rattle.vms_frames.specs.declared.units.Step.TheVariants.{Configuration}
 use Rattle.vms_spec.specs.Units.{Configuration as AUnit}
 use Rattle.vms_stream.specs.Dues.{Between as IsBetween}
-use Rattle.vms_frames.proofs.UnitLemmas.{bytes_of_unit}
-use Rattle.vms_frames.proofs.HeadLemmas.{text_begins, text_cut, text_above, text_whole}
-use Rattle.vms_frames.proofs.ReadsUnits.{a_step, unit_on, unit_whole, unit_refused, unit_short}
 use Rattle.vms_frames.proofs.read.configuration.Goals as goal
 
 pub returns-in_err-grow-2 : goal.returns-in_err-grow-2

@@ -1,7 +1,6 @@
-use Rattle.vms_frames.proofs.{UnitLemmas.number_of_unit, Trailers.description_there}
-use Rattle.vms_frames.proofs.Facade.{rules, arith, ap, sym, refl, ◌∙◌, ℕ, List, [], ◌∷◌, ◌++◌, ◌≡◌, ◌≤◌, ◌+◌, length, Ok, Err, err_from_is_err_and}
-use Rattle.vms_frames.proofs.Facade.{LONGEST_TEXT, number_at, bytes_at, Description, AfterEnd, Good, nothing_known, described}
-use Rattle.vms_frames.proofs.HeadLemmas.{text_begins, text_cut, text_above, text_whole}
+use Rattle.vms_frames.proofs.Facade.{rules, arith, ap, sym, refl, ◌∙◌, ℕ, List, [], ◌∷◌, ◌++◌, ◌≡◌, ◌≤◌, ◌+◌, length, Ok, Err}
+use Rattle.vms_frames.proofs.Facade.{err_from_is_err_and, LONGEST_TEXT, number_at, bytes_at, Description, AfterEnd, Good, nothing_known, described}
+use Rattle.vms_frames.proofs.HeadLemmas.{number_of_unit, description_there, text_begins, text_cut, text_above, text_whole}
 use Rattle.vms_frames.proofs.ReadsUnits.{a_text, unit_behind, unit_passed, unit_refused, unit_short}
 use Rattle.vms_spec.specs.declared.Reason.TheVariants as reasons
 use Rattle.vms_frames.proofs.read.description.Goals as goal

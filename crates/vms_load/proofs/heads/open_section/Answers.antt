@@ -1,5 +1,5 @@
-use Rattle.vms_load.proofs.{HeadLemmas.opens, HeadLemmas.device_below, StagedLemmas.section_new}
 use Rattle.vms_load.proofs.Facade.{rules, ◌<◌, sym, ap, ◌∙◌, arith, length, get_or, false, Some, None, find_device, described, reason_against}
+use Rattle.vms_load.proofs.HeadLemmas.{opens, device_below, section_new}
 use Rattle.vms_load.proofs.heads.open_section.Goals as goal
 
 pub device-requires : goal.device-requires

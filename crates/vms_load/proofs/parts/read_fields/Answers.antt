@@ -1,8 +1,8 @@
-use Rattle.vms_load.proofs.{ReadLemmas.same_course, StreamLengths.part_bound, parts.read_fields.Given.Over}
-use Rattle.vms_load.proofs.Facade.{◌≡◌, Some, Ok, Err, ap, ◌∙◌, arith, described, desc_at, first_cell, good_of, IsGood, device_at, PartAt, HasSpot, part_sound}
-use Rattle.vms_load.proofs.Facade.{held_long, bytes_of, part_base, part_desc, Told, told, intake, reads_as}
+use Rattle.vms_load.proofs.{ReadLemmas.same_course, parts.read_fields.Given.Over}
+use Rattle.vms_load.proofs.Facade.{◌≡◌, Some, Ok, Err, ap, ◌∙◌, arith, described, desc_at, first_cell, good_of, IsGood, device_at, PartAt, HasSpot}
+use Rattle.vms_load.proofs.Facade.{part_sound, held_long, bytes_of, part_base, part_desc, Told, told, intake, reads_as}
 use Rattle.vms_load.proofs.PartReads.{open_in, fields_answer, part_took, part_failed}
-use Rattle.vms_load.proofs.SetFacts.{part_kinds, desc_is, base_is, part_spot}
+use Rattle.vms_load.proofs.StreamLengths.{part_bound, part_kinds, desc_is, base_is, part_spot}
 use Rattle.vms_load.proofs.parts.read_fields.Goals.{Start, After-first_cell-base, After-read_part}
 use Rattle.vms_image.specs.Typed.{state_of as untyped}
 use Rattle.vms_load.proofs.parts.read_fields.Goals as goal

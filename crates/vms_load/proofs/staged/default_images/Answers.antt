@@ -1,5 +1,5 @@
 use Rattle.vms_load.proofs.Facade.{ap, ◌∙◌, sym, length, arith, length-map, device_of, described}
-use Rattle.vms_load.proofs.StagedLemmas.{are_images, made_all, made_shaped}
+use Rattle.vms_load.proofs.HeadLemmas.{are_images, made_all, made_shaped}
 use Rattle.vms_load.proofs.staged.default_images.Goals as goal
 
 pub returns : goal.returns

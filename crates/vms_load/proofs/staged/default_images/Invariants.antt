@@ -1,4 +1,4 @@
-use Rattle.vms_load.proofs.{Facade.described, StagedLemmas.Made}
+use Rattle.vms_load.proofs.{Facade.described, HeadLemmas.Made}
 use Rattle.vms_load.proofs.staged.default_images.Given as goal
 
 abbrev pub invariant-loop-device : goal.invariant-loop-device

@@ -1,4 +1,4 @@
-use Rattle.vms_load.proofs.{Facade.rules, Facade.arith, Facade.described, StagedLemmas.reset_all, StagedLemmas.reset_shaped}
+use Rattle.vms_load.proofs.{Facade.rules, Facade.arith, Facade.described, HeadLemmas.reset_all, HeadLemmas.reset_shaped}
 use Rattle.vms_load.proofs.staged.reset.Goals as goal
 
 pub returns : goal.returns

@@ -1,4 +1,4 @@
-use Rattle.vms_load.proofs.{Facade.described, StagedLemmas.Reset}
+use Rattle.vms_load.proofs.{Facade.described, HeadLemmas.Reset}
 use Rattle.vms_load.proofs.staged.reset.Given as goal
 
 abbrev pub invariant-loop-device : goal.invariant-loop-device

@@ -1,9 +1,9 @@
-use Rattle.vms_load.proofs.{SetFacts.most_small, SetFacts.start_due, stream.stream.Given.Over, Facade.LONGEST_HEAD, ReadLemmas.goes_on, ReadLemmas.same_course}
-use Rattle.vms_load.proofs.Facade.{◌+◌, List, ℕ, Some, None, Result, Ok, Err, true, false, sym, subst, ap, arith, err_from_is_err_and, intake, reads_as}
-use Rattle.vms_load.proofs.Facade.{reads_both, judge, reading, Before, Free, by_state, at_start, reading_on, described, held_long, FrameFault, GoesOn}
-use Rattle.vms_load.proofs.Facade.{GoesThrough, LeadsOn, ReadsAll, ReadsEnd, accepted_of, due_at, read_from, reach, state_of, spot_at, most_given, First}
+use Rattle.vms_load.proofs.{StreamLengths.most_small, StreamLengths.start_due, stream.stream.Given.Over, Facade.First, ReadLemmas.goes_on}
+use Rattle.vms_load.proofs.{ReadLemmas.same_course, stream.stream.Goals.After-sections, stream.stream.Goals.After-trailer}
+use Rattle.vms_load.proofs.Facade.{LONGEST_HEAD, ◌+◌, List, ℕ, Some, None, Result, Ok, Err, true, false, sym, subst, ap, arith, err_from_is_err_and}
+use Rattle.vms_load.proofs.Facade.{intake, reads_as, reads_both, judge, reading, Before, Free, by_state, at_start, reading_on, described, held_long, FrameFault}
+use Rattle.vms_load.proofs.Facade.{GoesOn, GoesThrough, LeadsOn, ReadsAll, ReadsEnd, accepted_of, due_at, read_from, reach, state_of, spot_at, most_given}
 use Rattle.vms_load.proofs.StreamReads.{closed, closes_at, refused_before}
-use Rattle.vms_load.proofs.stream.stream.Goals.{After-sections, After-trailer}
 use Rattle.vms_load.proofs.stream.stream.Goals as goal
 
 pub read_head-requires : goal.read_head-requires

@@ -1,4 +1,4 @@
-use Rattle.vms_rtc.proofs.{Facade.◌+◌, Facade.arith, RestoredLaws.is_byte}
+use Rattle.vms_rtc.proofs.{Facade.◌+◌, Facade.arith, SavedLaws.is_byte}
 use Rattle.vms_rtc.proofs.cells.register_at.Goals as goal
 
 pub byte_at-requires-clause-in_range : goal.byte_at-requires-clause-in_range

@@ -1,6 +1,6 @@
-use Rattle.vms_rules.proofs.{DeviceLaws.inside_stops, DeviceLaws.subs_left, WalkLaws.stops_by, WalkLaws.first_stops}
-use Rattle.vms_rules.proofs.Facade.{◌≡◌, ℕ, Option, [], None, length, sym, ap, ◌∙◌, length-map, no_desc, or_else, SetFault, failing, here, fields_fault}
-use Rattle.vms_rules.proofs.Facade.{validations_fault, device_rules, device_fault, device_at, desc_of, device_of, set_of, get_map_at, IsFirst, subs_from}
+use Rattle.vms_rules.proofs.{WalkLaws.inside_stops, WalkLaws.subs_left, WalkLaws.stops_by, WalkLaws.first_stops, Facade.subs_from}
+use Rattle.vms_rules.proofs.Facade.{◌≡◌, ℕ, Option, [], None, length, sym, ap, ◌∙◌, length-map, no_desc, or_else, SetFault, failing, here}
+use Rattle.vms_rules.proofs.Facade.{fields_fault, validations_fault, device_rules, device_fault, device_at, desc_of, device_of, set_of, get_map_at, IsFirst}
 use Rattle.vms_rules.proofs.devices.check_device.Goals.{After-as_slice, After-index-as_slice-number, In_ok-lowest}
 use Rattle.vms_spec.specs.declared.Part.TheVariants as parts
 use Rattle.vms_spec.specs.Sets as sets

@@ -1,6 +1,6 @@
 use Rattle.vms_rules.proofs.Facade.{◌≡◌, [], take, map, sym, ap, ◌∙◌, list_any, no_desc, is_same_device, device_of, get_map_at, numbered}
+use Rattle.vms_rules.proofs.WalkLaws.{same_device}
 use Rattle.vms_spec.specs.Sets as sets
-use Rattle.vms_rules.proofs.DeviceLaws.{same_device}
 use Rattle.vms_rules.proofs.devices.is_taken.Goals as goal
 
 pub returns : goal.returns

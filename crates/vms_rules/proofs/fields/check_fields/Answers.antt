@@ -1,4 +1,4 @@
-use Rattle.vms_rules.proofs.{FieldLaws.names_more, KeyLaws.names_known, fields.check_fields.Goals.After-index-fields-number}
+use Rattle.vms_rules.proofs.{NameLaws.names_more, NameLaws.names_known, fields.check_fields.Goals.After-index-fields-number}
 use Rattle.vms_rules.proofs.Facade.{◌≡◌, ◌<◌, None, length, get_or, ap, arith, field_of, desc_of, IsFirst, has_name, at_field}
 use Rattle.vms_rules.proofs.WalkLaws.{stops_by, place_good, place_stops}
 use Rattle.vms_rules.proofs.fields.check_fields.Goals as goal

@@ -1,4 +1,4 @@
-use Rattle.vms_rules.proofs.{Facade.◌∙◌, Facade.map, Facade.arith, Facade.length-map, Facade.field_of, CapacityLaws.least_fits}
+use Rattle.vms_rules.proofs.{Facade.◌∙◌, Facade.map, Facade.arith, Facade.length-map, Facade.field_of, WalkLaws.least_fits}
 use Rattle.vms_rules.proofs.fields.counts_well.Goals as goal
 
 pub returns : goal.returns

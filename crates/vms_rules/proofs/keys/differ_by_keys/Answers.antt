@@ -1,4 +1,4 @@
-use Rattle.vms_rules.proofs.KeyLaws.{distinct_before}
+use Rattle.vms_rules.proofs.NameLaws.{distinct_before}
 use Rattle.vms_rules.proofs.keys.differ_by_keys.Goals as goal
 
 pub returns : goal.returns

@@ -1,6 +1,6 @@
-use Rattle.vms_rules.proofs.{WalkLaws.stops_by, sets.check.Goals.In_ok-check_structs, sets.check.Goals.In_ok-lowest}
 use Rattle.vms_rules.proofs.Facade.{◌≡◌, None, failing, here, set_rules, first_fault, set_of, IsFirst, structs_from}
-use Rattle.vms_rules.proofs.SetLaws.{set_stops, structs_stop, devices_stop, items_left}
+use Rattle.vms_rules.proofs.WalkLaws.{stops_by, set_stops, structs_stop, devices_stop, items_left}
+use Rattle.vms_rules.proofs.sets.check.Goals.{In_ok-check_structs, In_ok-lowest}
 use Rattle.vms_spec.specs.declared.Part.TheVariants as parts
 use Rattle.vms_rules.proofs.sets.check.Goals as goal
 

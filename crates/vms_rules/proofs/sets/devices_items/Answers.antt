@@ -1,5 +1,5 @@
-use Rattle.vms_rules.proofs.{Facade.items_are, Facade.sum_ends, Facade.sum_goes, SizeLaws.subs_are}
-use Rattle.vms_rules.proofs.Facade.{◌≡◌, ◌+◌, List, ◌∷◌, ℕ, map, refl, arith, items_in, subs_items, devices_items, Device, in_u32, field_of, sub_of, device_of}
+use Rattle.vms_rules.proofs.{Facade.devices_items, Facade.Device, Facade.in_u32, Facade.field_of, Facade.sub_of, Facade.device_of, WalkLaws.subs_are}
+use Rattle.vms_rules.proofs.Facade.{items_are, sum_ends, sum_goes, ◌≡◌, ◌+◌, List, ◌∷◌, ℕ, map, refl, arith, items_in, subs_items}
 use Rattle.vms_rules.proofs.sets.devices_items.Goals as goal
 
 abbrev whole : List ℕ → List Device → ℕ

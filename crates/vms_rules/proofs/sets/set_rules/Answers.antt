@@ -1,5 +1,5 @@
 use Rattle.vms_rules.proofs.Facade.{◌≡◌, ◌∷◌, [], Bool, true, ap, ◌∙◌, list_all, is_name, are_distinct, has_name}
-use Rattle.vms_rules.proofs.SetLaws.{distinct_is, empty_has_none}
+use Rattle.vms_rules.proofs.WalkLaws.{distinct_is, empty_has_none}
 use Rattle.vms_rules.proofs.sets.set_rules.Goals as goal
 
 pub returns : goal.returns

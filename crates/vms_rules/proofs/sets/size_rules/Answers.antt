@@ -1,5 +1,5 @@
 use Rattle.vms_rules.proofs.Facade.{sizes_to, desc_of, set_of, ◌≡◌, ◌∷◌, [], Bool, true, length, map, ap, length-map, devices_items, Items, in_u32}
-use Rattle.vms_rules.proofs.SizeLaws.{few_items}
+use Rattle.vms_rules.proofs.WalkLaws.{few_items}
 use Rattle.vms_rules.proofs.sets.size_rules.Goals as goal
 
 pub returns : goal.returns

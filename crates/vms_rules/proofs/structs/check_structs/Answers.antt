@@ -1,6 +1,6 @@
-use Rattle.vms_rules.proofs.{NameLaws.names_so_far, StructLaws.depths_long, StructLaws.depth_at, structs.check_structs.Goals.After-index-structs-number}
+use Rattle.vms_rules.proofs.{NameLaws.names_so_far, structs.check_structs.Goals.After-index-structs-number}
 use Rattle.vms_rules.proofs.Facade.{◌≡◌, None, map, arith, no_desc, struct_fault, desc_of, get_map_at, has_name, desc_at}
-use Rattle.vms_rules.proofs.WalkLaws.{stops_by, place_good, place_stops}
+use Rattle.vms_rules.proofs.WalkLaws.{depths_long, depth_at, stops_by, place_good, place_stops}
 use Rattle.vms_rules.proofs.structs.check_structs.Goals as goal
 
 pub index-requires : goal.index-requires

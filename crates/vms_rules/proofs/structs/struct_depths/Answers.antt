@@ -1,5 +1,5 @@
 use Rattle.vms_rules.proofs.Facade.{◌≡◌, ◌+◌, ◌≤◌, ℕ, map, ap, arith, first, deepest, field_of}
-use Rattle.vms_rules.proofs.StructLaws.{deepest_small, depths_more, depths_small, none_small}
+use Rattle.vms_rules.proofs.WalkLaws.{deepest_small, depths_more, depths_small, none_small}
 use Rattle.vms_rules.proofs.structs.struct_depths.Goals as goal
 
 pub loop-desc-init : goal.loop-desc-init

@@ -1,5 +1,4 @@
-use Rattle.vms_rules.proofs.Facade.{◌≡◌, ◌≤◌, ℕ, get_or, map, desc_of}
-use Rattle.vms_rules.proofs.StructLaws.{depths_to}
+use Rattle.vms_rules.proofs.{Facade.◌≡◌, Facade.◌≤◌, Facade.ℕ, Facade.get_or, Facade.map, Facade.desc_of, WalkLaws.depths_to}
 use Rattle.vms_rules.proofs.structs.struct_depths.Given as goal
 
 abbrev pub invariant-loop-desc : goal.invariant-loop-desc

@@ -1,6 +1,6 @@
-use Rattle.vms_selfdesc.proofs.{Bounds.ready_device, Trees.devices_next, Trees.devices_end}
-use Rattle.vms_selfdesc.proofs.Facade.{◌<◌, ◌≤◌, ◌∙◌, ◌∷◌, length, map, ap, ap₂, sym, arith, codes, OnTrue_at, described, state_of, states_long, state_at}
-use Rattle.vms_selfdesc.proofs.Facade.{array, object, put, no_members, items_of, compact_text}
+use Rattle.vms_selfdesc.proofs.{Lengths.ready_device, Trees.devices_next, Trees.devices_end}
+use Rattle.vms_selfdesc.proofs.Facade.{◌<◌, ◌≤◌, ◌∙◌, ◌∷◌, length, map, ap, ap₂, sym, arith, codes, OnTrue_at, described, state_of}
+use Rattle.vms_selfdesc.proofs.Facade.{states_long, state_at, array, object, put, no_members, items_of, compact_text}
 use Rattle.vms_selfdesc.proofs.alike.are_alike.Goals as goal
 
 pub bounds-second-device : goal.bounds-second-device

@@ -1,5 +1,5 @@
 use Rattle.vms_selfdesc.proofs.Facade.{arith, drop_all, drop_more, no_field, described, desc_at, OnTrue_at}
-use Rattle.vms_selfdesc.proofs.AlikeLemmas.{part_same}
+use Rattle.vms_selfdesc.proofs.OfElements.{part_same}
 use Rattle.vms_selfdesc.proofs.alike.are_fields_alike.Goals as goal
 
 pub loop-field-init : goal.loop-field-init

@@ -1,4 +1,4 @@
-use Rattle.vms_selfdesc.proofs.{Facade.drop, Facade.described, Facade.desc_at, Facade.own_numbers, AlikeLemmas.AreFieldsAlike}
+use Rattle.vms_selfdesc.proofs.{Facade.drop, Facade.described, Facade.desc_at, Facade.own_numbers, OfElements.AreFieldsAlike}
 use Rattle.vms_selfdesc.proofs.alike.are_fields_alike.Given as goal
 
 -- if the fields that are left are alike, all are

@@ -1,5 +1,5 @@
 use Rattle.vms_selfdesc.proofs.Facade.{◌≡◌, rules, arith, None, get_or, is_some, described, device_at, sub_at, sub_inside, OnTrue_at, OnTrue_from}
-use Rattle.vms_selfdesc.proofs.AlikeLemmas.{sub_same}
+use Rattle.vms_selfdesc.proofs.OfElements.{sub_same}
 use Rattle.vms_selfdesc.proofs.alike.is_sub_alike.Goals as goal
 
 pub is_part_alike-requires : goal.is_part_alike-requires

@@ -1,4 +1,4 @@
-use Rattle.vms_selfdesc.proofs.{Paths.few_levels, Trees.lays}
+use Rattle.vms_selfdesc.proofs.{Plain.few_levels, Trees.lays}
 use Rattle.vms_selfdesc.proofs.Facade.{List, ℕ, false, map, subst, length, ap, refl, arith, Draft, Adds, entry_tree, numbers_in, part_list, set_in}
 use Rattle.vms_selfdesc.proofs.devices.write_fields.Goals as goal
 

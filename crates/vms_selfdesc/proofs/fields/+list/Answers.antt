@@ -1,10 +1,9 @@
-use Rattle.vms_selfdesc.proofs.Facade.{subst, rules, arith, sym, ap, ◌∙◌, ◌≡◌, ◌+◌, ◌<◌, ◌++◌, length, length-append, codes, string_bytes, refl, Lists, Draft}
-use Rattle.vms_selfdesc.proofs.Facade.{item_size, struct_cells, elements_fit, field_of, field_at, own_numbers, described, desc_at, found_field, here_fields}
-use Rattle.vms_selfdesc.proofs.Facade.{element_path, item_list, field_list, IsPlain, HasElements, item_levels}
-use Rattle.vms_selfdesc.proofs.Trees.{fields_whole, leaves_all, leaves_rest, leave_path, element_room, elements_next, next_element, fields_next, field_room}
+use Rattle.vms_selfdesc.proofs.Facade.{subst, rules, arith, sym, ap, ◌∙◌, ◌≡◌, ◌+◌, ◌<◌, ◌++◌, length, length-append, codes}
+use Rattle.vms_selfdesc.proofs.Facade.{string_bytes, refl, Lists, Draft, item_size, struct_cells, elements_fit, field_of, field_at, own_numbers, described}
+use Rattle.vms_selfdesc.proofs.Facade.{desc_at, found_field, here_fields, element_path, item_list, field_list, IsPlain, HasElements, item_levels}
 use Rattle.vms_selfdesc.proofs.OfElements.{field_needs, array_many, field_run, struct_place, struct_lower, struct_list}
-use Rattle.vms_selfdesc.proofs.Plain.{plain_append, element_plain, dot_plain, name_plain, field_name}
-use Rattle.vms_selfdesc.proofs.Paths.{enters, index_long, item_levels_are, levels_are}
+use Rattle.vms_selfdesc.proofs.Plain.{plain_append, element_plain, dot_plain, name_plain, field_name, enters, index_long, item_levels_are, levels_are}
+use Rattle.vms_selfdesc.proofs.Trees.{fields_whole, leaves_all, leaves_rest, leave_path, element_room, elements_next, next_element, fields_next, field_room}
 use Rattle.vms_selfdesc.proofs.fields.+list.Goals as goal
 
 -- ---- one element

@@ -1,4 +1,4 @@
-use Rattle.vms_selfdesc.proofs.{Bounds.text_reads, Bounds.text_short, Plain.wrote}
+use Rattle.vms_selfdesc.proofs.{Lengths.text_reads, Lengths.text_short, Plain.wrote}
 use Rattle.vms_selfdesc.proofs.Facade.{◌∙◌, length, map, string_bytes, ap, arith, IfOk-weaker, described, state_of}
 use Rattle.vms_selfdesc.proofs.tree.describe.Goals as goal
 

@@ -1,4 +1,4 @@
-use Rattle.vms_selfdesc.proofs.{Bounds.ready_device, Trees.leaves_all, Trees.leaves_rest, Trees.leaves_none, Trees.devices_next, Trees.devices_end}
+use Rattle.vms_selfdesc.proofs.{Lengths.ready_device, Trees.leaves_all, Trees.leaves_rest, Trees.leaves_none, Trees.devices_next, Trees.devices_end}
 use Rattle.vms_selfdesc.proofs.Facade.{◌<◌, ◌∙◌, ◌∷◌, [], length, map, refl, arith, described, state_of, states_long, state_at}
 use Rattle.vms_selfdesc.proofs.tree.write_devices.Goals as goal
 

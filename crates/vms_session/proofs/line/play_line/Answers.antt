@@ -1,5 +1,5 @@
-use Rattle.vms_session.proofs.{RefusalLaws.line_ends, SoundLaws.event_is, SoundLaws.line_event}
 use Rattle.vms_session.proofs.Facade.{Session, Some, sym, ap, ◌∙◌, clock_goes_on, names, outlet, stock, trace_line, line_view}
+use Rattle.vms_session.proofs.SoundLaws.{line_ends, event_is, line_event}
 use Rattle.vms_session.proofs.line.play_line.Goals as goal
 
 pub event-requires : goal.event-requires

@@ -1,7 +1,7 @@
-use Rattle.vms_session.proofs.{OneLaws.one_map, RefusalLaws.line_ends, SoundLaws.load_keeps}
 use Rattle.vms_session.proofs.Facade.{session_of, Some, sym, ap, subst, ◌∙◌, isa, saved_stream, Held, PutsUnder, outlet, stock, stores_told, session_view}
-use Rattle.vms_session.proofs.Facade.{saved_line, ◌≡◌, List, ℕ, [], ◌∷◌, Option, Err, inr, Appends-nil, err_from_is_err_and, HoldsBut, LinesEnd, Outlet, Stock}
-use Rattle.vms_session.proofs.Facade.{State, Session, ScriptLine, PlayFault, WriteFault, ShelfFault, NoMemory, part_of}
+use Rattle.vms_session.proofs.Facade.{saved_line, ◌≡◌, List, ℕ, [], ◌∷◌, Option, Err, inr, Appends-nil, err_from_is_err_and, HoldsBut, LinesEnd}
+use Rattle.vms_session.proofs.Facade.{Outlet, Stock, State, Session, ScriptLine, PlayFault, WriteFault, ShelfFault, NoMemory, part_of}
+use Rattle.vms_session.proofs.SoundLaws.{one_map, line_ends, load_keeps}
 use Rattle.vms_session.specs.{Parts.stored_by, Streams.SavesUnder}
 use Rattle.vms_session.proofs.line.play_session.Goals as goal
 

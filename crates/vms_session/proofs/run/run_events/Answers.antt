@@ -1,5 +1,5 @@
+use Rattle.vms_session.proofs.CourseLemmas.{event_at, left_next, none_left, first_event, later_events, after_next, after_none, after_number}
 use Rattle.vms_session.proofs.Facade.{◌≡◌, ◌+◌, ◌<◌, length, drop, sym, ap, ◌∙◌, arith, names}
-use Rattle.vms_session.proofs.RunLemmas.{event_at, left_next, none_left, first_event, later_events, after_next, after_none, after_number}
 use Rattle.vms_session.proofs.run.run_events.Goals as goal
 
 pub event-requires : goal.event-requires

@@ -1,7 +1,7 @@
-use Rattle.vms_session.proofs.{Facade.trace_from, Facade.leaves_all, run.trace.Given.Over, run.trace.Goals.In-loop-event, run.trace.Goals.After-loop-event}
-use Rattle.vms_session.proofs.Facade.{leaves_none, leaves_rest, leaves_stop, ◌≡◌, ◌+◌, [], ◌∷◌, drop, refl, ◌∙◌, arith, err_from_is_err_and, outlet, trace_line}
-use Rattle.vms_session.proofs.RunLemmas.{trace_next, trace_none, event_at, left_next, none_left, first_event, later_events, after_next, after_none, none_yet}
-use Rattle.vms_session.proofs.RunLemmas.{number_next, one_more}
+use Rattle.vms_session.proofs.{Facade.arith, Facade.err_from_is_err_and, Facade.outlet, Facade.trace_line, run.trace.Given.Over, run.trace.Goals.In-loop-event}
+use Rattle.vms_session.proofs.{run.trace.Goals.After-loop-event, CourseLemmas.number_next, CourseLemmas.one_more}
+use Rattle.vms_session.proofs.CourseLemmas.{trace_next, trace_none, event_at, left_next, none_left, first_event, later_events, after_next, after_none, none_yet}
+use Rattle.vms_session.proofs.Facade.{trace_from, leaves_all, leaves_none, leaves_rest, leaves_stop, ◌≡◌, ◌+◌, [], ◌∷◌, drop, refl, ◌∙◌}
 use Rattle.vms_session.proofs.run.trace.Goals as goal
 
 -- the event whose turn it is, and those after it

@@ -1,5 +1,5 @@
 use Rattle.vms_session.proofs.Facade.{ap, ◌∙◌, sym, Set, refused_line, restored_line, session_of, Back, Refused}
-use Rattle.vms_session.proofs.RefusalLaws.{comes}
+use Rattle.vms_session.proofs.SoundLaws.{comes}
 use Rattle.vms_session.proofs.shelf.load.Goals as goal
 
 pub returns-in-Ok-clause-text : goal.returns-in-Ok-clause-text

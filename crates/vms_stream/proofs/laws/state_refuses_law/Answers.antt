@@ -1,4 +1,4 @@
-use Rattle.vms_stream.proofs.Judging.Mirrors.{state_refuses}
+use Rattle.vms_stream.proofs.Judging.{state_refuses}
 use Rattle.vms_stream.proofs.laws.state_refuses_law.Goals as goal
 
 pub returns : goal.returns

@@ -1,4 +1,4 @@
-use Rattle.vms_stream_laws.proofs.Fronts.{refused_hold}
+use Rattle.vms_stream_laws.proofs.Onward.{refused_hold}
 use Rattle.vms_stream_laws.proofs.laws.refused_law.Goals as goal
 
 pub returns : goal.returns

@@ -1,15 +1,15 @@
-use Rattle.vms_walk.proofs.{Facade.HasSpot, Facade.Keeps, Facade.MayCome, Kept.err_takes, Runs.run_steps, Runs.steps_at, Runs.one_slots, Walking.room_at}
-use Rattle.vms_walk.proofs.{Walking.least_again, Local.keeps_below, Local.keeps_first, Going.rule_stop, Going.rule_may, Going.same_rule}
-use Rattle.vms_walk.proofs.{fields.+walk.Given.Over, fields.+walk.Goals.walk_field-After-walk_row-arg-1, fields.+walk.Goals.walk_struct-After-walk-arg-1}
-use Rattle.vms_walk.proofs.Facade.{rules, arith, refl, sym, ap, ◌∙◌, ◌≡◌, ℕ, ℤ, ◌+◌, ◌*◌, ◌<◌, List, [], ◌∷◌, ◌++◌, length, ltb-true, IfErr-weaker}
-use Rattle.vms_walk.proofs.Facade.{on_ok_weaker, Struct, item_slots, SameBelow, IsAbove, items_above, meanings_above, field_at, described, desc_at, found_field}
-use Rattle.vms_walk.proofs.Facade.{here_fields, good_of, steps_of, table, holds_at, cell_of, spot_slots, slots_at, size_in, capacities_of, elements_slots}
-use Rattle.vms_walk.proofs.Going.{Laws, Walked, Past, items_next, items_stop, items_may, field_slots_are, fields_next, fields_stop, fields_may, rule_next}
-use Rattle.vms_walk.proofs.Spots.{Next, next_field, field_needs, size_code, start_code, struct_spot, struct_size, holds_is}
+use Rattle.vms_walk.proofs.Facade.{HasSpot, Keeps, MayCome, rules, arith, refl, sym, ap, ◌∙◌, ◌≡◌, ℕ, ℤ, ◌+◌, ◌*◌, ◌<◌, List, []}
+use Rattle.vms_walk.proofs.Facade.{◌∷◌, ◌++◌, length, ltb-true, IfErr-weaker, on_ok_weaker, Struct, item_slots, SameBelow, IsAbove, items_above}
+use Rattle.vms_walk.proofs.Facade.{meanings_above, field_at, described, desc_at, found_field, here_fields, good_of, steps_of, table, holds_at, cell_of}
+use Rattle.vms_walk.proofs.Facade.{spot_slots, slots_at, size_in, capacities_of, elements_slots, present_of, spot_numbers}
+use Rattle.vms_walk.proofs.Going.{fields_stop, fields_may, rule_next, rule_stop, rule_may, same_rule, Laws, Walked, Past, items_next, items_stop, items_may}
+use Rattle.vms_walk.proofs.Going.{field_slots_are, fields_next}
+use Rattle.vms_walk.proofs.Spots.{run_steps, steps_at, one_slots, Next, next_field, field_needs, size_code, start_code, struct_spot, struct_size, holds_is}
+use Rattle.vms_walk.proofs.Walking.{err_takes, room_at, least_again, keeps_below, keeps_first}
+use Rattle.vms_walk.proofs.fields.{+walk.Given.Over, +walk.Goals.walk_field-After-walk_row-arg-1, +walk.Goals.walk_struct-After-walk-arg-1}
 use Rattle.vms_walk.proofs.fields.+walk.Goals.{walk_items-After-walk_item-arg-1, walk-After-rules-arg-1, walk-After-walk_field-arg-1}
 use Rattle.vms_parts.specs.Views.{field_of}
 use Rattle.std.proofs.Common.{map}
-use Rattle.vms_walk.proofs.{Facade.present_of, Facade.spot_numbers}
 use Rattle.vms_spec.specs.declared.Part.TheVariants as parts
 use Rattle.vms_walk.specs.declared.step.WalkStep.TheVariants as steps
 use Rattle.vms_walk.proofs.fields.+walk.Goals as goal

@@ -1,4 +1,4 @@
-use Rattle.vms_walk.proofs.{Kept.err_takes, Runs.run_next, Runs.run_stop, Runs.run_may}
+use Rattle.vms_walk.proofs.{Walking.err_takes, Spots.run_next, Spots.run_stop, Spots.run_may}
 use Rattle.vms_walk.proofs.Facade.{rules, ◌≡◌, ◌+◌, ◌-◌, ◌≤◌, refl, ◌∙◌, arith, zero, run_of}
 use Rattle.vms_walk.proofs.fields.walk_run.Goals as goal
 

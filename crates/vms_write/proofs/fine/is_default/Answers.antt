@@ -1,4 +1,4 @@
-use Rattle.vms_write.proofs.{Facade.rules, Facade.arith, Formed.default_of}
+use Rattle.vms_write.proofs.{Facade.rules, Facade.arith, Sections.default_of}
 use Rattle.vms_write.proofs.fine.is_default.Goals as goal
 
 pub get-requires-2 : goal.get-requires-2

@@ -1,5 +1,6 @@
-use Rattle.vms_write.proofs.{Facade.settle, Facade.are_steps_fine, Facade.behind, StepsFine.part_fine, StepsFine.part_unfit}
-use Rattle.vms_write.proofs.Facade.{◌≡◌, ◌+◌, ◌-◌, ◌∙◌, sym, ap, arith, ℕ, true, [], List, ℤ, own_cell_count, described, desc_at, steps_of, spot_slots, formed}
+use Rattle.vms_write.proofs.Facade.{settle, are_steps_fine, behind, ◌≡◌, ◌+◌, ◌-◌, ◌∙◌, sym, ap, arith, ℕ, true, [], List, ℤ}
+use Rattle.vms_write.proofs.Facade.{own_cell_count, described, desc_at, steps_of, spot_slots, formed}
+use Rattle.vms_write.proofs.FineReady.{part_fine, part_unfit}
 use Rattle.vms_write.proofs.fine.is_part_fine.Goals as goal
 
 pub returns-in-Ok : goal.returns-in-Ok

@@ -1,6 +1,6 @@
 use Rattle.vms_write.proofs.Facade.{OnTrue_at, OnFalse_at, ◌<◌, length, map, sym, ap, ◌∙◌, arith, true, false, length-map, device_of, described}
 use Rattle.vms_write.proofs.Facade.{state_of, states_long, state_at, image_at}
-use Rattle.vms_write.proofs.ReadyImages.{none_so_far, none_of, one_more, one_more_of, not_all, all_so_far, all_of}
+use Rattle.vms_write.proofs.Sections.{none_so_far, none_of, one_more, one_more_of, not_all, all_so_far, all_of}
 use Rattle.vms_write.proofs.readiness.are_ready.Goals as goal
 
 pub loop-device-init : goal.loop-device-init

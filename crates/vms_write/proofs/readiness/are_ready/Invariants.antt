@@ -1,4 +1,4 @@
-use Rattle.vms_write.proofs.{Facade.map, Facade.described, Facade.state_of, ReadyImages.AreSoFar, ReadyImages.AreOfSoFar}
+use Rattle.vms_write.proofs.{Facade.map, Facade.described, Facade.state_of, Sections.AreSoFar, Sections.AreOfSoFar}
 use Rattle.vms_write.proofs.readiness.are_ready.Given as goal
 
 abbrev pub invariant-loop-device : goal.invariant-loop-device

@@ -1,5 +1,5 @@
-use Rattle.vms_write.proofs.Facade.{◌≡◌, ap, ◌∙◌, arith, [], ◌+◌, ◌-◌, own_cell_count, described, device_at, sub_at, sub_inside, settle, forms_of}
-use Rattle.vms_write.proofs.Formed.{formed_defaults, formed_long}
+use Rattle.vms_write.proofs.{Facade.forms_of, Sections.formed_defaults, Sections.formed_long}
+use Rattle.vms_write.proofs.Facade.{◌≡◌, ap, ◌∙◌, arith, [], ◌+◌, ◌-◌, own_cell_count, described, device_at, sub_at, sub_inside, settle}
 use Rattle.vms_write.proofs.readiness.is_bare.Goals as goal
 
 pub overflow_add-end : goal.overflow_add-end

@@ -1,4 +1,4 @@
-use Rattle.vms_write.proofs.{Facade.rules, Facade.arith, Facade.described, Facade.own_inside_device, Formed.formed_defaults, Formed.formed_long}
+use Rattle.vms_write.proofs.{Facade.rules, Facade.arith, Facade.described, Facade.own_inside_device, Sections.formed_defaults, Sections.formed_long}
 use Rattle.vms_write.proofs.readiness.is_own_fine.Goals as goal
 
 pub is_part_fine-requires : goal.is_part_fine-requires

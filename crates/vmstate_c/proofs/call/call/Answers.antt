@@ -1,6 +1,6 @@
 use Rattle.std.proofs.Common.{rules, sym, ap, ℕ, List, Some, ◌∙◌, refl}
 use Rattle.vms_io.specs.{Memory.Supply, Memory.is_empty, Memory.empty_is, Supplies.supply}
-use Rattle.vmstate_c.proofs.CallLemmas.{leaves, input-is, sink-is}
+use Rattle.vmstate_c.proofs.CallLaws.{leaves, input-is, sink-is}
 use Rattle.vmstate_c.specs.Folders.{held_of}
 use Rattle.vmstate_c.proofs.call.call.Goals as goal
 

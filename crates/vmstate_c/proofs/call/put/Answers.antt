@@ -1,6 +1,6 @@
 use Rattle.std.proofs.Common.{rules}
 use Rattle.vmstate_c.specs.Folders.{held_of}
-use Rattle.vmstate_c.proofs.FileLemmas.{held-put, held-other}
+use Rattle.vmstate_c.proofs.StoredFiles.{held-put, held-other}
 use Rattle.vmstate_c.proofs.call.put.Goals as goal
 
 pub returns-in_ok-put : goal.returns-in_ok-put

@@ -1,7 +1,7 @@
 use Rattle.std.proofs.{lemmas.Str.is_utf8-from_IsUtf8, lemmas.List.map_more, lemmas.List.Folds.list_all_at}
 use Rattle.std.proofs.Common.{◌∙◌, ap, sym, Bool, List, ℕ, [], ◌∷◌, ◌++◌, map, take}
 use Rattle.std.specs.{Str.is_utf8}
-use Rattle.vmstate_c.proofs.WordLemmas.{all-more, not_utf8}
+use Rattle.vmstate_c.proofs.StoredFiles.{all-more, not_utf8}
 use Rattle.vmstate_c.specs.declared.request.Bytes.{Bytes}
 use Rattle.vmstate_c.proofs.call.words_of.Goals as goal
 

@@ -1,4 +1,4 @@
-use Rattle.vmstate_c.proofs.CompleteLaws.{complete_stored_holds}
+use Rattle.vmstate_c.proofs.CallLaws.{complete_stored_holds}
 use Rattle.vmstate_c.proofs.laws.complete_stored_law.Goals as goal
 
 pub returns : goal.returns

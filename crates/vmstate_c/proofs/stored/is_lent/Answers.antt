@@ -1,7 +1,6 @@
 use Rattle.std.proofs.Common.{◌∙◌}
-use Rattle.vmstate_c.proofs.StoredLemmas.{lent-same, lent-other}
+use Rattle.vmstate_c.proofs.{StoredFiles.lent-same, StoredFiles.lent-other, stored.is_lent.Goals.then-eq, stored.is_lent.Goals.else-eq}
 use Rattle.vmstate_c.proofs.stored.is_lent.Goals as goal
-use Rattle.vmstate_c.proofs.stored.is_lent.Goals.{then-eq, else-eq}
 
 pub loop-file-preserved : goal.loop-file-preserved
 loop-file-preserved c =

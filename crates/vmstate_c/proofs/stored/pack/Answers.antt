@@ -1,5 +1,5 @@
 use Rattle.std.proofs.Common.{◌≡◌, subst, []}
-use Rattle.vmstate_c.proofs.StoredLemmas.{Rest, at_end, is_stored, news}
+use Rattle.vmstate_c.proofs.StoredFiles.{Rest, at_end, is_stored, news}
 use Rattle.vmstate_c.proofs.stored.pack.Goals as goal
 
 pub returns : goal.returns

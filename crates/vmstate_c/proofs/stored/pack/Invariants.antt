@@ -1,4 +1,4 @@
-use Rattle.vmstate_c.proofs.StoredLemmas.{Rest, news}
+use Rattle.vmstate_c.proofs.StoredFiles.{Rest, news}
 use Rattle.vmstate_c.proofs.stored.pack.Given as goal
 
 abbrev pub invariant-loop-name : goal.invariant-loop-name

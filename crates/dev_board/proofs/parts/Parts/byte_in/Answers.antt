@@ -1,4 +1,4 @@
-use Rattle.dev_board.proofs.{Facade.parts_view, KeepLaws.byte-kept}
+use Rattle.dev_board.proofs.{Facade.parts_view, SoundLaws.byte-kept}
 use Rattle.dev_board.proofs.parts.Parts.byte_in.Goals as goal
 
 pub invariant_of-self : goal.invariant_of-self

@@ -1,4 +1,4 @@
-use Rattle.dev_board.proofs.{Facade.parts_view, Facade.refl, KeepLaws.pair-written, QuickLaws.command-written}
+use Rattle.dev_board.proofs.{Facade.parts_view, Facade.refl, SoundLaws.pair-written, QuickLaws.command-written}
 use Rattle.dev_board.proofs.parts.Parts.command.Goals as goal
 
 pub invariant_of-self : goal.invariant_of-self

@@ -1,4 +1,4 @@
-use Rattle.dev_board.proofs.{Facade.◌/◌, Facade.take, Facade.ap, Facade.◌∙◌, Facade.saved_cells, RuleLaws.master-half}
+use Rattle.dev_board.proofs.{Facade.◌/◌, Facade.take, Facade.ap, Facade.◌∙◌, Facade.saved_cells, RestoredLaws.master-half}
 use Rattle.dev_board.proofs.parts.Parts.master_cells.Goals as goal
 
 pub returns : goal.returns

@@ -1,4 +1,4 @@
-use Rattle.dev_board.proofs.{KeptLaws.calm-wait, StayLaws.after-time}
+use Rattle.dev_board.proofs.{SoundLaws.calm-wait, QuickLaws.after-time}
 use Rattle.dev_board.proofs.Facade.{◌<◌, arith, sym, subst, nat_tests, IsCalm, settled, Stays, Touch}
 use Rattle.dev_board.proofs.parts.Parts.pass.Goals as goal
 

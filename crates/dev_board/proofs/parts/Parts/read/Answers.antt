@@ -1,5 +1,5 @@
 use Rattle.dev_board.proofs.{Facade.parts_view, Facade.Counter, Facade.Register, PortLaws.reached_as, PortLaws.pair_port}
-use Rattle.dev_board.proofs.KeepLaws.{after-pair, after-pit, after-serial, loaded}
+use Rattle.dev_board.proofs.SoundLaws.{after-pair, after-pit, after-serial, loaded}
 use Rattle.dev_board.proofs.parts.Parts.read.Goals as goal
 
 pub read-requires : goal.read-requires

@@ -1,4 +1,4 @@
-use Rattle.dev_board.proofs.{Facade.parts_view, KeepLaws.after-pit, KeepLaws.loaded}
+use Rattle.dev_board.proofs.{Facade.parts_view, SoundLaws.after-pit, SoundLaws.loaded}
 use Rattle.dev_board.proofs.QuickLaws.{first-read, first-touch, none-read, status-read, status-touch}
 use Rattle.dev_board.proofs.parts.Parts.read_at_once.Goals as goal
 

@@ -1,4 +1,4 @@
-use Rattle.dev_board.proofs.{Facade.ap, Facade.◌∙◌, Facade.saved_cells, RuleLaws.slave-half}
+use Rattle.dev_board.proofs.{Facade.ap, Facade.◌∙◌, Facade.saved_cells, RestoredLaws.slave-half}
 use Rattle.dev_board.proofs.parts.Parts.slave_cells.Goals as goal
 
 pub returns : goal.returns

@@ -1,4 +1,4 @@
-use Rattle.dev_board.proofs.{Facade.wires_of, Facade.parts_view, WireBits.wires_of-are}
+use Rattle.dev_board.proofs.{Facade.wires_of, Facade.parts_view, WireLaws.wires_of-are}
 use Rattle.dev_board.proofs.parts.Parts.wires.Goals as goal
 
 pub returns-clause-are : goal.returns-clause-are

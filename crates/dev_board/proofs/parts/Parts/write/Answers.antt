@@ -1,5 +1,5 @@
-use Rattle.dev_board.proofs.{Facade.parts_view, Facade.Register, PortLaws.reached_as, PortLaws.pair_port, PortLaws.pit_port}
-use Rattle.dev_board.proofs.KeepLaws.{pair-written, pit-written, serial-written, loaded}
+use Rattle.dev_board.proofs.{Facade.parts_view, Facade.Register, SoundLaws.pair-written, SoundLaws.pit-written, SoundLaws.serial-written, SoundLaws.loaded}
+use Rattle.dev_board.proofs.PortLaws.{reached_as, pair_port, pit_port}
 use Rattle.dev_board.proofs.parts.Parts.write.Goals as goal
 
 pub write-requires : goal.write-requires

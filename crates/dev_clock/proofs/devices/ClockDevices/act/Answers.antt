@@ -1,4 +1,4 @@
-use Rattle.dev_clock.proofs.{Facade.clock_view, SoundLaws.after-event}
+use Rattle.dev_clock.proofs.{Facade.clock_view, StepLaws.after-event}
 use Rattle.dev_clock.proofs.devices.ClockDevices.act.Goals as goal
 
 pub invariant_of-self : goal.invariant_of-self

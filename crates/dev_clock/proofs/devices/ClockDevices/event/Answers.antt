@@ -1,4 +1,4 @@
-use Rattle.dev_clock.proofs.{Facade.refl, Facade.names_wire, Facade.clock_view, SoundLaws.after-event, SoundLaws.after-line}
+use Rattle.dev_clock.proofs.{Facade.refl, Facade.names_wire, Facade.clock_view, StepLaws.after-event, StepLaws.after-line}
 use Rattle.dev_clock.proofs.devices.ClockDevices.event.Goals as goal
 
 pub event-taken-requires : goal.event-taken-requires

@@ -1,4 +1,4 @@
-use Rattle.dev_clock.proofs.{Facade.power_on, SoundLaws.on-devices, SoundLaws.on-sound}
+use Rattle.dev_clock.proofs.{Facade.power_on, StepLaws.on-devices, StepLaws.on-sound}
 use Rattle.dev_clock.proofs.devices.ClockDevices.new.Goals as goal
 
 pub invariant_of-result : goal.invariant_of-result

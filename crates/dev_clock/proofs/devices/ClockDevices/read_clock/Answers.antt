@@ -1,4 +1,4 @@
-use Rattle.dev_clock.proofs.{Facade.clock_view, SoundLaws.after-read}
+use Rattle.dev_clock.proofs.{Facade.clock_view, StepLaws.after-read}
 use Rattle.dev_clock.proofs.devices.ClockDevices.read_clock.Goals as goal
 
 pub invariant_of-self : goal.invariant_of-self

@@ -1,4 +1,4 @@
-use Rattle.dev_clock.proofs.{Facade.refl, Facade.names_wire, Facade.clock_view, SoundLaws.after-wait}
+use Rattle.dev_clock.proofs.{Facade.refl, Facade.names_wire, Facade.clock_view, StepLaws.after-wait}
 use Rattle.dev_clock.proofs.devices.ClockDevices.wait.Goals as goal
 
 pub event-answer-requires : goal.event-answer-requires

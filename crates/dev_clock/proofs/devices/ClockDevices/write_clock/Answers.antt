@@ -1,4 +1,4 @@
-use Rattle.dev_clock.proofs.{Facade.clock_view, SoundLaws.written-has}
+use Rattle.dev_clock.proofs.{Facade.clock_view, StepLaws.written-has}
 use Rattle.dev_clock.proofs.devices.ClockDevices.write_clock.Goals as goal
 
 pub invariant_of-self : goal.invariant_of-self

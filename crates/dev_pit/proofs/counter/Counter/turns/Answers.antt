@@ -1,4 +1,4 @@
-use Rattle.dev_pit.proofs.TurnLaws.{stays_unloaded, turns_loaded}
+use Rattle.dev_pit.proofs.Marks.{stays_unloaded, turns_loaded}
 use Rattle.dev_pit.proofs.counter.Counter.turns.Goals as goal
 
 pub returns-in_default : goal.returns-in_default

@@ -1,4 +1,4 @@
-use Rattle.dev_pit.proofs.{Facade.rules, Moments.asked_keeps}
+use Rattle.dev_pit.proofs.{Facade.rules, CallLaws.asked_keeps}
 use Rattle.dev_pit.proofs.pit.Pit.ask_back.Goals as goal
 
 pub returns-clause-keeps : goal.returns-clause-keeps

@@ -1,4 +1,4 @@
-use Rattle.dev_pit.proofs.{Facade.arith, RestoredLaw.is_channel}
+use Rattle.dev_pit.proofs.{Facade.arith, SavedLaws.is_channel}
 use Rattle.dev_pit.proofs.pit.Pit.of_cells.Goals as goal
 
 pub at-first-requires : goal.at-first-requires

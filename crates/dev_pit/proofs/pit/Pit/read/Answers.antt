@@ -1,4 +1,4 @@
-use Rattle.dev_pit.proofs.{Facade.rules, Moments.read_keeps}
+use Rattle.dev_pit.proofs.{Facade.rules, CallLaws.read_keeps}
 use Rattle.dev_pit.proofs.pit.Pit.read.Goals as goal
 
 pub returns-clause-keeps : goal.returns-clause-keeps

@@ -1,4 +1,4 @@
-use Rattle.dev_pit.proofs.{Facade.rules, Facade.◌-◌, Moments.written_keeps, Moments.controlled_keeps}
+use Rattle.dev_pit.proofs.{Facade.rules, Facade.◌-◌, CallLaws.written_keeps, CallLaws.controlled_keeps}
 use Rattle.dev_pit.proofs.pit.Pit.write.Goals as goal
 
 pub returns-then-port-eq-CONTROL_PORT-clause-keeps : goal.returns-then-port-eq-CONTROL_PORT-clause-keeps

@@ -1,5 +1,5 @@
 use Rattle.dev_serial.proofs.Facade.{arith, RX_COUNT, TX_COUNT, TIMEOUT_AT, RX_DATA, TX_DATA}
-use Rattle.dev_serial.proofs.StoredLaws.{in_arrays, in_rings}
+use Rattle.dev_serial.proofs.SavedLaws.{in_arrays, in_rings}
 use Rattle.dev_serial.proofs.numbers.PortNumbers.of_cells.Goals as goal
 
 pub at-requires-clause-in_range : goal.at-requires-clause-in_range

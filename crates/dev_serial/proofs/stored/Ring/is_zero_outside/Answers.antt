@@ -1,5 +1,5 @@
 use Rattle.dev_serial.proofs.Facade.{sym, ◌∙◌, arith, subst, ◌≡◌, true, take, range_with_len, list_all, is_held_or_zero}
-use Rattle.dev_serial.proofs.StoredLaws.{all_fails, all_more}
+use Rattle.dev_serial.proofs.SavedLaws.{all_fails, all_more}
 use Rattle.dev_serial.proofs.stored.Ring.is_zero_outside.Goals as goal
 
 pub returns-then-not-is_held_or_zero : goal.returns-then-not-is_held_or_zero

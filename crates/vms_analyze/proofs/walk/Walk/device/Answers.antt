@@ -1,4 +1,4 @@
-use Rattle.vms_analyze.proofs.{Facade.device_of, Facade.LONGEST_NAME, Parts.device_parts}
+use Rattle.vms_analyze.proofs.{Facade.device_of, Facade.LONGEST_NAME, Shapes.device_parts}
 use Rattle.vms_analyze.proofs.Walks.{path_short, head_stops, elements_stop, subs_stop, device_walks}
 use Rattle.vms_analyze.proofs.walk.Walk.device.Goals as goal
 

@@ -1,5 +1,5 @@
 use Rattle.vms_analyze.proofs.Facade.{◌≡◌, ◌≢◌, map, length, arith, ap, device_of, wants}
-use Rattle.vms_analyze.proofs.Inputs.{is_shown, has_more, why_none}
+use Rattle.vms_analyze.proofs.One.{is_shown, has_more, why_none}
 use Rattle.vms_analyze.proofs.walk.Walk.whole.Goals as goal
 
 pub returns-in-Err : goal.returns-in-Err

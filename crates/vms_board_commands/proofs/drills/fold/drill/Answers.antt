@@ -1,5 +1,5 @@
+use Rattle.vms_board_commands.proofs.DrillLaws.{one_more, none_more}
 use Rattle.vms_board_commands.proofs.Facade.{◌+◌, ◌-◌, ◌∙◌, ap, arith, drill_begun, drilled_on, summary_of, progress_view}
-use Rattle.vms_board_commands.proofs.DrillSteps.{one_more, none_more}
 use Rattle.vms_board_commands.proofs.drills.fold.drill.Goals as goal
 
 pub loop-preserved : goal.loop-preserved

@@ -1,5 +1,5 @@
+use Rattle.vms_board_commands.proofs.DrillLaws.{board_back, long_back, never_refused}
 use Rattle.vms_board_commands.proofs.Facade.{◌≡◌, length, ap, ◌∙◌, arith, isa, saved_stream, set_of, streams_are_short}
-use Rattle.vms_board_commands.proofs.DrillRounds.{board_back, long_back, never_refused}
 use Rattle.vms_board_commands.proofs.drills.round.come_back.Goals as goal
 
 pub unreachable-requires : goal.unreachable-requires

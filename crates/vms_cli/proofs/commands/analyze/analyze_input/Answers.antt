@@ -1,5 +1,5 @@
 use Rattle.vms_cli.proofs.Facade.{intake, outlet, ending_of}
-use Rattle.vms_cli.proofs.AnalyzeLemmas.{list_content, list_given, list_seen, list_so, listed_like}
+use Rattle.vms_cli.proofs.TextCommands.{list_content, list_given, list_seen, list_so, listed_like}
 use Rattle.vms_cli.proofs.commands.analyze.analyze_input.Goals as goal
 
 pub returns : goal.returns

@@ -1,6 +1,6 @@
 use Rattle.vms_cli.proofs.Facade.{[], ◌∷◌, refl, intake, described, set_asked, is_on_shelf, word_set, ending_passed, behind_runs, had_by, lacks_runs}
 use Rattle.vms_cli.proofs.Facade.{text_asks, ConvertsWell, agrees, convert_course, target}
-use Rattle.vms_cli.proofs.StepsOfTwo.{converts_after, converts_next, gives_next, gives_none, seen_next}
+use Rattle.vms_cli.proofs.StreamCommands.{converts_after, converts_next, gives_next, gives_none, seen_next}
 use Rattle.vms_cli.proofs.commands.convert.convert.Goals as goal
 
 pub returns : goal.returns

@@ -1,7 +1,7 @@
 use Rattle.vms_cli.proofs.Facade.{refl, rules, Err, Some, intake, outlet, described, fit_of, ending_passed, ending_of, LacksMemory}
+use Rattle.vms_cli.proofs.StreamCommands.{converts_stream, names_cell}
 use Rattle.vms_commands.specs.declared.ending.Ending.TheVariants as endings
 use Rattle.vms_convert.specs.declared.fault.ConvertFault.TheVariants as faults
-use Rattle.vms_cli.proofs.ConvertLemmas.{converts_stream, names_cell}
 use Rattle.vms_cli.proofs.commands.convert.convert_to.Goals as goal
 
 pub with_line-requires : goal.with_line-requires

@@ -1,7 +1,7 @@
 use Rattle.vms_cli.proofs.Facade.{Some, ap, ◌∙◌, ◌<◌, length, sym, subst, codes, device_at, cell_name, IsInNewest, newest}
+use Rattle.vms_cli.proofs.OutcomeLaws.{path_short}
 use Rattle.vms_cli.specs.Commands.ConvertCommand.{line_of}
 use Rattle.vms_spec.specs.Layout.{device_cells}
-use Rattle.vms_cli.proofs.PathRoom.{path_short}
 use Rattle.vms_cli.proofs.commands.convert.lost_line.Goals as goal
 
 pub put_path-requires : goal.put_path-requires

@@ -1,4 +1,4 @@
-use Rattle.vms_cli.proofs.{RowLemmas.counter_ends, ShowLemmas.counters_text}
+use Rattle.vms_cli.proofs.{RowLemmas.counter_ends, TextCommands.counters_text}
 use Rattle.vms_cli.proofs.Facade.{lacks_text, text_asks, then_runs, [], ◌∷◌, refl, set_asked, named_sets, asks_shelf, sets_of, counted, ending_passed}
 use Rattle.vms_cli.proofs.commands.counter.counter.Goals as goal
 

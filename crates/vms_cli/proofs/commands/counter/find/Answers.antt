@@ -1,6 +1,6 @@
 use Rattle.vms_cli.proofs.Facade.{◌∙◌, outlet, IsFit, described, well_of, answer_of, ending_of}
+use Rattle.vms_cli.proofs.TextCommands.{answered}
 use Rattle.vms_load.specs.Kept.{loads}
-use Rattle.vms_cli.proofs.ShowLemmas.{answered}
 use Rattle.vms_cli.proofs.commands.counter.find.Goals as goal
 
 pub returns-clause-ends : goal.returns-clause-ends

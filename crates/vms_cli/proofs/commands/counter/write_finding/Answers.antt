@@ -1,5 +1,5 @@
 use Rattle.vms_cli.proofs.Facade.{◌∙◌, subst, AppendsPrefix, outlet, described, writes_end, ending_passed, ending_of}
-use Rattle.vms_cli.proofs.ShowLemmas.{no_state_is, state_is}
+use Rattle.vms_cli.proofs.TextCommands.{no_state_is, state_is}
 use Rattle.vms_cli.proofs.commands.counter.write_finding.Goals as goal
 
 pub returns-in_ok-text-in-NoState-clause-ends : goal.returns-in_ok-text-in-NoState-clause-ends

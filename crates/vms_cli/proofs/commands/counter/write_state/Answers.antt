@@ -1,4 +1,4 @@
-use Rattle.vms_cli.proofs.{ShowLemmas.printed_of, PackLemmas.named}
+use Rattle.vms_cli.proofs.{TextCommands.printed_of, StreamCommands.named}
 use Rattle.vms_cli.proofs.Facade.{machine_of, ℕ, ◌<◌, length, map, Option, IfSome, subst, outlet, wrote_behind, values_text, described, state_of}
 use Rattle.vms_cli.proofs.commands.counter.write_state.Goals as goal
 

@@ -1,5 +1,5 @@
 use Rattle.vms_cli.proofs.Facade.{rules, outlet, described, fit_of, ending_of}
-use Rattle.vms_cli.proofs.PackLemmas.{packs_read, read_ready}
+use Rattle.vms_cli.proofs.StreamCommands.{packs_read, read_ready}
 use Rattle.vms_cli.proofs.commands.pack.pack_text.Goals as goal
 
 pub write-requires : goal.write-requires

@@ -1,6 +1,6 @@
-use Rattle.vms_cli.proofs.Facade.{refl, intake, loads, set_asked, is_on_shelf, word_set, ending_passed, behind_runs, had_by, lacks_runs, seen_given, stream_asks}
-use Rattle.vms_cli.proofs.Facade.{well_of, ShowsWell, show_course}
-use Rattle.vms_cli.proofs.ShowLemmas.{gives_none, gives_within, shows_under}
+use Rattle.vms_cli.proofs.Facade.{refl, intake, loads, set_asked, is_on_shelf, word_set, ending_passed, behind_runs, had_by, lacks_runs, seen_given}
+use Rattle.vms_cli.proofs.Facade.{stream_asks, well_of, ShowsWell, show_course}
+use Rattle.vms_cli.proofs.TextCommands.{gives_none, gives_within, shows_under}
 use Rattle.vms_cli.proofs.commands.show.show.Goals as goal
 
 pub returns : goal.returns

@@ -1,6 +1,6 @@
 use Rattle.vms_cli.proofs.Facade.{None, Ok, Err, ap, ◌∙◌, subst, outlet, values_text, machine_of, within, loads, has, taken_by, accepted_of, ending_of}
 use Rattle.vms_cli.proofs.Facade.{WritesAs, refused_line, draws_took, refused_so, traced_so, seen_runs, unread_runs, Shows, fit_of}
-use Rattle.vms_cli.proofs.ShowLemmas.{refusal_seen, shows_same, text_seen}
+use Rattle.vms_cli.proofs.TextCommands.{refusal_seen, shows_same, text_seen}
 use Rattle.vms_cli.proofs.commands.show.show_stream.Goals as goal
 
 pub returns-in-Ok : goal.returns-in-Ok

@@ -1,5 +1,4 @@
-use Rattle.vms_cli.proofs.Facade.{map, sym, subst, loads, state_of, AreOf}
-use Rattle.vms_cli.proofs.ShowLemmas.{are_of}
+use Rattle.vms_cli.proofs.{Facade.map, Facade.sym, Facade.subst, Facade.loads, Facade.state_of, Facade.AreOf, TextCommands.are_of}
 use Rattle.vms_cli.proofs.commands.show.write_values.Goals as goal
 
 pub print_values-requires-clause-one_each : goal.print_values-requires-clause-one_each

@@ -1,4 +1,4 @@
-use Rattle.vms_desc.proofs.{Bounds.few_devices, Bounds.sizes_are, TablesMade.heads_of}
+use Rattle.vms_desc.proofs.{Clean.few_devices, Clean.sizes_are, EvalLaws.heads_of}
 use Rattle.vms_desc.proofs.Facade.{◌≡◌, ◌∙◌, arith, length-map, set_of, desc_of, device_of, sizes_of}
 use Rattle.vms_desc.proofs.set.DescSet.assemble.Goals as goal
 

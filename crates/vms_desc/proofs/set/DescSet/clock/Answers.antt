@@ -1,4 +1,4 @@
-use Rattle.vms_desc.proofs.{Facade.ap, Facade.◌∙◌, Facade.is_well_formed, Formed.clock_formed}
+use Rattle.vms_desc.proofs.{Facade.ap, Facade.◌∙◌, Facade.is_well_formed, Clean.clock_formed}
 use Rattle.vms_desc.proofs.set.DescSet.clock.Goals as goal
 
 pub assemble-requires : goal.assemble-requires

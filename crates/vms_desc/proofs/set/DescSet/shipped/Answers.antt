@@ -1,4 +1,4 @@
-use Rattle.vms_desc.proofs.{Facade.ap, Facade.◌∙◌, Facade.is_well_formed, Formed.formed}
+use Rattle.vms_desc.proofs.{Facade.ap, Facade.◌∙◌, Facade.is_well_formed, Clean.formed}
 use Rattle.vms_desc.proofs.set.DescSet.shipped.Goals as goal
 
 pub assemble-requires : goal.assemble-requires

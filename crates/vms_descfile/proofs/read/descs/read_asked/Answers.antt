@@ -1,6 +1,6 @@
 use Rattle.vms_descfile.proofs.Facade.{Some, sym, subst, ap, ◌∙◌, Desc, view, Answer, Answers, struct_in}
+use Rattle.vms_descfile.proofs.WalkLaws.{names_looked_up, struct_unasked}
 use Rattle.vms_parts.specs.Views.{desc_of as desc_seen}
-use Rattle.vms_descfile.proofs.AskedLaws.{names_looked_up, struct_unasked}
 use Rattle.vms_descfile.proofs.read.descs.read_asked.Goals as goal
 
 pub returns-in_ok-names : goal.returns-in_ok-names

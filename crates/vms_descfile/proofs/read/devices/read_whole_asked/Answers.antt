@@ -1,5 +1,5 @@
-use Rattle.vms_descfile.proofs.AskedLaws.{names_looked_up, whole_unasked}
 use Rattle.vms_descfile.proofs.Facade.{whole_seen, Some, sym, subst, ap, ◌∙◌, view, Answer, Answers, Whole, whole_in}
+use Rattle.vms_descfile.proofs.WalkLaws.{names_looked_up, whole_unasked}
 use Rattle.vms_descfile.proofs.read.devices.read_whole_asked.Goals as goal
 
 pub returns-in_ok-names : goal.returns-in_ok-names

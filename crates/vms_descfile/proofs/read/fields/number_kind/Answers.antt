@@ -1,4 +1,4 @@
-use Rattle.vms_descfile.proofs.PlainLaws.{kind_told}
+use Rattle.vms_descfile.proofs.ObjectLaws.{kind_told}
 use Rattle.vms_descfile.proofs.read.fields.number_kind.Goals as goal
 
 pub returns : goal.returns

@@ -1,5 +1,5 @@
 use Rattle.vms_descfile.proofs.Facade.{◌≡◌, Some, option_map, rules, sym, subst, ◌∙◌, ap, ap₂, object, view, object_is, IsPlain, plain_members}
-use Rattle.vms_descfile.proofs.PlainLaws.{field_plain}
+use Rattle.vms_descfile.proofs.ObjectLaws.{field_plain}
 use Rattle.vms_descfile.proofs.read.fields.plain_in.Goals as goal
 
 pub returns : goal.returns

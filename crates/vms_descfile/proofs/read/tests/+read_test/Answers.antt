@@ -1,8 +1,8 @@
-use Rattle.vms_descfile.proofs.Facade.{◌≡◌, ◌-◌, [], refl, sym, subst, ap, arith, codes, Err, view, Not, formula, Answers, good, bad, next, changed, under}
-use Rattle.vms_descfile.proofs.Facade.{Refuses, at, member_of, scope_seen, form_of, test_within, own_cell, two_of, key_of, joined, both, pair_seen}
+use Rattle.vms_descfile.proofs.Facade.{◌≡◌, ◌-◌, [], refl, sym, subst, ap, arith, codes, Err, view, Not, formula, Answers, good, bad, next, changed}
+use Rattle.vms_descfile.proofs.Facade.{under, Refuses, at, member_of, scope_seen, form_of, test_within, own_cell, two_of, key_of, joined, both, pair_seen}
+use Rattle.vms_descfile.proofs.ShownLaws.{by_form, refused_next}
 use Rattle.vms_descfile.specs.declared.read.cells.Form.TheVariants as forms
 use Rattle.vms_descfile.specs.declared.read.cells.Leaf.TheVariants as leaves
-use Rattle.vms_descfile.proofs.TestLaws.{by_form, refused_next}
 use Rattle.vms_descfile.proofs.read.tests.+read_test.Goals as goal
 
 pub returns-in-Some : goal.returns-in-Some

@@ -1,4 +1,4 @@
-use Rattle.vms_descfile.proofs.{FitLaws.mapped_of, SetLaws.desc_built}
+use Rattle.vms_descfile.proofs.{ObjectLaws.mapped_of, SetLaws.desc_built}
 use Rattle.vms_descfile.proofs.Facade.{ap, arith, members_view, formula, FitsTest, FitsField}
 use Rattle.vms_parts.specs.Views.{field_of}
 use Rattle.vms_descfile.proofs.write.sets.desc_members.Goals as goal

@@ -1,4 +1,4 @@
-use Rattle.vms_descfile.proofs.{Facade.ap, Facade.members_view, Facade.desc_of, Facade.FitsDesc, Facade.FitsDevice, FitLaws.mapped_of, SetLaws.set_built}
+use Rattle.vms_descfile.proofs.{Facade.ap, Facade.members_view, Facade.desc_of, Facade.FitsDesc, Facade.FitsDevice, ObjectLaws.mapped_of, SetLaws.set_built}
 use Rattle.vms_parts.specs.Views.{device_of}
 use Rattle.vms_descfile.proofs.write.sets.set_members.Goals as goal
 

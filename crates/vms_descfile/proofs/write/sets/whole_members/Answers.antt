@@ -1,4 +1,4 @@
-use Rattle.vms_descfile.proofs.{Facade.FitsSub, FitLaws.mapped_of, SetLaws.whole_built}
+use Rattle.vms_descfile.proofs.{Facade.FitsSub, ObjectLaws.mapped_of, SetLaws.whole_built}
 use Rattle.vms_parts.specs.Views.{sub_of}
 use Rattle.vms_descfile.proofs.write.sets.whole_members.Goals as goal
 

@@ -1,5 +1,5 @@
-use Rattle.vms_descfile.proofs.{BuiltLaws.listed_on, FitLaws.at_is}
-use Rattle.vms_descfile.proofs.Facade.{◌≡◌, ◌++◌, ℕ, Some, map, ap, sym, subst, ◌∙◌, below_more, arith, slice_get, drop_all, append-nil, slice_get_within}
+use Rattle.vms_descfile.proofs.{ObjectLaws.listed_on, ObjectLaws.at_is, Facade.slice_get_within}
+use Rattle.vms_descfile.proofs.Facade.{◌≡◌, ◌++◌, ℕ, Some, map, ap, sym, subst, ◌∙◌, below_more, arith, slice_get, drop_all, append-nil}
 use Rattle.serde_json.specs.View.{view}
 use Rattle.vms_descfile.proofs.write.values.written.Goals as goal
 

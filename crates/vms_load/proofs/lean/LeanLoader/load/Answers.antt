@@ -1,4 +1,4 @@
-use Rattle.vms_load.proofs.{Facade.err_from_is_err_and, Facade.map, Facade.described, Facade.accepted_of, SetFacts.well_of}
+use Rattle.vms_load.proofs.{Facade.err_from_is_err_and, Facade.map, Facade.described, Facade.accepted_of, StreamLengths.well_of}
 use Rattle.vms_load.proofs.ExactLoads.{loads_taken, loads_refused, loads_kept}
 use Rattle.vms_image.specs.Typed.{state_of as untyped}
 use Rattle.vms_load.proofs.lean.LeanLoader.load.Goals as goal

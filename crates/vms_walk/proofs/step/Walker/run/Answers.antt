@@ -1,4 +1,4 @@
-use Rattle.vms_walk.proofs.{Kept.err_is, Runs.run_next, Runs.run_stop, Runs.run_may}
+use Rattle.vms_walk.proofs.{Walking.err_is, Spots.run_next, Spots.run_stop, Spots.run_may}
 use Rattle.vms_walk.proofs.Facade.{[], ◌≡◌, ◌-◌, refl, ◌∙◌, arith, zero, run_of}
 use Rattle.vms_walk.proofs.step.Walker.run.Goals as goal
 

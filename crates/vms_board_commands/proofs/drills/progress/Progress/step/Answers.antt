@@ -1,4 +1,4 @@
-use Rattle.vms_board_commands.proofs.{Facade.◌∙◌, Facade.sym, DrillSteps.some_saves, DrillSteps.goes_saved, DrillSteps.goes_unsaved}
+use Rattle.vms_board_commands.proofs.{Facade.◌∙◌, Facade.sym, DrillLaws.some_saves, DrillLaws.goes_saved, DrillLaws.goes_unsaved}
 use Rattle.vms_board_commands.proofs.drills.progress.Progress.step.Goals as goal
 
 pub overflow_sub-saves : goal.overflow_sub-saves

@@ -1,0 +1,237 @@
+-- What each event keeps, and that devices that are alike give equal answers.
+use Rattle.dev_clock.proofs.Facade.{refl, NumbersAre, ◌≡◌, ℕ, ◌==◌, ◌∙◌, either, moment_left, Answer, Event, Read, Write, Byte, Wait, Wire}
+use Rattle.dev_clock.proofs.Facade.{Ack, int_of, version_stays, is_port, line_of, AnswersTellInt, ClockGoesOn, ClockState, waited, acted, follows_line, step}
+use Rattle.dev_clock.proofs.Facade.{CLOCK_INPUT, ◌<◌, Bool, List, [], ◌∷◌, sym, subst, arith, has, IsLevel, IsUpTo, NEWEST, wires_stay, IsEvent}
+use Rattle.dev_clock.proofs.Facade.{AreEvents, State, after_by, chip_on, lines_of, calls_keep_sound, read_of, passed, NEWEST_CLOCK, Rtc, SoundStays, HasDevices}
+use Rattle.dev_clock.proofs.Facade.{IsSound, power_on, on_board, clock_read, clock_written, after_all, true, false, cond, ap, stays-alike, AnswersAlike}
+use Rattle.dev_clock.proofs.Facade.{AlikeStays, Alike}
+use Rattle.dev_board.proofs.{SavedLaws.alike_stays as board_alike}
+use Rattle.dev_board.proofs.SoundLaws.{answers_tell_int as board_tells_int, clock_goes_on as board_goes_on, sound_stays_on as board_stays}
+use Rattle.dev_board.specs.{Sound.IsSound as IsSoundBoard, Sound.Alike as AlikeBoards, State.power_on as board_on, Step.step as board_step}
+use Rattle.dev_pic.specs.Pair.{power_on as pair_on}
+use Rattle.vms_rtc.specs.{Chip.power_on as clock_on, Sound.IsSound as IsSoundClock}
+
+-- ---- the numbers are the constants' by their definition
+
+pub numbers_are : NumbersAre
+numbers_are = record { input = refl; device = refl; rule = refl; lines = refl }
+
+-- ---- no event changes the version, and only a wait changes the moment
+
+-- Devices at a moment and of a version.
+record IsAt (moment version : ℕ) (after : Answer × ClockState) : Type 0 where
+  moment_is : after.1.board.moment ≡ moment
+  version_is : after.1.clock.version ≡ version
+
+module _ (m : ClockState) where
+  acted-clock : (event : Event) → IsAt (moment_left event m.board.moment) m.clock.version (acted event m)
+  unfolding acted waited
+  acted-clock (Read port) =
+      either (IsAt m.board.moment m.clock.version) (is_port port) _ _ (record { moment_is = refl; version_is = version_stays.read port m.clock })
+      (record { moment_is = board_goes_on.moment (Read port) m.board; version_is = refl })
+  acted-clock (Write port value) =
+      either (IsAt m.board.moment m.clock.version) (is_port port) _ _ (record { moment_is = refl; version_is = version_stays.write port value m.clock })
+      (record { moment_is = board_goes_on.moment (Write port value) m.board; version_is = refl })
+  acted-clock (Byte value) = record { moment_is = board_goes_on.moment (Byte value) m.board; version_is = refl }
+  acted-clock (Wait ns) = record { moment_is = board_goes_on.moment (Wait ns) m.board; version_is = version_stays.passed m.board.moment _ m.clock }
+  acted-clock (Wire input up) =
+      either (IsAt m.board.moment m.clock.version) (input == CLOCK_INPUT) _ _ (record { moment_is = refl; version_is = refl })
+      (record { moment_is = board_goes_on.moment (Wire input up) m.board; version_is = refl })
+  acted-clock Ack = record { moment_is = board_goes_on.moment Ack m.board; version_is = refl }
+
+follows-clock : (moment version : ℕ) (done : Answer × ClockState) → IsAt moment version done → IsAt moment version (follows_line done)
+unfolding follows_line
+follows-clock moment version done c =
+    record { moment_is = board_goes_on.moment (Wire CLOCK_INPUT (line_of done.1.clock)) done.1.board ∙ c.moment_is; version_is = c.version_is }
+
+step-clock : (event : Event) (m : ClockState) → IsAt (moment_left event m.board.moment) m.clock.version (step event m)
+unfolding step
+step-clock event m = follows-clock _ _ (acted event m) (acted-clock m event)
+
+pub clock_goes_on : ClockGoesOn
+clock_goes_on = record { moment = λ event m. (step-clock event m).moment_is; version = λ event m. (step-clock event m).version_is }
+
+-- ---- the interrupt output
+
+told : (event : Event) (m : ClockState) → (step event m).0.int ≡ int_of (step event m).1.board.pair
+unfolding step follows_line
+told event m = board_tells_int.int (Wire CLOCK_INPUT (line_of (acted event m).1.clock)) (acted event m).1.board
+
+pub answers_tell_int : AnswersTellInt
+answers_tell_int = record { int = told }
+
+-- ---- the devices are sound at power on, and each event keeps them sound: at power on
+
+pub newest-is : IsLevel NEWEST
+newest-is = record { first = omega arith; last = omega arith }
+
+pub on-devices : (version : ℕ) → IsUpTo NEWEST_CLOCK version → HasDevices (power_on version)
+unfolding power_on board_on
+on-devices version v = record { clock = calls_keep_sound.power_on version v; level = refl }
+
+pub on-sound : (version : ℕ) → IsUpTo NEWEST_CLOCK version → IsSound (power_on version)
+unfolding power_on board_on pair_on chip_on lines_of clock_on line_of
+on-sound version v = record { devices = on-devices version v; board = board_stays.power_on NEWEST newest-is; line = refl }
+
+-- ---- what each device's step keeps
+
+board-has : (event : Event) (m : ClockState) → HasDevices m → HasDevices (on_board event m).1
+board-has event m h = record { clock = h.clock; level = board_goes_on.level event m.board ∙ h.level }
+
+read-has : (port : ℕ) (m : ClockState) → HasDevices m → HasDevices (clock_read port m).1
+read-has port m h = record { clock = calls_keep_sound.read port m.clock h.clock; level = h.level }
+
+pub written-has : (port value : ℕ) (m : ClockState) → value < 256 → HasDevices m → HasDevices (clock_written port value m).1
+written-has port value m v h = record { clock = calls_keep_sound.write port value m.clock v h.clock; level = h.level }
+
+waited-has : (ns : ℕ) (m : ClockState) → HasDevices m → HasDevices (waited ns m).1
+unfolding waited
+waited-has ns m h = record { clock = calls_keep_sound.passed m.board.moment _ m.clock h.clock; level = board_goes_on.level (Wait ns) m.board ∙ h.level }
+
+-- The same for what a call returned.
+pub after-read : (m : ClockState) → HasDevices m → (port value : ℕ) (after : Rtc) → (value, after) ≡ read_of port m.clock
+    → HasDevices (record m { clock = after })
+after-read m h port value after e = subst (λ (r : ℕ × Rtc). HasDevices (record m { clock = r.1 })) (sym e) (read-has port m h)
+
+pub after-event : (m : ClockState) → HasDevices m → (event : Event) (answer : Answer) (after : State) → (answer, after) ≡ board_step event m.board
+    → HasDevices (record m { board = after })
+after-event m h event answer after e = subst (λ (r : Answer × State). HasDevices (record m { board = r.1 })) (sym e) (board-has event m h)
+
+pub after-wait : (m : ClockState) → HasDevices m → (ns from to : ℕ) (answer : Answer) (after : State) (clock : Rtc)
+    → (answer, after) ≡ board_step (Wait ns) m.board → clock ≡ passed from to m.clock → HasDevices (record { clock = clock; board = after })
+after-wait m h ns from to answer after clock e f = record {
+  clock = subst IsSoundClock (sym f) (calls_keep_sound.passed from to m.clock h.clock);
+  level = (after-event m h (Wait ns) answer after e).level;
+}
+
+-- The same after the board's input has the chip's line.
+pub after-line : (m : ClockState) → HasDevices m → (up : Bool) (answer : Answer) (after : State) → up ≡ line_of m.clock
+    → (answer, after) ≡ board_step (Wire CLOCK_INPUT up) m.board → IsSoundBoard after → IsSound (record m { board = after })
+after-line m h up answer after l e s = record {
+  devices = after-event m h (Wire CLOCK_INPUT up) answer after e;
+  board = s;
+  line = subst (λ (r : Answer × State). has (lines_of r.1.pair) CLOCK_INPUT ≡ up) (sym e) (wires_stay.wire (Wire CLOCK_INPUT up) m.board CLOCK_INPUT refl refl)
+      ∙ l;
+}
+
+-- ---- the event itself
+
+-- The devices after an act: those of the board are sound too.
+record IsKept (done : Answer × ClockState) : Type 0 where
+  devices : HasDevices done.1
+  board : IsSoundBoard done.1.board
+
+on-board : (event : Event) (m : ClockState) → IsEvent event → IsSound m → IsKept (on_board event m)
+on-board event m e s = record { devices = board-has event m s.devices; board = board_stays.event event m.board e s.board }
+
+acted-kept : (event : Event) (m : ClockState) → IsEvent event → IsSound m → IsKept (acted event m)
+unfolding acted waited
+acted-kept (Read port) m e s =
+    either IsKept (is_port port) _ _ (record { devices = read-has port m s.devices; board = s.board }) (on-board (Read port) m e s)
+acted-kept (Write port value) m e s =
+    either IsKept (is_port port) _ _ (record { devices = written-has port value m e s.devices; board = s.board }) (on-board (Write port value) m e s)
+acted-kept (Byte value) m e s = on-board (Byte value) m e s
+acted-kept (Wait ns) m e s = record { devices = waited-has ns m s.devices; board = board_stays.event (Wait ns) m.board e s.board }
+acted-kept (Wire input up) m e s =
+    either IsKept (input == CLOCK_INPUT) _ _ (record { devices = s.devices; board = s.board }) (on-board (Wire input up) m e s)
+acted-kept Ack m e s = on-board Ack m e s
+
+-- ---- whole events
+
+-- The board's input takes the chip's line.
+abbrev taken : Answer × ClockState → Event
+taken done = Wire CLOCK_INPUT (line_of done.1.clock)
+
+follows-sound : (done : Answer × ClockState) → HasDevices done.1 → IsSoundBoard (board_step (taken done) done.1.board).1 → IsSound (follows_line done).1
+unfolding follows_line
+follows-sound done h s = after-line done.1 h (line_of done.1.clock) _ _ refl refl s
+
+step-sound : (event : Event) (m : ClockState) → IsEvent event → IsSound m → IsSound (step event m).1
+unfolding step
+step-sound event m e s =
+    let kept = acted-kept event m e s in
+    follows-sound (acted event m) kept.devices (board_stays.event (taken (acted event m)) (acted event m).1.board refl kept.board)
+
+all-sound : (events : List Event) (m : ClockState) → AreEvents events → IsSound m → IsSound (after_all events m)
+unfolding after_by
+all-sound [] m e s = s
+all-sound (event ∷ events) m e s = all-sound events (step event m).1 e.1 (step-sound event m e.0 s)
+
+pub sound_stays_on : SoundStays
+sound_stays_on = record { power_on = on-sound; event = step-sound; events = all-sound }
+
+-- ---- devices that are alike give equal answers to each event
+
+-- Boards that are alike have the same moment.
+same-moment : (m n : State) → AlikeBoards m n → n.moment ≡ m.moment
+same-moment m n a = ap (λ (s : State). s.moment) a.same
+
+-- Two choices by one test.
+chosen : (b : Bool) (x y p q : Answer × ClockState) → AnswersAlike Alike x p → AnswersAlike Alike y q → AnswersAlike Alike (cond b x y) (cond b p q)
+chosen true x y p q first second = first
+chosen false x y p q first second = second
+
+-- The others have the same chip, and a board like the first.
+module _ (m : ClockState) (board : State) (a : AlikeBoards m.board board) where
+  abbrev other : ClockState
+  other = record m { board = board }
+
+  on_board-alike : (event : Event) → AnswersAlike Alike (on_board event m) (on_board event other)
+  on_board-alike event =
+      let answers = board_alike.event event m.board board a in
+      record { value = answers.value; alike = record { clock = refl; board = answers.alike } }
+
+  waited-alike : (ns : ℕ) → AnswersAlike Alike (waited ns m) (waited ns other)
+  unfolding waited
+  waited-alike ns =
+      let answers = board_alike.event (Wait ns) m.board board a in
+      let after = (board_step (Wait ns) m.board).1.moment in
+      record {
+        value = answers.value;
+        alike = record {
+          clock = ap (λ (to : ℕ). passed board.moment to m.clock) (same-moment _ _ answers.alike)
+              ∙ ap (λ (from : ℕ). passed from after m.clock) (same-moment m.board board a);
+          board = answers.alike;
+        };
+      }
+
+  acted-alike : (event : Event) → AnswersAlike Alike (acted event m) (acted event other)
+  unfolding acted
+  acted-alike (Read port) = chosen (is_port port) _ _ _ _ (record { value = refl; alike = record { clock = refl; board = a } }) (on_board-alike (Read port))
+  acted-alike (Write port value) =
+      chosen (is_port port) _ _ _ _ (record { value = refl; alike = record { clock = refl; board = a } }) (on_board-alike (Write port value))
+  acted-alike (Byte value) = on_board-alike (Byte value)
+  acted-alike (Wait ns) = waited-alike ns
+  acted-alike (Wire input up) =
+      chosen (input == CLOCK_INPUT) _ _ _ _ (record { value = refl; alike = record { clock = refl; board = a } }) (on_board-alike (Wire input up))
+  acted-alike Ack = on_board-alike Ack
+
+-- The board after it took a chip's line.
+abbrev line-taken : Rtc → State → Answer × State
+line-taken clock board = board_step (Wire CLOCK_INPUT (line_of clock)) board
+
+follows-alike : (first second : Answer × ClockState) → AnswersAlike Alike first second → AnswersAlike Alike (follows_line first) (follows_line second)
+unfolding follows_line
+follows-alike first second a =
+    let answers = board_alike.event (Wire CLOCK_INPUT (line_of first.1.clock)) first.1.board second.1.board a.alike.board in
+    let told : Answer → Answer → Answer = (λ done after. record { value = done.value; int = after.int; sent = done.sent }) in
+    record {
+      value =
+          ap (λ (done : Answer). told done (line-taken second.1.clock second.1.board).0) a.value
+          ∙ ap (λ (clock : Rtc). told first.0 (line-taken clock second.1.board).0) a.alike.clock
+          ∙ ap (λ (after : Answer). told first.0 after) answers.value;
+      alike = record {
+        clock = a.alike.clock;
+        board = subst (λ (clock : Rtc). AlikeBoards (line-taken first.1.clock first.1.board).1 (line-taken clock second.1.board).1) (sym a.alike.clock) answers.alike;
+      };
+    }
+
+step-alike : (event : Event) (m n : ClockState) → Alike m n → AnswersAlike Alike (step event m) (step event n)
+unfolding step
+step-alike event m n a =
+    let same : n ≡ record m { board = n.board } = ap (λ (clock : Rtc). record n { clock = clock }) a.clock in
+    subst (λ (o : ClockState). AnswersAlike Alike (follows_line (acted event m)) (follows_line (acted event o))) (sym same)
+    (follows-alike (acted event m) (acted event (record m { board = n.board })) (acted-alike m n.board a.board event))
+
+pub alike_stays : AlikeStays
+alike_stays = stays-alike Alike step step-alike

@@ -1,0 +1,373 @@
+-- What is saved of a chip and restored from it.
+use Rattle.dev_pit.proofs.CallLaws.{each_of, three_counters}
+use Rattle.dev_pit.proofs.Facade.{ℕ, ◌≤◌, Bool, true, false, cond, List, [], ◌++◌, ℤ, length, codes, arith, nat_le, numbers_of, STATUS_SINCE}
+use Rattle.dev_pit.proofs.Facade.{CELLS, named_statuses, channel_cells, status_cells, three_cells, Channel, Access, LowByte, HighByte, LowThenHigh, Pit}
+use Rattle.dev_pit.proofs.Facade.{◌≡◌, ◌+◌, ◌<◌, subst, ◌∙◌, ◌^◌, ◌==◌, not, ◌&&◌, Ok, ◌∷◌, slice_index_or, refl}
+use Rattle.dev_pit.proofs.Facade.{⊎_elim, ◌||◌, get_or-append, get_or-append-add, nat_tests, and_parts, cases_Bool, InRange, Kind, U8, U16, U64}
+use Rattle.dev_pit.proofs.Facade.{kinds_under, status_rows, CHANNEL_CELLS, COUNT, LOAD_TIME, WLOW, LATCH, cell_at, kind_at, NEWEST, LAST_MOMENT, channel_kinds}
+use Rattle.dev_pit.proofs.Facade.{channel_place, latched_place, status_place, IsChannelAt, IsPitCells, channel_at, IsLevel, number-lt, AllTrue, judged-ok}
+use Rattle.dev_pit.proofs.Facade.{hook-ok, held_if, counter_from, moment_holds, status_holds, toggles_hold, LoadedBy, powered_on, RestoredIsSound, access_of}
+use Rattle.dev_pit.proofs.Facade.{three_hold, pit_of, restored_pit, HeldBelow, IsSoundCounter, IsSoundPit, READ_BACK_LEVEL, Option, Some, None, ap, sym}
+use Rattle.dev_pit.proofs.Facade.{is_some, channel_rows, STATUS_LATCHED, Numbers, flag_number, flag_at, number_at, AreOf, MayRestore, first_failing, of_none}
+use Rattle.dev_pit.proofs.Facade.{of_more, of_both, byte, word, long, flag, flag-back, AllHold, one_holds, of_rows, carried_rows, none_failing, all_true}
+use Rattle.dev_pit.proofs.Facade.{judged-all, ok-hook, kinds_of, named, channel_in, pit_cells, carried, field_place, AreCellsOf, channel_of, registers_hold}
+use Rattle.dev_pit.proofs.Facade.{held_or, SoundMeetsRules, SavedAreCells, SavedIsRestored, mode_number, mode_of, access_number, counter_of, CanSave}
+use Rattle.dev_pit.proofs.Facade.{CanRestore, hook_restored, HasWidths, Counter, Mode, TerminalCount}
+use Rattle.dev_pit.proofs.SoundLaws.{PlainSound, StatusFits, TogglesFit, sound-from_plain, plain-from_sound, mode-small, access-small, held-below}
+use Rattle.dev_pit.specs.Saved.{rules}
+
+-- ---- the number of cells of a chip
+
+-- The cells of the statuses, by whether the set has them.
+abbrev statuses_where : Bool → Channel → Channel → Channel → List ℤ
+statuses_where has first second third =
+    cond has (numbers_of (named_statuses first second third) (codes "status_latched")) []
+    ++ (cond has (numbers_of (named_statuses first second third) (codes "status")) [] ++ [])
+
+pub three_cells_fit : (set : ℕ) (first second third : Channel) → length (three_cells set first second third) ≤ CELLS
+unfolding three_cells channel_cells status_cells
+three_cells_fit set first second third = by_test (nat_le STATUS_SINCE set) where
+  by_test : (has : Bool) → length (channel_cells first ++ channel_cells second ++ channel_cells third ++ statuses_where has first second third) ≤ CELLS
+  by_test true = omega arith
+  by_test false = omega arith
+
+-- ---- a restored chip is sound: normal cells are those of three channels
+
+front : (rest : List Kind) (place : ℕ) → place < CHANNEL_CELLS → kind_at (channel_kinds ++ rest) place ≡ kind_at channel_kinds place
+front rest place h = get_or-append channel_kinds rest U8 place h
+
+after : (rest : List Kind) (place : ℕ) → kind_at (channel_kinds ++ rest) (channel_place 1 + place) ≡ kind_at rest place
+after rest place = get_or-append-add channel_kinds rest place U8
+
+abbrev status_kinds : List Kind
+status_kinds = kinds_under status_rows NEWEST
+
+abbrev two_more : List Kind
+two_more = channel_kinds ++ channel_kinds ++ status_kinds
+
+abbrev one_more : List Kind
+one_more = channel_kinds ++ status_kinds
+
+zero_plus : (place : ℕ) → place ≡ channel_place 0 + place
+zero_plus place = omega arith
+
+module _ (cells : List ℤ) (h : IsPitCells cells) where
+  -- The cell at a place fits the kind.
+  abbrev Fits : ℕ → Kind → Type 0
+  Fits place kind = InRange kind (cell_at cells place)
+
+  first-channel : IsChannelAt 0 cells
+  first-channel = record {
+    within = (omega arith, h.of_kinds.count);
+    channel = λ place l. subst (λ (n : ℕ). Fits n (kind_at channel_kinds place)) (zero_plus place)
+        (subst (Fits place) (front two_more place l) (h.of_kinds.in_range place (omega arith)));
+    latched = h.of_kinds.in_range (latched_place 0) (omega arith);
+    status = h.of_kinds.in_range (status_place 0) (omega arith);
+  }
+
+  second-channel : IsChannelAt 1 cells
+  second-channel = record {
+    within = (omega arith, h.of_kinds.count);
+    channel = λ place l. subst (Fits (channel_place 1 + place)) (after two_more place ∙ front one_more place l)
+        (h.of_kinds.in_range (channel_place 1 + place) (omega arith));
+    latched = h.of_kinds.in_range (latched_place 1) (omega arith);
+    status = h.of_kinds.in_range (status_place 1) (omega arith);
+  }
+
+  further : (place : ℕ) → kind_at (channel_kinds ++ two_more) (channel_place 2 + place) ≡ kind_at one_more place
+  further place = get_or-append-add (channel_kinds ++ channel_kinds) one_more place U8
+
+  third-channel : IsChannelAt 2 cells
+  third-channel = record {
+    within = (omega arith, h.of_kinds.count);
+    channel = λ place l. subst (Fits (channel_place 2 + place)) (further place ∙ front status_kinds place l)
+        (h.of_kinds.in_range (channel_place 2 + place) (omega arith));
+    latched = h.of_kinds.in_range (latched_place 2) (omega arith);
+    status = h.of_kinds.in_range (status_place 2) (omega arith);
+  }
+
+pub is_channel : (k : ℕ) (cells : List ℤ) → k < 3 → IsPitCells cells → IsChannelAt k cells
+is_channel k cells l h = each_of (λ k. IsChannelAt k cells) (first-channel cells h) (second-channel cells h) (third-channel cells h) k l
+
+-- ---- the chip
+
+-- The fields of a channel, each in its range.
+record HasRanges (channel : Channel) : Type 0 where
+  count : channel.count < 2 ^ 16
+  load_time : channel.load_time < 2 ^ 64
+  wlow : channel.wlow < 2 ^ 8
+  latch : channel.latch < 2 ^ 16
+  status : channel.status < 2 ^ 8
+
+if-below : (limit : ℕ) (b : Bool) (n : ℕ) → n < limit → HeldBelow limit (held_if b n)
+if-below limit true n h = h
+if-below limit false n h = tt
+
+if-loaded : (now : ℕ) (b : Bool) (n : ℕ) → n ≤ now → LoadedBy now (held_if b n)
+if-loaded now true n h = h
+if-loaded now false n h = tt
+
+if-status : (level : ℕ) (b : Bool) (n : ℕ) → (nat_le READ_BACK_LEVEL level || not b) ≡ true → StatusFits level (held_if b n)
+if-status level true n h = grind (arith, nat_tests)
+if-status level false n h = tt
+
+halves : (access : Access) (read_high held : Bool) (n : ℕ) → (not read_high && not held) ≡ true → TogglesFit access read_high (held_if held n)
+halves LowByte false false n e = (refl, refl)
+halves HighByte false false n e = (refl, refl)
+halves LowThenHigh read_high held n e = tt
+halves _ _ _ n e = cc
+
+three : (rw_number : ℕ) → (rw_number == 3) ≡ true → access_of rw_number ≡ LowThenHigh
+three rw_number e = let h : rw_number ≡ 3 = grind (arith, nat_tests) in rw h refl
+
+if-toggles : (rw_number : ℕ) (read_high held : Bool) (n : ℕ) → ((rw_number == 3) || (not read_high && not held)) ≡ true
+    → TogglesFit (access_of rw_number) read_high (held_if held n)
+if-toggles rw_number read_high held n h =
+    ⊎_elim (λ e. let both : TogglesFit LowThenHigh read_high (held_if held n) = tt in rw (three rw_number e) both)
+    (λ e. let rest : (not read_high && not held) ≡ true = rw e at h in halves (access_of rw_number) read_high held n rest) (cases_Bool (rw_number == 3))
+
+counter-sound : (level now : ℕ) (channel : Channel) → HasRanges channel → moment_holds now channel ≡ true → status_holds level channel ≡ true
+    → toggles_hold channel ≡ true → PlainSound level now (counter_from channel)
+unfolding counter_from moment_holds status_holds toggles_hold
+counter-sound level now channel r m s t = record {
+  widths = record {
+    count = r.count;
+    loaded_at = if-below (2 ^ 64) channel.loaded channel.load_time r.load_time;
+    held_low = if-below (2 ^ 8) channel.wlow_held channel.wlow r.wlow;
+    latch = if-below (2 ^ 16) channel.latched channel.latch r.latch;
+    status = if-below (2 ^ 8) channel.status_latched channel.status r.status;
+  };
+  loaded = let l : nat_le channel.load_time now ≡ true = (and_parts _ _ m).0 in if-loaded now channel.loaded channel.load_time (grind (arith, nat_tests));
+  status = if-status level channel.status_latched channel.status (and_parts _ _ s).1;
+  toggles = if-toggles channel.rw channel.read_high channel.wlow_held channel.wlow t;
+}
+
+-- The ranges of each channel's fields.
+ranges-at : (k : ℕ) (cells : List ℤ) → IsChannelAt k cells → HasRanges (channel_at k cells)
+unfolding channel_at
+ranges-at k cells h = record {
+  count = number-lt U16 _ (h.channel COUNT (omega arith));
+  load_time = number-lt U64 _ (h.channel LOAD_TIME (omega arith));
+  wlow = number-lt U8 _ (h.channel WLOW (omega arith));
+  latch = number-lt U16 _ (h.channel LATCH (omega arith));
+  status = number-lt U8 _ h.status;
+}
+
+-- A rule that holds for three channels holds for each.
+each : (rule : Channel → Bool) (cells : List ℤ) → three_hold rule cells ≡ true → (k : ℕ) → k < 3 → rule (channel_at k cells) ≡ true
+each rule cells e =
+    let a : (rule (channel_at 0 cells) ≡ true) × ((rule (channel_at 1 cells) && rule (channel_at 2 cells)) ≡ true) = and_parts _ _ e in
+    let b : (rule (channel_at 1 cells) ≡ true) × (rule (channel_at 2 cells) ≡ true) = and_parts _ _ a.1 in
+    each_of (λ k. rule (channel_at k cells) ≡ true) a.0 b.0 b.1
+
+pit_of-sound : (level now : ℕ) (cells : List ℤ) → IsLevel level → now ≤ LAST_MOMENT → IsPitCells cells → AllTrue (rules level now cells)
+    → IsSoundPit now (pit_of level cells)
+unfolding pit_of
+pit_of-sound level now cells l m h hold =
+    let counter : (k : ℕ) → k < 3 → IsSoundCounter level now (counter_from (channel_at k cells)) =
+    λ k b. sound-from_plain level now _
+    (counter-sound level now (channel_at k cells) (ranges-at k cells (is_channel k cells b h)) (each (moment_holds now) cells hold.1.0 k b)
+    (each (status_holds level) cells hold.1.1.0 k b) (each toggles_hold cells hold.1.1.1.0 k b)) in
+    record {
+      level = l;
+      moment = m;
+      count = refl;
+      counters = each_of (λ k. IsSoundCounter level now
+          (slice_index_or (counter_from (channel_at 0 cells) ∷ counter_from (channel_at 1 cells) ∷ counter_from (channel_at 2 cells) ∷ []) k powered_on))
+          (counter 0 (omega arith)) (counter 1 (omega arith)) (counter 2 (omega arith));
+    }
+
+pit_of-level : (level : ℕ) (cells : List ℤ) → (pit_of level cells).level ≡ level
+unfolding pit_of
+pit_of-level level cells = refl
+
+pub pit-restored : (level now : ℕ) (cells : List ℤ) (pit : Pit) → IsLevel level → now ≤ LAST_MOMENT → IsPitCells cells → restored_pit level now cells ≡ Ok pit
+    → IsSoundPit now pit × (pit.level ≡ level)
+pit-restored level now cells pit l m h e =
+    let ok = judged-ok (rules level now cells) (pit_of level cells) pit e in
+    subst (λ (p : Pit). IsSoundPit now p × (p.level ≡ level)) ok.1 (pit_of-sound level now cells l m h ok.0, pit_of-level level cells)
+
+pub restored_is_sound : RestoredIsSound
+restored_is_sound = record {
+  pit = λ numbers cells pit can e. pit-restored numbers.level numbers.moment cells pit can.pass.is_level can.pass.moment can.normal (hook-ok _ pit e);
+}
+
+-- ---- a saved chip is restored as it was
+
+mode-back : (mode : Mode) → mode_of (mode_number mode) ≡ mode
+mode-back TerminalCount = refl
+mode-back _ = refl
+
+access-back : (access : Access) → access_of (access_number access) ≡ access
+access-back LowByte = refl
+access-back _ = refl
+
+held-back : (held : Option ℕ) → held_if (is_some held) (held_or held 0) ≡ held
+held-back None = refl
+held-back (Some held) = refl
+
+-- A counter is that of its own fields.
+pub counter-back : (counter : Counter) → counter_from (channel_of counter) ≡ counter
+unfolding counter_from channel_of
+counter-back counter = simp (mode-back, access-back, held-back)
+
+-- The cells of three channels, in the newest set, give these channels.
+first-back : (first second third : Channel) → channel_at 0 (three_cells NEWEST first second third) ≡ first
+unfolding channel_at three_cells channel_cells status_cells
+first-back first second third = simp flag-back
+
+second-back : (first second third : Channel) → channel_at 1 (three_cells NEWEST first second third) ≡ second
+unfolding channel_at three_cells channel_cells status_cells
+second-back first second third = simp flag-back
+
+third-back : (first second third : Channel) → channel_at 2 (three_cells NEWEST first second third) ≡ third
+unfolding channel_at three_cells channel_cells status_cells
+third-back first second third = simp flag-back
+
+rule-saved : (rule : Channel → Bool) (first second third : Channel) → rule first ≡ true → rule second ≡ true → rule third ≡ true
+    → three_hold rule (three_cells NEWEST first second third) ≡ true
+rule-saved rule first second third a b c = rw (first-back first second third, second-back first second third, third-back first second third, a, b, c)
+
+pub pit_of-saved : (pit : Pit) → length pit.counters ≡ 3 → pit_of pit.level (pit_cells NEWEST pit) ≡ pit
+unfolding pit_of pit_cells
+pit_of-saved pit three =
+    simp (first-back, second-back, third-back, counter-back) (ap (λ counters. record pit { counters = counters }) (three_counters pit.counters powered_on three))
+
+-- The cells of a chip fit their kinds: each field has as many numbers of its kind as it counts.
+channel-holds : (counter : Counter) → HasWidths counter → AllHold (named (channel_of counter)) channel_rows
+unfolding channel_of
+channel-holds counter h =
+    one_holds _ _ (word _ h.count)
+    (one_holds _ _ (byte _ (omega (arith, mode-small counter.mode))) (one_holds _ _ (byte _ (omega (arith, access-small counter.access)))
+    (one_holds _ _ (flag _) (one_holds _ _ (flag _) (one_holds _ _ (long _ (held-below (2 ^ 64) 0 counter.loaded_at h.loaded_at (omega arith)))
+    (one_holds _ _ (flag _) (one_holds _ _ (flag _) (one_holds _ _ (byte _ (held-below (2 ^ 8) 0 counter.held_low h.held_low (omega arith)))
+    (one_holds _ _ (flag _) (one_holds _ _ (word _ (held-below (2 ^ 16) 0 counter.latch h.latch (omega arith))) tt))))))))))
+
+channel-of : (counter : Counter) → HasWidths counter → AreOf channel_kinds (channel_cells (channel_of counter))
+unfolding channel_cells
+channel-of counter h = of_rows (named (channel_of counter)) NEWEST channel_rows (channel-holds counter h)
+
+-- An absent cell is 0.
+no_held : (held : Option ℕ) → (flag_number (is_some held) == 1) ≡ false → held_or held 0 ≡ 0
+no_held None e = refl
+no_held (Some held) e = cc
+
+-- A level without the command has no status.
+no-status : (level : ℕ) (status : Option ℕ) → level < READ_BACK_LEVEL → StatusFits level status → status ≡ None
+no-status level None h f = refl
+no-status level (Some status) h f = absurd (omega arith)
+
+-- A sound chip.
+module _ (now : ℕ) (pit : Pit) (s : IsSoundPit now pit) where
+  abbrev first : Counter
+  first = counter_of 0 pit
+
+  abbrev second : Counter
+  second = counter_of 1 pit
+
+  abbrev third : Counter
+  third = counter_of 2 pit
+
+  widths : (k : ℕ) → k < 3 → HasWidths (counter_of k pit)
+  widths k l = (s.counters k l).widths
+
+  -- All rules hold.
+  met : AllTrue (rules pit.level now (pit_cells NEWEST pit))
+  unfolding pit_cells
+  met =
+      let a = s.counters 0 (omega arith) in
+      let b = s.counters 1 (omega arith) in
+      let c = s.counters 2 (omega arith) in
+      let hold = λ (rule : Channel → Bool). rule-saved rule (channel_in 0 pit) (channel_in 1 pit) (channel_in 2 pit) in (
+        hold registers_hold a.registers b.registers c.registers,
+        (
+          hold (moment_holds now) a.moment b.moment c.moment,
+          (hold (status_holds pit.level) a.status b.status c.status, (hold toggles_hold a.toggles b.toggles c.toggles, tt)),
+        ),
+      )
+
+  pub restored-newest : restored_pit pit.level now (pit_cells NEWEST pit) ≡ Ok pit
+  restored-newest = judged-all (rules pit.level now (pit_cells NEWEST pit)) (pit_of pit.level (pit_cells NEWEST pit)) met ∙ ap Ok (pit_of-saved pit s.count)
+
+  statuses-hold : AllHold (named_statuses (channel_of first) (channel_of second) (channel_of third)) status_rows
+  unfolding channel_of
+  statuses-hold =
+      let low : (k : ℕ) → k < 3 → held_or (counter_of k pit).status 0 < 2 ^ 8 =
+      λ k l. held-below (2 ^ 8) 0 (counter_of k pit).status (widths k l).status (omega arith) in (
+        of_more _ _ _ _ (flag _) (of_more _ _ _ _ (flag _) (of_more _ _ _ _ (flag _) of_none)),
+        (
+          of_more _ _ _ _ (byte _ (low 0 (omega arith))) (of_more _ _ _ _ (byte _ (low 1 (omega arith)))
+              (of_more _ _ _ _ (byte _ (low 2 (omega arith))) of_none)),
+          tt,
+        ),
+      )
+
+  of-kinds : (set : ℕ) → AreOf (kinds_of set) (pit_cells set pit)
+  unfolding pit_cells three_cells channel_cells status_cells
+  of-kinds set =
+      of_both channel_kinds (channel_kinds ++ channel_kinds ++ kinds_under status_rows set) (channel_cells (channel_of first)) _
+      (channel-of first (widths 0 (omega arith)))
+      (of_both channel_kinds (channel_kinds ++ kinds_under status_rows set) (channel_cells (channel_of second)) _ (channel-of second (widths 1 (omega arith)))
+      (of_both channel_kinds (kinds_under status_rows set) (channel_cells (channel_of third)) _ (channel-of third (widths 2 (omega arith)))
+      (of_rows (named_statuses (channel_of first) (channel_of second) (channel_of third)) set status_rows statuses-hold)))
+
+  cells-of : (set : ℕ) → AreCellsOf set (pit_cells set pit)
+  unfolding pit_cells three_cells channel_cells channel_of
+  cells-of set =
+      let default = λ (flag number : List ℕ) (k : ℕ). flag_at (pit_cells set pit) (field_place k flag) ≡ false
+      → number_at (pit_cells set pit) (field_place k number) ≡ 0 in
+      record {
+        of_kinds = of-kinds set;
+        wlow = each_of (default (codes "wlow_held") (codes "wlow")) (no_held first.held_low) (no_held second.held_low) (no_held third.held_low);
+        latch = each_of (default (codes "latched") (codes "latch")) (no_held first.latch) (no_held second.latch) (no_held third.latch);
+      }
+
+-- Carried cells are those of the newest set, since what a set lacks is 0.
+pub carried-saved : (set now : ℕ) (pit : Pit) → pit.level ≤ set → IsSoundPit now pit → carried set (pit_cells set pit) ≡ pit_cells NEWEST pit
+unfolding pit_cells three_cells channel_cells status_cells channel_of
+carried-saved set now pit le s =
+    let front = channel_cells (channel_in 0 pit) ++ channel_cells (channel_in 1 pit) ++ channel_cells (channel_in 2 pit) in
+    let none : nat_le STATUS_SINCE set ≡ false → (k : ℕ) → k < 3 → (counter_of k pit).status ≡ None =
+    λ e k l. no-status pit.level _ (grind (arith, nat_tests)) (plain-from_sound pit.level now _ (s.counters k l)).status in
+    ap (λ (late : List ℤ). front ++ late)
+    (carried_rows (named_statuses (channel_in 0 pit) (channel_in 1 pit) (channel_in 2 pit)) set status_rows (statuses-hold now pit s) (
+      (λ e. rw (none e 0 (omega arith), none e 1 (omega arith), none e 2 (omega arith)) refl),
+      ((λ e. rw (none e 0 (omega arith), none e 1 (omega arith), none e 2 (omega arith)) refl), tt),
+    ) front STATUS_LATCHED refl)
+
+pub saved_are_cells : SavedAreCells
+saved_are_cells = record { of_set = λ numbers pit can s. cells-of numbers.moment pit s numbers.set }
+
+-- A chip is sound if its cells break no rule, and conversely.
+is_sound : (now : ℕ) (pit : Pit) → IsLevel pit.level → now ≤ LAST_MOMENT → length pit.counters ≡ 3
+    → IsPitCells (pit_cells NEWEST pit) × (first_failing (rules pit.level now (pit_cells NEWEST pit)) ≡ None) → IsSoundPit now pit
+is_sound now pit l m three h =
+    let restored =
+    judged-all (rules pit.level now (pit_cells NEWEST pit)) (pit_of pit.level (pit_cells NEWEST pit))
+    (all_true (rules pit.level now (pit_cells NEWEST pit)) h.1) ∙ ap Ok (pit_of-saved pit three) in
+    (pit-restored pit.level now (pit_cells NEWEST pit) pit l m h.0 restored).0
+
+pub sound_meets_rules : SoundMeetsRules
+sound_meets_rules = record {
+  pit = λ now pit l m three. (
+    (λ s. (cells-of now pit s NEWEST, none_failing (rules pit.level now (pit_cells NEWEST pit)) (met now pit s))),
+    is_sound now pit l m three,
+  );
+}
+
+restored-back : (numbers back : Numbers) (pit : Pit) → CanSave numbers pit → IsSoundPit numbers.moment pit → MayRestore back → back.level ≡ pit.level
+    → back.moment ≡ numbers.moment
+    → CanRestore back (carried numbers.set (pit_cells numbers.set pit)) × (hook_restored back (carried numbers.set (pit_cells numbers.set pit)) ≡ Ok pit)
+restored-back numbers back pit can s may level moment =
+    let le : pit.level ≤ numbers.set = let l = can.level_le_set in omega arith in
+    let same = carried-saved numbers.set numbers.moment pit le s in
+    let newest : restored_pit back.level back.moment (pit_cells NEWEST pit) ≡ Ok pit =
+    ap (λ l. restored_pit l back.moment (pit_cells NEWEST pit)) level ∙ ap (λ m. restored_pit pit.level m (pit_cells NEWEST pit)) moment
+    ∙ restored-newest numbers.moment pit s
+    in (
+      record { pass = may; normal = subst IsPitCells (sym same) (cells-of numbers.moment pit s NEWEST) },
+      subst (λ (cells : List ℤ). hook_restored back cells ≡ Ok pit) (sym same) (ok-hook _ pit newest),
+    )
+
+pub saved_is_restored : SavedIsRestored
+saved_is_restored = record { pit = restored-back }

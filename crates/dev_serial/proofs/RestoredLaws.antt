@@ -1,0 +1,264 @@
+-- A restored port is sound, and the rules hold of a sound port alone.
+use Rattle.dev_serial.proofs.{SavedLaws.unused-at, AlikeLaws.IsStatus, AlikeLaws.lsr-status}
+use Rattle.dev_serial.proofs.Facade.{◌≡◌, ℕ, true, Ok, ◌≤◌, Bool, List, [], ◌∷◌, length, Option, Some, refl, subst, ◌+◌, ◌<◌}
+use Rattle.dev_serial.proofs.Facade.{◌==◌, false, not, ◌&&◌, ◌||◌, cond, None, sym, ◌∙◌, arith, ◌%◌, ℤ, false≢true, leb-true}
+use Rattle.dev_serial.proofs.Facade.{ltb-true, and_parts, not-true, nat_le, nat_lt, is_some, judged-ok, first_failing_is_first, hook-ok, Port, port_of}
+use Rattle.dev_serial.proofs.Facade.{moment_of, shift_of, fifos_of, stored_bytes, registers_hold, fcr_holds, status_holds, shift_holds, timeout_holds}
+use Rattle.dev_serial.proofs.Facade.{latch_holds, rules, restored, unused_hold, id_holds, once_holds, rings_hold, longest_timeout, is_unused, PortNumbers}
+use Rattle.dev_serial.proofs.Facade.{first_failing, judged_by, IsFirstFailing, is_empty, IsShort, same, has, AreBytes, IsShift, IsTimeout, IsSound}
+use Rattle.dev_serial.proofs.Facade.{HasRegisters, IsReceiver, IsTransmitter, Trigger, LONGEST_CHARACTER, NEVER, cell_at, number_at, IsLevel, U8, U16}
+use Rattle.dev_serial.proofs.Facade.{number-lt, IsPortCells, bytes_at, array_at, ring_at, numbers_of, IsSoundAt, RestoredIsSound, DIVISOR, THR_IPENDING}
+use Rattle.dev_serial.proofs.Facade.{RX_COUNT, RX, TX_COUNT, TX, TIMEOUT_AT, RX_DATA, TX_DATA, eqb-true, LAST_MOMENT, lsr_of, SoundMeetsRules, saved}
+use Rattle.dev_serial.proofs.Facade.{fcr_number, moment_number, due_number, IsHeld, IsTold, IsByte, Shift}
+use Rattle.dev_serial.proofs.SavedLaws.{in_arrays, ring-bytes, stored-empty, stored-short, stored-bytes, firsts-bytes, byte-at, restored-saved, on, runs-same}
+
+-- ---- every rule holds for numbers that are restored
+
+-- the rules by which a port is sound
+pub record Hold (level now : ℕ) (n : PortNumbers) : Type 0 where
+  pub registers : registers_hold n ≡ true
+  pub fcr : fcr_holds level n ≡ true
+  pub status : status_holds n ≡ true
+  pub shifts : shift_holds now n ≡ true
+  pub timeouts : timeout_holds level now n ≡ true
+  pub latch : latch_holds n ≡ true
+
+pub hold : (level now : ℕ) (n : PortNumbers) (port : Port) → restored level now n ≡ Ok port → Hold level now n × (port_of level n ≡ port)
+unfolding restored
+hold level now n port e =
+    let all = judged-ok (rules level now n) (port_of level n) port e in
+    let from4 = all.0.1.1.1 in
+    (record { registers = all.0.0; fcr = all.0.1.0; status = from4.0; shifts = from4.1.0; timeouts = from4.1.1.0; latch = from4.1.1.1.0 }, all.1)
+
+-- ---- the result of a restore, by the rules in code
+
+pub restored_by : (level now : ℕ) (n : PortNumbers) (port : Port) (answer : Option ℕ) (a b d e f g h i j k : Bool)
+    → a ≡ registers_hold n → b ≡ fcr_holds level n → d ≡ unused_hold n → e ≡ status_holds n → f ≡ shift_holds now n → g ≡ timeout_holds level now n
+    → h ≡ latch_holds n → i ≡ id_holds level now n → j ≡ once_holds n → k ≡ rings_hold n → port ≡ port_of level n
+    → answer ≡ first_failing (a ∷ b ∷ d ∷ e ∷ f ∷ g ∷ h ∷ i ∷ j ∷ k ∷ []) → judged_by answer port ≡ restored level now n
+unfolding restored
+restored_by level now n port answer a b d e f g h i j k qa qb qd qe qf qg qh qi qj qk p q = rw (q, p, qa, qb, qd, qe, qf, qg, qh, qi, qj, qk) refl
+
+-- the rule that fails is one of them
+pub rule_within : (rules : List Bool) (rule : ℕ) → first_failing rules ≡ Some rule → (1 ≤ rule) × (rule ≤ length rules)
+rule_within rules rule e = let first : IsFirstFailing rules rule = rw e at (first_failing_is_first rules) in first.within
+
+-- ---- each part of a restored port is sound
+
+switch : (off : Bool) (trigger : Trigger) → is_some (cond off None (Some trigger)) ≡ not off
+switch true trigger = refl
+switch false trigger = refl
+
+pub is_on : (fcr : ℕ) → is_some (fifos_of fcr) ≡ not (fcr == 0)
+is_on fcr = switch (fcr == 0) _
+
+on_at : (off has_level bit : Bool) → (off || (has_level && bit)) ≡ true → not off ≡ true → has_level ≡ true
+on_at true has_level bit h n = cc
+on_at false has_level bit h n = (and_parts has_level bit h).0
+
+pub level-on : (level fcr : ℕ) → ((fcr == 0) || (nat_le 2 level && (fcr % 64 == 1))) ≡ true → is_some (fifos_of fcr) ≡ true → 2 ≤ level
+level-on level fcr h n = leb-true 2 level (on_at (fcr == 0) (nat_le 2 level) (fcr % 64 == 1) h (sym (is_on fcr) ∙ n))
+
+pub short : (off is_held : Bool) (byte : ℕ) (bytes : List ℕ) → length bytes ≤ 16 → IsShort (not off) (cond off (cond is_held (byte ∷ []) []) bytes)
+short true true byte bytes h = record { short = omega arith; one = λ _. omega arith }
+short true false byte bytes h = record { short = omega arith; one = λ _. omega arith }
+short false is_held byte bytes h = record { short = h; one = λ e. cc }
+
+pub are_bytes : (off is_held : Bool) (byte : ℕ) (bytes : List ℕ) → byte < 256 → AreBytes bytes → AreBytes (cond off (cond is_held (byte ∷ []) []) bytes)
+are_bytes true true byte bytes b h = (b, tt)
+are_bytes true false byte bytes b h = tt
+are_bytes false is_held byte bytes b h = h
+
+ends : (runs : Bool) (now t : ℕ) → cond runs (not (t == NEVER) && nat_le t (now + longest_timeout)) (t == NEVER) ≡ true → IsTimeout now runs (moment_of t)
+ends true now t h =
+    let p = and_parts _ _ h in
+    rw (not-true (t == NEVER) p.0) (record { runs_now = refl; in_time = leb-true _ _ p.1 })
+ends false now t h = rw h
+
+runs_at : (has_timeout off is_held : Bool) (byte : ℕ) (bytes : List ℕ)
+    → (has_timeout && (not off && not (is_empty bytes))) ≡ (has_timeout && (not off && not (is_empty (cond off (cond is_held (byte ∷ []) []) bytes))))
+runs_at has_timeout true is_held byte bytes = refl
+runs_at has_timeout false is_held byte bytes = refl
+
+pub timeout : (has_timeout off is_held unused : Bool) (byte : ℕ) (bytes : List ℕ) (now t : ℕ) → is_empty bytes ≡ unused → cond (has_timeout && (not off && not unused)) (not (t == NEVER) && nat_le t (now + longest_timeout)) (t == NEVER) ≡ true → IsTimeout now (has_timeout && (not off && not (is_empty (cond off (cond is_held (byte ∷ []) []) bytes)))) (moment_of t)
+timeout has_timeout off is_held unused byte bytes now t e h = rw (← runs_at has_timeout off is_held byte bytes, e) (ends _ now t h)
+
+module _ (now tsr due : ℕ) (empty : Bool) where
+  pub shift : (idle : Bool) → (same idle (due == NEVER) && cond idle (empty && (tsr == 0)) (nat_lt now due && nat_le due (now + LONGEST_CHARACTER))) ≡ true
+      → tsr < 256 → IsShift now (shift_of tsr due)
+  shift true h b = let q : (due == NEVER) ≡ true = (and_parts _ _ h).0 in rw q tt
+  shift false h b =
+      let p = and_parts _ _ h in
+      let q = and_parts _ _ p.1 in
+      rw (not-true (due == NEVER) p.0) (record { byte = b; later = ltb-true _ _ q.0; in_time = leb-true _ _ q.1 })
+
+  pub idle-empty : (idle : Bool) → (same idle (due == NEVER) && cond idle (empty && (tsr == 0)) (nat_lt now due && nat_le due (now + LONGEST_CHARACTER))) ≡ true → is_some (shift_of tsr due) ≡ false → empty ≡ true
+  idle-empty true h n = (and_parts _ _ (and_parts _ _ h).1).0
+  idle-empty false h n = absurd (false≢true (sym (rw (not-true (due == NEVER) (and_parts _ _ h).0) at n)))
+
+pub waiting-empty : (off ready empty unused : Bool) (byte : ℕ) (first second some : Bool) (tx : List ℕ) → is_empty tx ≡ unused → cond off (first && second) (same ready some && same empty unused) ≡ true → empty ≡ true → is_empty (cond off (cond (not empty) (byte ∷ []) []) tx) ≡ true
+waiting-empty true ready empty unused byte first second some tx u h e = rw e refl
+waiting-empty false ready empty unused byte first second some tx u h e = u ∙ (let p : same empty unused ≡ true = (and_parts _ _ h).1 in rw e at p)
+
+-- ---- the whole port
+
+-- numbers in their kinds' ranges
+record HasRanges (n : PortNumbers) : Type 0 where
+  divisor : n.divisor < 65536
+  lcr : n.lcr < 256
+  scr : n.scr < 256
+  rbr : n.rbr < 256
+  thr : n.thr < 256
+  tsr : n.tsr < 256
+  rx : AreBytes (stored_bytes n.rx n.rx_ring)
+  tx : AreBytes (stored_bytes n.tx n.tx_ring)
+
+implied : (a b : Bool) → (not a || b) ≡ true → a ≡ true → b ≡ true
+implied true b h e = h
+implied false b h e = cc
+
+module _ (level now : ℕ) (n : PortNumbers) (is_level : IsLevel level) (ranges : HasRanges n) (rules : Hold level now n) where
+  registers : HasRegisters level n.divisor n.ier n.lcr n.mcr n.scr (is_some (fifos_of n.fcr))
+  unfolding registers_hold fcr_holds
+  registers =
+      let low = and_parts _ _ rules.registers in
+      let ier : n.ier ≤ 15 = leb-true _ _ low.0 in
+      let mcr : n.mcr ≤ 31 = leb-true _ _ (and_parts _ _ low.1).0 in
+      let fifos = level-on level n.fcr rules.fcr in
+      search
+
+  receiver : IsReceiver now level (is_some (fifos_of n.fcr)) (port_of level n).receiver
+  unfolding port_of timeout_holds
+  receiver = rw (is_on n.fcr) (record {
+    short = short (n.fcr == 0) (has n.lsr 0) n.rbr (stored_bytes n.rx n.rx_ring) (stored-short n.rx n.rx_ring);
+    bytes = are_bytes (n.fcr == 0) (has n.lsr 0) n.rbr (stored_bytes n.rx n.rx_ring) ranges.rbr ranges.rx;
+    timeout = timeout (nat_le 3 level) (n.fcr == 0) (has n.lsr 0) (is_unused n.rx n.rx_ring) n.rbr (stored_bytes n.rx n.rx_ring) now n.timeout_at
+        (stored-empty n.rx n.rx_ring) rules.timeouts;
+  })
+
+  none_waits : has n.lsr 5 ≡ true → is_empty (port_of level n).transmitter.waiting ≡ true
+  unfolding port_of status_holds
+  none_waits = waiting-empty (n.fcr == 0) (has n.lsr 0) (has n.lsr 5) (is_unused n.tx n.tx_ring) n.thr (has n.lsr 0 || (n.rbr == 0))
+      (not (has n.lsr 5) || (n.thr == 0)) (not (is_unused n.rx n.rx_ring)) (stored_bytes n.tx n.tx_ring) (stored-empty n.tx n.tx_ring) rules.status
+
+  transmitter : IsTransmitter now (is_some (fifos_of n.fcr)) (port_of level n).transmitter (port_of level n).thr_empty
+  unfolding port_of shift_holds latch_holds
+  transmitter = rw (is_on n.fcr) (record {
+    short = short (n.fcr == 0) (not (has n.lsr 5)) n.thr (stored_bytes n.tx n.tx_ring) (stored-short n.tx n.tx_ring);
+    bytes = are_bytes (n.fcr == 0) (not (has n.lsr 5)) n.thr (stored_bytes n.tx n.tx_ring) ranges.thr ranges.tx;
+    shift = shift now n.tsr n.tx_due (has n.lsr 5) (has n.lsr 6) rules.shifts ranges.tsr;
+    idle = λ e. none_waits (idle-empty now n.tsr n.tx_due (has n.lsr 5) (has n.lsr 6) rules.shifts e);
+    latched = λ e. none_waits (implied _ _ (and_parts _ _ rules.latch).1 e);
+  })
+
+  sound : IsSound now (port_of level n)
+  unfolding port_of
+  sound = record { registers = registers; receiver = receiver; transmitter = transmitter }
+
+-- the ranges of cells
+module _ (cells : List ℤ) (is : IsPortCells cells) where
+  array-bytes : (place : ℕ) → THR_IPENDING < place → place + 16 ≤ TIMEOUT_AT → AreBytes (bytes_at cells place)
+  array-bytes place low high =
+      firsts-bytes (λ i. number_at cells (place + i)) 0 16 (λ k l m. number-lt U8 (cell_at cells (place + k)) (in_arrays cells place 16 is.of_kinds (omega arith) high (place + k) (omega arith) (omega arith)))
+
+  ranges-of : HasRanges (numbers_of cells)
+  unfolding numbers_of
+  ranges-of =
+      let divisor = number-lt U16 (cell_at cells DIVISOR) (is.of_kinds.in_range DIVISOR (omega arith)) in
+      let rx = stored-bytes (array_at cells RX_COUNT) (ring_at cells RX_DATA) (array-bytes RX (omega arith) (omega arith))
+      (ring-bytes cells is.of_kinds RX_DATA (omega arith) (omega arith)) in
+      let tx = stored-bytes (array_at cells TX_COUNT) (ring_at cells TX_DATA) (array-bytes TX (omega arith) (omega arith))
+      (ring-bytes cells is.of_kinds TX_DATA (omega arith) (omega arith)) in
+      search (arith, byte-at cells is.of_kinds)
+
+own-level : (level : ℕ) (n : PortNumbers) → (port_of level n).level ≡ level
+unfolding port_of
+own-level level n = refl
+
+pub restored_is_sound : RestoredIsSound
+restored_is_sound numbers cells port can e =
+    let h = hold numbers.level numbers.moment (numbers_of cells) port (hook-ok _ port e) in
+    subst (IsSoundAt numbers.level numbers.moment) h.1 (record {
+      sound = sound numbers.level numbers.moment (numbers_of cells) can.pass.is_level (ranges-of cells can.port_cells) h.0;
+      own_level = own-level numbers.level (numbers_of cells);
+    })
+
+-- ---- a port is sound exactly if a stream can describe it and the rules hold for what is saved
+
+-- from sound to held
+told : (now : ℕ) (runs : Bool) (timeout : Option ℕ) → now ≤ LAST_MOMENT → IsTimeout now runs timeout → IsTold timeout
+told now runs None h t = tt
+told now runs (Some moment) h t = omega arith
+
+is-byte : (now : ℕ) (shift : Option Shift) → IsShift now shift → IsByte shift
+is-byte now None s = tt
+is-byte now (Some shift) s = s.byte
+
+held : (now : ℕ) (port : Port) → now ≤ LAST_MOMENT → IsSound now port → IsHeld port
+held now port h s =
+    let timeout = told now _ port.receiver.timeout h s.receiver.timeout in
+    let shift = is-byte now port.transmitter.shift s.transmitter.shift in
+    search
+
+-- and back, by the rules
+fifos-level : (level : ℕ) (fifos : Option Trigger) (rest : Bool) → ((fcr_number fifos == 0) || (nat_le 2 level && rest)) ≡ true → is_some fifos ≡ true → 2 ≤ level
+fifos-level level None rest h e = cc
+fifos-level level (Some trigger) rest h e = leb-true 2 level (and_parts _ _ (rw (on trigger) at h)).0
+
+shift-from : (now : ℕ) (shift : Option Shift) (idle empty five : Bool) → idle ≡ (empty && not (is_some shift)) → IsByte shift
+    → (same idle (due_number shift == NEVER) && cond idle five (nat_lt now (due_number shift) && nat_le (due_number shift) (now + LONGEST_CHARACTER))) ≡ true
+    → IsShift now shift
+shift-from now None idle empty five e b h = tt
+shift-from now (Some shift) true true five e b h = absurd (false≢true (sym e))
+shift-from now (Some shift) true false five e b h = cc
+shift-from now (Some shift) false empty five e b h =
+    let p = and_parts _ _ (and_parts _ _ h).1 in
+    record { byte = b; later = ltb-true _ _ p.0; in_time = leb-true _ _ p.1 }
+
+idle-from : (shift : Option Shift) (idle empty rest : Bool) → idle ≡ (empty && not (is_some shift)) → (same idle (due_number shift == NEVER) && rest) ≡ true
+    → is_some shift ≡ false → empty ≡ true
+idle-from None idle true rest e h n = refl
+idle-from _ _ _ rest e h n = cc
+
+timeout-from : (now : ℕ) (runs : Bool) (timeout : Option ℕ) → IsTold timeout → cond runs (not (moment_number timeout == NEVER) && nat_le (moment_number timeout) (now + longest_timeout)) (moment_number timeout == NEVER) ≡ true → IsTimeout now runs timeout
+timeout-from now true None t h = cc
+timeout-from now false None t h = refl
+timeout-from now true (Some moment) t h = record { runs_now = refl; in_time = leb-true _ _ (and_parts _ _ h).1 }
+timeout-from now false (Some moment) t h = absurd (let e = eqb-true moment NEVER h in omega arith)
+
+module _ (now : ℕ) (port : Port) (is : IsHeld port) (rules : Hold port.level now (saved 4 now port)) where
+  abbrev lsr : IsStatus (lsr_of port) (not (is_empty port.receiver.held)) port.receiver.overrun (is_empty port.transmitter.waiting)
+      (is_empty port.transmitter.waiting && not (is_some port.transmitter.shift))
+  lsr = lsr-status port
+
+  port-registers : HasRegisters port.level port.divisor port.ier port.lcr port.mcr port.scr (is_some port.fifos)
+  unfolding registers_hold fcr_holds saved
+  port-registers =
+      let low = and_parts _ _ rules.registers in
+      let ier : port.ier ≤ 15 = leb-true _ _ low.0 in
+      let mcr : port.mcr ≤ 31 = leb-true _ _ (and_parts _ _ low.1).0 in
+      let fifos = fifos-level port.level port.fifos _ rules.fcr in
+      search
+
+  port-timeout : IsTimeout now (nat_le 3 port.level && (is_some port.fifos && not (is_empty port.receiver.held))) port.receiver.timeout
+  unfolding timeout_holds saved
+  port-timeout =
+      timeout-from now (nat_le 3 port.level && (is_some port.fifos && not (is_empty port.receiver.held))) port.receiver.timeout is.timeout
+      (rw (unused-at 4 port.fifos port.receiver.held, runs-same port.fifos port.receiver.held) at rules.timeouts)
+
+  port-shift : IsShift now port.transmitter.shift
+  unfolding shift_holds saved
+  port-shift = shift-from now port.transmitter.shift (has (lsr_of port) 6) (is_empty port.transmitter.waiting) _ lsr.idle_bit is.shift rules.shifts
+
+  idle : is_some port.transmitter.shift ≡ false → is_empty port.transmitter.waiting ≡ true
+  unfolding shift_holds saved
+  idle = idle-from port.transmitter.shift (has (lsr_of port) 6) (is_empty port.transmitter.waiting) _ lsr.idle_bit rules.shifts
+
+  port-sound : IsSound now port
+  port-sound = search (port-registers, port-timeout, port-shift, idle)
+
+pub sound_meets_rules : SoundMeetsRules
+sound_meets_rules now port early = (
+  λ s. let r = restored-saved 4 now port early s in (held now port early s, (r.0, r.1)),
+  λ h. port-sound now port h.0 (hold port.level now (saved 4 now port) h.1.0 h.1.1).0,
+)

@@ -1,0 +1,322 @@
+-- The commands that play a script: `save`, `play` and `load`.
+use Rattle.vms_board_commands.proofs.Facade.{◌≡◌, ℕ, List, Option, Result, None, Ok, Err, IfOk, IsErrAnd, refl, Bool, true, Some, Global, Vec}
+use Rattle.vms_board_commands.proofs.Facade.{AreEvents, Event, Looks, Stock, SetCause, Asks, FetchCause, HadCause, ReadCause, Ending, BadText, ShelfFault}
+use Rattle.vms_board_commands.proofs.Facade.{NotThere, TooLarge, NoMemory, are_events, reads_exactly, AreLines, ScriptLine, Reading, script_read, event_lines}
+use Rattle.vms_board_commands.proofs.Facade.{ReadsLines, ScriptFault, ◌≤◌, length, ap, arith, Family, saved_stream, after_events, Held, fetched_gives}
+use Rattle.vms_board_commands.proofs.Facade.{sound_fetch, sound_next, Step, Untold, Gives, Ends, next, events_of, saved_after, longest_script, said_lines}
+use Rattle.vms_board_commands.proofs.Facade.{scripted, power_on, Saves, SaveFault, Outlet, stops_prefix, mapped_by, TextEnds, ◌<◌, ◌^◌, [], take, inl}
+use Rattle.vms_board_commands.proofs.Facade.{inr, sym, subst, IsSomeAnd, Appends, State, Intake, takes_nothing, DoneAs, EndsAs, Outcome, Part, ComesTo}
+use Rattle.vms_board_commands.proofs.Facade.{FailsToStore, held_after, text_of, Plays, session_of, DoesSome, LinesEnd, PlayFault, Session, ReadFault}
+use Rattle.vms_board_commands.proofs.Facade.{WriteFault, rose_since, begun_whole, PlaysAll, ending_by, sessions_end, sessions_are_one, ◌∙◌, IsLevel}
+use Rattle.vms_board_commands.proofs.Facade.{power_on-sound, HoldsAll, ◌+◌, length-append, ArrayVec, IsRefused, RestoreReads, Back, Restores, Standing}
+use Rattle.vms_board_commands.proofs.Facade.{one_restore, answers_to, trace_of, Refusal, reads_as, WritesAs, refused_line, done, ended, events_back, trace_from}
+use Rattle.vms_board_commands.proofs.Facade.{FitsHeads, IsBytes, WellFormed, fault_within, most_given, StepAs, LoadGives, Loads, Traces, Faulty, Unfit, Seen}
+use Rattle.vms_board_commands.proofs.Facade.{◌∷◌, IsFaultAt, IsMisfitAt, Restore, bytes_come, no_fault, Reason, one_fault_holds}
+use Rattle.vms_board_commands.proofs.RunLemmas.{TakesSo, reads_all, seen_refused, seen_written}
+use Rattle.vms_board_commands.specs.Save.{ending_by as save_ending}
+use Rattle.vms_commands.proofs.StepLemmas.{IsSound}
+use Rattle.vms_board.specs.Restoring.{Refused}
+use Rattle.vms_board.specs.declared.save.SaveFault.TheVariants.{WriteFault as SaveFails, NoMemory as SaveLacksMemory}
+use Rattle.vms_session.specs.Session.{begun}
+use Rattle.vms_session.specs.declared.line.PlayFault.TheVariants as faults
+use Rattle.vms_board.specs.declared.restore.RestoreFault.TheVariants as restores
+use Rattle.vms_commands.specs.declared.ending.Ending.TheVariants as endings
+
+-- ---- a script that is fetched and read, as a step
+
+module _ {T : Type 0} (lines : T → List ScriptLine) where
+  -- lines that are read may be in a script
+  pub good_lines : (play : Option ℕ) (text : List ℕ) (t : T) → ReadsLines lines (script_read play text) (Ok t) → AreLines play (lines t)
+  good_lines play text t h = by _ refl h
+    where
+      by : (r : Reading) → script_read play text ≡ r → ReadsLines lines r (Ok t) → AreLines play (lines t)
+      by (Ok said) e h = rw h ((reads_exactly.only play text said e).0)
+      by (Err fault) e h = absurd h
+
+  -- and so are those that are obtained from it
+  pub had_lines : (play : Option ℕ) (text : List ℕ) (read : Result T ScriptFault) (r : Result T Ending) → ReadsLines lines (script_read play text) read → IfOk r (λ t. read ≡ Ok t)
+      → IfOk r (λ t. AreLines play (lines t))
+  had_lines play text read (Ok t) h same = good_lines play text t (rw same at h)
+  had_lines play text read (Err e) h same = tt
+
+-- a text that isn't fetched or isn't read isn't available
+pub unfetched : (T : Type 0) (asks : Bool) (s s' : Stock) (e : Ending) → asks ≡ true → FetchCause {T = T} s s' (Err e) → SetCause asks s s' (Some e)
+unfetched T asks s s' ShelfFault is c = (is, c)
+unfetched T asks s s' (NotThere line) is c = is
+unfetched T asks s s' (TooLarge line) is c = is
+unfetched T asks s s' NoMemory is c = tt
+unfetched T asks s s' e is c = absurd c
+
+pub unread : (T : Type 0) (asks : Bool) (s s' : Stock) (e : Ending) → ReadCause {T = T} asks (Err e) → SetCause asks s s' (Some e)
+unread T asks s s' (BadText line) c = c
+unread T asks s s' NoMemory c = tt
+unread T asks s s' e c = absurd c
+
+-- the lines of a text that was fetched, or the end if it wasn't
+pub read_asks : {T : Type 0} {s s' : Stock} (r : Result T Ending) → Looks s s' → ReadCause true r → Asks (HadCause true) s s' r
+read_asks (Ok v) looks h = record { looks = looks; cause = tt }
+read_asks {T} {s} {s'} (Err e) looks h = record { looks = looks; cause = unread T true s s' e h }
+
+pub unfetched_asks : {T U : Type 0} {s s' : Stock} {e : Ending} (r : Result U Ending) → IsErrAnd r (λ x. x ≡ e) → Asks (FetchCause {T = T}) s s' (Err e) → Asks (HadCause true) s s' r
+unfetched_asks (Ok v) h a = absurd h
+unfetched_asks {T} {U} {s} {s'} {e} (Err x) h a = rw h (record { looks = a.looks; cause = unfetched T true s s' e refl a.cause })
+
+-- events that are obtained may be applied
+pub had_events : (text : List ℕ) (read : Result (Vec Event Global) ScriptFault) (r : Result (Vec Event Global) Ending) → ReadsLines (λ (v : Vec Event Global). event_lines v.items) (script_read None text) read
+    → IfOk r (λ v. read ≡ Ok v) → IfOk r (λ v. AreEvents v.items)
+had_events text read (Ok v) h same = are_events None _ (had_lines (λ (v : Vec Event Global). event_lines v.items) None text read (Ok v) h same)
+had_events text read (Err e) h same = tt
+
+-- ---- the step that gives a script. It is known if the shelf is, never ends with the status 0, and gives lines that may be in a script.
+
+sound_said : (held : Option Held) (r : Reading) → IsSound held (said_lines r)
+sound_said held (Ok lines) = tt
+sound_said held (Err fault) = omega arith
+
+pub sound_script : (play : Option ℕ) (held : Option Held) (name : List ℕ) → IsSound held (scripted play held name)
+sound_script play held name = sound_next held _ (λ text. said_lines (script_read play text)) (sound_fetch held _ name) (λ text. sound_said held _)
+
+pub sound_saved : {S : Type 0} (f : Family S) (number set : ℕ) (held : Option Held) (name : List ℕ) → IsSound held (saved_after f number set held name)
+sound_saved f number set held name =
+    sound_next held _ (λ lines. Gives (saved_stream f set (after_events f (events_of lines) (f.power_on number)))) (sound_script None held name) (λ lines. tt)
+
+-- lines that the step gives may be in a script, for a session on a board of this level
+abbrev pub AreStepLines : Option ℕ → Step (List ScriptLine) → Type 0
+AreStepLines play Untold = Unit {0}
+AreStepLines play (Gives lines) = AreLines play lines
+AreStepLines play (Ends status line) = Unit {0}
+
+said-script : (play : Option ℕ) (text : List ℕ) (r : Reading) → script_read play text ≡ r → AreStepLines play (said_lines r)
+said-script play text (Ok lines) e = (reads_exactly.only play text lines e).0
+said-script play text (Err fault) e = tt
+
+step-lines : (play : Option ℕ) (s : Step (List ℕ)) → AreStepLines play (next s (λ text. said_lines (script_read play text)))
+step-lines play (Gives text) = said-script play text _ refl
+step-lines play _ = tt
+
+pub scripted_lines : (play : Option ℕ) (held : Option Held) (name : List ℕ) → AreStepLines play (scripted play held name)
+scripted_lines play held name = step-lines play _
+
+-- a script that is there is read
+pub script_gives : (play : Option ℕ) (map : Held) (name text : List ℕ) (lines : List ScriptLine) → map name ≡ Some text → length text ≤ longest_script
+    → script_read play text ≡ Ok lines → scripted play (Some map) name ≡ Gives lines
+script_gives play map name text lines held short reads = rw (fetched_gives _ map name text held short) (ap said_lines reads)
+
+-- ---- the ending of `save`, from the result of saving a board
+
+pub saved_ends : (bytes text : List ℕ) (o o' : Outlet) (r : Result Unit SaveFault) → bytes ≡ text → Saves bytes o o' r → TextEnds (Gives text) o o' (mapped_by save_ending r)
+saved_ends bytes text o o' (Ok u) e h = rw e at h.told
+saved_ends bytes text o o' (Err SaveFails) e h = rw e at (stops_prefix h)
+saved_ends bytes text o o' (Err SaveLacksMemory) e h = tt
+
+pub at_level : (level : ℕ) → (power_on level).level ≡ level
+unfolding power_on
+at_level level = refl
+
+-- ---- the ending of `play`, from the results of its lines
+
+-- the parts and the session that the lines result in
+abbrev pub Content : List ScriptLine → State → State → (o o' : Outlet) (s s' : Stock) → Result Unit PlayFault → Type 0
+Content lines board board' o o' s s' result =
+    (held : Held) (parts : List Part) (new : Session) → s.held ≡ Some held → Plays lines (session_of board held) parts new → LinesEnd parts new o o' s s' board' result
+
+module _ (level : ℕ) (lines : List ScriptLine) (i : Intake) (o o' : Outlet) (s s' : Stock) (board board' : State) (x : Outcome) (on : board ≡ power_on level) where
+  at-power-on : (result : Result Unit PlayFault) → Content lines board board' o o' s s' result → Content lines (power_on level) board' o o' s s' result
+  at-power-on result content = rw on at content
+
+  -- parts that are done were begun
+  comes_so : (parts : List Part) → DoesSome o o' s s' parts → ComesTo o o' s s' parts
+  comes_so parts h = record {
+    begun = h.done;
+    bytes = length (text_of parts);
+    text = subst (Appends o.written o'.written) (sym (begun_whole h.done _ parts (omega arith))) h.text;
+    held = h.held;
+  }
+
+  -- by each result
+  as_ending : (r : Result Unit PlayFault) (parts : List Part) (new : Session) → i.given < 2 ^ 64 → LinesEnd parts new o o' s s' board' r
+      → EndsAs i i o o' s s' (mapped_by ending_by r) (record { status = 0; parts = parts; note = []; taken = 0 })
+  as_ending (Ok u) parts new few h = record { status_is = refl; text = h.0; note = refl; held = h.1; taken = takes_nothing i few }
+  as_ending (Err faults.WriteFault) parts new few h = h
+  as_ending (Err faults.ShelfFault) parts new few (inl h) = inl (comes_so parts h)
+  as_ending (Err faults.ShelfFault) parts new few (inr h) = inr h
+  as_ending (Err faults.NoMemory) parts new few h = comes_so parts h
+
+  -- however it ends
+  pub played_by : (r : Result Unit PlayFault) → i.given < 2 ^ 64 → Content lines board board' o o' s s' r → IsSomeAnd s.held (λ map. PlaysAll level lines map x)
+      → EndsAs i i o o' s s' (mapped_by ending_by r) x
+  played_by r few content has = by s.held refl has
+    where
+      by : (held : Option Held) → s.held ≡ held → IsSomeAnd held (λ map. PlaysAll level lines map x) → EndsAs i i o o' s s' (mapped_by ending_by r) x
+      by None e h = absurd h
+      by (Some map) e h = rw h.outcome (as_ending r h.parts h.new few (at-power-on r content map h.parts h.new e h.plays))
+
+-- ---- from before the script was fetched
+
+module _ (i i' : Intake) (o o' : Outlet) (a b s' : Stock) (held : b.held ≡ a.held) (le : a.faults ≤ b.faults) (x : Outcome) where
+  done-since : DoneAs i i' o o' b s' x → DoneAs i i' o o' a s' x
+  done-since d = record { status_is = d.status_is; text = d.text; note = d.note; held = cc; taken = d.taken }
+
+  comes-since : ComesTo o o' b s' x.parts → ComesTo o o' a s' x.parts
+  comes-since c = record { begun = c.begun; bytes = c.bytes; text = c.text; held = cc (c.held) }
+
+  fails-since : FailsToStore o o' b s' x.parts → FailsToStore o o' a s' x.parts
+  fails-since c = record {
+    done = c.done;
+    text = c.text;
+    rose = rose_since _ _ _ le c.rose;
+    held = rw (ap (λ (h : Option Held). held_after h (take c.done x.parts)) held) at c.held;
+  }
+
+  pub ends_since : (e : Option Ending) → EndsAs i i' o o' b s' e x → EndsAs i i' o o' a s' e x
+  ends_since None h = done-since h
+  ends_since (Some ReadFault) h = comes-since h
+  ends_since (Some WriteFault) h = comes-since h
+  ends_since (Some ShelfFault) (inl h) = inl (comes-since h)
+  ends_since (Some ShelfFault) (inr h) = inr (fails-since h)
+  ends_since (Some NoMemory) h = comes-since h
+  ends_since e h = h
+
+-- ---- a script has one outcome of `play`, whatever bytes the shelf holds
+
+abbrev played : List Part → Outcome
+played parts = record { status = 0; parts = parts; note = []; taken = 0 }
+
+module _ (level : ℕ) (lines : List ScriptLine) (held : Held) (is : IsLevel level) (are : AreLines (Some level) lines) (holds : HoldsAll held) where
+  good : AreLines (Some (begun level held).board.level) lines
+  good = rw (at_level level) are
+
+  pub has_end : (o : Outcome) × PlaysAll level lines held o
+  has_end =
+      let end = sessions_end.ends lines (begun level held) good (power_on-sound level is) holds in
+      (played end.parts, record { parts = end.parts; new = end.new; plays = end.plays; outcome = refl })
+
+  pub one_outcome : (o x : Outcome) → PlaysAll level lines held o → PlaysAll level lines held x → x ≡ o
+  one_outcome o x p q =
+      let one = sessions_are_one.one lines (begun level held) q.parts p.parts q.new p.new good (power_on-sound level is) holds q.plays p.plays in
+      q.outcome ∙ ap played one.same ∙ sym p.outcome
+
+-- ---- the outcome of `load`, from the results of a restore and of a trace
+
+module _ {S : Type 0} (kind : Family S) (well : WellFormed (kind.set kind.newest)) (heads : FitsHeads (kind.set kind.newest)) (level : ℕ) (lines : List ScriptLine) where
+  abbrev trace-from : S → List ℕ
+  trace-from m = trace_of (answers_to kind (events_of lines) m)
+
+  pub done_is : (bytes : List ℕ) (held : Option Held) (m : S) (taken : ℕ) (x : Outcome) → IsBytes bytes → Restores kind level bytes (Back m taken)
+      → Loads kind level lines bytes held x → x ≡ done (trace-from m) held taken
+  done_is bytes held m taken x ok r (Traces board long s) = let same = one_restore kind well heads level bytes ok (Back board long) (Back m taken) s r in cc
+  done_is bytes held m taken x ok r (Faulty place section reason size f) =
+      let same = one_restore kind well heads level bytes ok (Refused place section reason) (Back m taken) (inl (size, f)) r in cc
+  done_is bytes held m taken x ok r (Unfit place section reason f) =
+      let same = one_restore kind well heads level bytes ok (Refused place section reason) (Back m taken) (inr f) r in cc
+
+-- the trace of events is that of their lines
+pub written_events : {S : Type 0} (kind : Family S) (events : List Event) (m : S) (o o' : Outlet) (e : Option Ending) → WritesAs (trace_from kind events m) o o' e → WritesAs (trace_from kind (events_of (event_lines events)) m) o o' e
+written_events kind events m o o' e w = rw (events_back events) w
+
+-- ---- what is seen
+
+module _ {S : Type 0} (kind : Family S) (level : ℕ) (lines : List ScriptLine) where
+  abbrev OfLoads : Option Held → List ℕ → Outcome → Type 0
+  OfLoads held bytes x = Loads kind level lines bytes held x
+
+  -- a board was restored, and its trace was written, or some of it
+  pub trace_seen : {i i' : Intake} {o o' : Outlet} {s s' : Stock} (new : Standing S) (e : Option Ending) → s'.held ≡ s.held → RestoreReads kind level i i' new (Ok tt)
+      → WritesAs (trace_from kind (events_of lines) new.state) o o' e → Seen (OfLoads s.held) i i' o o' s s' e
+  trace_seen {i} {i'} {o} {o'} {s} new e held reads w =
+      let text = trace_from kind (events_of lines) new.state in
+      seen_written {P = OfLoads s.held} text new.taken e held
+      (reads_as {M = λ n. n ≡ new.taken} {Q = λ input left. OfLoads s.held input (done text s.held new.taken)} (λ n l. l.0) (λ input left comes. Traces new.state new.taken comes.0) reads) w
+
+  -- a refusal reads the bytes up to the end of the invalid unit, or the whole stream
+  refusal_takes : (held : Option Held) (r : Refusal) (line input left : List ℕ) → line ≡ refused_line (kind.set kind.newest) r.at r.section r.reason → IsRefused kind level input (Some left) r
+      → TakesSo (λ bytes n. OfLoads held bytes (ended 1 line n)) input left
+  refusal_takes held r line input left said (inl f) = record {
+    taken = r.at + f.0.0;
+    says = rw said (Faulty r.at r.section r.reason f.0.0 f.0.1);
+    within = fault_within _ _ input r.at _ _ f.0.0 f.0.1;
+    rest = f.1;
+  }
+  refusal_takes held r line input left said (inr f) =
+      let takes = f.0.taken.1 in
+      record {
+        taken = r.at;
+        says = rw said (Unfit r.at r.section r.reason f.0);
+        within = omega (arith, ap length takes.prefix, length-append takes.bytes takes.rest);
+        rest = f.1;
+      }
+
+  pub refusal_seen : {i i' : Intake} {o o' : Outlet} {s s' : Stock} (new : Standing S) (r : Refusal) (line : ArrayVec ℕ) → RestoreReads kind level i i' new (Err (restores.Refused r))
+      → line.items ≡ refused_line (kind.set kind.newest) r.at r.section r.reason → Seen (OfLoads s.held) i i' o o' s s' (Some (endings.Refused line))
+  refusal_seen {i} {i'} {o} {o'} {s} new r line reads said =
+      seen_refused {P = OfLoads s.held} line (length reads.bytes)
+      (reads_all (λ bytes n. OfLoads s.held bytes (ended 1 line.items n)) reads (λ input left comes. refusal_takes s.held r _ input left said comes))
+
+-- ---- the number of bytes that the input gives
+
+pub gives_some : {A T S : Type 0} (kind : Family S) (view : T → A) (step : Step A) (t : T) (i i' : Intake) → StepAs view step (Ok t)
+    → i'.given ≤ i.given + most_given (kind.set kind.newest) → LoadGives kind step i i'
+gives_some kind view (Ends status line) t i i' h within = absurd h
+gives_some kind view _ t i i' h within = within
+
+pub gives_none : {A S : Type 0} (kind : Family S) (step : Step A) (i : Intake) → LoadGives kind step i i
+gives_none kind Untold i = omega arith
+gives_none kind (Gives a) i = omega arith
+gives_none kind (Ends status line) i = refl
+
+-- the outcome for the board with this number, if the input is known
+abbrev pub loads_under : {S : Type 0} → Family S → ℕ → Option (List ℕ) → Option Held → List ScriptLine → Outcome → Type 0
+loads_under kind level input held lines x = IsSomeAnd input (λ bytes. Loads kind level lines bytes held x)
+
+-- ---- an input and a script have one outcome of `load`
+
+pub record OneLoad {S : Type 0} (kind : Family S) (level : ℕ) (lines : List ScriptLine) (bytes : List ℕ) (held : Option Held) : Type 0 where
+  pub outcome : Outcome
+  pub is : Loads kind level lines bytes held outcome
+  pub only : (other : Outcome) → Loads kind level lines bytes held other → other ≡ outcome
+
+module _ {S : Type 0} (kind : Family S) (well : WellFormed (kind.set kind.newest)) (heads : FitsHeads (kind.set kind.newest)) (level : ℕ) (lines : List ScriptLine) (bytes : List ℕ) (held : Option Held) (ok : IsBytes bytes) where
+  -- an invalid input
+  faulty-is : (place : ℕ) (section : Option ℕ) (reason : Reason) (f : IsFaultAt kind level bytes place section reason) (x : Outcome) → Loads kind level lines bytes held x
+      → x ≡ ended 1 (refused_line (kind.set kind.newest) place section reason) (place + f.0)
+  faulty-is place section reason f x (Traces board long s) =
+      let same = one_restore kind well heads level bytes ok (Refused place section reason) (Back board long) (inl f) s in cc
+  faulty-is place section reason f x (Faulty other section' reason' size g) =
+      let one = one_fault_holds (kind.set kind.newest) (kind.machine level ∷ []) bytes ok other place section' section reason' reason size f.0 g f.1 in
+      cc (one.places, one.sections, one.reasons, one.sizes)
+  faulty-is place section reason f x (Unfit other section' reason' g) =
+      absurd (no_fault kind well heads level bytes ok other g.images place section reason g.taken f)
+
+  -- a stream whose state no board has
+  unfit-is : (place : ℕ) (section : Option ℕ) (reason : Reason) (f : IsMisfitAt kind level bytes place section reason) (x : Outcome) → Loads kind level lines bytes held x
+      → x ≡ ended 1 (refused_line (kind.set kind.newest) place section reason) place
+  unfit-is place section reason f x (Traces board long s) =
+      let same = one_restore kind well heads level bytes ok (Refused place section reason) (Back board long) (inr f) s in cc
+  unfit-is place section reason f x (Faulty other section' reason' size g) =
+      absurd (no_fault kind well heads level bytes ok place f.images other section' reason' f.taken (size, g))
+  unfit-is place section reason f x (Unfit other section' reason' g) =
+      let same = one_restore kind well heads level bytes ok (Refused other section' reason') (Refused place section reason) (inr g) (inr f) in cc
+
+  by : (r : Restore S) → Restores kind level bytes r → OneLoad kind level lines bytes held
+  by (Back m taken) r = record {
+    outcome = done (trace_of (answers_to kind (events_of lines) m)) held taken;
+    is = Traces m taken r;
+    only = λ other l. done_is kind well heads level lines bytes held m taken other ok r l;
+  }
+  by (Refused place section reason) (inl f) = record {
+    outcome = ended 1 (refused_line (kind.set kind.newest) place section reason) (place + f.0);
+    is = Faulty place section reason f.0 f.1;
+    only = faulty-is place _ reason f;
+  }
+  by (Refused place section reason) (inr f) = record {
+    outcome = ended 1 (refused_line (kind.set kind.newest) place section reason) place;
+    is = Unfit place section reason f;
+    only = unfit-is place _ reason f;
+  }
+
+  pub loads_one : OneLoad kind level lines bytes held
+  loads_one = let some = bytes_come kind well heads level bytes ok in by some.0 some.1
+
+  -- so two are the same
+  pub loads_same : (x y : Outcome) → Loads kind level lines bytes held x → Loads kind level lines bytes held y → y ≡ x
+  loads_same x y p q = cc (loads_one.only y q, loads_one.only x p)
