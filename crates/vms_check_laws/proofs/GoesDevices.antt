@@ -88,7 +88,7 @@ module _ (old new : Set) (good_old : WellFormed old) (good_new : WellFormed new)
 
   named_is : (s t : Sub) (l : ℕ) → slice_get e.subs l ≡ Some t → s.desc.name ≡ t.desc.name
       → named_partners old new e s ≡ part_partners old new s.desc.version s.desc t.desc (place' l)
-  named_is s t l at_l names = rw (names, sub_found new good_new i' l e t at_k at_l, at_l)
+  named_is s t l at_l names = grind (arith, sub_found)
 
   abbrev ps : List (Option ℕ)
   ps = part_partners old new d.desc.version d.desc e.desc 0

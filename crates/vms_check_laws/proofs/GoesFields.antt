@@ -65,7 +65,7 @@ module _ (structs : List Pairer) (cs : List Carrier) (ms : List Meaning) (y : Li
       taken : (c r : ℕ) → slice_get (Some at' ∷ []) c ≡ Some (Some (at' + r)) → has_cell (Number at l caps ∷ []) (at + c) ≡ true
           → get_or (get_or numbers at (pos 0) ∷ []) r (pos 0) ≡ get_or numbers (at + c) (pos 0)
       taken zero zero e f = let z : at + 0 ≡ at = omega arith in rw z
-      taken zero (suc r) e f = let is : at' ≡ at' + suc r = cc in absurd (omega arith)
+      taken zero (suc r) e f = grind arith
       taken (suc c) r e f = absurd (cc)
 
       other : (r : ℕ) → r < 1 → ((c : ℕ) → slice_get (Some at' ∷ []) c ≡ Some (Some (at' + r)) → has_cell (Number at l caps ∷ []) (at + c) ≡ false)

@@ -42,7 +42,7 @@ at_left (x ∷ xs) ys zero lt = refl
 at_left (x ∷ xs) ys (suc c) lt = at_left xs ys c (omega arith)
 
 pub at_right : {A : Type 0} (xs ys : List A) (c : ℕ) → slice_get (xs ++ ys) (length xs + c) ≡ slice_get ys c
-at_right [] ys c = let z : 0 + c ≡ c = omega arith in ap (slice_get ys) z
+at_right [] ys c = grind arith
 at_right (x ∷ xs) ys c = grind (arith, at_right xs ys c)
 
 pub at_none : (n c k : ℕ) → slice_get (replicate n None) c ≡ Some (Some k) → ⊥
@@ -74,7 +74,7 @@ behind_at xs ys c b e = rw (b.is, at_right xs ys b.more) at e
 pub once_append : (p q : List (Option ℕ)) → IsOnce p → IsOnce q → Apart p q → IsOnce (p ++ q)
 once_append p q first second apart b c k e f = either (before_or_behind _ b) (before_or_behind _ c) where
   either : (b < length p) ⊎ IsBehind (length p) b → (c < length p) ⊎ IsBehind (length p) c → b ≡ c
-  either (inl lb) (inl lc) = first b c k (sym (at_left p q b lb) ∙ e) (sym (at_left p q c lc) ∙ f)
+  either (inl lb) (inl lc) = grind (arith, at_left)
   either (inl lb) (inr dc) = absurd (apart b c k lb dc e f)
   either (inr db) (inl lc) = absurd (apart c b k lc db f e)
   either (inr db) (inr dc) = omega (arith, second db.more dc.more k (behind_at p q b db e) (behind_at p q c dc f))
