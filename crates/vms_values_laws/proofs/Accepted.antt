@@ -1,14 +1,14 @@
 -- A text that was accepted is the one of its machine and images.
 use Rattle.vms_values_laws.proofs.{BadLines.fine_text, BadLines.NoneBad, Meeting.named_is, Meeting.Ends, ReadyParts.device_ready, Rights.AreGood}
-use Rattle.vms_values_laws.proofs.AllCome.{images_of, short_are}
-use Rattle.vms_values_laws.proofs.Facade.{all_both, all_from, all_parts, ◌≡◌, ℕ, suc, ◌+◌, Bool, true, false, ◌==◌, List, [], ◌∷◌, ◌++◌, length, get_or, map}
-use Rattle.vms_values_laws.proofs.Facade.{Option, Some, None, ℤ, pos, append_cancel_left, refl, sym, ap, ◌∙◌, arith, codes, zero, ◌≤◌, AllByRecursion}
-use Rattle.vms_values_laws.proofs.Facade.{slice_get, eqb-true, leb-true, ext_get_or, Sub, Device, Set, desc_cells, struct_cells, Image, own_cells, version_text}
-use Rattle.vms_values_laws.proofs.Facade.{Element, elements_in, printed, sub_line, Entry, OfMachine, OfSub, OfNumber, number_entries, subs_entries}
-use Rattle.vms_values_laws.proofs.Facade.{devices_entries, entry_line, device_entries, entries, part_reason, is_of_cell, has_line, IsShaped, AreShaped}
-use Rattle.vms_values_laws.proofs.Facade.{AreUnsaid, AllUnsaid, IsAtVersion, AreAtVersions, IsMachineOf, AreFine, Says, Demand, ForSection, ForNumber}
-use Rattle.vms_values_laws.proofs.Facade.{demand_of, Taken, lines_of, Follows, Along, ValuesReason, first_line, IsReady, AreReady, BadLine, ValuesRead, Values}
-use Rattle.vms_values_laws.proofs.Facade.{Bad, machine_named, or_bad, WellFormed, IsGood, device_parts, sub_clean, OfSection, DefaultsFit, device_cells}
+use Rattle.vms_values_laws.proofs.{AllCome.images_of, AllCome.short_are, Facade.DefaultsFit, Facade.device_cells}
+use Rattle.vms_values_laws.proofs.Facade.{all_both, all_from, all_parts, ◌≡◌, ℕ, suc, ◌+◌, Bool, true, false, ◌==◌, List, [], ◌∷◌}
+use Rattle.vms_values_laws.proofs.Facade.{◌++◌, length, get_or, map, Option, Some, None, ℤ, pos, append_cancel_left, refl, sym, ap, ◌∙◌, arith}
+use Rattle.vms_values_laws.proofs.Facade.{codes, zero, ◌≤◌, AllByRecursion, slice_get, eqb-true, leb-true, ext_get_or, Sub, Device, Set, desc_cells}
+use Rattle.vms_values_laws.proofs.Facade.{struct_cells, Image, own_cells, version_text, Element, elements_in, printed, sub_line, Entry, OfMachine, OfSub}
+use Rattle.vms_values_laws.proofs.Facade.{OfNumber, number_entries, subs_entries, devices_entries, entry_line, device_entries, entries, part_reason, is_of_cell}
+use Rattle.vms_values_laws.proofs.Facade.{has_line, IsShaped, AreShaped, AreUnsaid, AllUnsaid, IsAtVersion, AreAtVersions, IsMachineOf, AreFine, Says, Demand}
+use Rattle.vms_values_laws.proofs.Facade.{ForSection, ForNumber, demand_of, Taken, lines_of, Follows, Along, ValuesReason, first_line, IsReady, AreReady}
+use Rattle.vms_values_laws.proofs.Facade.{BadLine, ValuesRead, Values, Bad, machine_named, or_bad, WellFormed, IsGood, device_parts, sub_clean, OfSection}
 use Rattle.vms_values_laws.proofs.SecondPass.{AreShort, of_numbers, number_same, as_bad, parts_from}
 
 -- ---- Two states with the same lines, and with defaults where there is no line, are the same.

@@ -1,20 +1,19 @@
 -- The second pass over a text judges the entries of sections and subsections, in order.
-use Rattle.vms_values_laws.proofs.Facade.{◌≡◌, ℕ, suc, ◌+◌, ◌≤◌, Bool, true, false, not, ◌&&◌, List, ◌∷◌, ◌++◌, length, map, drop, Option, Some, None, ℤ, pos}
-use Rattle.vms_values_laws.proofs.Facade.{refl, sym, ap, ◌∙◌, arith, if◌then◌else◌, ◌||◌, [], drop-cons, length-append, flat_map, ValuesReason, or_else, Desc}
-use Rattle.vms_values_laws.proofs.Facade.{Sub, Device, Set, desc_cells, struct_cells, device_cells, desc_slots, meanings, Image, own_cells, rules_are_true}
-use Rattle.vms_values_laws.proofs.Facade.{is_needed, BadLine, ReadDevice, or_bad, if_bad, are_defaults, sub_fails, is_said_well, judge_subs, judge_device}
-use Rattle.vms_values_laws.proofs.Facade.{judge_devices, Number, Rule, Element, What, is_number, cells_with, cells_of, slots_of, numbers_in, CountsUp}
-use Rattle.vms_values_laws.proofs.Facade.{elements_in, slot_of, printed, Entry, OfSub, OfNumber, subs_entries, device_entries, devices_entries, if_not}
-use Rattle.vms_values_laws.proofs.Facade.{rules_hold, has_default, have_defaults, sub_holds, came_well, part_reason, rule_holds, AreShaped, walks}
-use Rattle.vms_values_laws.proofs.Facade.{elements_slots, ◌<◌, same_Some, append_cancel_left, map-id, get_or, Ok, Err, append-nil, codes, length-map}
-use Rattle.vms_values_laws.proofs.Facade.{signed_decimal, ⊎_elim, cases_lt, get_or-eq_default, OfMachine, wanted_reason, number_entries, demand_of}
-use Rattle.vms_values_laws.proofs.Facade.{reason_for, Taken, Follows, Along, Moved, ForNumber, Begins, first_line, number_spelled, Standing, Read, readers}
-use Rattle.vms_values_laws.proofs.Facade.{read_desc, IsSound, AreSound, IsShort, number_holds, shapes, desc_elements, Said, Agrees, Meets, AreBelow, has_line}
+use Rattle.vms_values_laws.proofs.{Facade.Meets, Facade.AreBelow, Facade.has_line, SaidLaws.lines_said, SaidLaws.AreShortSaid, Walk.wrapped, Walk.part_comes}
+use Rattle.vms_values_laws.proofs.Facade.{◌≡◌, ℕ, suc, ◌+◌, ◌≤◌, Bool, true, false, not, ◌&&◌, List, ◌∷◌, ◌++◌, length, map}
+use Rattle.vms_values_laws.proofs.Facade.{drop, Option, Some, None, ℤ, pos, refl, sym, ap, ◌∙◌, arith, if◌then◌else◌, ◌||◌, [], drop-cons}
+use Rattle.vms_values_laws.proofs.Facade.{length-append, flat_map, ValuesReason, or_else, Desc, Sub, Device, Set, desc_cells, struct_cells, device_cells}
+use Rattle.vms_values_laws.proofs.Facade.{desc_slots, meanings, Image, own_cells, rules_are_true, is_needed, BadLine, ReadDevice, or_bad, if_bad, are_defaults}
+use Rattle.vms_values_laws.proofs.Facade.{sub_fails, is_said_well, judge_subs, judge_device, judge_devices, Number, Rule, Element, What, is_number, cells_with}
+use Rattle.vms_values_laws.proofs.Facade.{cells_of, slots_of, numbers_in, CountsUp, elements_in, slot_of, printed, Entry, OfSub, OfNumber, subs_entries}
+use Rattle.vms_values_laws.proofs.Facade.{device_entries, devices_entries, if_not, rules_hold, has_default, have_defaults, sub_holds, came_well, part_reason}
+use Rattle.vms_values_laws.proofs.Facade.{rule_holds, AreShaped, walks, elements_slots, ◌<◌, same_Some, append_cancel_left, map-id, get_or, Ok, Err}
+use Rattle.vms_values_laws.proofs.Facade.{append-nil, codes, length-map, signed_decimal, ⊎_elim, cases_lt, get_or-eq_default, OfMachine, wanted_reason}
+use Rattle.vms_values_laws.proofs.Facade.{number_entries, demand_of, reason_for, Taken, Follows, Along, Moved, ForNumber, Begins, first_line, number_spelled}
+use Rattle.vms_values_laws.proofs.Facade.{Standing, Read, readers, read_desc, IsSound, AreSound, IsShort, number_holds, shapes, desc_elements, Said, Agrees}
+use Rattle.vms_values_laws.proofs.SaidLaws.{all_taken, moved_none, ComesTo, At, meets_all, taken_of, Told, told_none, has_said, said_both, lines_both}
 use Rattle.vms_spec.specs.declared.ValuesReason.TheVariants as reasons
 use Rattle.vms_spec.specs.ValuesReading as reading
-use Rattle.vms_values_laws.proofs.SaidLaws.{all_taken, moved_none, ComesTo, At, meets_all, taken_of, Told, told_none, has_said, said_both, lines_both}
-use Rattle.vms_values_laws.proofs.SaidLaws.{lines_said, AreShortSaid}
-use Rattle.vms_values_laws.proofs.Walk.{wrapped, part_comes}
 
 abbrev pub as_bad : ℕ → Option ValuesReason → Option BadLine
 as_bad line None = None

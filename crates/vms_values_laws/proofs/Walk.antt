@@ -1,16 +1,17 @@
 -- Reading the fields of a description, beside its elements.
-use Rattle.vms_values_laws.proofs.Facade.{◌≡◌, ℕ, List, ◌∷◌, ◌++◌, map, refl, sym, ap, ◌∙◌, Bool, true, false, ◌&&◌, if◌then◌else◌, append_assoc, codes, []}
-use Rattle.vms_values_laws.proofs.Facade.{◌<◌, zero, suc, ◌+◌, ◌*◌, ◌≤◌, length, get_or, drop, ℤ, arith, append-nil, map-append, length-append, and_assoc}
-use Rattle.vms_values_laws.proofs.Facade.{and-true, decimal, le-ltb, lt-ltb, ⊎_elim, cases_lt, Element, dotted, behind, Shape, no_shape, shape, shapes}
-use Rattle.vms_values_laws.proofs.Facade.{cells_in, single, Rule, item_elements, Stand, stand_of, array_elements, field_elements, elements_from, desc_elements}
-use Rattle.vms_values_laws.proofs.Facade.{index_text, is_number, printed, printed_append, Item, Num, Struct, Count, One, Fixed, Counted, Field, Desc, Set, Cell}
-use Rattle.vms_values_laws.proofs.Facade.{no_desc, no_field, first, counted, capacity_of, elements_of, item_size, field_cells, cells_from, desc_cells}
-use Rattle.vms_values_laws.proofs.Facade.{struct_cells, numbers_of, place_of, all_hold, Standing, Read, Reader, no_reader, reader, readers, read_item}
-use Rattle.vms_values_laws.proofs.Facade.{read_elements, read_array, read_field, read_fields, read_desc, elements_fit, field_size, IsNumber, IsOne, IsEarlier}
-use Rattle.vms_values_laws.proofs.Facade.{IsSoundField, AreSoundFields, IsSound, AreSound, there_same, elements_same, place_next, drop_next, zero_plus}
-use Rattle.vms_values_laws.proofs.Facade.{place_first, first_long, readers_cells, two_more, shapes_cells, Said, Agrees}
-use Rattle.vms_spec.specs.ValuesReading.{cells_of}
+use Rattle.vms_values_laws.proofs.Facade.{◌≡◌, ℕ, List, ◌∷◌, ◌++◌, map, refl, sym, ap, ◌∙◌, Bool, true, false, ◌&&◌}
+use Rattle.vms_values_laws.proofs.Facade.{if◌then◌else◌, append_assoc, codes, [], ◌<◌, zero, suc, ◌+◌, ◌*◌, ◌≤◌, length, get_or, drop}
+use Rattle.vms_values_laws.proofs.Facade.{ℤ, arith, append-nil, map-append, length-append, and_assoc, and-true, decimal, le-ltb, lt-ltb, ⊎_elim, cases_lt}
+use Rattle.vms_values_laws.proofs.Facade.{Element, dotted, behind, Shape, no_shape, shape, shapes, cells_in, single, Rule, item_elements, Stand, stand_of}
+use Rattle.vms_values_laws.proofs.Facade.{array_elements, field_elements, elements_from, desc_elements, index_text, is_number, printed, printed_append, Item}
+use Rattle.vms_values_laws.proofs.Facade.{Num, Struct, Count, One, Fixed, Counted, Field, Desc, Set, Cell, no_desc, no_field, first, counted, capacity_of}
+use Rattle.vms_values_laws.proofs.Facade.{elements_of, item_size, field_cells, cells_from, desc_cells, struct_cells, numbers_of, place_of, all_hold, Standing}
+use Rattle.vms_values_laws.proofs.Facade.{Read, Reader, no_reader, reader, readers, read_item, read_elements, read_array, read_field, read_fields, read_desc}
+use Rattle.vms_values_laws.proofs.Facade.{elements_fit, field_size, IsNumber, IsOne, IsEarlier, IsSoundField, AreSoundFields, IsSound, AreSound, there_same}
+use Rattle.vms_values_laws.proofs.Facade.{elements_same, place_next, drop_next, zero_plus, place_first, first_long, readers_cells, two_more, shapes_cells, Said}
+use Rattle.vms_values_laws.proofs.Facade.{Agrees}
 use Rattle.vms_values_laws.proofs.SaidLaws.{Knows, AllKnown, At, Comes, at_left, stay, then_comes, one_line, by_read}
+use Rattle.vms_spec.specs.ValuesReading.{cells_of}
 
 -- ---- The printed elements under a path.
 
