@@ -111,8 +111,8 @@ short_all n (s ∷ said) h short = short_all (slice_set n s.element.cell s.numbe
 
 -- as a test that computes
 is_short_one : (z : ℤ) → IsShort z → is_short z ≡ true
-is_short_one (pos n) h = or_right _ _ (and_from _ _ (le-leb 0 n (omega arith)) (le-leb n 0xffff_ffff_ffff_ffff (omega arith)))
-is_short_one (negsuc n) h = let e = le-leb n 0x7fff_ffff_ffff_ffff (omega arith) in rw e refl
+is_short_one (pos n) h = grind (arith, or_right, and_from)
+is_short_one (negsuc n) h = grind arith
 
 pub are_short : (n : List ℤ) → AreShort n → list_all is_short n ≡ true
 are_short [] h = refl

@@ -125,7 +125,7 @@ meet [] (x ∷ before) after rest rest' o o' f clean fine fine' e ends =
 meet (t ∷ taken) [] [] rest rest' o o' f clean fine fine' e ends = absurd f
 meet (t ∷ taken) [] (x ∷ after) rest rest' o o' f clean fine fine' e ends =
     let same : reason_for (demand_of x) (Some (t.line, [])) ≡ None = rw (f.0) fine.0 in
-    let is : rest' ≡ t.line ++ 10 ∷ (text_of (lines_of taken) ++ rest) = sym e ∙ append_assoc t.line (10 ∷ text_of (lines_of taken)) rest in
+    let is : rest' ≡ t.line ++ 10 ∷ (text_of (lines_of taken) ++ rest) = cc (append_assoc t.line (10 ∷ text_of (lines_of taken)) rest) in
     absurd (not_ended o' x after t.line (text_of (lines_of taken) ++ rest) (fine_feed (demand_of x) t.line clean.0 same) same (rw (is) at ends))
 meet (t ∷ taken) (x ∷ before) after rest rest' o o' f clean fine fine' e ends =
     let feed' = fine_feed _ _ clean.0 (fine_entry x fine'.0) in
@@ -220,8 +220,7 @@ named_one (m ∷ machines) name e h =
 -- a machine that is named is one of the set
 pub named_is : (machines : List (List ℕ)) (o : Option (List ℕ × List ℕ)) (name : List ℕ) → machine_named machines o ≡ Some name → is_one_of machines name ≡ true
 named_is machines None name e = cc
-named_is machines (Some (line, rest)) name e =
-    let p = some_if (begins_with (codes "machine ") line && is_one_of machines (drop 8 line)) _ _ e in rw (← p.1) (and_parts _ _ p.0).1
+named_is machines (Some (line, rest)) name e = grind (arith, some_if)
 
 module _ (set : Set) (well : WellFormed set) where
   clean_structs : (j : ℕ) → AreCleanFields (get_or set.structs j no_desc).fields

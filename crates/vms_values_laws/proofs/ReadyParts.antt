@@ -115,13 +115,11 @@ module _ (set : Set) (d : Device) (image : Image) (short : AreShort image.number
   device_known version long versions =
       let ss = own_slots set d image.version n in
       let later = came_slots set d n (own_cells set d) d.subs image.came in
-      let its : Known set n 0 (number_entries set d.desc n 0) (desc_cells (struct_cells set) d.desc) ss (Unit {0}) =
-      rw version (desc_part set n short d.desc d.desc.version 0) in
       let line = bytes_same (section_line d image.version) (section_line d d.desc.version) (ap (section_line d) version) in
       let rules = desc_rules set d.desc image.version n 0 in
       let own : Known set n 0 (OfSection d image ∷ number_entries set d.desc n 0) (desc_cells (struct_cells set) d.desc) ss (RulesHold ss) =
       head_known (OfSection d image) (λ k. refl) line (λ g. (rules_decide ss).0 (sym rules ∙ if_none _ _ g))
-      (λ m. rw (rules ∙ (rules_decide ss).1 m) refl) its in
+      (λ m. rw (rules ∙ (rules_decide ss).1 m) refl) (rw version (desc_part set n short d.desc d.desc.version 0)) in
       known_both (λ a b. (rules_append ss later a b.0, b.1)) (λ m. let r = rules_split ss later m.0 in (r.0, (r.1, m.1))) (omega arith) own
       (subs_known 0 (own_cells set d) d.subs _ long versions)
 

@@ -16,7 +16,7 @@ use Rattle.vms_spec.specs.Layout as slots
 
 pub begins_itself : (front text : List ℕ) → begins_with front (front ++ text) ≡ true
 begins_itself [] text = refl
-begins_itself (b ∷ front) text = let e = eq-eqb b b refl in let f = begins_itself front text in rw (e, f) refl
+begins_itself (b ∷ front) text = grind (arith, begins_itself front text)
 
 by_front : (front line text : List ℕ) (what : What) (present : Bool) → line ≡ front ++ text
     → (if begins_with front line then element_reason what present (drop (length front) line) else Some reasons.Form) ≡ element_reason what present text
@@ -186,7 +186,7 @@ module _ (set : Set) (n : List ℤ) (short : AreShort n) (x : Element) (cell : C
   number_unsaid k false t c e = refl
 
   hidden : (b : Bool) → has_cell (byte b) at ≡ false → b ≡ false
-  hidden true h = cc (eq-eqb x.cell at here, (or_parts (x.cell == at) false h).0)
+  hidden true h = grind (arith, here, or_parts)
   hidden false h = refl
 
   number_said : (b t : Bool) → x.present ≡ b → AreFine (line t) → FitsCell cell cell.default
@@ -217,7 +217,7 @@ module _ (set : Set) (n : List ℤ) (short : AreShort n) (x : Element) (cell : C
     right = λ a m.
         let r = a.right 0 at (omega arith) (omega arith) in
         let fine = line_number x n cell what (short x.cell) ∙ fits_reason cell _ _
-        (record { fits = rw here r.fits; absent = λ e. rw here (r.absent (ap (λ (b : Bool). has_cell (byte b) at) (sym p ∙ e))) }) in
+        (record { fits = rw here r.fits; absent = λ e. rw here (r.absent (rw (sym p ∙ e))) }) in
         if_both (λ l. AreFine (of_numbers n l) × AreGood set (of_numbers n l)) t _ [] ((fine, tt), (refl, tt)) (tt, tt);
   }
 

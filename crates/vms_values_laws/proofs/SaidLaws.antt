@@ -109,11 +109,11 @@ has_said (s ∷ said) c = (s.element.cell == c) || has_said said c
 
 pub said_both : (said more : List Said) (c : ℕ) → has_said (said ++ more) c ≡ (has_said said c || has_said more c)
 said_both [] more c = refl
-said_both (s ∷ said) more c = rw (said_both said more c) (sym (or_assoc (s.element.cell == c) (has_said said c) (has_said more c)))
+said_both (s ∷ said) more c = grind (arith, or_assoc, said_both said more c)
 
 pub lines_both : (es fs : List Entry) (c : ℕ) → has_line (es ++ fs) c ≡ (has_line es c || has_line fs c)
 lines_both [] fs c = refl
-lines_both (e ∷ es) fs c = rw (lines_both es fs c) (sym (or_assoc (is_of_cell c e) (has_line es c) (has_line fs c)))
+lines_both (e ∷ es) fs c = grind (arith, or_assoc, lines_both es fs c)
 
 -- the elements of what was said have lines of these cells
 pub lines_said : (n : List ℤ) (said : List Said) (c : ℕ) → has_line (map (λ x. OfNumber x n) (map (λ (s : Said). s.element) said)) c ≡ has_said said c

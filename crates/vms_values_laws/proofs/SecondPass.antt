@@ -33,12 +33,12 @@ sub_numbers line (_ ∷ es) = sub_numbers (suc line) es
 pub subs_past : (line : ℕ) (n : List ℤ) (xs : List Element) (es : List Entry)
     → sub_numbers line (map (λ x. OfNumber x n) xs ++ es) ≡ sub_numbers (line + length xs) es
 subs_past line n [] es = ap (λ l. sub_numbers l es) (omega arith)
-subs_past line n (x ∷ xs) es = subs_past (suc line) n xs es ∙ ap (λ l. sub_numbers l es) (omega arith)
+subs_past line n (x ∷ xs) es = grind (arith, subs_past (suc line) n xs es)
 
 parts_past : (set : Set) (line : ℕ) (n : List ℤ) (xs : List Element) (es : List Entry)
     → parts_from set line (map (λ x. OfNumber x n) xs ++ es) ≡ parts_from set (line + length xs) es
 parts_past set line n [] es = ap (λ l. parts_from set l es) (omega arith)
-parts_past set line n (x ∷ xs) es = parts_past set (suc line) n xs es ∙ ap (λ l. parts_from set l es) (omega arith)
+parts_past set line n (x ∷ xs) es = grind (arith, parts_past set (suc line) n xs es)
 
 pub or_bad_assoc : (a b c : Option BadLine) → or_bad (or_bad a b) c ≡ or_bad a (or_bad b c)
 or_bad_assoc (Some a) b c = refl
@@ -47,9 +47,7 @@ or_bad_assoc None b c = refl
 pub parts_both : (set : Set) (line : ℕ) (es fs : List Entry)
     → parts_from set line (es ++ fs) ≡ or_bad (parts_from set line es) (parts_from set (line + length es) fs)
 parts_both set line [] fs = ap (λ l. parts_from set l fs) (omega arith)
-parts_both set line (e ∷ es) fs =
-    let further : line + suc (length es) ≡ suc line + length es = omega arith in
-    rw (parts_both set (suc line) es fs, further) (sym (or_bad_assoc (as_bad line (part_reason set e)) _ _))
+parts_both set line (e ∷ es) fs = grind (arith, or_bad_assoc, parts_both set (suc line) es fs)
 
 pub rules_same : (xs : List Element) → rules_hold xs ≡ rules_are_true (slots_of xs)
 rules_same [] = refl
@@ -248,8 +246,7 @@ pub record NumbersStop (set : Set) (d : Desc) (at : ℕ) (p : Standing) (e : Bad
 module _ {set : Set} {d : Desc} {at : ℕ} {p q : Standing} (n : NumbersRead set d at p q) where
   pub heard_on : (numbers : List ℤ) (es : List Entry) (said : List Said) (c : ℕ) → Agrees n.said numbers → has_line es c ≡ has_said said c
       → has_line (number_entries set d numbers at ++ es) c ≡ has_said (n.said ++ said) c
-  heard_on numbers es said c agrees h =
-      rw (lines_both (number_entries set d numbers at), n.heard numbers agrees, lines_said numbers n.said c, said_both n.said said c, h) refl
+  heard_on numbers es said c agrees h = grind (arith, lines_both, lines_said, said_both)
 
   -- the lines of subsections after them
   pub lines_on : (numbers : List ℤ) (es : List Entry) → Agrees n.said numbers

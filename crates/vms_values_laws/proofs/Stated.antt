@@ -23,9 +23,7 @@ first_is text line lines clean e = cc (line_first line (text_of lines) clean)
 
 by_devices : (set : Set) (text : List ℕ) (devices : List Device) (images : List Image) → AreCleanDevices devices
     → text ≡ text_of (map entry_line (devices_entries set devices images)) → machine_named set.machines (first_line text) ≡ None
-by_devices set text (d ∷ devices) (image ∷ images) clean e =
-    let lines = map entry_line (inside_of set d image ++ devices_entries set devices images) in
-    ap (machine_named set.machines) (first_is text (section_line d image.version) lines (section_feed d.desc.name d.instance image.version clean.0.0) e)
+by_devices set text (d ∷ devices) (image ∷ images) clean e = grind (arith, machine_named, first_is)
 by_devices set text _ _ clean e = rw e
 
 named_by : (set : Set) → WellFormed set → (text : List ℕ) (machine : Option (List ℕ)) (images : List Image) → IsMachineOf set machine
@@ -80,7 +78,7 @@ module _ (set : Set) (well : WellFormed set) (text : List ℕ) (machine : Option
 
   module _ (v : ValuesRead) (n : NoneBad set text v) where
     same_machine : n.machine ≡ machine
-    same_machine = cc (named_by set well text machine images says.named says.printed)
+    same_machine = grind (arith, named_by)
 
     same_images : images_of n.all.devices ≡ images
     same_images =
@@ -202,8 +200,7 @@ few_printed [] = omega arith
 few_printed (x ∷ xs) = by_what x.what (few_printed xs) where
   by_what : (w : What) → length (printed xs) ≤ length (cells_of xs)
       → length (if x.counted && is_number w then x ∷ printed xs else printed xs) ≤ length (cells_with w (cells_of xs))
-  by_what (Number cell) h =
-      rw (and-true x.counted) (if_both (λ l. length l ≤ suc (length (cells_of xs))) x.counted (x ∷ printed xs) (printed xs) (omega arith) (omega arith))
+  by_what (Number cell) h = grind (arith, and-true)
   by_what _ h = rw (and-false x.counted) h
 
 few_numbers : (set : Set) (d : Desc) (n : List ℤ) (at : ℕ) → length (number_entries set d n at) ≤ length (desc_cells (struct_cells set) d)

@@ -61,14 +61,13 @@ module _ (steps : List (ℕ × ℕ)) (path : List ℕ) (present : Bool) (f : Fie
   -- elements past the count are not printed
   past_count : (e k at : ℕ) → stand.count ≤ e → wrapped steps path present (array_elements f stand part step e k at) ≡ []
   past_count e zero at le = refl
-  past_count e (suc k) at le =
-      rw (wrapped_append steps path _, le-ltb e stand.count le, wrapped_none steps path _, past_count (suc e) k (at + step) (omega arith)) refl
+  past_count e (suc k) at le = grind (arith, wrapped_append, wrapped_none, past_count (suc e) k (at + step) (omega arith))
 
   -- the first element of an array that has some, and those after it
   first_counted : (e k m at : ℕ) → stand.count ≡ e + suc m → wrapped steps path present (array_elements f stand part step e (suc k) at)
       ≡ wrapped (steps ++ (stand.number, e) ∷ []) (path ++ (f.name ++ index_text f.count e)) (present && stand.there) (part at)
       ++ wrapped steps path present (array_elements f stand part step (suc e) k (at + step))
-  first_counted e k m at c = rw (wrapped_append steps path _, lt-ltb e stand.count (omega arith), and-true stand.there, wrapped_behind steps path _) refl
+  first_counted e k m at c = grind (arith, wrapped_append, and-true, wrapped_behind)
 
 dropped : (fields : List Field) (i : ℕ) (f : Field) (fs : List Field) → drop i fields ≡ f ∷ fs → get_or fields i no_field ≡ f
 dropped (g ∷ fields) (suc i) f fs e = dropped fields i f fs e
@@ -178,7 +177,7 @@ module _ (total : List ℤ → List Element) (start : Standing) (low : ℕ) wher
           (at_left total start low (λ n g. ap (λ l. l ++ left n)
           (first_counted steps path present f stand (part n) size 0 0 0 at (omega arith)
           ∙ append-nil _ ∙ ap (λ l. wrapped (steps ++ (stand.number, 0) ∷ []) (path ++ l) b (part n at))
-          (ap (λ l. f.name ++ l) (one 0) ∙ append-nil f.name))) a)
+          (rw (one 0) (append-nil f.name)))) a)
 
       -- all elements of such a field
       array_comes : (own : ℕ → ℕ) (count : Count) → f.count ≡ count → stand.count ≡ elements_of count own → (at end : ℕ) (p : Standing) (said : List Said)
