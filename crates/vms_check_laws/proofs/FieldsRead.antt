@@ -175,10 +175,7 @@ module _ (sides : Sides) where
       → FitsAt (item_cells (olds sides) i caps d) numbers x → Holds numbers' y (one_item i j d' x)
       → Reads numbers numbers' (item_slots ms i caps numbers x) (item_slots ns j caps' numbers' y) y (item_cells (news sides) j caps' d') (one_item i j d' x)
   item_reads (Num k) (Num l) caps caps' d d' x y pair constant fits held = number_reads _ k l caps caps' d' x y pair.same pair.same held
-  item_reads (Equal k z) (Equal l u) caps caps' d d' x y pair constant fits held = record {
-    carries = record { spells = ([], rw (same_number_is z u constant, kinds_same k l pair.same), refl); rules = λ h. h };
-    settled = settled_empty _ y [] [] refl;
-  }
+  item_reads (Equal k z) (Equal l u) caps caps' d d' x y pair constant fits held = search (arith, same_number_is, kinds_same, settled_empty)
   item_reads (Unused m) (Unused r) caps caps' d d' x y pair constant fits held = record {
     carries = carries_filler numbers numbers' _ r (filler_length numbers m ∙ eqb-true m r pair.same);
     settled = settled_empty _ y [] [] refl;

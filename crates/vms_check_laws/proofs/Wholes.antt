@@ -80,12 +80,7 @@ come_version set d image k _ _ _ s v h e e' = absurd (cc)
 
 -- a ready image is a saved one
 pub saved : (set : Set) (d : Device) (image : Image) → IsReady set d image → IsSaved set d image
-saved set d image r = record {
-  normal = r.normal;
-  valid = r.valid;
-  version = r.version;
-  subs = λ j s v at_j at_came. come_version set d image 0 d.subs _ j s v r.needed at_j at_came;
-}
+saved set d image r = search (arith, come_version)
 
 pub at_map : {A B : Type 0} (f : A → B) (xs : List A) (j : ℕ) (x : A) → slice_get xs j ≡ Some x → slice_get (map f xs) j ≡ Some (f x)
 at_map f xs j x e = rw (slice_get-map f xs j, e)
