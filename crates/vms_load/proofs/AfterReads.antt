@@ -1,14 +1,13 @@
 -- A section, as the judge reads it: its head, and what comes after the fields of a part.
-use Rattle.vms_load.proofs.Facade.{◌≡◌, ℕ, ◌+◌, ◌<◌, List, length, map, drop, slice_set, Option, Some, None, Bool, true, false, Result, Ok, Err}
-use Rattle.vms_load.proofs.Facade.{refl, sym, ap, ◌∙◌, subst, zero, suc, ◌-◌, [], ◌∷◌, get_or, nat_lt, if◌then◌else◌, IfSome, arith}
-use Rattle.vms_load.proofs.Facade.{map-set, drop_all, slice_get-get_or, slice_get, bytes_eq, Set, Device, Sub, at_option, position, Image, Piece, SubHead, Foot}
-use Rattle.vms_load.proofs.Facade.{fresh, mark_come, part_slots, put_version, subs_of, Goes, reading_after, find_device, find_sub, reading_on, set_twice}
-use Rattle.vms_load.proofs.Facade.{at_set, put_image, judge, ask, judge_seen, State, Free, Inside, inside, after, by_state, or_none, slots_at, due_by, known_at}
-use Rattle.vms_load.proofs.Facade.{Head, Stand, Tail, Refusal, Typed, Unfit, opened_at, section_opened, opened_unless, reason_against_sub, sub_opened, Onward}
-use Rattle.vms_load.proofs.Facade.{Reads, ReadsOn, ReadsBehind, behind, Settles, concerning, state_in, in_fields, after_part, bytes_of, subs_due, spot_in}
-use Rattle.vms_load.proofs.Facade.{all_passed, after_fields, image_at, state_of, LoadFault, Section, Staged, AfterFields, begins_next, rules_hold, Good, seen}
-use Rattle.vms_load.proofs.Facade.{judged_holds, next_holds, seen_holds, device_at, sub_at, ahead, AnswersBehind, in_section, tail_of, FrameFault, Open}
-use Rattle.vms_load.proofs.Facade.{LONGEST_SUB_HEAD}
+use Rattle.vms_load.proofs.Facade.{◌≡◌, ℕ, ◌+◌, ◌<◌, List, length, map, drop, slice_set, Option, Some, None, Bool, true, false, Result, Ok, Err, refl, sym, ap}
+use Rattle.vms_load.proofs.Facade.{◌∙◌, subst, zero, suc, ◌-◌, [], ◌∷◌, get_or, nat_lt, if◌then◌else◌, IfSome, arith, map-set, drop_all, slice_get-get_or}
+use Rattle.vms_load.proofs.Facade.{slice_get, bytes_eq, Set, Device, Sub, at_option, position, Image, Piece, SubHead, Foot, fresh, mark_come, part_slots}
+use Rattle.vms_load.proofs.Facade.{put_version, subs_of, Goes, reading_after, find_device, find_sub, reading_on, set_twice, at_set, put_image, judge, ask}
+use Rattle.vms_load.proofs.Facade.{judge_seen, State, Free, Inside, inside, after, by_state, or_none, slots_at, due_by, known_at, Head, Stand, Tail, Refusal}
+use Rattle.vms_load.proofs.Facade.{Typed, Unfit, opened_at, section_opened, opened_unless, reason_against_sub, sub_opened, Onward, Reads, ReadsOn, ReadsBehind}
+use Rattle.vms_load.proofs.Facade.{behind, Settles, concerning, state_in, in_fields, after_part, bytes_of, subs_due, spot_in, all_passed, after_fields}
+use Rattle.vms_load.proofs.Facade.{image_at, state_of, LoadFault, Section, Staged, AfterFields, begins_next, rules_hold, Good, seen, judged_holds, next_holds}
+use Rattle.vms_load.proofs.Facade.{seen_holds, device_at, sub_at, ahead, AnswersBehind, in_section, tail_of, FrameFault, Open, LONGEST_SUB_HEAD}
 use Rattle.vms_load.proofs.HeadLemmas.{device_is, known_sub, sub_below, sub_is, verdict, section_judged, sub_judged}
 use Rattle.vms_load.proofs.ReadLemmas.{IsLong, refused_here, unit_fails, unit_settled, unit_of}
 use Rattle.vms_spec.specs.Units.{Head as HeadUnit}

@@ -1,12 +1,12 @@
 -- The fields of a part: its steps take what the structural reader takes, and the judge reads the same.
-use Rattle.vms_load.proofs.Facade.{◌≡◌, ℕ, ◌+◌, ◌≤◌, List, [], ◌∷◌, ◌++◌, length, take, slice_set, append_assoc, append-nil, ℤ}
-use Rattle.vms_load.proofs.Facade.{Option, Some, Ok, Err, Bool, ◌||◌, ◌==◌, if◌then◌else◌, refl, sym, ap, ◌∙◌, subst, ◌-◌, ◌<◌}
-use Rattle.vms_load.proofs.Facade.{drop, None, Result, IfSome, OnOk, arith, eq-eqb, or_parts, drop-drop, drop_all, slice_get, slice_get-get_or, ⊎_elim}
-use Rattle.vms_load.proofs.Facade.{cases_lt, Kind, width, value_of, is_bad_bool, Desc, Set, Device, has_cell, Image, Slot, Number, meanings, desc_slots, Taken}
-use Rattle.vms_load.proofs.Facade.{Progress, takers, take_desc, refuse, on, if_whole, take_slot, IsSound, AreSound, IsAbove, desc_above, meanings_above}
-use Rattle.vms_load.proofs.Facade.{SameBelow, same_refl, same_trans, Keeps, Keeping, Gives, ComesTo, IsFrom, slot_keeps, set_desc_comes, FrameFault, WalkStep}
-use Rattle.vms_load.proofs.Facade.{step_of, steps_of, steps_append, exceeds_least, TakesAs, slot_of, take_steps, last_numbers, numbers_then, take_append}
-use Rattle.vms_load.proofs.Facade.{last_taken, Told, from, IsTaken, IsStopped, Reading, Refused, part_slots, State, Inside, by_state, judge, reading_on}
+use Rattle.vms_load.proofs.Facade.{◌≡◌, ℕ, ◌+◌, ◌≤◌, List, [], ◌∷◌, ◌++◌, length, take, slice_set, append_assoc, append-nil, ℤ, Option, Some, Ok, Err, Bool}
+use Rattle.vms_load.proofs.Facade.{◌||◌, ◌==◌, if◌then◌else◌, refl, sym, ap, ◌∙◌, subst, ◌-◌, ◌<◌, drop, None, Result, IfSome, OnOk, arith, eq-eqb, or_parts}
+use Rattle.vms_load.proofs.Facade.{drop-drop, drop_all, slice_get, slice_get-get_or, ⊎_elim, cases_lt, Kind, width, value_of, is_bad_bool, Desc, Set}
+use Rattle.vms_load.proofs.Facade.{Device, has_cell, Image, Slot, Number, meanings, desc_slots, Taken, Progress, takers}
+use Rattle.vms_load.proofs.Facade.{take_desc, refuse, on, if_whole, take_slot, IsSound, AreSound, IsAbove, desc_above, meanings_above, SameBelow, same_refl}
+use Rattle.vms_load.proofs.Facade.{same_trans, Keeps, Keeping, Gives, ComesTo, IsFrom, slot_keeps, set_desc_comes, FrameFault, WalkStep, step_of, steps_of}
+use Rattle.vms_load.proofs.Facade.{steps_append, exceeds_least, TakesAs, slot_of, take_steps, last_numbers, numbers_then, take_append, last_taken, Told, from}
+use Rattle.vms_load.proofs.Facade.{IsTaken, IsStopped, Reading, Refused, part_slots, State, Inside, by_state, judge, reading_on}
 use Rattle.vms_load.proofs.Facade.{body_read, after_read, Stand, ahead, tail_of, IsGood, Leaves, desc_leaves, device_at, sub_at, Reads, ReadsOn, concerning}
 use Rattle.vms_load.proofs.Facade.{IsIn, IsOpen, part_desc, part_base, state_in, in_fields, after_fields, Section}
 use Rattle.vms_spec.specs.Taking.{Refusal}

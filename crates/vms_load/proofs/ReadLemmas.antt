@@ -1,10 +1,10 @@
 -- Readings that go on from call to call.
-use Rattle.vms_load.proofs.Facade.{◌≡◌, ℕ, ◌+◌, ◌-◌, ◌≤◌, List, length, drop, Option, Some, None, Result, Ok, Err, OnOk, refl, sym, ap}
-use Rattle.vms_load.proofs.Facade.{◌∙◌, subst, arith, ◌<◌, ◌^◌, [], IfErr, drop-drop, drop_all, Reason, Verdict, Goes, Faulty, Over, Reading}
-use Rattle.vms_load.proofs.Facade.{Refused, reading_after, Piece, Set, State, by_state, Seen, Good, Bad, Short, judge_seen, judge, advances, solid, Stand}
-use Rattle.vms_load.proofs.Facade.{ahead, Fails, AnswersSeen, FrameFault, Refusal, Onward, behind, LeadsOn, Refuses, Reads, ReadsOn, ReadsBehind, IsBehind}
-use Rattle.vms_load.proofs.Facade.{Settles, concerning, IsRefused, reach, LoadFault, reading_on, one_unit, Intake, On, takes_none, reads_as, reads_both}
-use Rattle.vms_load.proofs.Facade.{reads_last, course, fault_course, IsSpent, GoesOn, GoesSoFar, GoesBehind, Moves}
+use Rattle.vms_load.proofs.Facade.{◌≡◌, ℕ, ◌+◌, ◌-◌, ◌≤◌, List, length, drop, Option, Some, None, Result, Ok, Err, OnOk, refl, sym, ap, ◌∙◌, subst, arith, ◌<◌}
+use Rattle.vms_load.proofs.Facade.{◌^◌, [], IfErr, drop-drop, drop_all, Reason, Verdict, Goes, Faulty, Over, Reading, Refused, reading_after, Piece, Set, State}
+use Rattle.vms_load.proofs.Facade.{by_state, Seen, Good, Bad, Short, judge_seen, judge, advances, solid, Stand, ahead, Fails, AnswersSeen, FrameFault, Refusal}
+use Rattle.vms_load.proofs.Facade.{Onward, behind, LeadsOn, Refuses, Reads, ReadsOn, ReadsBehind, IsBehind, Settles, concerning, IsRefused, reach}
+use Rattle.vms_load.proofs.Facade.{LoadFault, reading_on, one_unit, Intake, On, takes_none, reads_as, reads_both, reads_last, course, fault_course, IsSpent}
+use Rattle.vms_load.proofs.Facade.{GoesOn, GoesSoFar, GoesBehind, Moves}
 use Rattle.vms_io.specs.Reading.{Reads as Takes}
 use Rattle.vms_frames.specs.Reads.{fault_course as frame_course}
 use Rattle.vms_spec.specs.declared.Reason.TheVariants as reasons

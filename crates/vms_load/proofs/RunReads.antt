@@ -1,12 +1,11 @@
 -- Steps that are taken or refused, and runs of numbers of one kind.
-use Rattle.vms_load.proofs.Facade.{◌≡◌, ℕ, List, [], ◌∷◌, Option, Some, Result, Ok, Err, OnOk, IfErr, ℤ, ap, arith, zero, suc, ◌+◌, ◌*◌}
-use Rattle.vms_load.proofs.Facade.{◌<◌, ◌≤◌, ◌++◌, length, take, drop, slice_set, None, refl, ◌∙◌, length-append, length-drop, false}
-use Rattle.vms_load.proofs.Facade.{◌/◌, sym, subst, le-ltb, lt-ltb, take-append-le, drop-append-le, drop_all, length-take-le, take-append-drop, take-take}
-use Rattle.vms_load.proofs.Facade.{IsAtEnd, div-le_of_le-mul, div-lt_iff_lt-mul, lt-div-mul-add, div-mul-le_self, Typed, Taken, ◌>>=◌, take_slot, Progress}
-use Rattle.vms_load.proofs.Facade.{refuse, on, reads_as, nothing_follows, FrameFault, WalkStep, TakesAs, TakesOn, progress, slot_of, take_steps, last_numbers}
-use Rattle.vms_load.proofs.Facade.{numbers_then, step_long, Told, from, Took, Failed, IsTaken, IsStopped, steps_long, take_append, last_taken, told, Kind}
-use Rattle.vms_load.proofs.Facade.{width, value_of, is_bad_bool, values_of, put_from, run_of, keeps_same, keeps_more, keeps_put, run_split, Intake, Breaks}
-use Rattle.vms_load.proofs.Facade.{width_positive}
+use Rattle.vms_load.proofs.Facade.{◌≡◌, ℕ, List, [], ◌∷◌, Option, Some, Result, Ok, Err, OnOk, IfErr, ℤ, ap, arith, zero, suc, ◌+◌, ◌*◌, ◌<◌, ◌≤◌, ◌++◌, length}
+use Rattle.vms_load.proofs.Facade.{take, drop, slice_set, None, refl, ◌∙◌, length-append, length-drop, false, ◌/◌, sym, subst, le-ltb, lt-ltb, take-append-le}
+use Rattle.vms_load.proofs.Facade.{drop-append-le, drop_all, length-take-le, take-append-drop, take-take, IsAtEnd, div-le_of_le-mul, div-lt_iff_lt-mul}
+use Rattle.vms_load.proofs.Facade.{lt-div-mul-add, div-mul-le_self, Typed, Taken, ◌>>=◌, take_slot, Progress, refuse, on, reads_as, nothing_follows, FrameFault}
+use Rattle.vms_load.proofs.Facade.{WalkStep, TakesAs, TakesOn, progress, slot_of, take_steps, last_numbers, numbers_then, step_long, Told, from, Took, Failed}
+use Rattle.vms_load.proofs.Facade.{IsTaken, IsStopped, steps_long, take_append, last_taken, told, Kind, width, value_of, is_bad_bool, values_of, put_from}
+use Rattle.vms_load.proofs.Facade.{run_of, keeps_same, keeps_more, keeps_put, run_split, Intake, Breaks, width_positive}
 use Rattle.vms_walk.specs.{Inside.Keeps, declared.step.WalkStep.TheVariants.Number}
 use Rattle.std.proofs.lemmas.List.{append-nil}
 use Rattle.vms_kinds.specs.declared.Kind.TheVariants.{Bool}

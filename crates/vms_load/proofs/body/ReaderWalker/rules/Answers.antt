@@ -1,5 +1,7 @@
-use Rattle.vms_load.proofs.{BodyLemmas.rule_ok, BodyLemmas.rule_err, body.ReaderWalker.rules.Given.Over, body.ReaderWalker.rules.Goals.Start}
 use Rattle.vms_load.proofs.Facade.{refl, IfErr-weaker, on_ok_weaker, intake, Told, told}
+use Rattle.vms_load.proofs.BodyLemmas.{rule_ok, rule_err}
+use Rattle.vms_load.proofs.body.ReaderWalker.rules.Given.{Over}
+use Rattle.vms_load.proofs.body.ReaderWalker.rules.Goals.{Start}
 use Rattle.vms_load.proofs.body.ReaderWalker.rules.Goals as goal
 
 -- what is known before the end of the part, and after it
