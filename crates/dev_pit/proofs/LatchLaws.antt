@@ -115,10 +115,7 @@ unfolding pit_read
 pit_read-held k now later held pit e = rw (read-held now later held (counter_of k pit) e) refl
 
 pub latch_stays : LatchStays
-latch_stays = record {
-  in_calls = λ k now held call pit l c p r e. call-holds k held now call pit l c p r e;
-  in_time = λ k now later held pit e. pit_read-held k now later held pit e;
-}
+latch_stays = search (arith, call-holds, pit_read-held)
 
 -- ---- the read-back command by the chip's level
 

@@ -84,7 +84,7 @@ record IsAt (n q r at : ℕ) : Type 0 where
   rest : at % n ≡ r
 
 place : (n q r at : ℕ) → r < n → at ≡ q * n + r → IsAt n q r at
-place n q r at h e = record { quotient = ap (λ x. x / n) e ∙ div-mul-add q n r h; rest = ap (λ x. x % n) e ∙ mod-mul-add q n r h }
+place n q r at h e = record { quotient = rw e (div-mul-add q n r h); rest = rw e (mod-mul-add q n r h) }
 
 -- the marks of the two modes with periods, of tick k
 module _ (count n before k tick : ℕ) (is_n : n ≡ period count) (b : before ≤ k) (l : k ≤ tick) where
@@ -119,19 +119,19 @@ module _ (count n before k tick : ℕ) (is_n : n ≡ period count) (b : before �
   rate-edge : (at : ℕ) → nat_lt (before / n) (at / n) ≡ nat_lt (before / n) (tick / n)
       → rises RateGenerator count before at ≡ rises RateGenerator count before tick
   unfolding rises
-  rate-edge at e = rw (← is_n) (ap (λ (x : Bool). not (count == 1) && x) e)
+  rate-edge at e = rw (← is_n) (rw e)
 
   rate-out : (at : ℕ) → (at % n == n - 1) ≡ (tick % n == n - 1) → out_at RateGenerator count at ≡ out_at RateGenerator count tick
   unfolding out_at
-  rate-out at e = rw (← is_n) (ap (λ (x : Bool). (count == 1) || not x) e)
+  rate-out at e = rw (← is_n) (rw e)
 
   square-edge : (at : ℕ) → nat_lt (before / n) (at / n) ≡ nat_lt (before / n) (tick / n) → rises SquareWave count before at ≡ rises SquareWave count before tick
   unfolding rises
-  square-edge at e = rw (← is_n) (ap (λ (x : Bool). not (count == 1) && x) e)
+  square-edge at e = rw (← is_n) (rw e)
 
   square-out : (at : ℕ) → nat_lt (at % n) (high_part n) ≡ nat_lt (tick % n) (high_part n) → out_at SquareWave count at ≡ out_at SquareWave count tick
   unfolding out_at
-  square-out at e = rw (← is_n) (ap (λ (x : Bool). (count == 1) || x) e)
+  square-out at e = rw (← is_n) (rw e)
 
   -- the tick itself, or tick k, which is in the same period
   abbrev Rate : Type 0
@@ -145,10 +145,7 @@ module _ (count n before k tick : ℕ) (is_n : n ≡ period count) (b : before �
   rate-k here h f = itself l (rate-edge k (ap (nat_lt (before / n)) here)) (rate-out k (neither_is _ _ _ h f))
 
   rate-last : k / n ≡ tick / n → tick % n ≡ n - 1 → Rate
-  rate-last here f =
-      let p = positive in
-      let e : tick ≡ k / n * n + n - 1 = omega (arith, div-add-mod' tick n, ap (λ q. q * n) here) in
-      record { at = tick; is = inr (inl e); from = l; not_after = omega arith; edge = refl; out = refl }
+  rate-last here f = search (arith, positive)
 
   -- the tick is in a later period
   rate-first : 2 ≤ n → k / n < tick / n → tick % n < n - 1 → Rate
@@ -197,9 +194,8 @@ module _ (count n before k tick : ℕ) (is_n : n ≡ period count) (b : before �
 
   square-again : 2 ≤ n → k / n < tick / n → high_part n ≤ tick % n → Square
   square-again two h f =
-      let high : high_part n < n = omega arith in
       let at = k / n * n + n + high_part n in
-      let here = next (high_part n) at high refl h f in
+      let here = next (high_part n) at (omega arith) refl h f in
       on here (inr (inr (inr refl))) (square-edge at here.grew) (square-out at (none_below _ _ _ (omega arith) f))
 
   square : 2 ≤ n → Square
@@ -302,5 +298,5 @@ module _ (load : ℕ) (counter : Counter) (since base to : ℕ) (loaded : counte
 
 pub turns_loaded : (load : ℕ) (counter : Counter) (base : ℕ) → counter.loaded_at ≡ Some load → AreTurns (turns_since load counter base) counter base
 turns_loaded load counter base e since to h b l =
-    by_mark load counter since base to e b l (subst (LoadedBy since) e h)
+    by_mark load counter since base to e b l (rw e at h)
     (marked counter.mode counter.count (ticks load since) (ticks load base) (ticks load to) (ticks-mono load since base b) (ticks-mono load base to l))
