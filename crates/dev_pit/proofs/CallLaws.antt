@@ -113,15 +113,12 @@ written-goes_on : (value now : ℕ) (counter : Counter) → completes counter.ac
 unfolding written
 written-goes_on value now counter e = by-goes_on counter.access value now counter e
 
-completing : (port k : ℕ) (b : Bool) → 0x40 ≤ port → k ≡ port - 0x40 → ((port == 0x40 + k) && b) ≡ false → b ≡ false
-completing port k b low here e = grind arith
-
 write-goes_on : (k now port value : ℕ) (pit : Pit) → k < 3 → (0x40 ≤ port) × (port ≤ 0x43) × (value < 256) → ((port == 0x43) && sets_mode_of k (control_word value)) ≡ false → ((port == 0x40 + k) && completes (counter_of k pit).access (counter_of k pit)) ≡ false → GoesOn (counter_of k pit) (counter_of k (pit_written port value now pit))
 unfolding pit_written
 write-goes_on k now port value pit h c programs loads =
     ⊎_elim (λ control. rw control (control-goes_on (control_word value) k now pit (rw control at programs)))
     (λ data_port. rw data_port (at_step (GoesOn (counter_of k pit)) k (port - 0x40) (written value now) pit
-    (λ here. written-goes_on value now (counter_of k pit) (completing port k _ c.0 here loads)) (same (counter_of k pit)))) (cases_Bool (port == 0x43))
+    (λ here. written-goes_on value now (counter_of k pit) (grind arith)) (same (counter_of k pit)))) (cases_Bool (port == 0x43))
 
 pub counting_goes_on : CountingGoesOn
 unfolding called programs loads pit_read

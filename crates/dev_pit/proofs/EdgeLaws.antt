@@ -69,15 +69,9 @@ record Starts (n before after : ℕ) : Type 0 where
   above : before < quotient * n
   within : quotient * n ≤ after
 
-starts : (n before after : ℕ) → 2 ≤ n → before / n < after / n → Starts n before after
-starts n before after h l = search arith
-
 -- The position in the period is 0 at its first tick, and n - 1 at the tick before.
 at_first : (n q : ℕ) → 2 ≤ n → q * n % n ≡ 0
 at_first n q h = grind (arith, mod-mul-add)
-
-before_first : (n q : ℕ) → 2 ≤ n → 0 < q → (q * n - 1) % n ≡ n - 1
-before_first n q h l = grind (arith, mod-mul-add)
 
 -- If the tick before is the last of a period, the quotient grew.
 grown-from_last : (n before after tick : ℕ) → 2 ≤ n → before < tick → tick ≤ after → (tick - 1) % n ≡ n - 1 → before / n < after / n
@@ -122,12 +116,12 @@ periodic-turns : (mode : Mode) (count before after : ℕ) → (count == 1) ≡ f
     → ((k : ℕ) → k % period count ≡ 0 → out_at mode count k ≡ true) → before / period count < after / period count → Turns mode count before after
 periodic-turns mode count before after one low_last high_first l =
     let h : 2 ≤ period count = period-two count one in
-    let s : Starts (period count) before after = starts (period count) before after h l in
+    let s : Starts (period count) before after = (search arith) in
     record {
       tick = s.quotient * period count;
       above = s.above;
       within = s.within;
-      low = low_last _ (before_first (period count) s.quotient h s.positive);
+      low = low_last _ (grind (arith, mod-mul-add));
       high = high_first _ (at_first (period count) s.quotient h);
     }
 

@@ -28,11 +28,11 @@ itself l e o = record { at = _; is = inl refl; from = omega arith; not_after = l
 -- a count of 1 of a mode with periods holds OUT high
 flat-rate : (count n before k tick : ℕ) → (count == 1) ≡ true → k ≤ tick → Marked RateGenerator count n before k tick
 unfolding rises out_at
-flat-rate count n before k tick one l = itself l (rw one refl) (rw one refl)
+flat-rate count n before k tick one l = itself l (rw one) (rw one)
 
 flat-square : (count n before k tick : ℕ) → (count == 1) ≡ true → k ≤ tick → Marked SquareWave count n before k tick
 unfolding rises out_at
-flat-square count n before k tick one l = itself l (rw one refl) (rw one refl)
+flat-square count n before k tick one l = itself l (rw one) (rw one)
 
 marked-terminal : (count before k tick : ℕ) → before ≤ k → k ≤ tick → Marked TerminalCount count (period count) before k tick
 unfolding rises out_at
@@ -54,7 +54,7 @@ marked-strobe count before k tick b l =
     (λ h. ⊎_elim
     (λ s. ⊎_elim
     (λ e. record { at = n; is = inr (inl refl); from = omega arith; not_after = h; edge = grind (arith, nat_tests); out = grind (arith, nat_tests) })
-    (λ e. second (omega arith) e)
+    (second (omega arith))
     (cases_lt tick (n + 1)))
     (λ s. ⊎_elim (λ e. ⊎_elim (λ f. itself l (grind (arith, nat_tests)) (grind (arith, nat_tests))) (λ f. second (omega arith) f) (cases_lt tick (n + 1)))
     (λ e. itself l (grind (arith, nat_tests)) (grind (arith, nat_tests)))
@@ -65,9 +65,6 @@ marked-strobe count before k tick b l =
 
 both_grew : (before first second : ℕ) → before < first → before < second → nat_lt before first ≡ nat_lt before second
 both_grew before first second h l = grind (arith, nat_tests)
-
-both_are : (first second last : ℕ) → first ≡ last → second ≡ last → (first == last) ≡ (second == last)
-both_are first second last h l = grind (arith, nat_tests)
 
 neither_is : (first second last : ℕ) → first < last → second < last → (first == last) ≡ (second == last)
 neither_is first second last h l = grind (arith, nat_tests)
@@ -158,13 +155,13 @@ module _ (count n before k tick : ℕ) (is_n : n ≡ period count) (b : before �
   rate-again two h f =
       let at = k / n * n + n + n - 1 in
       let here = next (n - 1) at (omega arith) (omega arith) h (omega arith) in
-      on here (inr (inr (inr refl))) (rate-edge at here.grew) (rate-out at (both_are _ _ _ here.rest f))
+      on here (inr (inr (inr refl))) (rate-edge at here.grew) (rate-out at (grind (arith, nat_tests)))
 
   rate : 2 ≤ n → Rate
   rate two =
       let order : k / n ≤ tick / n = quotient_mono n k tick (omega arith) l in
       let below : tick % n < n = omega arith in
-      ⊎_elim (λ h. ⊎_elim (λ f. rate-first two h f) (λ f. rate-again two h (omega arith)) (cases_lt (tick % n) (n - 1)))
+      ⊎_elim (λ h. ⊎_elim (rate-first two h) (λ f. rate-again two h (omega arith)) (cases_lt (tick % n) (n - 1)))
       (λ h. let here : k / n ≡ tick / n = omega arith in
       ⊎_elim (λ f. rate-k here (omega (arith, div-add-mod' k n, div-add-mod' tick n, ap (λ q. q * n) here)) f) (λ f. rate-last here (omega arith))
       (cases_lt (tick % n) (n - 1))) (cases_lt (k / n) (tick / n))
@@ -202,7 +199,7 @@ module _ (count n before k tick : ℕ) (is_n : n ≡ period count) (b : before �
   square two =
       let order : k / n ≤ tick / n = quotient_mono n k tick (omega arith) l in
       let high = high_part n in
-      ⊎_elim (λ h. ⊎_elim (λ f. square-first two h f) (λ f. square-again two h f) (cases_lt (tick % n) high))
+      ⊎_elim (λ h. ⊎_elim (square-first two h) (λ f. square-again two h f) (cases_lt (tick % n) high))
       (λ h. let here : k / n ≡ tick / n = omega arith in
       let rests : k % n ≤ tick % n = omega (arith, div-add-mod' k n, div-add-mod' tick n, ap (λ q. q * n) here) in
       ⊎_elim (λ f. square-k here (both_below _ _ _ (omega arith) f))
@@ -210,12 +207,10 @@ module _ (count n before k tick : ℕ) (is_n : n ≡ period count) (b : before �
       (cases_lt (tick % n) high)) (cases_lt (k / n) (tick / n))
 
 periodic-rate : (one : Bool) (count before k tick : ℕ) → (count == 1) ≡ one → before ≤ k → k ≤ tick → Marked RateGenerator count (period count) before k tick
-periodic-rate true count before k tick e b l = flat-rate count (period count) before k tick e l
-periodic-rate false count before k tick e b l = rate count (period count) before k tick refl b l (period-two count e)
+periodic-rate one count before k tick e b l = grind (arith, nat_tests, flat-rate, period, rate, period-two)
 
 periodic-square : (one : Bool) (count before k tick : ℕ) → (count == 1) ≡ one → before ≤ k → k ≤ tick → Marked SquareWave count (period count) before k tick
-periodic-square true count before k tick e b l = flat-square count (period count) before k tick e l
-periodic-square false count before k tick e b l = square count (period count) before k tick refl b l (period-two count e)
+periodic-square one count before k tick e b l = grind (arith, nat_tests, flat-square, period, square, period-two)
 
 pub marked : (mode : Mode) (count before k tick : ℕ) → before ≤ k → k ≤ tick → Marked mode count (period count) before k tick
 unfolding rises out_at
@@ -248,7 +243,7 @@ turns_since load counter base =
 -- of a counter that isn't loaded, OUT stays
 pub stays_unloaded : (turns : Turns) (counter : Counter) (base : ℕ) → counter.loaded_at ≡ None → AreTurns turns counter base
 unfolding edge_of out_of
-stays_unloaded turns counter base e since to h b l = record { at = base; is = inl refl; from = omega arith; upto = l; edge = rw e refl; out = rw e refl }
+stays_unloaded turns counter base e since to h b l = record { at = base; is = inl refl; from = omega arith; upto = l; edge = rw e; out = rw e refl }
 
 module _ (load : ℕ) (counter : Counter) (since base to : ℕ) (loaded : counter.loaded_at ≡ Some load) (b : since ≤ base) (l : base ≤ to) where
   abbrev Mark : Type 0

@@ -48,9 +48,6 @@ two_more = channel_kinds ++ channel_kinds ++ status_kinds
 abbrev one_more : List Kind
 one_more = channel_kinds ++ status_kinds
 
-zero_plus : (place : ℕ) → place ≡ channel_place 0 + place
-zero_plus place = omega arith
-
 module _ (cells : List ℤ) (h : IsPitCells cells) where
   -- The cell at a place fits the kind.
   abbrev Fits : ℕ → Kind → Type 0
@@ -59,7 +56,7 @@ module _ (cells : List ℤ) (h : IsPitCells cells) where
   first-channel : IsChannelAt 0 cells
   first-channel = record {
     within = (omega arith, h.of_kinds.count);
-    channel = λ place l. subst (λ n. Fits n (kind_at channel_kinds place)) (zero_plus place)
+    channel = λ place l. subst (λ n. Fits n (kind_at channel_kinds place)) (omega arith)
         (subst (Fits place) (front two_more place l) (h.of_kinds.in_range place (omega arith)));
     latched = h.of_kinds.in_range (latched_place 0) (omega arith);
     status = h.of_kinds.in_range (status_place 0) (omega arith);
@@ -98,16 +95,13 @@ record HasRanges (channel : Channel) : Type 0 where
   status : channel.status < 2 ^ 8
 
 if-below : (limit : ℕ) (b : Bool) (n : ℕ) → n < limit → HeldBelow limit (held_if b n)
-if-below limit true n h = h
-if-below limit false n h = tt
+if-below limit b n h = grind (arith, nat_tests)
 
 if-loaded : (now : ℕ) (b : Bool) (n : ℕ) → n ≤ now → LoadedBy now (held_if b n)
-if-loaded now true n h = h
-if-loaded now false n h = tt
+if-loaded now b n h = grind (arith, nat_tests)
 
 if-status : (level : ℕ) (b : Bool) (n : ℕ) → (nat_le READ_BACK_LEVEL level || not b) ≡ true → StatusFits level (held_if b n)
-if-status level true n h = grind (arith, nat_tests)
-if-status level false n h = tt
+if-status level b n h = grind (arith, nat_tests)
 
 halves : (access : Access) (read_high held : Bool) (n : ℕ) → (not read_high && not held) ≡ true → TogglesFit access read_high (held_if held n)
 halves LowByte false false n e = (refl, refl)
@@ -306,8 +300,8 @@ carried-saved set now pit le s =
     let none : nat_le STATUS_SINCE set ≡ false → (k : ℕ) → k < 3 → (counter_of k pit).status ≡ None =
     λ e k l. no-status pit.level _ (grind (arith, nat_tests)) (plain-from_sound pit.level now _ (s.counters k l)).status in
     rw (carried_rows (named_statuses (channel_in 0 pit) (channel_in 1 pit) (channel_in 2 pit)) set status_rows (statuses-hold now pit s) (
-      (λ e. rw (none e 0 (omega arith), none e 1 (omega arith), none e 2 (omega arith)) refl),
-      ((λ e. rw (none e 0 (omega arith), none e 1 (omega arith), none e 2 (omega arith)) refl), tt),
+      (λ e. rw (none e 0 (omega arith), none e 1 (omega arith), none e 2 (omega arith))),
+      ((λ e. rw (none e 0 (omega arith), none e 1 (omega arith), none e 2 (omega arith))), tt),
     ) (channel_cells (channel_in 0 pit) ++ channel_cells (channel_in 1 pit) ++ channel_cells (channel_in 2 pit)) STATUS_LATCHED refl)
 
 pub saved_are_cells : SavedAreCells

@@ -65,7 +65,7 @@ status-back level (Some status) e = grind (arith, nat_tests)
 toggles-from : (access : Access) (read_high : Bool) (held : Option ℕ) → TogglesFit access read_high held
     → ((access_number access == 3) || (not read_high && not (is_some held))) ≡ true
 toggles-from LowThenHigh read_high held h = refl
-toggles-from _ read_high held h = rw (h.0, h.1) refl
+toggles-from _ read_high held h = rw (h.0, h.1)
 
 halves-back : (read_high : Bool) (held : Option ℕ) → (not read_high && not (is_some held)) ≡ true → (read_high ≡ false) × (held ≡ None)
 halves-back false None e = (refl, refl)
