@@ -71,8 +71,7 @@ own-back chip s =
 -- ---- the rules
 
 unmasked : (version : ℕ) (flag : Bool) → (nat_le NMI_SINCE version ≡ false → flag ≡ false) → (nat_le NMI_SINCE version || not flag) ≡ true
-unmasked version flag =
-    elim (nat_le NMI_SINCE version) as (λ b. (b ≡ false → flag ≡ false) → (b || not flag) ≡ true) [ true ↦ λ h. refl | false ↦ λ h. rw (h refl) refl ]
+unmasked version flag = grind arith
 
 pub met : (chip : Rtc) → IsSound chip → AllTrue (rules chip.version (newest chip))
 met chip s =
@@ -108,7 +107,7 @@ back-as numbers back chip can s may same =
     let e = sym (carried-newest numbers.set chip s le) in
     let own : restored back.level (newest chip) ≡ Ok chip = cc (restored-own chip s) in (
       subst (CanRestore back) e (record { pass = may; of_kinds = (subst (AreOf (kinds NEWEST_CLOCK)) (saved-newest chip) (of-set NEWEST_CLOCK chip s)) }),
-      subst (λ (cells : List ℤ). hook_restored back cells ≡ Ok chip) e (ok-hook (restored back.level (newest chip)) chip own),
+      subst (λ cells. hook_restored back cells ≡ Ok chip) e (ok-hook (restored back.level (newest chip)) chip own),
     )
 
 pub saved_is_restored : SavedIsRestored
@@ -138,10 +137,7 @@ record Registers (cells : List ℤ) : Type 0 where
   d : register_in cells REGISTER_D ≡ 0
 
 registers : (cells : List ℤ) → registers_hold cells ≡ true → Registers cells
-registers cells h =
-    let first = and_parts (nat_le (register_in cells REGISTER_A) 127) ((register_in cells REGISTER_C == 0) && (register_in cells REGISTER_D == 0)) h in
-    let second = and_parts (register_in cells REGISTER_C == 0) (register_in cells REGISTER_D == 0) first.1 in
-    record { a = grind (arith, nat_tests, first.0); c = grind (arith, nat_tests, second.0); d = grind (arith, nat_tests, second.1) }
+registers cells h = search arith
 
 clear : (b flag : Bool) → (b || not flag) ≡ true → b ≡ false → flag ≡ false
 clear true flag h e = cc
@@ -179,7 +175,7 @@ module _ (numbers : Numbers) (cells : List ℤ) (chip : Rtc) (e : hook_restored 
   is-sound can = subst IsSound accepted.1 (sound numbers.level cells can.pass.is_version can.of_kinds accepted.0)
 
   has-version : chip.version ≡ numbers.level
-  has-version = ap (λ (c : Rtc). c.version) (sym accepted.1) ∙ made numbers.level cells
+  has-version = rw (sym accepted.1) (made numbers.level cells)
 
 pub restored_is_sound : RestoredIsSound
 restored_is_sound = record { sound = λ numbers cells chip can e. is-sound numbers cells chip e can; version = has-version }
