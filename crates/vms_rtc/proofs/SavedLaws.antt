@@ -66,7 +66,7 @@ unfolding chip_of
 own-back chip s =
     let cmos : firsts REGISTERS (register_in (newest chip)) ≡ chip.cmos =
     sym (all_set (register_in (newest chip)) chip.cmos REGISTERS s.count (λ k lt. sym (register-there chip s k lt))) in
-    rw (cmos, mask-there chip s, flag-there chip s) refl
+    rw (cmos, mask-there chip s, flag-there chip s)
 
 -- ---- the rules
 
@@ -128,9 +128,6 @@ pub register_of : (version : ℕ) (cells : List ℤ) (k : ℕ) → k < REGISTERS
 unfolding chip_of
 register_of version cells k lt = get_or-map-range_with_len (register_in cells) 0 REGISTERS k k 0 lt (omega arith)
 
-low : (version : ℕ) (cells : List ℤ) → index_holds cells ≡ true → index_in cells ≤ 63
-low version cells h = grind (arith, nat_tests, h)
-
 record Registers (cells : List ℤ) : Type 0 where
   a : register_in cells REGISTER_A ≤ 127
   c : register_in cells REGISTER_C ≡ 0
@@ -140,9 +137,7 @@ registers : (cells : List ℤ) → registers_hold cells ≡ true → Registers c
 registers cells h = search arith
 
 clear : (b flag : Bool) → (b || not flag) ≡ true → b ≡ false → flag ≡ false
-clear true flag h e = cc
-clear false true h e = sym h
-clear false false h e = refl
+clear b flag h e = grind (arith, nat_tests)
 
 pub sound : (version : ℕ) (cells : List ℤ) → IsUpTo NEWEST_CLOCK version → AreOf (kinds NEWEST_CLOCK) cells → AllTrue (rules version cells)
     → IsSound (chip_of version cells)
@@ -151,7 +146,7 @@ sound version cells v are hold =
     let n = registers cells hold.1.0 in
     record {
       version = v;
-      index = low version cells hold.0;
+      index = grind (arith, nat_tests, hold.0);
       count = length-map-range_with_len (register_in cells) 0 REGISTERS;
       bytes = λ k lt.
           let is : register k (chip_of version cells) ≡ register_in cells k = register_of version cells k lt in
@@ -159,7 +154,7 @@ sound version cells v are hold =
       a = n.a;
       c = n.c;
       d = n.d;
-      mask = λ none. clear (nat_le NMI_SINCE version) (nmi_mask_in cells) hold.1.1.0 none;
+      mask = clear (nat_le NMI_SINCE version) (nmi_mask_in cells) hold.1.1.0;
     }
 
 made : (version : ℕ) (cells : List ℤ) → (chip_of version cells).version ≡ version

@@ -44,8 +44,7 @@ within-parts None first middle last p h l = refl
 within-parts (Some period) first middle last p h l = grind (arith, grown, quotient_mono, ticks-mono)
 
 set-either : (flag first second whole : Bool) → whole ≡ (first || second) → ((flag || first) || second) ≡ (flag || whole)
-set-either true first second whole e = refl
-set-either false first second whole e = sym e
+set-either flag first second whole e = grind (arith, nat_tests)
 
 parts : (first middle last : ℕ) (chip : Rtc) → first ≤ middle → middle ≤ last → passed middle last (passed first middle chip) ≡ passed first last chip
 unfolding passed
@@ -195,9 +194,6 @@ byte-kept xs i v k within small old =
 abbrev kept-of : ℕ → ℕ → ℕ
 kept-of index value = if index == REGISTER_A then value % 128 else value
 
-kept-small : (index value : ℕ) → value < 256 → kept-of index value < 256
-kept-small index value small = grind (arith, either)
-
 register-a : (xs : List ℕ) (index value : ℕ) → index < length xs → get_or xs REGISTER_A 0 ≤ 127 → get_or (set xs index (kept-of index value)) REGISTER_A 0 ≤ 127
 register-a xs index value within old = by (cases_Bool (index == REGISTER_A))
   where
@@ -220,7 +216,7 @@ data-sound value chip small s =
       version = s.version;
       index = s.index;
       count = cc (length-set chip.cmos chip.index (kept-of chip.index value));
-      bytes = λ k lt. byte-kept chip.cmos chip.index (kept-of chip.index value) k within (kept-small chip.index value small) (s.bytes k lt);
+      bytes = λ k lt. byte-kept chip.cmos chip.index (kept-of chip.index value) k within (grind (arith, either)) (s.bytes k lt);
       a = register-a chip.cmos chip.index value within s.a;
       c = cc (get_or-set_other chip.cmos chip.index REGISTER_C (kept-of chip.index value) 0 (λ same. false≢true (sym other ∙ grind (arith, nat_tests, same))));
       d = cc (get_or-set_other chip.cmos chip.index REGISTER_D (kept-of chip.index value) 0 (λ same. false≢true (sym other ∙ grind (arith, nat_tests, same))));
