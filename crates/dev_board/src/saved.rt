@@ -109,6 +109,7 @@ impl Parts {
     ghost use Rattle.dev_serial.specs.Saved.{cells_at as port_cells};
 
     // Returns the cell of the timer.
+    #[inline(never)]
     fn timer_cells(&self) -> DevCells
         ensures { result.items ≡ pos self.now.moment ∷ [] }
     {
@@ -116,6 +117,7 @@ impl Parts {
     }
 
     // Returns the cells of the master in set `set`, the first half of the pair's.
+    #[inline(never)]
     fn master_cells(&self, set: u8) -> DevCells
         requires { MaySaveUnder self.now.level set }
         ensures { result.items ≡ saved_cells set self.now.pair.master }
@@ -127,6 +129,7 @@ impl Parts {
     }
 
     // Returns the cells of the slave in set `set`, the second half of the pair's.
+    #[inline(never)]
     fn slave_cells(&self, set: u8) -> DevCells
         requires { MaySaveUnder self.now.level set }
         ensures { result.items ≡ saved_cells set self.now.pair.slave }
@@ -135,6 +138,7 @@ impl Parts {
     }
 
     // Returns the cells of the timer chip in set `set`.
+    #[inline(never)]
     fn pit_cells(&self, set: u8) -> DevCells
         requires { MaySaveUnder self.now.level set }
         ensures { result.items ≡ pit_cells_of set self.now.pit }
@@ -143,6 +147,7 @@ impl Parts {
     }
 
     // Returns the cells of the serial port in set `set`.
+    #[inline(never)]
     fn serial_cells(&self, set: u8) -> DevCells
         requires { MaySaveUnder self.now.level set }
         ensures { result.items ≡ port_cells (numbers_at set self.now) self.now.serial }

@@ -1,11 +1,12 @@
 // The cells that a chip is saved in.
-ghost use Rattle.std.specs.Prelude.{◌≡◌, ◌≤◌, length, IfErr};
+ghost use Rattle.std.specs.Prelude.{◌≡◌, ◌+◌, ◌<◌, ◌≤◌, ◌++◌, [], ◌∷◌, if◌then◌else◌, length, nat_le, IfErr};
+ghost use Rattle.vms_kinds.specs.declared.TheConstants.{MOST_CELLS};
 ghost use Rattle.dev_pic.specs.Cells.{cell_count, IsChipCells, state_number as state_number_of, state_of as state_of_number, saved_cells, chip_of as chip_of_cells, registers_hold as registers_hold_of, levels_hold as levels_hold_of, requests_hold as requests_hold_of, mode_holds as mode_holds_of, restored};
 
 use crate::chip::{Chip, InitState, Role, level_inputs_by};
 use crate::levels::{ELCR_SINCE, LTIM_SINCE};
 use arrayvec::ArrayVec;
-use dev_base::{byte_at, first_failing, flag_at};
+use dev_base::{append, byte_at, first_failing, flag_at};
 use vms_fields::pic::{
     AUTO_EOI, BASE, ELCR, ICW4, IMR, INIT_STATE, IRR, ISR, LINES, LOWEST, LTIM, NESTED, POLL,
     READ_ISR, ROTATE, SINGLE, SPECIAL_MASK,
@@ -13,13 +14,34 @@ use vms_fields::pic::{
 use vms_kinds::DevCells;
 
 /// Returns the cells of `chip` in set `set`.
-#[tactic(auto, unfolding(crate::specs::Cells::saved_cells))]
 pub(crate) fn save_chip(set: u8, chip: &Chip) -> DevCells
     ensures cells { result.items ≡ saved_cells set chip.now }
     ensures count { length result.items ≤ cell_count }
 {
     let mut cells = ArrayVec::new();
-    let _fits = cells.try_extend_from_slice(&[
+    put_chip(&mut cells, set, chip);
+    cells
+}
+
+/// Appends the cells of `chip` in set `set` to `cells`.
+#[tactic(auto, using(crate::proofs::PutLemmas::put))]
+pub(crate) fn put_chip(cells: &mut DevCells, set: u8, chip: &Chip)
+    requires { length cells.old.items ≤ cell_count }
+    ensures cells { cells.new.items ≡ cells.old.items ++ saved_cells set chip.now }
+    ensures count { length cells.new.items ≤ length cells.old.items + cell_count }
+{
+    append(cells, &oldest_cells(chip));
+    put_since(cells, ELCR_SINCE, set, i128::from(chip.elcr));
+    put_since(cells, LTIM_SINCE, set, i128::from(chip.ltim));
+}
+
+// Returns the cells that each set has, those of set 1.
+#[inline(always)]
+#[tactic(auto, unfolding(crate::specs::Cells::saved_cells))]
+fn oldest_cells(chip: &Chip) -> [i128; 15]
+    ensures { result ≡ saved_cells 1 chip.now }
+{
+    [
         i128::from(chip.irr),
         i128::from(chip.isr),
         i128::from(chip.imr),
@@ -35,14 +57,19 @@ pub(crate) fn save_chip(set: u8, chip: &Chip) -> DevCells
         i128::from(chip.auto_eoi),
         i128::from(chip.rotate),
         i128::from(chip.nested),
-    ]);
-    if set >= ELCR_SINCE {
-        cells.push(i128::from(chip.elcr));
+    ]
+}
+
+// Appends a cell if the set `set` is `first` or newer.
+fn put_since(cells: &mut DevCells, first: u8, set: u8, number: i128)
+    requires { length cells.old.items < MOST_CELLS }
+    ensures cells { let more = if nat_le first set then number ∷ [] else [] in
+        cells.new.items ≡ cells.old.items ++ more }
+    ensures count { length cells.new.items ≤ length cells.old.items + 1 }
+{
+    if set >= first {
+        cells.push(number);
     }
-    if set >= LTIM_SINCE {
-        cells.push(i128::from(chip.ltim));
-    }
-    cells
 }
 
 // Returns the number of a state of the initialization, 0 to 3.

@@ -3,7 +3,7 @@ ghost use Rattle.std.specs.Prelude.{◌≡◌, ◌<◌, ◌≤◌, length, IfErr
 ghost use Rattle.dev_pic.specs.Cells.{cell_count};
 ghost use Rattle.dev_pic.specs.Saved.{hook_rule as hook_rule_of};
 
-use crate::cells::{restore_chip, save_chip};
+use crate::cells::{put_chip, restore_chip, save_chip};
 use crate::chip::Role;
 use crate::fault::ChipFault;
 use crate::pair::PicPair;
@@ -97,8 +97,9 @@ impl PicPair {
 impl HasHooks for PicPair {
     /// Returns the master's cells, followed by the slave's.
     fn save(&self, pass: &Pass) -> DevCells {
-        let mut cells = self.cells(pass, MASTER);
-        let _fits = cells.try_extend_from_slice(&self.cells(pass, SLAVE));
+        let mut cells = ArrayVec::new();
+        put_chip(&mut cells, pass.set(), &self.master);
+        put_chip(&mut cells, pass.set(), &self.slave);
         cells
     }
 

@@ -12,7 +12,7 @@ pub use Rattle.std.proofs.lemmas.List.FromFn.{get_or-map-range_with_len, get_or-
 pub use Rattle.std.specs.{List.list_all, List.range_with_len, Ordering.int_eq}
 pub use Rattle.std.specs.Prelude.{bit_and, bit_or, is_some, max, nat_le, nat_lt, remove}
 pub use Rattle.vms_kinds.specs.{Codes.InRange, Codes.is_signed, declared.Kind.Kind}
-pub use Rattle.vms_kinds.specs.declared.Kind.TheVariants.{I16, I32, I64, I8, Timer, U16, U8}
+pub use Rattle.vms_kinds.specs.declared.Kind.TheVariants.{I8, Timer, U16, U8}
 pub use Rattle.vms_fields.specs.Serial.{serial_rows}
 pub use Rattle.vms_fields.specs.declared.serial.TheConstants.{DIVISOR, RX, RX_COUNT, RX_DATA, RX_HEAD, RX_NUMBER}
 pub use Rattle.vms_fields.specs.declared.serial.TheConstants.{THR_IPENDING, TIMEOUT_AT, TX, TX_COUNT, TX_DATA, TX_DUE, TX_HEAD, TX_NUMBER}

@@ -31,6 +31,7 @@ impl Serial {
     /// # Requires
     ///
     /// `pass` has the port's own level, and a set at or above it.
+    #[inline(never)]
     pub fn cells(&self, pass: &Pass) -> DevCells
         requires { CanSave pass.now self.now }
         ensures cells { result.items ≡ cells_at pass.now self.now }

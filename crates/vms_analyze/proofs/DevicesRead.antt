@@ -7,7 +7,7 @@ use Rattle.vms_analyze.proofs.Facade.{width, MOST_UNUSED, LONGEST_NAME, in_range
 use Rattle.vms_analyze.proofs.Facade.{LONGEST_PATH, Told, Sent, Kept, Fixed, Skipped, inr, told_entry, is_path, is_good, ToldSub, told_sub, ToldDevice}
 use Rattle.vms_analyze.proofs.Facade.{told_device, told_tree, fits_four, is_kept, is_good_sub, is_good_device, IsSorted, AreSorted, HoldSorted, only, text_at}
 use Rattle.vms_analyze.proofs.Facade.{path_at, natural_at, whole_at, sent_keys, kept_keys, unprinted, sent_as, sent_in, kept_as, kept_in, element_in, next}
-use Rattle.vms_analyze.proofs.Facade.{four_at, flag_at, list_at, each, sub_keys, sub_in, subs_in, device_keys, device_in, devices_in, items_of, read, value_in}
+use Rattle.vms_analyze.proofs.Facade.{four_at, flag_at, list_at, each, sub_keys, sub_in, subs_in, device_keys, device_in, devices_in, items_of, read, value_in, is_width}
 use Rattle.vms_analyze.proofs.Facade.{Tells, ◌⊎◌, false}
 use Rattle.vms_analyze.proofs.MembersRead.{is_picked, after, first_then, only_is, only_so, text_is, path_is, natural_is, whole_is, whole_back, Says, under}
 use Rattle.vms_analyze.proofs.MembersRead.{IsPathAt, four_is, flag_is, list_is, each_says, each_back, read_sorted}
@@ -52,17 +52,14 @@ told_by path d b u t e tree good = let o = only_is b u t e in rw (← o.same) (r
 abbrev IsUnprinted : List ℕ → ℕ → List ℕ → Told → Type 0
 IsUnprinted path size word t = IsToldBy path (three (string path) (natural size) (string word)) t
 
-abbrev is_fixed : ℕ → Bool
-is_fixed size = size == 1 || size == 2 || size == 4 || size == 8
-
 abbrev is_few : ℕ → Bool
 is_few size = nat_le 1 size && nat_le size MOST_UNUSED
 
 unprinted_is : (path : List ℕ) (size : ℕ) (word : List ℕ) (t : Told) → unprinted path size word ≡ Some t → IsUnprinted path size word t
 unprinted_is path size word t e = elim (if_gives (bytes_eq word (codes "equal")) _ _ t e) [
   | inl p ↦
-      told_by path _ (is_fixed size) (Fixed path size) t p.1 (λ so. rw ((bytes_eq-Decides word (codes "equal")).0 p.0))
-      (λ h so. and_from (is_path LONGEST_PATH path) (is_fixed size) h so)
+      told_by path _ (is_width size) (Fixed path size) t p.1 (λ so. rw ((bytes_eq-Decides word (codes "equal")).0 p.0))
+      (λ h so. and_from (is_path LONGEST_PATH path) (is_width size) h so)
   | inr q ↦
       let k = when_gives (bytes_eq word (codes "unused")) _ t q.1 in
       told_by path _ (is_few size) (Skipped path size) t k.1 (λ so. rw ((bytes_eq-Decides word (codes "unused")).0 k.0))
@@ -138,9 +135,8 @@ element_back (Kept path kind value) e =
     (first_then _ (whole_back value)
     (rw (word_named kind) (only_so (in_range kind value) (Kept path kind value) p.1)))
 element_back (Fixed path n) e =
-    let fixed = n == 1 || n == 2 || n == 4 || n == 8 in
-    let p = and_parts (is_path LONGEST_PATH path) fixed e in
-    first_then _ (only_so (is_path LONGEST_PATH path) path p.0) (only_so fixed (Fixed path n) p.1)
+    let p = and_parts (is_path LONGEST_PATH path) (is_width n) e in
+    first_then _ (only_so (is_path LONGEST_PATH path) path p.0) (only_so (is_width n) (Fixed path n) p.1)
 element_back (Skipped path n) e =
     let few = nat_le 1 n && nat_le n MOST_UNUSED in
     let p = and_parts (is_path LONGEST_PATH path) few e in

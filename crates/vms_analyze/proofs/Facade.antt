@@ -56,7 +56,7 @@ pub use Rattle.vms_analyze.specs.Read.{next, only, path_at, sent_as, sent_in, se
 pub use Rattle.vms_analyze.specs.Sorted.{AreOrdered, AreSorted, HoldSorted, IsBefore, IsLess, IsSorted, keys_of}
 pub use Rattle.vms_analyze.specs.Telling.{told, told_device_of, told_devices, told_part, told_sub_of, told_subs, told_what, tolds}
 pub use Rattle.vms_analyze.specs.Told.{Fixed, Kept, Sent, Skipped, Told, ToldDevice, ToldSub, fits_four, is_good, is_good_device, is_good_sub, is_kept, is_path}
-pub use Rattle.vms_analyze.specs.Told.{is_path_byte, told_device, told_entry, told_sub, told_tree}
+pub use Rattle.vms_analyze.specs.Told.{is_path_byte, is_width, told_device, told_entry, told_sub, told_tree}
 pub use Rattle.vms_analyze.specs.Typed.{ReadsAs, device_of, devices_wants, element_wants, sub_of, subs_wants, told_of}
 pub use Rattle.vms_analyze.specs.Walking.{AtStart, Goes, IsInside, Prints, Stops, Walks, WhyNone, WhyStopped, left}
 pub use Rattle.vms_analyze.specs.Wanted.{Any, Bytes, Differs, Foot, Found, Head, Line, Lines, Machine, Number, Took, Want, behind, device_wants, element_want}

@@ -1,7 +1,7 @@
 -- The description of a well-formed set has the right shape, and what its parts consist of.
 use Rattle.vms_analyze.proofs.Facade.{nat_tests, ◌≡◌, ℕ, suc, ◌<◌, ◌≤◌, ◌==◌, List, [], ◌∷◌, length, get_or, arith, true, ◌&&◌}
 use Rattle.vms_analyze.proofs.Facade.{◌||◌, list_all, AllByRecursion, Bool, and_parts, and_from, LONGEST_NAME, ToldSub, ToldDevice, is_path, fits_four}
-use Rattle.vms_analyze.proofs.Facade.{is_good, is_kept, is_good_sub, is_good_device, ◌+◌, false, is_some, map, Option, ℤ, refl, ap, ◌∙◌, codes}
+use Rattle.vms_analyze.proofs.Facade.{is_good, is_kept, is_width, is_good_sub, is_good_device, ◌+◌, false, is_some, map, Option, ℤ, refl, ap, ◌∙◌, codes}
 use Rattle.vms_analyze.proofs.Facade.{◌*◌, nat_le, length-append, zero, is_none, Some, None, ⊎_elim, map-append, length-map, lt-ltb, cases_lt}
 use Rattle.vms_analyze.proofs.Facade.{get_or-eq_default, slice_get-get_or, list_all-append, no_members, Members, member, number, string, Desc, Sub, Device, Set}
 use Rattle.vms_analyze.proofs.Facade.{AtLeast, desc_cells, struct_cells, no_desc, no_field, counted, Image, own_cells, What, Constant, Filler, shapes}
@@ -66,9 +66,9 @@ pub all_at : {A : Type 0} (P : A → Type 0) (d : A) (xs : List A) → ((i : ℕ
 all_at P d [] h = tt
 all_at P d (x ∷ xs) h = (h 0 (omega arith), all_at P d xs (λ i lt. h (suc i) (omega arith)))
 
--- a number that is one of these
-pub fixed_small : (n : ℕ) → (n == 1 || n == 2 || n == 4 || n == 8) ≡ true → n ≤ 8
-fixed_small n e = grind (arith, nat_tests)
+-- a width is at most the most unused bytes
+pub width_few : (n : ℕ) → is_width n ≡ true → n ≤ MOST_UNUSED
+width_few n e = grind (arith, nat_tests)
 
 -- ---- the description of a well-formed set has the right shape
 
@@ -142,7 +142,7 @@ path_short (Skipped path n) le = omega (arith, name_longer path (sized n (codes 
 abbrev IsOfShape : Told → Type 0
 IsOfShape (Sent path kind) = Unit {0}
 IsOfShape (Kept path kind z) = in_range kind z ≡ true
-IsOfShape (Fixed path n) = (n == 1 || n == 2 || n == 4 || n == 8) ≡ true
+IsOfShape (Fixed path n) = is_width n ≡ true
 IsOfShape (Skipped path n) = (nat_le 1 n && nat_le n MOST_UNUSED) ≡ true
 
 record IsFine (t : Told) : Type 0 where
@@ -153,7 +153,7 @@ record IsFine (t : Told) : Type 0 where
 abbrev AreFine : List Told → Type 0
 AreFine = AllByRecursion IsFine
 
-width_fits : (kind : Kind) → (width kind == 1 || width kind == 2 || width kind == 4 || width kind == 8) ≡ true
+width_fits : (kind : Kind) → is_width (width kind) ≡ true
 width_fits kinds.U8 = refl
 width_fits _ = refl
 

@@ -9,8 +9,8 @@ use Rattle.vms_analyze.proofs.Facade.{found, IsLastPlace, Tells, Text, listing_o
 use Rattle.vms_analyze.proofs.Facade.{number_at, bytes_at, is_name_byte, Sub, Device, Desc, desc_cells, struct_cells, own_cells, begins_with, configuration}
 use Rattle.vms_analyze.proofs.Facade.{struct_items, items_in, subs_items, devices_items, width_small, LONGEST_PATH, Told, Sent, Kept, Fixed, Skipped, is_path}
 use Rattle.vms_analyze.proofs.Facade.{is_good, Want, Any, Number, Machine, Head, Foot, Line, element_want, sub_wants, Took, took, only_if, take_machine}
-use Rattle.vms_analyze.proofs.Facade.{is_machine, taken, Found, Differs, behind, found_after, told_part, told_subs, told_devices, told_device_of, told_sub_of}
-use Rattle.vms_analyze.proofs.Shapes.{each_good, fixed_small, all_good, told_good, tree_same, IsGoodPart, AreGoodSubs, IsGoodDevice, AreGoodDevices}
+use Rattle.vms_analyze.proofs.Facade.{is_machine, taken, Found, Differs, behind, found_after, told_part, told_subs, told_devices, told_device_of, told_sub_of, is_width}
+use Rattle.vms_analyze.proofs.Shapes.{each_good, width_few, all_good, told_good, tree_same, IsGoodPart, AreGoodSubs, IsGoodDevice, AreGoodDevices}
 use Rattle.vms_analyze.proofs.Streams.{front, front_found}
 use Rattle.vms_analyze.proofs.Texts.{told_text, HasNoMark, last_place, tree_sound, text_printed, no_mark}
 
@@ -84,7 +84,7 @@ total_append (x ∷ xs) ys = omega (arith, total_append xs ys)
 element_long : (t : Told) → is_good t ≡ true → most_of (element_want t) ≤ MOST_UNUSED
 element_long (Sent path kind) e = width_small kind
 element_long (Kept path kind z) e = omega arith
-element_long (Fixed path n) e = let small = fixed_small n (and_parts (is_path LONGEST_PATH path) (n == 1 || n == 2 || n == 4 || n == 8) e).1 in omega arith
+element_long (Fixed path n) e = let small = width_few n (and_parts (is_path LONGEST_PATH path) (is_width n) e).1 in omega arith
 element_long (Skipped path n) e =
     leb-true n MOST_UNUSED (and_parts (nat_le 1 n) (nat_le n MOST_UNUSED) (and_parts (is_path LONGEST_PATH path) (nat_le 1 n && nat_le n MOST_UNUSED) e).1).1
 

@@ -11,7 +11,7 @@ use Rattle.vms_json.specs.Keys.{fits}
 use Rattle.vms_spec.specs.declared.TheConstants.{LONGEST_NAME, MOST_UNUSED}
 use Rattle.vms_spec.specs.Rules.{in_range}
 use Rattle.vms_words.specs.Words.{kind_named}
-use Rattle.vms_analyze.specs.Told.{Told, Sent, Kept, Fixed, Skipped, ToldSub, ToldDevice, is_path, fits_four, is_kept}
+use Rattle.vms_analyze.specs.Told.{Told, Sent, Kept, Fixed, Skipped, ToldSub, ToldDevice, is_path, fits_four, is_kept, is_width}
 use Rattle.vms_analyze.specs.declared.elements.TheConstants.{LONGEST_PATH}
 
 -- `f` of what was read, if there is something.
@@ -91,7 +91,7 @@ kept_keys = codes "name" ∷ codes "size" ∷ codes "type" ∷ codes "value" ∷
 -- An element that isn't printed.
 abbrev pub unprinted : List ℕ → ℕ → List ℕ → Option Told
 unprinted path size word =
-    if bytes_eq word (codes "equal") then only (size == 1 || size == 2 || size == 4 || size == 8) (Fixed path size)
+    if bytes_eq word (codes "equal") then only (is_width size) (Fixed path size)
     else if bytes_eq word (codes "unused") then only (nat_le 1 size && nat_le size MOST_UNUSED) (Skipped path size)
     else None
 

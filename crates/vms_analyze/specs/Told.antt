@@ -71,11 +71,15 @@ is_path most text = nat_le 1 (length text) && nat_le (length text) most && list_
 abbrev pub fits_four : ℕ → Bool
 fits_four n = nat_lt n 4294967296
 
+-- Whether a number is the width of a kind.
+abbrev pub is_width : ℕ → Bool
+is_width n = n == 1 || n == 2 || n == 4 || n == 8
+
 -- Whether an element has the required shape.
 abbrev pub is_good : Told → Bool
 is_good (Sent path kind) = is_path LONGEST_PATH path
 is_good (Kept path kind z) = is_path LONGEST_PATH path && in_range kind z
-is_good (Fixed path n) = is_path LONGEST_PATH path && (n == 1 || n == 2 || n == 4 || n == 8)
+is_good (Fixed path n) = is_path LONGEST_PATH path && is_width n
 is_good (Skipped path n) = is_path LONGEST_PATH path && (nat_le 1 n && nat_le n MOST_UNUSED)
 
 -- Whether an element isn't in the stream.

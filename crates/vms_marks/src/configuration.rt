@@ -3,7 +3,7 @@ ghost use Rattle.std.specs.Prelude.{◌≡◌, ◌+◌, ◌≤◌, length};
 ghost use Rattle.vms_spec.specs.Lookup.{number_at};
 ghost use Rattle.vms_spec.specs.Streams.{configuration};
 
-use crate::{Mark, Name, marked, name_of};
+use crate::{Name, heads, name_of};
 use arrayvec::ArrayVec;
 use byteorder::{BigEndian, ByteOrder};
 use vms_spec::LONGEST_NAME;
@@ -28,11 +28,7 @@ impl Configuration {
     pub fn bytes(&self) -> ArrayVec<u8, LONGEST_CONFIGURATION>
         ensures { result.items ≡ configuration self.now.machine.items }
     {
-        let mut bytes = ArrayVec::new();
-        let front = marked(Mark::Configuration, self.machine.len() as u32);
-        let _fits = bytes.try_extend_from_slice(&front);
-        let _fits = bytes.try_extend_from_slice(&self.machine);
-        bytes
+        heads::configuration(&self.machine)
     }
 
     /// Returns the length of the name in a configuration that begins with `front`. No machine has a

@@ -2,7 +2,7 @@
 ghost use Rattle.std.specs.Prelude.{◌≡◌, ◌+◌, ◌≤◌, ◌↔◌, length, slice_index, IfOk, Err};
 ghost use Rattle.vms_spec.specs.Streams.{section_head};
 
-use crate::{Mark, Name, name_of};
+use crate::{Mark, Name, heads, name_of};
 use arrayvec::ArrayVec;
 use byteorder::{BigEndian, ByteOrder};
 use vms_spec::LONGEST_NAME;
@@ -44,14 +44,7 @@ impl Head {
         ensures { result.items ≡ section_head self.now.id self.now.name.items
             self.now.instance self.now.version }
     {
-        let mut bytes = ArrayVec::new();
-        bytes.push(Mark::Full.byte());
-        let _fits = bytes.try_extend_from_slice(&self.id.to_be_bytes());
-        bytes.push(self.name.len() as u8);
-        let _fits = bytes.try_extend_from_slice(&self.name);
-        let _fits = bytes.try_extend_from_slice(&self.instance.to_be_bytes());
-        let _fits = bytes.try_extend_from_slice(&self.version.to_be_bytes());
-        bytes
+        heads::section_head(self.id, &self.name, self.instance, self.version)
     }
 
     /// Returns the head with these `bytes`.

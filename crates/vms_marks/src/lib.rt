@@ -9,6 +9,7 @@ mod configuration;
 mod description;
 mod foot;
 mod head;
+pub mod heads;
 pub mod laws;
 mod mark;
 mod name;

@@ -2,7 +2,7 @@
 ghost use Rattle.std.specs.Prelude.{◌≡◌, ◌+◌, ◌≤◌, length, slice_index};
 ghost use Rattle.vms_spec.specs.Streams.{sub_head};
 
-use crate::{Mark, Name, name_of};
+use crate::{Name, heads, name_of};
 use arrayvec::ArrayVec;
 use byteorder::{BigEndian, ByteOrder};
 use vms_spec::LONGEST_NAME;
@@ -29,12 +29,7 @@ impl SubHead {
     pub fn bytes(&self) -> ArrayVec<u8, LONGEST_SUB_HEAD>
         ensures { result.items ≡ sub_head self.now.name.items self.now.version }
     {
-        let mut bytes = ArrayVec::new();
-        bytes.push(Mark::Sub.byte());
-        bytes.push(self.name.len() as u8);
-        let _fits = bytes.try_extend_from_slice(&self.name);
-        let _fits = bytes.try_extend_from_slice(&self.version.to_be_bytes());
-        bytes
+        heads::sub_head(&self.name, self.version)
     }
 
     /// Returns the length of the name in a head that begins with `front`. The version follows the

@@ -215,20 +215,20 @@ module _ {S : Type 0} (goes : List WalkStep → S → S → Type 0) (more : (xs 
     abbrev behind : List WalkStep
     behind = run_of (first + ((cell - first) + some)) (count - ((cell - first) + some)) kind
 
-    parts : run_of first count kind ≡ run_of first (cell - first) kind ++ (run_of cell some kind ++ behind)
-    parts = run_parts first (cell - first) some count kind (omega arith) ∙ ap (λ k. run_of first (cell - first) kind ++ (run_of k some kind ++ behind)) here
+    pieces : run_of first count kind ≡ run_of first (cell - first) kind ++ (run_of cell some kind ++ behind)
+    pieces = run_parts first (cell - first) some count kind (omega arith) ∙ ap (λ k. run_of first (cell - first) kind ++ (run_of k some kind ++ behind)) here
 
     pub run_stop : {F : Type 0} (stops : List WalkStep → S → F → S → Type 0)
         → ((xs ys : List WalkStep) (a b c : S) (f : F) → goes xs a b → stops ys b f c → stops (xs ++ ys) a f c)
         → ((xs ys : List WalkStep) (a b : S) (f : F) → stops xs a f b → stops (xs ++ ys) a f b)
         → (c : S) (f : F) → stops (run_of cell some kind) b f c → stops (run_of first count kind) a f c
     run_stop stops after before c f h =
-        rw parts (after (run_of first (cell - first) kind) (run_of cell some kind ++ behind) a b c f way (before (run_of cell some kind) behind b c f h))
+        rw pieces (after (run_of first (cell - first) kind) (run_of cell some kind ++ behind) a b c f way (before (run_of cell some kind) behind b c f h))
 
     pub run_may : (may : S → WalkStep → Type 0) → MayRun goes may (run_of first count kind) a → MayRun goes may (run_of cell some kind) b
     run_may may all = λ ys ws zs x d h e.
         all (run_of first (cell - first) kind ++ ys) ws (zs ++ behind) x d (more (run_of first (cell - first) kind) ys a b d way h)
-        (left_within (run_of first (cell - first) kind) (run_of cell some kind) behind (run_of first count kind) ys ws zs x parts e)
+        (left_within (run_of first (cell - first) kind) (run_of cell some kind) behind (run_of first count kind) ys ws zs x pieces e)
 
 -- ---- the slots of a description have their cells in ascending order, between its first cell and its end
 

@@ -3,14 +3,13 @@
 
 mod body;
 mod fine;
-mod heads;
 mod pieces;
 mod readiness;
 mod section;
 mod stream;
 
-pub use heads::{configuration, section_head, sub_head};
 pub use readiness::{are_ready, is_bare, ready};
 pub use section::write_section;
 pub use stream::write_stream;
 pub use vms_io::WriteFault;
+pub use vms_marks::heads::{configuration, section_head, sub_head};

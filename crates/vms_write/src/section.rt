@@ -10,12 +10,12 @@ ghost use Rattle.vms_write.specs.Calls.{CanWriteSub, sub_bytes};
 
 use crate::WriteFault;
 use crate::body::write_fields;
-use crate::heads::{section_head, sub_head};
 use crate::pieces::append;
 use vms_desc::{DescSet, Part};
 use vms_image::Image;
 use vms_io::Sink;
 use vms_marks::Foot;
+use vms_marks::heads::{section_head, sub_head};
 use vms_walk::PartAt;
 
 /// Writes the section of device `device` to `sink`, with the device's number as its id.

@@ -10,12 +10,12 @@ ghost use Rattle.vms_image.specs.Typed.{state_of, AreImagesOf};
 ghost use Rattle.vms_write.specs.Calls.{CanWriteSections, HasMachine, configuration_bytes, sections_bytes};
 
 use crate::WriteFault;
-use crate::heads::configuration;
 use crate::pieces::append;
 use crate::section::write_section;
 use vms_desc::DescSet;
 use vms_image::Image;
 use vms_io::Sink;
+use vms_marks::heads::configuration;
 use vms_marks::{Mark, STREAM_HEAD, marked};
 
 /// Writes the stream of `images`, one for each device in the set's order, to `sink`.
