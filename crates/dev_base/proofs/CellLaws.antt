@@ -45,8 +45,7 @@ of_both (kind ∷ kinds) more_kinds (number ∷ cells) more all rest =
 
 -- The cells that are there if a test holds.
 pub of_where : (has : Bool) (kinds : List Kind) (cells : List ℤ) → AreOf kinds cells → AreOf (cond has kinds []) (cond has cells [])
-of_where true kinds cells all = all
-of_where false kinds cells all = of_none
+of_where has kinds cells all = grind (arith, of_none)
 
 -- Numbers that kinds hold.
 pub byte : (n : ℕ) → n < 2 ^ 8 → InRange U8 (pos n)
@@ -62,8 +61,7 @@ pub timer : (n : ℕ) → n < 2 ^ 64 → InRange Timer (pos n)
 timer n h = (omega (arith, ints), omega (arith, ints, h))
 
 pub flag : (b : Bool) → InRange Truth (pos (flag_number b))
-flag true = (omega (arith, ints), omega (arith, ints))
-flag false = (omega (arith, ints), omega (arith, ints))
+flag b = grind (arith, ints)
 
 -- The converse, for any kind.
 pub number-lt : (kind : Kind) (z : ℤ) → InRange kind z → nat_of z < suc (nat_of (highest kind))
@@ -75,8 +73,7 @@ number-lt kind (pos n) range = by (highest kind) range.1 where
 
 -- A truth value is that of its number.
 pub flag-back : (b : Bool) → (flag_number b == 1) ≡ b
-flag-back true = refl
-flag-back false = refl
+flag-back b = grind arith
 
 -- ---- what tables make of cells
 

@@ -90,7 +90,7 @@ all_true rules e = all-from 1 rules e
 -- What is restored: the device if all rules hold, and only then.
 pub judged-all : {D : Type 0} (rules : List Bool) (device : D) → AllTrue rules → judged rules device ≡ Ok device
 unfolding judged_by
-judged-all rules device h = rw (none_failing rules h) refl
+judged-all rules device h = rw (none_failing rules h)
 
 record Accepted {D : Type 0} (answer : Option ℕ) (found device : D) : Type 0 where
   none : answer ≡ None
@@ -113,4 +113,4 @@ hook-ok (Err rule) device e = cc
 
 pub ok-hook : {D : Type 0} (outcome : Result D ℕ) (device : D) → outcome ≡ Ok device → hook_result outcome ≡ Ok device
 unfolding hook_result
-ok-hook outcome device e = rw e refl
+ok-hook outcome device e = rw e
