@@ -22,10 +22,10 @@ not_test (suc (suc a)) h = absurd (omega arith)
 not_test _ h = refl
 
 pub has-and : (a b i : ℕ) → has (bit_and a b) i ≡ (has a i && has b i)
-has-and a b i = cc (bit_at_and a b i, (both_tests (bit_at a i) (bit_at b i) (bit_at-lt a i) (bit_at-lt b i)).0)
+has-and a b i = grind (arith, bit_at_and, both_tests, bit_at-lt)
 
 pub has-or : (a b i : ℕ) → has (bit_or a b) i ≡ (has a i || has b i)
-has-or a b i = cc (bit_at_or a b i, (both_tests (bit_at a i) (bit_at b i) (bit_at-lt a i) (bit_at-lt b i)).1)
+has-or a b i = grind (arith, bit_at_or, both_tests, bit_at-lt)
 
 pub has-but_not : (a b i : ℕ) → b < 256 → i < 8 → has (but_not a b) i ≡ (has a i && not (has b i))
 unfolding but_not

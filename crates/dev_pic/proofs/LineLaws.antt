@@ -24,10 +24,10 @@ bytes : (inputs : ℕ) → inputs ≡ inputs / 256 * 256 + inputs % 256
 bytes inputs = omega arith
 
 low-input : (inputs i : ℕ) → i < 8 → has (inputs % 256) i ≡ has inputs i
-low-input inputs i h = sym (ap (λ n. has n i) (bytes inputs) ∙ low-bit (inputs / 256) (inputs % 256) i (omega arith) h)
+low-input inputs i h = grind (arith, has, bytes, low-bit)
 
 high-input : (inputs i : ℕ) → i < 8 → has (inputs / 256) i ≡ has inputs (8 + i)
-high-input inputs i h = sym (ap (λ n. has n (8 + i)) (bytes inputs) ∙ high-bit (inputs / 256) (inputs % 256) i (omega arith) h)
+high-input inputs i h = grind (arith, has, bytes, high-bit)
 
 -- The set of the cascade input only, or the empty set.
 cascade-same : (b : Bool) → has (cond b 4 0) 2 ≡ b
@@ -35,15 +35,14 @@ cascade-same true = refl
 cascade-same false = refl
 
 no-input : (i : ℕ) → i < 8 → has 0 i ≡ false
-no-input = each_input (λ i. has 0 i ≡ false) refl refl refl refl refl refl refl refl
+no-input = grind (arith, has)
 
 cascade-other : (b : Bool) (i : ℕ) → i < 8 → i ≢ 2 → has (cond b 4 0) i ≡ false
 cascade-other true i h n = has-one_other 2 i n
 cascade-other false i h n = no-input i h
 
 with-other : (b : Bool) (inputs i : ℕ) → i < 8 → i ≢ 2 → has (with_cascade b inputs) i ≡ has inputs i
-with-other b inputs i h n =
-    cc (has-or (without_input inputs 2) (cond b 4 0) i, cascade-other b i h n, or-false (has (without_input inputs 2) i), has-without_other inputs 2 i (omega arith) h n)
+with-other b inputs i h n = grind (arith, has-or, cascade-other, or-false, has, has-without_other)
 
 with-same : (b : Bool) (inputs : ℕ) → has (with_cascade b inputs) 2 ≡ b
 with-same b inputs = cc (has-or (without_input inputs 2) (cond b 4 0) 2, has-without_same inputs 2 (omega arith), cascade-same b)
@@ -53,7 +52,7 @@ module _ (inputs edges : ℕ) (pair : PicPair) (bound : inputs < 2 ^ 16) where
   output = slave_int_of (record pair { slave = settled (inputs / 256) (edges / 256) pair.slave })
 
   low-lt : with_cascade output (inputs % 256) < 256
-  low-lt = cascade-lt output (inputs % 256) (omega arith)
+  low-lt = grind (arith, cascade-lt)
 
   taken-master : (i : ℕ) → i < 8 → i ≢ 2 → has (lines_of (settled_pair inputs edges pair)) i ≡ has inputs i
   unfolding settled_pair lines_of settled
@@ -162,14 +161,11 @@ acked-slave pair e = rw e (rw (answered-lines (winner_at Slave pair.slave) pair.
 without-bit : (lines i : ℕ) → i < 8 → has (without_input lines 2) i ≡ (has lines i && not (i == 2))
 without-bit lines i h = by_value (i == 2) refl where
   by_value : (b : Bool) → (i == 2) ≡ b → has (without_input lines 2) i ≡ (has lines i && not b)
-  by_value true e =
-      let same : i ≡ 2 = grind (arith, nat_tests) in
-      ap (has (without_input lines 2)) same ∙ has-without_same lines 2 (omega arith) ∙ sym (and-false (has lines i))
-  by_value false e = cc (has-without_other lines 2 i (omega arith) h (grind (arith, nat_tests)), and-true (has lines i))
+  by_value true e = grind (arith, has, has-without_same, and-false)
+  by_value false e = grind (arith, has-without_other, and-true, has)
 
 low-acked : (slave master i : ℕ) → master < 256 → i < 8 → has (slave * 256 + without_input master 2) i ≡ (has (slave * 256 + master) i && not (i == 2))
-low-acked slave master i bound l =
-    cc (low-bit slave (without_input master 2) i (without_input-lt master 2 bound) l, without-bit master i l, low-bit slave master i bound l)
+low-acked slave master i bound l = grind (arith, low-bit, without_input-lt, without-bit)
 
 high-acked : (slave master i : ℕ) → master < 256 → 8 ≤ i → i < 16
     → has (slave * 256 + without_input master 2) i ≡ (has (slave * 256 + master) i && not (i == 2))
@@ -189,9 +185,4 @@ acked-bit pair h i l =
     (λ high. high-acked pair.slave.lines pair.master.lines i h.master.lines high l) (cases_lt i 8)
 
 pub lines_are_kept : LinesAreKept
-lines_are_kept = record {
-  read = λ port pair. read-kept port pair;
-  write = written-kept;
-  ack = λ pair n. acked_for-kept (winner_at Master pair.master) pair n;
-  of_slave = λ input pair h e l. rw (acked-slave pair e) (acked-bit pair h input l);
-}
+lines_are_kept = search (arith, read-kept, written-kept, acked_for-kept, acked-slave, acked-bit)

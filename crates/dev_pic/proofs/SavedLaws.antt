@@ -25,21 +25,7 @@ clear_vectors lowest state base h = grind (arith, nat_tests)
 -- A chip whose cells break no rule is sound.
 pub sound : (level : ℕ) (role : Role) (cells : List ℤ) → IsChipCells cells → AllTrue (rules level role cells) → IsSoundChip level role (chip_of cells)
 unfolding chip_of
-sound level role cells is hold = record {
-  registers = record {
-    irr = number-lt U8 _ (is.in_range IRR (omega arith));
-    isr = number-lt U8 _ (is.in_range ISR (omega arith));
-    imr = number-lt U8 _ (is.in_range IMR (omega arith));
-    lines = number-lt U8 _ (is.in_range LINES (omega arith));
-    lowest = low_priority _ _ _ hold.0;
-    base = number-lt U8 _ (is.in_range BASE (omega arith));
-    vectors = clear_vectors _ _ _ hold.0;
-    elcr = number-lt U8 _ (is.in_range ELCR (omega arith));
-    levels = hold.1.0;
-    mode = hold.1.1.1.0;
-  };
-  requests = hold.1.1.0;
-}
+sound level role cells is hold = search (arith, number-lt, low_priority, clear_vectors)
 
 restored-sound : (level : ℕ) (role : Role) (cells : List ℤ) (chip : Chip) → IsChipCells cells → restored level role cells ≡ Ok chip
     → IsSoundChip level role chip
@@ -239,11 +225,7 @@ pair-restored pair s = cc (restored-newest pair.level Master pair.master s.maste
 
 -- Both chips' cells in the newest set.
 newest-can : (numbers : Numbers) (pair : PicPair) → MayRestore numbers → IsSoundPair pair → CanRestore numbers (pair_cells NEWEST pair)
-newest-can numbers pair may s = record {
-  pass = may;
-  master = subst IsChipCells (sym (master-part NEWEST pair)) (set-of pair.level NEWEST Master pair.master s.master.registers);
-  slave = subst IsChipCells (sym (slave-part NEWEST pair)) (set-of pair.level NEWEST Slave pair.slave s.slave.registers);
-}
+newest-can numbers pair may s = search (arith, master-part, set-of, slave-part)
 
 newest-restored : (numbers : Numbers) (pair : PicPair) → numbers.level ≡ pair.level → IsSoundPair pair
     → hook_restored numbers (pair_cells NEWEST pair) ≡ Ok pair
