@@ -26,13 +26,9 @@ bytes inputs = omega arith
 low-input : (inputs i : ℕ) → i < 8 → has (inputs % 256) i ≡ has inputs i
 low-input inputs i h = grind (arith, has, bytes, low-bit)
 
-high-input : (inputs i : ℕ) → i < 8 → has (inputs / 256) i ≡ has inputs (8 + i)
-high-input inputs i h = grind (arith, has, bytes, high-bit)
-
 -- The set of the cascade input only, or the empty set.
 cascade-same : (b : Bool) → has (cond b 4 0) 2 ≡ b
-cascade-same true = refl
-cascade-same false = refl
+cascade-same b = grind (arith, nat_tests)
 
 no-input : (i : ℕ) → i < 8 → has 0 i ≡ false
 no-input = grind (arith, has)
@@ -64,7 +60,7 @@ module _ (inputs edges : ℕ) (pair : PicPair) (bound : inputs < 2 ^ 16) where
 
   taken-slave : (i : ℕ) → i < 8 → has (lines_of (settled_pair inputs edges pair)) (8 + i) ≡ has inputs (8 + i)
   unfolding settled_pair lines_of settled
-  taken-slave i h = high-bit (inputs / 256) (with_cascade output (inputs % 256)) i low-lt h ∙ high-input inputs i h
+  taken-slave i h = high-bit (inputs / 256) (with_cascade output (inputs % 256)) i low-lt h ∙ (grind (arith, has, bytes, high-bit))
 
 pub lines_are_taken : LinesAreTaken
 lines_are_taken = search (taken-master, taken-cascade, taken-slave)
@@ -164,24 +160,21 @@ without-bit lines i h = by_value (i == 2) refl where
   by_value true e = grind (arith, has, has-without_same, and-false)
   by_value false e = grind (arith, has-without_other, and-true, has)
 
-low-acked : (slave master i : ℕ) → master < 256 → i < 8 → has (slave * 256 + without_input master 2) i ≡ (has (slave * 256 + master) i && not (i == 2))
-low-acked slave master i bound l = grind (arith, low-bit, without_input-lt, without-bit)
-
 high-acked : (slave master i : ℕ) → master < 256 → 8 ≤ i → i < 16
     → has (slave * 256 + without_input master 2) i ≡ (has (slave * 256 + master) i && not (i == 2))
 high-acked slave master i bound least l =
     let place : i ≡ 8 + (i - 8) = omega arith in
     let within : i - 8 < 8 = omega arith in
     let other : (i == 2) ≡ false = grind (arith, nat_tests) in
-    ap (λ n. has (slave * 256 + without_input master 2) n) place ∙ high-bit slave (without_input master 2) (i - 8) (without_input-lt master 2 bound) within
-    ∙ sym (high-bit slave master (i - 8) bound within) ∙ ap (λ n. has (slave * 256 + master) n) (sym place)
+    ap (has (slave * 256 + without_input master 2)) place ∙ high-bit slave (without_input master 2) (i - 8) (without_input-lt master 2 bound) within
+    ∙ sym (high-bit slave master (i - 8) bound within) ∙ ap (has (slave * 256 + master)) (sym place)
     ∙ sym (ap (λ t. has (slave * 256 + master) i && not t) other ∙ and-true (has (slave * 256 + master) i))
 
 acked-bit : (pair : PicPair) → PairHasRegisters pair → (i : ℕ) → i < 16
     → has (pair.slave.lines * 256 + without_input pair.master.lines 2) i ≡ (has (lines_of pair) i && not (i == 2))
 unfolding lines_of
 acked-bit pair h i l =
-    ⊎_elim (λ low. low-acked pair.slave.lines pair.master.lines i h.master.lines low)
+    ⊎_elim (λ low. (grind (arith, low-bit, without_input-lt, without-bit)))
     (λ high. high-acked pair.slave.lines pair.master.lines i h.master.lines high l) (cases_lt i 8)
 
 pub lines_are_kept : LinesAreKept

@@ -156,8 +156,7 @@ no-levels level elcr role l h = grind (arith, nat_tests)
 
 no-mode : (level : ℕ) (ltim : Bool) → level < LTIM_SINCE → mode_holds level ltim ≡ true → ltim ≡ false
 unfolding mode_holds
-no-mode level true l h = absurd (let e : nat_le LTIM_SINCE level ≡ false = grind (arith, nat_tests) in false≢true (rw e at h))
-no-mode level false l h = refl
+no-mode level ltim l h = grind (arith, nat_tests, nat_le)
 
 -- Carried cells are those of the newest set.
 pub carried-saved : (level set : ℕ) (role : Role) (chip : Chip) → level ≤ set → IsSoundChip level role chip
@@ -175,8 +174,7 @@ carried-saved level set role chip le s =
 
 -- The level mode's cell if the subsection isn't needed.
 off : (ltim : Bool) → (flag_number ltim == 1) ≡ false → pos (flag_number ltim) ≡ pos 0
-off true e = cc
-off false e = refl
+off ltim e = grind (arith, nat_tests)
 
 unneeded : (set : ℕ) (chip : Chip) → LTIM_SINCE ≤ set → flag_in (saved_cells set chip) (codes "ltim") ≡ false
     → cell_in (saved_cells set chip) (codes "ltim") ≡ pos 0
@@ -204,7 +202,7 @@ saved_are_cells = record {
 
 -- A fault is that of its own number.
 told : (chip rule : ℕ) → chip < 2 → 1 ≤ rule → rule ≤ 10 → fault_of (hook_rule (record { chip = chip; rule = rule })) ≡ record { chip = chip; rule = rule }
-told zero rule c l h = let e : nat_le rule 10 ≡ true = grind (arith, nat_tests) in rw e refl
+told zero rule c l h = let e : nat_le rule 10 ≡ true = grind (arith, nat_tests) in rw e
 told (suc zero) rule c l h =
     let e : nat_le (10 + rule) 10 ≡ false = grind (arith, nat_tests) in
     let back : 10 + rule - 10 ≡ rule = omega arith in

@@ -146,7 +146,7 @@ takes_lines_over inputs edges chip input lines elcr within =
 
 poll_asked : (level value : ℕ) (chip : Chip) → has value 4 ≡ false → has value 3 ≡ true → has value 2 ≡ true → (written_even level value chip).poll ≡ true
 unfolding written_even selected
-poll_asked level value chip fourth third second = rw (fourth, third, second) refl
+poll_asked level value chip fourth third second = rw (fourth, third, second)
 
 polled : (role : Role) (is_odd : Bool) (chip : Chip) → chip.poll ≡ true → read_of role is_odd chip ≡ polled_by (winner_at role chip) chip
 unfolding read_of
@@ -205,24 +205,15 @@ taken_is : (winner : ℕ) (chip : Chip) → taken winner chip ≡ taken_in chip.
 unfolding taken
 taken_is winner chip = refl
 
-ended_at_once : (rotate level : Bool) (winner : ℕ) (chip : Chip) → (taken_in true rotate level winner chip).isr ≡ chip.isr
-ended_at_once rotate level winner chip = grind arith
-
-rotated_to : (level : Bool) (winner : ℕ) (chip : Chip) → (taken_in true true level winner chip).lowest ≡ winner
-rotated_to level winner chip = grind arith
-
-kept_at : (level : Bool) (winner : ℕ) (chip : Chip) → (taken_in true false level winner chip).lowest ≡ chip.lowest
-kept_at level winner chip = grind arith
-
 pub rotates_at_once : RotatesAtOnce
 rotates_at_once = record {
   words = rotate_words;
   ended = λ chip winner auto. let level = has (level_inputs_of chip) winner in
-      ap (λ c. c.isr) (taken_is winner chip) ∙ ap (λ b. (taken_in b chip.rotate level winner chip).isr) auto ∙ ended_at_once chip.rotate level winner chip;
+      ap (λ c. c.isr) (taken_is winner chip) ∙ ap (λ b. (taken_in b chip.rotate level winner chip).isr) auto ∙ (grind arith);
   rotated = λ chip winner auto rotate. let level = has (level_inputs_of chip) winner in
       ap (λ c. c.lowest) (taken_is winner chip) ∙ ap (λ b. (taken_in b chip.rotate level winner chip).lowest) auto
-      ∙ ap (λ b. (taken_in true b level winner chip).lowest) rotate ∙ rotated_to level winner chip;
+      ∙ ap (λ b. (taken_in true b level winner chip).lowest) rotate ∙ (grind arith);
   kept = λ chip winner auto rotate. let level = has (level_inputs_of chip) winner in
       ap (λ c. c.lowest) (taken_is winner chip) ∙ ap (λ b. (taken_in b chip.rotate level winner chip).lowest) auto
-      ∙ ap (λ b. (taken_in true b level winner chip).lowest) rotate ∙ kept_at level winner chip;
+      ∙ ap (λ b. (taken_in true b level winner chip).lowest) rotate ∙ (grind arith);
 }

@@ -226,9 +226,6 @@ up_high n j k within from = cc (cut (n * 2 ^ j) k within, with_zero (n * 2 ^ j),
 max_left : (a b : ℕ) → b ≡ 0 → max a b ≡ a
 max_left a b e = omega arith
 
-max_right : (a b : ℕ) → a ≡ 0 → max a b ≡ b
-max_right a b e = omega arith
-
 max_same : (a b : ℕ) → b ≡ a → max a b ≡ a
 max_same a b e = omega arith
 
@@ -241,7 +238,7 @@ bit_turned n s j k small whole within =
       low below = grind (arith, max_left, up_low, within, down)
 
       high : j ≤ k → max (bit_at (n / 2 ^ s) k) (bit_at (n * 2 ^ j % 2 ^ 8) k) ≡ bit_at n ((s + k) % 8)
-      high from = max_right _ _ (down n s k ∙ bit_at_above n 8 (s + k) small (omega arith)) ∙ up_high n j k within from ∙ ap (bit_at n) (omega arith)
+      high from = (omega (arith, down n s k ∙ bit_at_above n 8 (s + k) small (omega arith))) ∙ up_high n j k within from ∙ ap (bit_at n) (omega arith)
 
 bit_unturned : (n k : ℕ) → n < 256 → k < 8 → bit_at (bit_or (n / 2 ^ 0) (n * 2 ^ 0 % 2 ^ 8)) k ≡ bit_at n k
 bit_unturned n k small within =
