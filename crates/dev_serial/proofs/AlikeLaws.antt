@@ -183,9 +183,7 @@ pub alike_itself : AlikeItself
 alike_itself port = record { same = refl; enabled = λ e. refl }
 
 pub alike_back : AlikeBack
-alike_back port other a =
-    let enabled : has other.ier 1 ≡ true → port.thr_empty ≡ other.thr_empty = (λ e. sym (a.enabled (ap (λ (p : Port). has p.ier 1) (sym a.same) ∙ e))) in
-    record { same = ap (λ (p : Port). record p { thr_empty = port.thr_empty }) (sym a.same); enabled = enabled }
+alike_back port other a = search arith
 
 pub alike_on : AlikeOn
 alike_on port _ third a b = record { same = cc; enabled = λ e. b.enabled (rw (a.same) (e)) ∙ a.enabled e }

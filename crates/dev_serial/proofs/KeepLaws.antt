@@ -17,7 +17,7 @@ module _ (now : ℕ) (port : Port) (sound : IsSound now port) where
   Kept answer = IsSound now answer.1
 
   longest : character_time port.divisor port.lcr ≤ LONGEST_CHARACTER
-  longest = character-longest port.divisor port.lcr sound.registers.divisor_range
+  longest = grind (arith, character-longest)
 
   id-kept : Kept (id_read now port)
   id-kept = record {
@@ -66,21 +66,11 @@ module _ (now : ℕ) (port : Port) (sound : IsSound now port) where
 
   advance-kept : (to : ℕ) → now ≤ to → IsSound to (advanced to port).1
   unfolding advanced
-  advance-kept to l = record {
-    registers = sound.registers;
-    receiver = advance-receiver _ now to port.level _ _ port.transmitter.shift port.transmitter.waiting port.receiver longest l
-        sound.transmitter.shift sound.transmitter.bytes sound.receiver;
-    transmitter = advance-transmitter _ now to _ port.thr_empty port.transmitter longest l sound.transmitter;
-  }
+  advance-kept to l = search (arith, advance-receiver, longest, advance-transmitter)
 
   thr-kept : (byte : ℕ) → byte < 256 → IsSound now (thr_written byte now port)
   unfolding thr_written
-  thr-kept byte b = record {
-    registers = sound.registers;
-    receiver = sound.receiver;
-    transmitter = thr-sound now (character_time port.divisor port.lcr) byte (is_some port.fifos) port.thr_empty port.transmitter
-        (character-positive port.divisor port.lcr) longest b sound.transmitter;
-  }
+  thr-kept byte b = search (arith, thr-sound, character-positive, longest)
 
   divisor-kept : (divisor : ℕ) → divisor < 65536 → IsSound now (record port { divisor = divisor })
   divisor-kept divisor h = search
@@ -112,26 +102,10 @@ module _ (now : ℕ) (port : Port) (sound : IsSound now port) where
 
   -- lists are cleared, and the switch is set
   switched : (clears_sent clears_held : Bool) (fifos : Option Trigger) → (is_some fifos ≡ true → 2 ≤ port.level) → (clears_sent ≡ false → is_some fifos ≡ is_some port.fifos) → (clears_held ≡ false → is_some fifos ≡ is_some port.fifos) → IsSound now (record (transmitter_cleared clears_sent (receiver_cleared clears_held port)) { fifos = fifos })
-  switched true true fifos h s t = record {
-    registers = switched-registers fifos h;
-    receiver = emptied-sound now port.level (is_some fifos) port.receiver;
-    transmitter = cleared-sound now (is_some port.fifos) (is_some fifos) port.thr_empty _ port.transmitter sound.transmitter;
-  }
-  switched true false fifos h s t = record {
-    registers = switched-registers fifos h;
-    receiver = rw (t refl) sound.receiver;
-    transmitter = cleared-sound now (is_some port.fifos) (is_some fifos) port.thr_empty _ port.transmitter sound.transmitter;
-  }
-  switched false true fifos h s t = record {
-    registers = switched-registers fifos h;
-    receiver = emptied-sound now port.level (is_some fifos) port.receiver;
-    transmitter = rw (s refl) sound.transmitter;
-  }
-  switched false false fifos h s t = record {
-    registers = switched-registers fifos h;
-    receiver = rw (t refl) sound.receiver;
-    transmitter = rw (s refl) sound.transmitter;
-  }
+  switched true true fifos h s t = search (arith, switched-registers, emptied-sound, cleared-sound)
+  switched true false fifos h s t = search (arith, switched-registers, cleared-sound)
+  switched false true fifos h s t = search (arith, switched-registers, emptied-sound)
+  switched false false fifos h s t = search (arith, switched-registers)
 
   fcr-kept-at : (value : ℕ) (before after : Option Trigger) → 2 ≤ port.level → port.fifos ≡ before
       → IsSound now (record (fcr_cleared before after value port) { fifos = after })

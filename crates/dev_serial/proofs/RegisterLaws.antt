@@ -36,7 +36,7 @@ module _ (now : ℕ) (port : Port) where
         itself = rest.itself;
         higher = one ∷ rest.higher;
         lower = rest.lower;
-        order = ap (λ l. one ∷ l) rest.order;
+        order = rw (rest.order);
         silent = All-cons Silent one rest.higher silent rest.silent;
       })
 
@@ -63,7 +63,7 @@ line_tells_asking now port = line now port
 
 -- the FIFO control register
 switched_to : (value : ℕ) → is_some (switch_of value) ≡ has value 0
-switched_to value = elim (has value 0) as (λ is_on. is_some (cond is_on (Some (trigger_of (value / 64))) None) ≡ is_on) [ true ↦ refl | false ↦ refl ]
+switched_to value = grind (arith, has, is_some)
 
 module _ (value : ℕ) (port : Port) where
   both : (before after : Option Trigger) → is_some after ≡ not (is_some before) → HasNoBytes (record (fcr_cleared before after value port) { fifos = after })
@@ -259,10 +259,7 @@ unfolding msr_of
 msr_looped mcr loop = rw loop refl
 
 is_looped : (mcr : ℕ) → has mcr 4 ≡ true → IsLooped mcr (msr_of mcr)
-is_looped mcr loop =
-    let bits = looped_of (has mcr 1) (has mcr 0) (has mcr 2) (has mcr 3) in
-    let is = msr_looped mcr loop in
-    record { cts = rw is bits.cts; dsr = rw is bits.dsr; ri = rw is bits.ri; dcd = rw is bits.dcd; changes = rw is bits.changes }
+is_looped mcr loop = search (arith, looped_of, msr_looped)
 
 modem_read : (now : ℕ) (port : Port) → read_of 6 now port ≡ (msr_of port.mcr, port)
 unfolding read_of
@@ -304,8 +301,4 @@ unfolding came_in received
 one_lost now byte port clear none = grind (arith, common_steps)
 
 pub room_is_held : RoomIsHeld
-room_is_held = record {
-  held = λ now bytes port h. (all_held now bytes port h).held;
-  overrun = λ now bytes port h. (all_held now bytes port h).overrun;
-  lost = one_lost;
-}
+room_is_held = search (arith, all_held, one_lost)

@@ -57,7 +57,7 @@ on_at true has_level bit h n = cc
 on_at false has_level bit h n = (and_parts has_level bit h).0
 
 pub level-on : (level fcr : ℕ) → ((fcr == 0) || (nat_le 2 level && (fcr % 64 == 1))) ≡ true → is_some (fifos_of fcr) ≡ true → 2 ≤ level
-level-on level fcr h n = leb-true 2 level (on_at (fcr == 0) (nat_le 2 level) (fcr % 64 == 1) h (sym (is_on fcr) ∙ n))
+level-on level fcr h n = grind (arith, on_at, is_on)
 
 pub short : (off is_held : Bool) (byte : ℕ) (bytes : List ℕ) → length bytes ≤ 16 → IsShort (not off) (cond off (cond is_held (byte ∷ []) []) bytes)
 short true true byte bytes h = record { short = omega arith; one = λ _. omega arith }
@@ -94,11 +94,11 @@ module _ (now tsr due : ℕ) (empty : Bool) where
 
   pub idle-empty : (idle : Bool) → (same idle (due == NEVER) && cond idle (empty && (tsr == 0)) (nat_lt now due && nat_le due (now + LONGEST_CHARACTER))) ≡ true → is_some (shift_of tsr due) ≡ false → empty ≡ true
   idle-empty true h n = (and_parts _ _ (and_parts _ _ h).1).0
-  idle-empty false h n = absurd (false≢true (sym (rw (not-true (due == NEVER) (and_parts _ _ h).0) at n)))
+  idle-empty false h n = grind arith
 
 pub waiting-empty : (off ready empty unused : Bool) (byte : ℕ) (first second some : Bool) (tx : List ℕ) → is_empty tx ≡ unused → cond off (first && second) (same ready some && same empty unused) ≡ true → empty ≡ true → is_empty (cond off (cond (not empty) (byte ∷ []) []) tx) ≡ true
 waiting-empty true ready empty unused byte first second some tx u h e = rw e refl
-waiting-empty false ready empty unused byte first second some tx u h e = u ∙ (let p : same empty unused ≡ true = (and_parts _ _ h).1 in rw e at p)
+waiting-empty false ready empty unused byte first second some tx u h e = grind (arith, same)
 
 -- ---- the whole port
 
@@ -203,7 +203,7 @@ held now port h s =
 -- and back, by the rules
 fifos-level : (level : ℕ) (fifos : Option Trigger) (rest : Bool) → ((fcr_number fifos == 0) || (nat_le 2 level && rest)) ≡ true → is_some fifos ≡ true → 2 ≤ level
 fifos-level level None rest h e = cc
-fifos-level level (Some trigger) rest h e = leb-true 2 level (and_parts _ _ (rw (on trigger) at h)).0
+fifos-level level (Some trigger) rest h e = grind (arith, on)
 
 shift-from : (now : ℕ) (shift : Option Shift) (idle empty five : Bool) → idle ≡ (empty && not (is_some shift)) → IsByte shift
     → (same idle (due_number shift == NEVER) && cond idle five (nat_lt now (due_number shift) && nat_le (due_number shift) (now + LONGEST_CHARACTER))) ≡ true

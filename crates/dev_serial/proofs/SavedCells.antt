@@ -217,7 +217,7 @@ array_in cells front back bytes place e l n s = record { fits = rw n s; zeros = 
 -- no bytes
 no-arrays : (first second : List ℕ) → length first ≡ 0 → length second ≡ 0
     → (pos (length first) ∷ map pos (padded first)) ++ (pos (length second) ∷ map pos (padded second)) ≡ replicate 34 (pos 0)
-no-arrays first second a b = rw (nil_from_length first a, nil_from_length second b) refl
+no-arrays first second a b = grind (arith, nil_from_length)
 
 module _ (now : ℕ) (port : Port) (early : now ≤ LAST_MOMENT) (sound : IsSound now port) where
   abbrev first : ℕ → List ℕ
@@ -274,23 +274,20 @@ numbers-back set now port = refl
 
 -- a port of an early level lacks what an older set lacks
 off-early : (now : ℕ) (port : Port) → IsSound now port → port.level < 2 → port.fifos ≡ None
-off-early now port s early = at port.fifos (λ on. let h = s.registers.fifos on in omega arith) where
-  at : (fifos : Option Trigger) → (is_some fifos ≡ true → 2 ≤ port.level) → fifos ≡ None
-  at None h = refl
-  at (Some trigger) h = absurd (let l = h refl in omega arith)
+off-early now port s early = grind (arith, is_some)
 
 no-timeout : (now : ℕ) (port : Port) → IsSound now port → port.level < 3 → port.receiver.timeout ≡ None
 no-timeout now port s early = none_at port.receiver.timeout s.receiver.timeout where
   none_at : (timeout : Option ℕ) → IsTimeout now (nat_le 3 port.level && (is_some port.fifos && not (is_empty port.receiver.held))) timeout → timeout ≡ None
   none_at None t = refl
-  none_at (Some moment) t = let h = leb-true 3 port.level (and_parts _ _ t.runs_now).0 in absurd (omega arith)
+  none_at (Some moment) t = grind arith
 
 no-array : (set : ℕ) (bytes : List ℕ) → in_array set None bytes ≡ []
-no-array set bytes = elim (nat_le 4 set) as (λ is. cond is [] (fifo_bytes None bytes) ≡ []) [ true ↦ refl | false ↦ refl ]
+no-array set bytes = grind arith
 
 module _ (set now : ℕ) (port : Port) (early : now ≤ LAST_MOMENT) (s : IsSound now port) (le : port.level ≤ set) where
   off : nat_le 2 set ≡ false → port.fifos ≡ None
-  off e = off-early now port s (grind (arith, nat_tests))
+  off e = grind (arith, off-early)
 
   empty : (bytes : List ℕ) → nat_le 2 set ≡ false → in_array set port.fifos bytes ≡ []
   empty bytes e = rw (off e) (no-array set bytes)
@@ -352,7 +349,7 @@ module _ (numbers : Numbers) (port : Port) (can : CanSave numbers port) (sound :
   newest = record numbers { set = NEWEST }
 
   same : carried numbers.set (cells_at numbers port) ≡ cells_of 4 (saved numbers.set numbers.moment port)
-  same = carried-saved numbers.set numbers.moment port can.moment sound (omega arith)
+  same = grind (arith, carried-saved)
 
   may : CanRestore newest (carried numbers.set (cells_at numbers port))
   may = record {

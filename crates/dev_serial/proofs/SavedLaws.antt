@@ -22,7 +22,7 @@ zero-add : (k : ℕ) → 0 + k ≡ k
 zero-add k = omega arith
 
 pub all_fails : (p : ℕ → Bool) (k : ℕ) → k < 16 → p k ≡ false → list_all p (range_with_len 0 16) ≡ false
-all_fails p k l e = list_all_at p (range_with_len 0 16) k 0 l (ap p (get_or-range_with_len 0 16 k 0 l ∙ zero-add k) ∙ e)
+all_fails p k l e = grind (arith, list_all_at, get_or-range_with_len, zero-add)
 
 pub all_more : (p : ℕ → Bool) (k : ℕ) → k < 16 → list_all p (take k (range_with_len 0 16)) ≡ true → p k ≡ true
     → list_all p (take (k + 1) (range_with_len 0 16)) ≡ true
@@ -32,28 +32,25 @@ all_more p k l h e = list_all_more p (range_with_len 0 16) k 0 l ∙ and_from _ 
 
 -- the bytes of a list, by their places
 firsts-back : (f : ℕ → ℕ) (bytes : List ℕ) → ((i : ℕ) → i < length bytes → f i ≡ byte_of bytes i) → firsts (length bytes) f ≡ bytes
-firsts-back f bytes h = sym (all_set f bytes (length bytes) refl (λ i l. sym (h i l)))
+firsts-back f bytes h = grind (arith, all_set)
 
 pub byte_of-padded : (bytes : List ℕ) (i : ℕ) → i < 16 → byte_of (padded bytes) i ≡ byte_of bytes i
 byte_of-padded bytes i l = get_or-map-range_with_len (byte_of bytes) 0 16 i i 0 l (omega arith)
 
 pub counted-back : (bytes : List ℕ) → length bytes ≤ 16 → counted_bytes (counted_of bytes) ≡ bytes
-counted-back bytes h = rw (min-eq_left h) (firsts-back (byte_of (padded bytes)) bytes (λ i l. byte_of-padded bytes i (omega arith)))
+counted-back bytes h = grind (arith, firsts-back, byte_of-padded)
 
 round : (i : ℕ) → i < 16 → (0 + i) % 16 ≡ i
 round i l = omega arith
 
 -- the ring of a list gives the list again
 pub ring-back : (bytes : List ℕ) → length bytes ≤ 16 → ring_bytes (ring_of bytes) ≡ bytes
-ring-back bytes h =
-    rw (min-eq_left h) (firsts-back (λ i. byte_of (padded bytes) ((0 + i) % 16)) bytes (λ i l.
-    let within : i < 16 = omega arith in
-    ap (byte_of (padded bytes)) (round i within) ∙ byte_of-padded bytes i within))
+ring-back bytes h = grind (arith, firsts-back, round, byte_of-padded)
 
 -- a test of a run of numbers
 all-range : (p : ℕ → Bool) (a n : ℕ) → ((k : ℕ) → a ≤ k → k < a + n → p k ≡ true) → list_all p (range_with_len a n) ≡ true
 all-range p a zero h = refl
-all-range p a (suc n) h = and_from _ _ (h a (omega arith) (omega arith)) (all-range p (a + 1) n (λ k l m. h k (omega arith) (omega arith)))
+all-range p a (suc n) h = grind (arith, and_from, all-range p (a + 1) n (λ k l m. h k (omega arith) (omega arith)))
 
 back-round : (k : ℕ) → k < 16 → (k + 16 - 0) % 16 ≡ k
 back-round k l = omega arith
@@ -73,24 +70,19 @@ ring_of-holds bytes h =
 -- whether there are any
 none : (n : ℕ) → (min n 16 == 0) ≡ (n == 0)
 none zero = refl
-none (suc n) = cc (ne_eqb (min (suc n) 16) 0 (λ e. omega arith), ne_eqb (suc n) 0 (λ e. omega arith))
+none (suc n) = grind arith
 
 firsts-empty : (n : ℕ) (f : ℕ → ℕ) → is_empty (firsts (min n 16) f) ≡ (n == 0)
 firsts-empty n f = cc (length-map-range_with_len f 0 (min n 16), none n)
 
 pub stored-empty : (array : Counted) (ring : Ring) → is_empty (stored_bytes array ring) ≡ is_unused array ring
-stored-empty array ring =
-    elim (array.count == 0) as (λ b. is_empty (counted_bytes array) ≡ b → is_empty (cond b (ring_bytes ring) (counted_bytes array)) ≡ (b && (ring.number == 0)))
-    [ true ↦ λ e. firsts-empty ring.number (λ i. byte_of ring.elements ((ring.head + i) % 16)) | false ↦ λ e. e ]
-    (firsts-empty array.count (byte_of array.bytes))
+stored-empty array ring = grind (arith, is_empty, firsts-empty)
 
 firsts-short : (n : ℕ) (f : ℕ → ℕ) → length (firsts (min n 16) f) ≤ 16
-firsts-short n f = rw (length-map-range_with_len f 0 (min n 16)) (min-le_right n 16)
+firsts-short n f = grind (arith, length-map-range_with_len)
 
 pub stored-short : (array : Counted) (ring : Ring) → length (stored_bytes array ring) ≤ 16
-stored-short array ring =
-    cond_both (array.count == 0) (ring_bytes ring) (counted_bytes array) (λ bytes. length bytes ≤ 16)
-    (λ _. firsts-short ring.number (λ i. byte_of ring.elements ((ring.head + i) % 16))) (λ _. firsts-short array.count (byte_of array.bytes))
+stored-short array ring = grind (arith, firsts-short)
 
 -- bytes
 pub byte_of-lt : (bytes : List ℕ) (i : ℕ) → AreBytes bytes → byte_of bytes i < 256
@@ -137,7 +129,7 @@ ring-kinds k low high = bytes_within (field_kinds ++ U8 ∷ I8 ∷ replicate 34 
 
 -- the number in a cell that is a byte
 pub byte-at : (cells : List ℤ) → AreOf (kinds 4) cells → (place : ℕ) → place < 84 → kind_at (kinds 4) place ≡ U8 → number_at cells place < 256
-byte-at cells all place l e = number-lt U8 (cell_at cells place) (subst (λ kind. InRange kind (cell_at cells place)) e (all.in_range place (omega arith)))
+byte-at cells all place l e = grind (arith, number-lt)
 
 -- a run of bytes, within the arrays or the rings
 pub in_arrays : (cells : List ℤ) (place count : ℕ) → AreOf (kinds 4) cells → RX_COUNT ≤ place → place + count ≤ TIMEOUT_AT → AreBytesIn cells place count
@@ -172,7 +164,7 @@ fifos-back _ = refl
 pub fcr-saved : (level : ℕ) (fifos : Option Trigger) → (is_some fifos ≡ true → 2 ≤ level)
     → ((fcr_number fifos == 0) || (nat_le 2 level && (fcr_number fifos % 64 == 1))) ≡ true
 fcr-saved level None h = refl
-fcr-saved level (Some trigger) h = or_right (fcr_number (Some trigger) == 0) _ (and_from _ _ (le-leb 2 level (h refl)) (on_bit trigger))
+fcr-saved level (Some trigger) h = grind (arith, or_right, and_from, on_bit)
 
 pub unused-saved : (fifos : Option Trigger) (held waiting : List ℕ) → cond (fcr_number fifos == 0) (is_empty (fifo_bytes fifos held) && is_empty (fifo_bytes fifos waiting)) ((single_byte fifos held == 0) && (single_byte fifos waiting == 0)) ≡ true
 unused-saved None held waiting = refl
@@ -197,8 +189,8 @@ same-self false = refl
 pub status-saved : (fifos : Option Trigger) (held waiting : List ℕ) (ready empty : Bool) → ready ≡ not (is_empty held) → empty ≡ is_empty waiting
     → cond (fcr_number fifos == 0) ((ready || (single_byte fifos held == 0)) && (not empty || (single_byte fifos waiting == 0)))
     (same ready (not (is_empty (fifo_bytes fifos held))) && same empty (is_empty (fifo_bytes fifos waiting))) ≡ true
-status-saved None held waiting ready empty r e = rw (r, e) (and_from _ _ (single-none None held) (single-none None waiting))
-status-saved (Some trigger) held waiting ready empty r e = rw (on trigger, r, e) (and_from _ _ (same-self (not (is_empty held))) (same-self (is_empty waiting)))
+status-saved None held waiting ready empty r e = grind (arith, and_from, single-none)
+status-saved (Some trigger) held waiting ready empty r e = grind (arith, on, and_from, same-self, is_empty)
 
 pub moment-back : (now : ℕ) (runs : Bool) (timeout : Option ℕ) → now ≤ LAST_MOMENT → IsTimeout now runs timeout → moment_of (moment_number timeout) ≡ timeout
 moment-back now runs None h t = refl
@@ -206,21 +198,20 @@ moment-back now runs (Some moment) h t = rw (ne_eqb moment NEVER (λ e. omega ar
 
 pub shift-back : (now : ℕ) (shift : Option Shift) → now ≤ LAST_MOMENT → IsShift now shift → shift_of (shift_number shift) (due_number shift) ≡ shift
 shift-back now None h s = refl
-shift-back now (Some shift) h s = rw (ne_eqb shift.due NEVER (λ e. omega arith))
+shift-back now (Some shift) h s = grind arith
 
 pub shift-saved : (now : ℕ) (shift : Option Shift) (idle empty : Bool) → now ≤ LAST_MOMENT → IsShift now shift → (is_some shift ≡ false → empty ≡ true)
     → idle ≡ (empty && not (is_some shift))
     → (same idle (due_number shift == NEVER) && cond idle (empty && (shift_number shift == 0))
     (nat_lt now (due_number shift) && nat_le (due_number shift) (now + LONGEST_CHARACTER))) ≡ true
 shift-saved now None idle empty h s i e = rw (e, i refl)
-shift-saved now (Some shift) idle empty h s i e = rw (e, and-false empty, ne_eqb shift.due NEVER (λ e. omega arith))
-    (and_from _ _ (lt-ltb now shift.due s.later) (le-leb shift.due _ s.in_time))
+shift-saved now (Some shift) idle empty h s i e = grind (arith, and-false, and_from)
 
 -- a timeout that runs exactly when it may
 timeout_at : (now : ℕ) (runs : Bool) (timeout : Option ℕ) → now ≤ LAST_MOMENT → IsTimeout now runs timeout
     → cond runs (not (moment_number timeout == NEVER) && nat_le (moment_number timeout) (now + longest_timeout)) (moment_number timeout == NEVER) ≡ true
 timeout_at now runs None h t = rw t
-timeout_at now runs (Some moment) h t = rw (t.runs_now, ne_eqb moment NEVER (λ e. omega arith)) (le-leb moment _ t.in_time)
+timeout_at now runs (Some moment) h t = grind arith
 
 pub runs-same : (fifos : Option Trigger) (held : List ℕ)
     → (not (fcr_number fifos == 0) && not (is_empty (fifo_bytes fifos held))) ≡ (is_some fifos && not (is_empty held))
@@ -236,31 +227,23 @@ timeout-saved level now fifos held timeout h t = rw (runs-same fifos held) (time
 -- the FIFOs of a list, in the counted array or in the ring
 module _ (set : ℕ) (fifos : Option Trigger) (bytes : List ℕ) where
   pub fifo-short : IsShort (is_some fifos) bytes → length (fifo_bytes fifos bytes) ≤ 16
-  fifo-short = elim fifos as (λ f. IsShort (is_some f) bytes → length (fifo_bytes f bytes) ≤ 16) [ None ↦ λ s. omega arith | Some trigger ↦ λ s. s.short ]
+  fifo-short = grind (arith, is_some)
 
   pub array-short : IsShort (is_some fifos) bytes → length (in_array set fifos bytes) ≤ 16
-  array-short s = elim (nat_le 4 set) as (λ b. length (cond b [] (fifo_bytes fifos bytes)) ≤ 16) [ true ↦ omega arith | false ↦ fifo-short s ]
+  array-short s = grind (arith, fifo-short)
 
   pub ring-short : IsShort (is_some fifos) bytes → length (in_ring set fifos bytes) ≤ 16
-  ring-short s = elim (nat_le 4 set) as (λ b. length (cond b (fifo_bytes fifos bytes) []) ≤ 16) [ true ↦ fifo-short s | false ↦ omega arith ]
+  ring-short s = grind (arith, fifo-short)
 
   pub unused-at : is_unused (counted_of (in_array set fifos bytes)) (ring_of (in_ring set fifos bytes)) ≡ is_empty (fifo_bytes fifos bytes)
-  unused-at = let held = fifo_bytes fifos bytes in
-      elim (nat_le 4 set) as (λ b. is_unused (counted_of (cond b [] held)) (ring_of (cond b held [])) ≡ is_empty held)
-      [ true ↦ refl | false ↦ and-true (is_empty held) ]
+  unused-at = grind (arith, is_empty, and-true)
 
   pub once-at : is_stored_once (counted_of (in_array set fifos bytes)) (ring_of (in_ring set fifos bytes)) ≡ true
-  once-at = let held = fifo_bytes fifos bytes in
-      elim (nat_le 4 set) as (λ b. is_stored_once (counted_of (cond b [] held)) (ring_of (cond b held [])) ≡ true)
-      [ true ↦ refl | false ↦ or-true (is_empty held) ]
+  once-at = grind (arith, or-true, is_empty)
 
   pub stored-at : IsShort (is_some fifos) bytes
       → stored_bytes (counted_of (in_array set fifos bytes)) (ring_of (in_ring set fifos bytes)) ≡ fifo_bytes fifos bytes
-  stored-at s = at (nat_le 4 set) (fifo_bytes fifos bytes) (fifo-short s) where
-    at : (b : Bool) (list : List ℕ) → length list ≤ 16 → stored_bytes (counted_of (cond b [] list)) (ring_of (cond b list [])) ≡ list
-    at true list h = ring-back list h
-    at false [] h = refl
-    at false (x ∷ list) h = rw (not_empty x list) (counted-back (x ∷ list) h)
+  stored-at s = grind (arith, fifo-short, ring-back, not_empty, counted-back)
 
 -- ---- the whole port
 

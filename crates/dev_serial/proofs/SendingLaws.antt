@@ -53,11 +53,11 @@ module _ (mode : Mode) (to : ℕ) (shift : Shift) where
     stays-left whole waiting e = rw (e, not_yet shift.due to h, bytes_of-timetable mode.character (shift.due + mode.character) waiting)
 
     pub stays-line : (whole line waiting : List ℕ) → whole ≡ line ++ on_line mode (gone to (departures mode.character (Some shift) waiting)) → line ≡ whole
-    stays-line whole line waiting e = sym (e ∙ rw (none-gone waiting) (none_on_line mode.is_looped line))
+    stays-line whole line waiting e = grind (arith, none-gone, none_on_line)
 
     pub stays-looped : (whole receiver : ReceiverState) (waiting : List ℕ)
         → whole ≡ looped_in mode (gone to (departures mode.character (Some shift) waiting)) receiver → receiver ≡ whole
-    stays-looped whole receiver waiting e = sym (e ∙ rw (none-gone waiting) (looped_none mode.is_looped mode receiver))
+    stays-looped whole receiver waiting e = grind (arith, none-gone, looped_none)
 
   -- it is due
   module _ (h : shift.due ≤ to) where
@@ -93,12 +93,10 @@ module _ (mode : Mode) (to : ℕ) (shift : Shift) where
     moves-left whole (x ∷ xs) rest next n r e l = e ∙ rw (due_by shift.due to h, n, r)
 
     pub moves-line : (whole line longer waiting rest : List ℕ) (next : ℕ) → next ≡ get_or waiting 0 next → rest ≡ remove waiting 0 → longer ≡ line ++ on_line mode (shift ∷ []) → whole ≡ line ++ on_line mode (gone to (departures mode.character (Some shift) waiting)) → 0 < length waiting → whole ≡ longer ++ on_line mode (gone to (departures mode.character (Some (record { byte = next; due = shift.due + mode.character })) rest))
-    moves-line whole line longer waiting rest next n r is e l =
-        e ∙ rw (gone-next waiting rest next l n r, is) (sym (bytes_on_line mode.is_looped shift.byte _ line))
+    moves-line whole line longer waiting rest next n r is e l = grind (arith, gone-next, bytes_on_line)
 
     pub moves-looped : (whole receiver after : ReceiverState) (waiting rest : List ℕ) (next : ℕ) → next ≡ get_or waiting 0 next → rest ≡ remove waiting 0 → after ≡ looped_in mode (shift ∷ []) receiver → whole ≡ looped_in mode (gone to (departures mode.character (Some shift) waiting)) receiver → 0 < length waiting → whole ≡ looped_in mode (gone to (departures mode.character (Some (record { byte = next; due = shift.due + mode.character })) rest)) after
-    moves-looped whole receiver after waiting rest next n r is e l =
-        e ∙ rw (gone-next waiting rest next l n r, is) (looped_more mode.is_looped mode shift _ receiver)
+    moves-looped whole receiver after waiting rest next n r is e l = grind (arith, gone-next, looped_more)
 
 -- ---- timetables, and what leaves by them
 
@@ -156,7 +154,7 @@ departures-table character due (byte ∷ bytes) = rw (bytes_of-timetable charact
 
 departures-holding : (character : ℕ) (shifts : List Shift) → IsTable character shifts
     → departures character (holding shifts).shift (holding shifts).waiting ≡ shifts
-departures-holding character shifts t = rw (t.table) (departures-table character t.due t.bytes)
+departures-holding character shifts t = grind (arith, departures-table)
 
 -- the bytes to send after a moment are the rest of the timetable
 pub departures-later : (character to : ℕ) (shift : Option Shift) (waiting : List ℕ) → departures character (run_until character to shift waiting).shift (run_until character to shift waiting).waiting ≡ staying to (departures character shift waiting)
@@ -181,7 +179,7 @@ run-twice character a b (Some shift) waiting h =
     cc (run-holding character b (staying a (timetable character shift.due (shift.byte ∷ waiting))) (staying-table character a shift.due (shift.byte ∷ waiting)), staying-twice a b (timetable character shift.due (shift.byte ∷ waiting)) h)
 
 pub gone_by-twice : (character a b : ℕ) (shift : Option Shift) (waiting : List ℕ) → a ≤ b → gone_by character a shift waiting ++ gone_by character b (run_until character a shift waiting).shift (run_until character a shift waiting).waiting ≡ gone_by character b shift waiting
-gone_by-twice character a b shift waiting h = rw (departures-later character a shift waiting) (gone-twice a b (departures character shift waiting) h)
+gone_by-twice character a b shift waiting h = grind (arith, departures-later, gone-twice)
 
 -- no more bytes wait than before
 length-staying : (to : ℕ) (shifts : List Shift) → length (staying to shifts) ≤ length shifts
@@ -238,7 +236,7 @@ pending-append (Some shift) xs ys = refl
 
 pub none_left : (bytes : List ℕ) → is_empty bytes ≡ true → bytes ≡ []
 none_left [] e = refl
-none_left (byte ∷ bytes) e = let h = eqb-true (length (byte ∷ bytes)) 0 e in absurd (omega arith)
+none_left (byte ∷ bytes) e = grind arith
 
 queued-accepted : (has_fifos : Bool) (byte : ℕ) (waiting : List ℕ) → (not has_fifos && not (is_empty waiting)) ≡ false
     → queued has_fifos byte waiting ≡ waiting ++ cond (has_fifos && not (nat_lt (length waiting) 16)) [] (byte ∷ [])

@@ -12,7 +12,7 @@ use Rattle.dev_serial.specs.{declared.fifo.TheConstants.FIFO_BYTES}
 -- ---- each step of a part
 
 pub not_empty : (byte : ℕ) (bytes : List ℕ) → is_empty (byte ∷ bytes) ≡ false
-not_empty byte bytes = ne_eqb (length (byte ∷ bytes)) 0 (λ e. omega arith)
+not_empty byte bytes = grind arith
 
 pub AreBytes-push : (bytes : List ℕ) (byte : ℕ) → AreBytes bytes → byte < 256 → AreBytes (bytes ++ byte ∷ [])
 AreBytes-push [] byte h b = (b, tt)
@@ -93,14 +93,7 @@ module _ (now at character : ℕ) (looped : Bool) (early : at ≤ now) (quick : 
       → IsReceiver now level on (taken_at (mode_at character on (nat_le 3 level) looped) at held receiver).1
   unfolding taken_at
   taken-held level on [] receiver e s = s
-  taken-held level on (byte ∷ rest) receiver e s =
-      let short = rw e at s.short in
-      let bytes = rw e at s.bytes in
-      record {
-        short = record { short = let h = short.short in omega arith; one = λ f. let h = short.one f in omega arith };
-        bytes = bytes.1;
-        timeout = taken-timeout on (nat_le 3 level) byte rest receiver.timeout (rw e at s.timeout);
-      }
+  taken-held level on (byte ∷ rest) receiver e s = search (arith, taken-timeout)
 
 -- the receiver without its bytes, with FIFOs or not
 pub emptied-sound : (now level : ℕ) (on : Bool) (receiver : ReceiverState) → IsReceiver now level on (emptied receiver)
@@ -136,13 +129,7 @@ loaded-sound : (now due : ℕ) (on : Bool) (shift : Option Shift) (waiting : Lis
 unfolding loaded
 loaded-sound now due on (Some shift) waiting l h s b t = record { short = s; bytes = b; shift = t; idle = λ e. cc; latched = λ e. e }
 loaded-sound now due on None [] l h s b t = record { short = s; bytes = b; shift = tt; idle = λ e. refl; latched = λ e. e }
-loaded-sound now due on None (byte ∷ rest) l h s b t = record {
-  short = record { short = let k = s.short in omega arith; one = λ f. let k = s.one f in omega arith };
-  bytes = b.1;
-  shift = record { byte = b.0; later = l; in_time = h };
-  idle = λ e. cc;
-  latched = λ e. e;
-}
+loaded-sound now due on None (byte ∷ rest) l h s b t = search arith
 
 pub thr-sound : (now character byte : ℕ) (on latch : Bool) (transmitter : TransmitterState) → 1 ≤ character → character ≤ LONGEST_CHARACTER → byte < 256 → IsTransmitter now on transmitter latch → IsTransmitter now on (loaded (now + character) transmitter.shift (queued on byte transmitter.waiting)) (is_empty (loaded (now + character) transmitter.shift (queued on byte transmitter.waiting)).waiting)
 thr-sound now character byte on latch transmitter p q b s =
@@ -249,10 +236,9 @@ advance-receiver character now to level on false shift waiting receiver q l h b 
 -- a byte waits then
 queued-filled : (has_fifos : Bool) (byte : ℕ) (waiting : List ℕ) → is_empty (queued has_fifos byte waiting) ≡ false
 unfolding queued
-queued-filled false byte waiting = refl
-queued-filled true byte [] = refl
 queued-filled true byte (first ∷ rest) =
     either (λ bytes. is_empty bytes ≡ false) (nat_lt (length (first ∷ rest)) FIFO_BYTES) _ _ (not_empty first (rest ++ byte ∷ [])) (not_empty first rest)
+queued-filled _ byte _ = refl
 
 loaded-busy : (due : ℕ) (shift : Option Shift) (waiting : List ℕ) → is_some shift ≡ true
     → loaded due shift waiting ≡ record { waiting = waiting; shift = shift }

@@ -29,7 +29,7 @@ latch-twice false true end latch p q = rw (q refl)
 latch-twice false false end latch p q = refl
 
 pub stays_empty : (few many : List ℕ) → length few ≤ length many → is_empty many ≡ true → is_empty few ≡ true
-stays_empty few many h e = let z = eqb-true (length many) 0 e in eq-eqb (length few) 0 (omega arith)
+stays_empty few many h e = grind arith
 
 -- a port with what a span changes
 outcome : Port → List ℕ → ReceiverState → TransmitterState → Bool → List ℕ × Port
@@ -83,9 +83,7 @@ stays to shift character waiting h = rw (lt-leb shift.due to h, bytes_of-timetab
 
 stays-whole : (to : ℕ) (shift : Shift) (character : ℕ) (transmitter : TransmitterState) → transmitter.shift ≡ Some shift → to < shift.due
     → run_until character to transmitter.shift transmitter.waiting ≡ transmitter
-stays-whole to shift character transmitter e h =
-    ap (λ s. run_until character to s transmitter.waiting) e ∙ stays to shift character transmitter.waiting h
-    ∙ ap (λ s. let t : TransmitterState = record { waiting = transmitter.waiting; shift = s } in t) (sym e)
+stays-whole to shift character transmitter e h = grind (arith, stays)
 
 no_line : (looped : Bool) → cond {A = List ℕ} looped [] [] ≡ []
 no_line true = refl
@@ -121,7 +119,7 @@ still-by (Some shift) to port e h = waits_until_due to port shift e h
 
 -- nothing leaves before it is due
 pub still : (to : ℕ) (port : Port) → IsSentAfter to port.transmitter.shift → advanced to port ≡ ([], port)
-still to port h = still-by port.transmitter.shift to port refl h
+still to port h = grind (arith, still-by)
 
 pub character-positive : (divisor lcr : ℕ) → 1 ≤ character_time divisor lcr
 unfolding character_time
