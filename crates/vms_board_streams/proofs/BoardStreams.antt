@@ -32,7 +32,7 @@ isa-named level le = record { short = omega arith; octets = (omega arith, (omega
 
 isa-small : IsSmall isa
 isa-small = record {
-  isa_well = λ set le. isa_well set;
+  well = λ set le. isa_well set;
   sections = isa-short;
   text = λ set images le. shipped_holds.shipped set le images;
   machine = λ set m may. isa-named _ (omega arith);
@@ -60,7 +60,7 @@ clock-named version le = record { short = omega arith; octets = (omega arith, (o
 
 clock-small : IsSmall clock
 clock-small = record {
-  clock_well = λ set le. clock_well set;
+  well = λ set le. clock_well set;
   sections = λ set le. clock-short set;
   text = λ set images le. clock_holds.clock set images;
   machine = λ set m may. clock-named _ (omega arith);

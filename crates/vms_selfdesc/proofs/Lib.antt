@@ -1,3 +1,4 @@
+pub mod AlikeLemmas
 mod Rows
 pub mod Facade
 pub mod Fits

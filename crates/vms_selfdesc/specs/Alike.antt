@@ -11,7 +11,8 @@ use Rattle.vms_spec.specs.Tests.{is_there}
 use Rattle.vms_desc.specs.Asks.{field_at, own_numbers}
 use Rattle.vms_desc.specs.Described.{described, device_at}
 use Rattle.vms_desc.specs.Parts.{desc_at}
-use Rattle.vms_image.specs.Typed.{IsOfDevice, state_of}
+use Rattle.vms_spots.specs.Spots.{AreOf}
+use Rattle.vms_image.specs.Typed.{IsOfDevice, Typed, state_of}
 use Rattle.vms_selfdesc.specs.Entries.{part_entries}
 use Rattle.vms_selfdesc.specs.Needs.{HasPlace}
 use Rattle.vms_selfdesc.specs.declared.alike.Pair.{Pair}
@@ -48,6 +49,12 @@ IsPartAlike set part base n m = (sent : Bool) → part_entries set (desc_at set 
 
 -- ---- what the calls require
 
+-- The numbers of two images are of the same kinds, and each is in the range of its kind.
+pub record HaveKinds (first second : Typed) : Type 0 where
+  pub same : first.kinds ≡ second.kinds
+  pub first_fit : AreOf first.kinds first.numbers
+  pub second_fit : AreOf second.kinds second.numbers
+
 module _ (p : Pair) where
   -- The set of a pair of images, and the numbers of each.
   abbrev pub set_of : Set
@@ -64,7 +71,13 @@ module _ (p : Pair) where
     pub first : IsOfDevice set_of i (state_of p.first.now)
     pub second : IsOfDevice set_of i (state_of p.second.now)
 
-  -- The same, and the device has a subsection j.
+  -- The same, at one version and with numbers of the same kinds.
+  pub record AreKeptOf (i : ℕ) : Type 0 where
+    pub of : AreOfDevice i
+    pub version : p.first.now.version ≡ p.second.now.version
+    pub kinds : HaveKinds p.first.now p.second.now
+
+  -- Both are images of device i, which has a subsection j.
   pub record HaveSub (i j : ℕ) : Type 0 where
     pub first : IsOfDevice set_of i (state_of p.first.now)
     pub second : IsOfDevice set_of i (state_of p.second.now)

@@ -8,8 +8,8 @@ ghost use Rattle.vms_parts.specs.Views.{field_of};
 ghost use Rattle.vms_desc.specs.Asks.{first_cell};
 ghost use Rattle.vms_desc.specs.Described.{described, device_at};
 ghost use Rattle.vms_desc.specs.Parts.{sub_at};
-ghost use Rattle.vms_image.specs.Typed.{state_of};
-ghost use Rattle.vms_selfdesc.specs.Alike.{AlikeAt, AreOfDevice, HaveField, HavePart, HaveSub, IsPartAlike, SameCountAt};
+ghost use Rattle.vms_image.specs.Typed.{AreImagesOf, state_of};
+ghost use Rattle.vms_selfdesc.specs.Alike.{AlikeAt, AreKeptOf, AreOfDevice, HaveField, HaveKinds, HavePart, HaveSub, IsPartAlike, SameCountAt};
 ghost use Rattle.vms_selfdesc.specs.Alike.{firsts, is_plain, is_steady, seconds, set_of};
 ghost use Rattle.vms_selfdesc.specs.Tree.{described_text, device_tree, sub_tree, sub_trees};
 
@@ -54,6 +54,51 @@ pub fn are_alike(set: &DescSet, first: &[Image], second: &[Image]) -> bool
         }
     }
     true
+}
+
+/// Returns `true` only if `first` and `second` have the same self-description, as [`are_alike`] does,
+/// for images of the set's devices.
+///
+/// A device with the same bytes and the same subsections in both isn't walked.
+///
+/// # Requires
+///
+/// `first` and `second` are images of `set`'s devices, and are ready under it.
+pub fn are_alike_of(set: &DescSet, first: &[Image], second: &[Image]) -> bool
+    requires first { AreReady (described set.now) (map state_of first.now) }
+    requires second { AreReady (described set.now) (map state_of second.now) }
+    requires of_first { AreImagesOf (described set.now) first.now }
+    requires of_second { AreImagesOf (described set.now) second.now }
+    ensures { let text = described_text (described set.now) in
+        OnTrue result (text (map state_of first.now) ≡ text (map state_of second.now)) }
+{
+    for (device, image) in first.iter().enumerate() {
+        let pair = Pair {
+            set,
+            first: image,
+            second: &second[device],
+        };
+        if !is_kept_alike(&pair, device as u32) {
+            return false;
+        }
+    }
+    true
+}
+
+fn is_kept_alike(pair: &Pair, device: u32) -> bool
+    requires { AreKeptOf pair.now device }
+    ensures { let tree = device_tree (set_of pair.now) (device_at (set_of pair.now) device) in
+        OnTrue result (tree (state_of pair.now.first.now) ≡ tree (state_of pair.now.second.now)) }
+{
+    is_same(pair, device) || is_device_alike(pair, device)
+}
+
+// Returns `true` only if both images of a device are in the same state.
+fn is_same(pair: &Pair, device: u32) -> bool
+    requires { AreKeptOf pair.now device }
+    ensures { OnTrue result (state_of pair.now.first.now ≡ state_of pair.now.second.now) }
+{
+    have_same_bytes(pair.first, pair.second) && have_same_subs(pair, device)
 }
 
 fn is_device_alike(pair: &Pair, device: u32) -> bool
@@ -161,6 +206,27 @@ fn have_same_numbers(first: &Image, second: &Image) -> bool
 {
     for cell in 0..first.len() {
         if first.get(cell) != second.get(cell) {
+            return false;
+        }
+    }
+    true
+}
+
+// Returns `true` only if all numbers are the same: then the bytes of all cells are.
+fn have_same_bytes(first: &Image, second: &Image) -> bool
+    requires { HaveKinds first.now second.now }
+    ensures { OnTrue result (first.now.numbers ≡ second.now.numbers) }
+{
+    first.raw() == second.raw()
+}
+
+// Returns `true` only if the same subsections of a device came, at the same versions.
+fn have_same_subs(pair: &Pair, device: u32) -> bool
+    requires { AreOfDevice pair.now device }
+    ensures { OnTrue result (pair.now.first.now.came ≡ pair.now.second.now.came) }
+{
+    for sub in 0..pair.set.sub_count(device) {
+        if pair.first.came(sub) != pair.second.came(sub) {
             return false;
         }
     }
