@@ -60,18 +60,14 @@ both P false x x' y y' p q = q
 
 same_identified : (status ready timeout enabled first second : Bool) → (enabled ≡ true → second ≡ first)
     → identified status ready timeout enabled second ≡ identified status ready timeout enabled first
-same_identified status ready timeout true first second h = rw (h refl)
-same_identified status ready timeout false first second h = refl
+same_identified status ready timeout enabled first second h = grind arith
 
 same_ipending : (enabled identified first second : Bool) → (enabled ≡ true → second ≡ first)
     → ipending_of enabled second identified ≡ ipending_of enabled first identified
-same_ipending true identified first second h = rw (h refl) refl
-same_ipending false identified first second h = refl
+same_ipending enabled identified first second h = grind arith
 
 sampled : (was is empty first second : Bool) → (was ≡ true → second ≡ first) → is ≡ true → cond (not was && is) empty second ≡ cond (not was && is) empty first
-sampled true is empty first second h e = h refl
-sampled false true empty first second h e = refl
-sampled false false empty first second h e = cc
+sampled was is empty first second h e = grind arith
 
 -- the other port is the first with another latch
 module _ (port : Port) (latch : Bool) (h : has port.ier 1 ≡ true → latch ≡ port.thr_empty) where

@@ -75,15 +75,6 @@ module _ (now : ℕ) (port : Port) (sound : IsSound now port) where
   divisor-kept : (divisor : ℕ) → divisor < 65536 → IsSound now (record port { divisor = divisor })
   divisor-kept divisor h = search
 
-  lcr-kept : (value : ℕ) → value < 256 → IsSound now (record port { lcr = value })
-  lcr-kept value h = search
-
-  mcr-kept : (value : ℕ) → IsSound now (record port { mcr = bit_and value 0x1f })
-  mcr-kept value = let range = and_le_r value 0x1f in search
-
-  scr-kept : (value : ℕ) → value < 256 → IsSound now (record port { scr = value })
-  scr-kept value h = search
-
   ier-kept : (value : ℕ) → IsSound now (ier_written value port)
   unfolding ier_written
   ier-kept value = record {
@@ -102,18 +93,15 @@ module _ (now : ℕ) (port : Port) (sound : IsSound now port) where
 
   -- lists are cleared, and the switch is set
   switched : (clears_sent clears_held : Bool) (fifos : Option Trigger) → (is_some fifos ≡ true → 2 ≤ port.level) → (clears_sent ≡ false → is_some fifos ≡ is_some port.fifos) → (clears_held ≡ false → is_some fifos ≡ is_some port.fifos) → IsSound now (record (transmitter_cleared clears_sent (receiver_cleared clears_held port)) { fifos = fifos })
-  switched true true fifos h s t = search (arith, switched-registers, emptied-sound, cleared-sound)
-  switched true false fifos h s t = search (arith, switched-registers, cleared-sound)
-  switched false true fifos h s t = search (arith, switched-registers, emptied-sound)
-  switched false false fifos h s t = search (arith, switched-registers)
+  switched clears_sent clears_held fifos h s t = grind (arith, switched-registers, emptied-sound, cleared-sound)
 
   fcr-kept-at : (value : ℕ) (before after : Option Trigger) → 2 ≤ port.level → port.fifos ≡ before
       → IsSound now (record (fcr_cleared before after value port) { fifos = after })
   unfolding fcr_cleared
-  fcr-kept-at value None None h e = switched false false None (λ _. h) (λ _. rw e refl) (λ _. rw e refl)
+  fcr-kept-at value None None h e = switched false false None (λ _. h) (λ _. rw e) (λ _. rw e)
   fcr-kept-at value None (Some trigger) h e = switched true true (Some trigger) (λ _. h) (λ f. cc) (λ f. cc)
   fcr-kept-at value (Some before) None h e = switched true true None (λ _. h) (λ f. cc) (λ f. cc)
-  fcr-kept-at value (Some before) (Some after) h e = switched (has value 2) (has value 1) (Some after) (λ _. h) (λ _. rw e refl) (λ _. rw e refl)
+  fcr-kept-at value (Some before) (Some after) h e = switched (has value 2) (has value 1) (Some after) (λ _. h) (λ _. rw e) (λ _. rw e)
 
   fcr-kept : (value : ℕ) → 2 ≤ port.level → IsSound now (fcr_written value port)
   unfolding fcr_written
@@ -128,10 +116,10 @@ module _ (now : ℕ) (port : Port) (sound : IsSound now port) where
       (either (IsSound now) (has port.lcr 7) _ _ (divisor-kept (value * 256 + port.divisor % 256) (omega arith)) (ier-kept value))
       (either (IsSound now) (offset == 2) _ _
       (cond_both (nat_le 2 port.level) (fcr_written value port) port (IsSound now) (λ e. fcr-kept value (leb-true 2 port.level e)) (λ _. sound))
-      (either (IsSound now) (offset == 3) _ _ (lcr-kept value v)
-      (either (IsSound now) (offset == 4) _ _ (mcr-kept value)
+      (either (IsSound now) (offset == 3) _ _ (search)
+      (either (IsSound now) (offset == 4) _ _ (let range = and_le_r value 0x1f in search)
       (either (IsSound now) (offset == 5) _ _ sound
-      (either (IsSound now) (offset == 6) _ _ sound (scr-kept value v)))))))
+      (either (IsSound now) (offset == 6) _ _ sound (search)))))))
 
 pub reads_keep_sound : ReadsKeepSound
 reads_keep_sound offset now port s = read-kept now port s offset

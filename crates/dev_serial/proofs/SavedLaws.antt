@@ -57,7 +57,7 @@ back-round k l = omega arith
 
 held-or-zero : (bytes : List ℕ) (k : ℕ) → k < 16 → is_held_or_zero (ring_of bytes) k ≡ true
 held-or-zero bytes k l = rw (back-round k l, byte_of-padded bytes k l) (
-    ⊎_elim (λ held. rw (lt-ltb k (length bytes) held) refl) (λ past. or_right (nat_lt k (length bytes)) _ (eq-eqb _ _ (get_or_past bytes k 0 past)))
+    ⊎_elim (λ held. rw (lt-ltb k (length bytes) held)) (λ past. or_right (nat_lt k (length bytes)) _ (eq-eqb _ _ (get_or_past bytes k 0 past)))
     (cases_lt k (length bytes)))
 
 pub ring_of-holds : (bytes : List ℕ) → length bytes ≤ 16 → ring_holds (ring_of bytes) ≡ true
@@ -104,12 +104,9 @@ stored-bytes array ring a r =
 held-place : (head i : ℕ) → head ≤ 15 → i < 16 → ((head + i) % 16 + 16 - head) % 16 ≡ i
 held-place head i h l = omega arith
 
-place-held : (head place : ℕ) → head ≤ 15 → place < 16 → (head + (place + 16 - head) % 16) % 16 ≡ place
-place-held head place h l = omega arith
-
 pub holds_what_it_gives : HoldsWhatItGives
 holds_what_it_gives ring place h m l = (
-  λ held. (behind_head ring place, held, place-held ring.head place h l),
+  λ held. (behind_head ring place, held, (omega arith)),
   λ given.
       let within : given.0 < 16 = (let few = given.1 in omega arith) in
       let same : behind_head ring place ≡ given.0 = rw (← given.2) (held-place ring.head given.0 h within) in
@@ -183,8 +180,7 @@ single-none (Some trigger) [] = refl
 single-none _ (x ∷ bytes) = rw (not_empty x bytes)
 
 same-self : (b : Bool) → same b b ≡ true
-same-self true = refl
-same-self false = refl
+same-self b = grind arith
 
 pub status-saved : (fifos : Option Trigger) (held waiting : List ℕ) (ready empty : Bool) → ready ≡ not (is_empty held) → empty ≡ is_empty waiting
     → cond (fcr_number fifos == 0) ((ready || (single_byte fifos held == 0)) && (not empty || (single_byte fifos waiting == 0)))
@@ -248,8 +244,7 @@ module _ (set : ℕ) (fifos : Option Trigger) (bytes : List ℕ) where
 -- ---- the whole port
 
 implied : (a b : Bool) → (a ≡ true → b ≡ true) → (not a || b) ≡ true
-implied true b h = h refl
-implied false b h = refl
+implied a b h = grind arith
 
 module _ (set now : ℕ) (port : Port) (early : now ≤ LAST_MOMENT) (sound : IsSound now port) where
   abbrev lsr : IsStatus (lsr_of port) (not (is_empty port.receiver.held)) port.receiver.overrun (is_empty port.transmitter.waiting)

@@ -23,22 +23,18 @@ bytes_of-timetable character due (byte ∷ bytes) = rw (bytes_of-timetable chara
 
 bytes_on_line : (looped : Bool) (byte : ℕ) (bytes line : List ℕ)
     → (line ++ cond looped [] (byte ∷ [])) ++ cond looped [] bytes ≡ line ++ cond looped [] (byte ∷ bytes)
-bytes_on_line true byte bytes line = simp append-nil
-bytes_on_line false byte bytes line = simp append_assoc
+bytes_on_line looped byte bytes line = grind (arith, nat_tests, append-nil, append_assoc)
 
 none_on_line : (looped : Bool) (line : List ℕ) → line ++ cond looped [] [] ≡ line
-none_on_line true line = append-nil line
-none_on_line false line = append-nil line
+none_on_line looped line = grind (arith, nat_tests, append-nil)
 
 looped_more : (looped : Bool) (mode : Mode) (shift : Shift) (later : List Shift) (receiver : ReceiverState) → cond looped (arrived mode (shift ∷ later) receiver) receiver ≡ cond looped (arrived mode later (cond looped (arrived mode (shift ∷ []) receiver) receiver)) (cond looped (arrived mode (shift ∷ []) receiver) receiver)
 unfolding arrived
-looped_more true mode shift later receiver = refl
-looped_more false mode shift later receiver = refl
+looped_more looped mode shift later receiver = grind (arith, nat_tests)
 
 pub looped_none : (looped : Bool) (mode : Mode) (receiver : ReceiverState) → cond looped (arrived mode [] receiver) receiver ≡ receiver
 unfolding arrived
-looped_none true mode receiver = refl
-looped_none false mode receiver = refl
+looped_none looped mode receiver = grind (arith, nat_tests)
 
 module _ (mode : Mode) (to : ℕ) (shift : Shift) where
   -- the byte in the shift register is not due
@@ -113,8 +109,7 @@ gone-staying to (shift ∷ later) = by_test (gone-staying to later) (nat_le shif
 staying-step : (a b : ℕ) (shift : Shift) (later : List Shift) (t : Bool) → nat_le shift.due a ≡ t → a ≤ b → staying b (staying a later) ≡ staying b later
     → staying b (cond t (staying a later) (shift ∷ later)) ≡ cond (nat_le shift.due b) (staying b later) (shift ∷ later)
 unfolding staying
-staying-step a b shift later true e h rest = let l = leb-true shift.due a e in rw (le-leb shift.due b (omega arith)) rest
-staying-step a b shift later false e h rest = refl
+staying-step a b shift later t e h rest = grind (arith, nat_tests, leb-true, le-leb)
 
 -- up to one moment and then up to a later one is up to the later one
 pub staying-twice : (a b : ℕ) (shifts : List Shift) → a ≤ b → staying b (staying a shifts) ≡ staying b shifts
@@ -124,8 +119,7 @@ staying-twice a b (shift ∷ later) h = staying-step a b shift later (nat_le shi
 
 gone-step : (a b : ℕ) (shift : Shift) (later : List Shift) (t : Bool) → nat_le shift.due a ≡ t → a ≤ b → gone a later ++ gone b (staying a later) ≡ gone b later → cond t (shift ∷ gone a later) [] ++ gone b (cond t (staying a later) (shift ∷ later)) ≡ cond (nat_le shift.due b) (shift ∷ gone b later) []
 unfolding gone
-gone-step a b shift later true e h rest = let l = leb-true shift.due a e in rw (le-leb shift.due b (omega arith)) (rw rest)
-gone-step a b shift later false e h rest = refl
+gone-step a b shift later t e h rest = grind (arith, nat_tests, leb-true, le-leb)
 
 pub gone-twice : (a b : ℕ) (shifts : List Shift) → a ≤ b → gone a shifts ++ gone b (staying a shifts) ≡ gone b shifts
 unfolding gone staying

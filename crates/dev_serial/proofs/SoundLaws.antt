@@ -26,8 +26,7 @@ many-full : (bytes : List ℕ) → 16 ≤ length bytes → is_empty bytes ≡ fa
 many-full bytes h = ne_eqb (length bytes) 0 (λ e. omega arith)
 
 bit-one : (b : Bool) → bits_where b 1 ≤ 1
-bit-one true = omega arith
-bit-one false = omega arith
+bit-one b = grind arith
 
 pub character-longest : (divisor lcr : ℕ) → divisor < 65536 → character_time divisor lcr ≤ LONGEST_CHARACTER
 unfolding character_time
@@ -180,19 +179,15 @@ unfolding run_until departures
 run-sound character now to None waiting q l s b i = record { shift = tt; bytes = b; idle = i }
 run-sound character now to (Some shift) waiting q l s b i = holding-sound character to shift.due (shift.byte ∷ waiting) q (omega arith) (s.byte, b)
 
-stays_short : (on : Bool) (few many : List ℕ) → length few ≤ length many → IsShort on many → IsShort on few
-stays_short on few many h s = record { short = let k = s.short in omega arith; one = λ f. let k = s.one f in omega arith }
-
 latched : (end before latch : Bool) → (latch ≡ true → end ≡ true) → cond (end && not before) true latch ≡ true → end ≡ true
-latched true before latch h e = refl
-latched false before latch h e = h e
+latched end before latch h e = grind arith
 
 pub advance-transmitter : (character now to : ℕ) (on latch : Bool) (transmitter : TransmitterState) → character ≤ LONGEST_CHARACTER → now ≤ to → IsTransmitter now on transmitter latch → IsTransmitter to on (run_until character to transmitter.shift transmitter.waiting) (cond (is_empty (run_until character to transmitter.shift transmitter.waiting).waiting && not (is_empty transmitter.waiting)) true latch)
 advance-transmitter character now to on latch transmitter q l s =
     let few = fewer character to transmitter.shift transmitter.waiting in
     let holds = run-sound character now to transmitter.shift transmitter.waiting q l s.shift s.bytes s.idle in
     record {
-      short = stays_short on _ transmitter.waiting few s.short;
+      short = record { short = let k = s.short.short in omega arith; one = λ f. let k = s.short.one f in omega arith };
       bytes = holds.bytes;
       shift = holds.shift;
       idle = holds.idle;
@@ -253,8 +248,7 @@ record Queues (divisor latch busy : Bool) : Type 0 where
   is_busy : busy ≡ true
 
 parts : (divisor latch busy : Bool) → not (divisor || latch || not busy) ≡ true → Queues divisor latch busy
-parts false false true e = record { divisor_off = refl; latch_off = refl; is_busy = refl }
-parts _ _ _ e = cc
+parts divisor latch busy e = grind arith
 
 -- the port after the write
 pub queue-written : (byte now : ℕ) (port : Port) → queues port ≡ true
@@ -264,7 +258,7 @@ queue-written byte now port e =
     let q = parts (has port.lcr 7) port.thr_empty (is_some port.transmitter.shift) e in
     let waiting = queued (is_some port.fifos) byte port.transmitter.waiting in
     let filled : is_empty waiting ≡ false = queued-filled (is_some port.fifos) byte port.transmitter.waiting in
-    rw (q.divisor_off, loaded-busy _ port.transmitter.shift waiting q.is_busy, filled, q.latch_off) refl
+    rw (q.divisor_off, loaded-busy _ port.transmitter.shift waiting q.is_busy, filled, q.latch_off)
 
 -- the transmitter alone drives no line
 pub queue-line : (now : ℕ) (transmitter : TransmitterState) (port : Port) → line_of now (record port { transmitter = transmitter }) ≡ line_of now port

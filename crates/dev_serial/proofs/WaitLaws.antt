@@ -9,8 +9,7 @@ use Rattle.dev_serial.proofs.SendingLaws.{bytes_of-timetable, looped_none, run-t
 -- the bytes of two spans, one after the other
 on_line-append : (mode : Mode) (looped : Bool) (xs ys : List Shift)
     → cond looped [] (bytes_of (xs ++ ys)) ≡ cond looped [] (bytes_of xs) ++ cond looped [] (bytes_of ys)
-on_line-append mode true xs ys = refl
-on_line-append mode false xs ys = map-append byte_of xs ys
+on_line-append mode looped xs ys = grind (arith, map-append, byte_of)
 
 arrived-append : (mode : Mode) (xs ys : List Shift) (receiver : ReceiverState) → arrived mode (xs ++ ys) receiver ≡ arrived mode ys (arrived mode xs receiver)
 unfolding arrived
@@ -18,15 +17,12 @@ arrived-append mode [] ys receiver = refl
 arrived-append mode (shift ∷ xs) ys receiver = arrived-append mode xs ys (received mode shift.byte shift.due receiver)
 
 looped-append : (mode : Mode) (looped : Bool) (xs ys : List Shift) (receiver : ReceiverState) → cond looped (arrived mode (xs ++ ys) receiver) receiver ≡ cond looped (arrived mode ys (cond looped (arrived mode xs receiver) receiver)) (cond looped (arrived mode xs receiver) receiver)
-looped-append mode true xs ys receiver = arrived-append mode xs ys receiver
-looped-append mode false xs ys receiver = refl
+looped-append mode looped xs ys receiver = grind (arith, arrived-append)
 
 -- the latch over two spans
 latch-twice : (before between end latch : Bool) → (before ≡ true → between ≡ true) → (between ≡ true → end ≡ true)
     → cond (end && not between) true (cond (between && not before) true latch) ≡ cond (end && not before) true latch
-latch-twice true between end latch p q = rw (p refl, q (p refl))
-latch-twice false true end latch p q = rw (q refl)
-latch-twice false false end latch p q = refl
+latch-twice before between end latch p q = grind arith
 
 pub stays_empty : (few many : List ℕ) → length few ≤ length many → is_empty many ≡ true → is_empty few ≡ true
 stays_empty few many h e = grind arith
@@ -36,7 +32,7 @@ outcome : Port → List ℕ → ReceiverState → TransmitterState → Bool → 
 outcome port line receiver transmitter latch = (line, record port { receiver = receiver; transmitter = transmitter; thr_empty = latch })
 
 same_outcome : (port : Port) (line line' : List ℕ) (receiver receiver' : ReceiverState) (transmitter transmitter' : TransmitterState) (latch latch' : Bool) → line ≡ line' → receiver ≡ receiver' → transmitter ≡ transmitter' → latch ≡ latch' → outcome port line receiver transmitter latch ≡ outcome port line' receiver' transmitter' latch'
-same_outcome port line line' receiver receiver' transmitter transmitter' latch latch' l r t h = rw (l, r, t, h) refl
+same_outcome port line line' receiver receiver' transmitter transmitter' latch latch' l r t h = rw (l, r, t, h)
 
 module _ (first second : ℕ) (port : Port) (h : first ≤ second) where
   abbrev character : ℕ
@@ -81,24 +77,18 @@ stays : (to : ℕ) (shift : Shift) (character : ℕ) (waiting : List ℕ) → to
 unfolding run_until departures timetable staying holding
 stays to shift character waiting h = rw (lt-leb shift.due to h, bytes_of-timetable character (shift.due + character) waiting)
 
-stays-whole : (to : ℕ) (shift : Shift) (character : ℕ) (transmitter : TransmitterState) → transmitter.shift ≡ Some shift → to < shift.due
-    → run_until character to transmitter.shift transmitter.waiting ≡ transmitter
-stays-whole to shift character transmitter e h = grind (arith, stays)
-
 no_line : (looped : Bool) → cond {A = List ℕ} looped [] [] ≡ []
-no_line true = refl
-no_line false = refl
+no_line looped = grind arith
 
 no_change : (empty latch : Bool) → cond (empty && not empty) true latch ≡ latch
-no_change true latch = refl
-no_change false latch = refl
+no_change empty latch = grind arith
 
 pub waits_until_due : WaitsUntilDue
 unfolding advanced arrived outcome
 waits_until_due to port shift e h =
     let none : leaving to port ≡ [] = rw e (waits to shift (character_time port.divisor port.lcr) port.transmitter.waiting h) in
     let still : run_until (character_time port.divisor port.lcr) to port.transmitter.shift port.transmitter.waiting ≡ port.transmitter =
-    stays-whole to shift (character_time port.divisor port.lcr) port.transmitter e h in
+    grind (arith, stays) in
     same_outcome port _ [] _ port.receiver _ port.transmitter _ port.thr_empty (rw none (no_line (has port.mcr 4)))
     (rw none (looped_none (has port.mcr 4) (mode_of port) port.receiver))
     still (rw still (no_change (is_empty port.transmitter.waiting) port.thr_empty))
@@ -107,7 +97,7 @@ idle : (to : ℕ) (port : Port) → port.transmitter.shift ≡ None → advanced
 unfolding advanced departures gone run_until arrived outcome
 idle to port e =
     let character = character_time port.divisor port.lcr in
-    let none : leaving to port ≡ [] = rw e refl in
+    let none : leaving to port ≡ [] = rw e in
     let same : run_until character to port.transmitter.shift port.transmitter.waiting ≡ port.transmitter = rw (e, sym e) in
     same_outcome port _ [] _ port.receiver _ port.transmitter _ port.thr_empty (rw none (no_line (has port.mcr 4)))
     (rw none (looped_none (has port.mcr 4) (mode_of port) port.receiver))
