@@ -1,10 +1,10 @@
 -- Ports that are alike answer each call alike.
-use Rattle.dev_serial.proofs.Facade.{arith, ◌≡◌, ℕ, ℤ, Bool, true, false, not, ◌&&◌, cond, refl, pos, negsuc, ◌||◌, ◌==◌, Option, Some, None, sym, ap, ◌∙◌, int_eq}
-use Rattle.dev_serial.proofs.Facade.{bit_and, bit_or, is_some, nat_le, is_empty, lsr_of, iir_of, read_of, id_read, thr_written, ier_written, switch_of}
-use Rattle.dev_serial.proofs.Facade.{fcr_cleared, fcr_written, receiver_cleared, transmitter_cleared, written, came_in, advanced, has, bits_where, ipending_of}
-use Rattle.dev_serial.proofs.Facade.{latch_of, saved, Port, id_number, is_thr_empty, interrupt, line_of, Interrupt, LineStatus, ReceivedData, CharacterTimeout}
-use Rattle.dev_serial.proofs.Facade.{ThrEmpty, NonePending, AlikeItself, AlikeBack, AlikeOn, AnswersAlike, ReadsAlike, WritesAlike, BytesInAlike, AdvancesAlike}
-use Rattle.dev_serial.proofs.Facade.{SavesAlike, LinesAlike, Alike, Trigger}
+use Rattle.dev_serial.proofs.Facade.{arith, ◌≡◌, ℕ, ℤ, Bool, true, false, not, ◌&&◌, cond, refl, pos, negsuc, ◌||◌, ◌==◌, Option, Some}
+use Rattle.dev_serial.proofs.Facade.{None, ap, ◌∙◌, int_eq, bit_and, bit_or, is_some, nat_le, is_empty, lsr_of, iir_of, read_of, id_read, thr_written}
+use Rattle.dev_serial.proofs.Facade.{ier_written, switch_of, fcr_cleared, fcr_written, receiver_cleared, transmitter_cleared, written, came_in, advanced, has}
+use Rattle.dev_serial.proofs.Facade.{bits_where, ipending_of, latch_of, saved, Port, id_number, is_thr_empty, interrupt, line_of, Interrupt, LineStatus}
+use Rattle.dev_serial.proofs.Facade.{ReceivedData, CharacterTimeout, ThrEmpty, NonePending, AlikeItself, AlikeBack, AlikeOn, AnswersAlike, ReadsAlike}
+use Rattle.dev_serial.proofs.Facade.{WritesAlike, BytesInAlike, AdvancesAlike, SavesAlike, LinesAlike, Alike, Trigger}
 
 -- ---- the line status and the saved latch, as tables of truth
 

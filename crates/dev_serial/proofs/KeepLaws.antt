@@ -1,11 +1,12 @@
 -- Each call keeps a port sound.
-use Rattle.dev_serial.proofs.{WaitLaws.character-positive, SoundLaws.latched-sound, SoundLaws.cleared-sound}
-use Rattle.dev_serial.proofs.Facade.{Trigger, ◌≡◌, ℕ, ◌+◌, ◌*◌, ◌<◌, ◌≤◌, ◌==◌, Bool, true, false, not, ◌&&◌, cond, Option, Some, None, refl, arith, ◌⊎◌, ◌/◌}
-use Rattle.dev_serial.proofs.Facade.{◌%◌, inl, inr, cond_both, leb-true, nat_le, is_some, bit_and, and_le_r, and-false, is_empty, with_taken, read_of, id_read}
-use Rattle.dev_serial.proofs.Facade.{lsr_read, thr_written, ier_written, switch_of, fcr_cleared, fcr_written, receiver_cleared, transmitter_cleared, written}
-use Rattle.dev_serial.proofs.Facade.{came_in, advanced, has, character_time, received, taken, IsSound, HasRegisters, LONGEST_CHARACTER, either, PowerOnIsSound}
-use Rattle.dev_serial.proofs.Facade.{ReadsKeepSound, WritesKeepSound, BytesInKeepSound, AdvancesKeepSound, Port, power_on, mode_of, interrupt, is_thr_empty}
-use Rattle.dev_serial.proofs.SoundLaws.{advance-transmitter, advance-receiver, character-longest, received-sound, taken-held, emptied-sound, thr-sound}
+use Rattle.dev_serial.proofs.{WaitLaws.character-positive, SoundLaws.emptied-sound, SoundLaws.thr-sound}
+use Rattle.dev_serial.proofs.Facade.{Trigger, ◌≡◌, ℕ, ◌+◌, ◌*◌, ◌<◌, ◌≤◌, ◌==◌, Bool, true, false, not, ◌&&◌, cond, Option}
+use Rattle.dev_serial.proofs.Facade.{Some, None, refl, arith, ◌⊎◌, ◌/◌, ◌%◌, inl, inr, cond_both, leb-true, nat_le, is_some, bit_and, and_le_r}
+use Rattle.dev_serial.proofs.Facade.{and-false, is_empty, with_taken, read_of, id_read, lsr_read, thr_written, ier_written, switch_of, fcr_cleared, fcr_written}
+use Rattle.dev_serial.proofs.Facade.{receiver_cleared, transmitter_cleared, written, came_in, advanced, has, character_time, received, taken, IsSound}
+use Rattle.dev_serial.proofs.Facade.{HasRegisters, LONGEST_CHARACTER, either, PowerOnIsSound, ReadsKeepSound, WritesKeepSound, BytesInKeepSound}
+use Rattle.dev_serial.proofs.Facade.{AdvancesKeepSound, Port, power_on, mode_of, interrupt, is_thr_empty}
+use Rattle.dev_serial.proofs.SoundLaws.{latched-sound, cleared-sound, advance-transmitter, advance-receiver, character-longest, received-sound, taken-held}
 
 pub power_on_is_sound : PowerOnIsSound
 unfolding power_on

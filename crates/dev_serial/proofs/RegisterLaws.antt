@@ -2,12 +2,12 @@
 -- there is room.
 use Rattle.dev_serial.proofs.Facade.{refl, NumbersAre, ◌≡◌, ℕ, Bool, true, false, not, ◌&&◌, cond, List, [], ◌∷◌, ◌++◌, Option, Some}
 use Rattle.dev_serial.proofs.Facade.{None, sym, ap, ◌∙◌, ◌/◌, arith, ◌==◌, is_some, nat_le, is_empty, switch_of, fcr_cleared, fcr_written}
-use Rattle.dev_serial.proofs.Facade.{receiver_cleared, transmitter_cleared, read_of, thr_written, ier_written, written, came_in, advanced, has, trigger_of}
+use Rattle.dev_serial.proofs.Facade.{receiver_cleared, transmitter_cleared, read_of, thr_written, ier_written, written, came_in, advanced, has}
 use Rattle.dev_serial.proofs.Facade.{Port, asks, interrupt, is_pending, line_of, IsFirstAsking, IdentifiesFirst, SomeAsks, LineTellsAsking, HasNoBytes}
 use Rattle.dev_serial.proofs.Facade.{SwitchClearsBoth, IsResetBy, ResetsByBits, StaysOff, IsSwitched, WritesSwitch, Interrupt, LineStatus, ReceivedData}
 use Rattle.dev_serial.proofs.Facade.{CharacterTimeout, ThrEmpty, NonePending, Trigger, either, ReadsKeepLevel, WritesKeepLevel, BytesInKeepLevel}
 use Rattle.dev_serial.proofs.Facade.{AdvancesKeepLevel, cond_both, first_asking, priorities, All-cons, All-nil, LoopsModem, ◌+◌, ◌*◌, ◌%◌, ◌<◌}
-use Rattle.dev_serial.proofs.Facade.{if◌then◌else◌, bit_or, bits_where, msr_of, ReachesDivisor, IsLooped, ◌≤◌, length, append_assoc, append-nil}
+use Rattle.dev_serial.proofs.Facade.{if◌then◌else◌, bit_or, bits_where, msr_of, ReachesDivisor, ◌≤◌, length, append_assoc, append-nil}
 use Rattle.dev_serial.proofs.Facade.{common_steps, room_of, received, all_came, RoomIsHeld}
 
 -- ---- the numbers are the constants' by their definition

@@ -1,16 +1,15 @@
 -- A restored port is sound, and the rules hold of a sound port alone.
-use Rattle.dev_serial.proofs.{SavedLaws.unused-at, AlikeLaws.IsStatus, AlikeLaws.lsr-status}
+use Rattle.dev_serial.proofs.{SavedLaws.runs-same, AlikeLaws.IsStatus, AlikeLaws.lsr-status, Facade.IsTold, Facade.IsByte, Facade.Shift}
 use Rattle.dev_serial.proofs.Facade.{◌≡◌, ℕ, true, Ok, ◌≤◌, Bool, List, [], ◌∷◌, length, Option, Some, refl, subst, ◌+◌, ◌<◌}
-use Rattle.dev_serial.proofs.Facade.{◌==◌, false, not, ◌&&◌, ◌||◌, cond, None, sym, ◌∙◌, arith, ◌%◌, ℤ, false≢true, leb-true}
-use Rattle.dev_serial.proofs.Facade.{ltb-true, and_parts, not-true, nat_le, nat_lt, is_some, judged-ok, first_failing_is_first, hook-ok, Port, port_of}
-use Rattle.dev_serial.proofs.Facade.{moment_of, shift_of, fifos_of, stored_bytes, registers_hold, fcr_holds, status_holds, shift_holds, timeout_holds}
-use Rattle.dev_serial.proofs.Facade.{latch_holds, rules, restored, unused_hold, id_holds, once_holds, rings_hold, longest_timeout, is_unused, PortNumbers}
-use Rattle.dev_serial.proofs.Facade.{first_failing, judged_by, IsFirstFailing, is_empty, IsShort, same, has, AreBytes, IsShift, IsTimeout, IsSound}
-use Rattle.dev_serial.proofs.Facade.{HasRegisters, IsReceiver, IsTransmitter, Trigger, LONGEST_CHARACTER, NEVER, cell_at, number_at, IsLevel, U8, U16}
-use Rattle.dev_serial.proofs.Facade.{number-lt, IsPortCells, bytes_at, array_at, ring_at, numbers_of, IsSoundAt, RestoredIsSound, DIVISOR, THR_IPENDING}
-use Rattle.dev_serial.proofs.Facade.{RX_COUNT, RX, TX_COUNT, TX, TIMEOUT_AT, RX_DATA, TX_DATA, eqb-true, LAST_MOMENT, lsr_of, SoundMeetsRules, saved}
-use Rattle.dev_serial.proofs.Facade.{fcr_number, moment_number, due_number, IsHeld, IsTold, IsByte, Shift}
-use Rattle.dev_serial.proofs.SavedLaws.{in_arrays, ring-bytes, stored-empty, stored-short, stored-bytes, firsts-bytes, byte-at, restored-saved, on, runs-same}
+use Rattle.dev_serial.proofs.Facade.{◌==◌, false, not, ◌&&◌, ◌||◌, cond, None, sym, arith, ◌%◌, ℤ, false≢true, leb-true, ltb-true}
+use Rattle.dev_serial.proofs.Facade.{and_parts, not-true, nat_le, nat_lt, is_some, judged-ok, first_failing_is_first, hook-ok, Port, port_of, moment_of}
+use Rattle.dev_serial.proofs.Facade.{shift_of, fifos_of, stored_bytes, registers_hold, fcr_holds, status_holds, shift_holds, timeout_holds, latch_holds, rules}
+use Rattle.dev_serial.proofs.Facade.{restored, unused_hold, id_holds, once_holds, rings_hold, longest_timeout, is_unused, PortNumbers, first_failing, judged_by}
+use Rattle.dev_serial.proofs.Facade.{IsFirstFailing, is_empty, IsShort, same, has, AreBytes, IsShift, IsTimeout, IsSound, HasRegisters, IsReceiver}
+use Rattle.dev_serial.proofs.Facade.{IsTransmitter, Trigger, LONGEST_CHARACTER, NEVER, cell_at, number_at, IsLevel, U8, U16, number-lt, IsPortCells, bytes_at}
+use Rattle.dev_serial.proofs.Facade.{array_at, ring_at, numbers_of, IsSoundAt, RestoredIsSound, DIVISOR, THR_IPENDING, RX_COUNT, RX, TX_COUNT, TX, TIMEOUT_AT}
+use Rattle.dev_serial.proofs.Facade.{RX_DATA, TX_DATA, eqb-true, LAST_MOMENT, lsr_of, SoundMeetsRules, saved, fcr_number, moment_number, due_number, IsHeld}
+use Rattle.dev_serial.proofs.SavedLaws.{unused-at, in_arrays, ring-bytes, stored-empty, stored-short, stored-bytes, firsts-bytes, byte-at, restored-saved, on}
 
 -- ---- every rule holds for numbers that are restored
 

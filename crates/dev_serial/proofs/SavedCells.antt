@@ -9,7 +9,7 @@ use Rattle.dev_serial.proofs.Facade.{IsPortCells, FIFOS_SINCE, TIMEOUT_SINCE, RI
 use Rattle.dev_serial.proofs.Facade.{AreSaved, SavedAreCells, IsShort, Port, interrupt, id_number, saved, ipending_of, single_byte, fifo_bytes, in_array}
 use Rattle.dev_serial.proofs.Facade.{in_ring, fcr_number, shift_number, due_number, moment_number, IsSound, AreBytes, IsShift, IsTimeout, byte_of, padded}
 use Rattle.dev_serial.proofs.Facade.{counted_of, ring_of, Interrupt, LineStatus, Shift, Trigger, One, RX, TX_COUNT, TX, TIMEOUT_AT, number_at, RX_COUNT}
-use Rattle.dev_serial.proofs.Facade.{cells_at, hook_restored, ◌&&◌, not, Ok, leb-true, and_parts, nat_tests, AllLack, none_lacks, carried_rows, carried}
+use Rattle.dev_serial.proofs.Facade.{cells_at, hook_restored, ◌&&◌, not, Ok, nat_tests, AllLack, none_lacks, carried_rows, carried}
 use Rattle.dev_serial.proofs.Facade.{numbers_of, is_empty, SavedComesBack, Alike, Numbers, hook_result, CanSave, CanRestore}
 use Rattle.dev_serial.proofs.SavedLaws.{byte_of-lt, byte_of-padded, array-short, ring-short, restored-saved}
 

@@ -1,19 +1,18 @@
 -- The saved numbers of a sound port meet every rule, and are restored as a port like it.
+use Rattle.dev_serial.proofs.{Facade.AllTrue, SoundLaws.not_empty}
 use Rattle.dev_serial.proofs.AlikeLaws.{IsStatus, lsr-status, latch_back, IsLatchBack, latch_comes_back}
 use Rattle.dev_serial.proofs.Facade.{◌≡◌, ℕ, ◌+◌, ◌<◌, Bool, true, false, take, ap, ◌∙◌, arith, zero, suc, ◌-◌, ◌%◌, ◌≤◌}
 use Rattle.dev_serial.proofs.Facade.{◌==◌, not, ◌&&◌, cond, List, [], ◌∷◌, length, map, refl, sym, ⊎_elim, ◌++◌, ℤ, replicate, subst}
 use Rattle.dev_serial.proofs.Facade.{and_from, cases_lt, lt-ltb, le-leb, ne_eqb, eq-eqb, or_right, get_or-range_with_len, length-map-range_with_len}
-use Rattle.dev_serial.proofs.Facade.{get_or-map-range_with_len, list_all_at, list_all_more, range_with_len, list_all, min-eq_left, min-le_right, get_or_past}
-use Rattle.dev_serial.proofs.Facade.{nat_lt, cond_both, is_empty, ListsComeBack, HoldsWhatItGives, stored_bytes, is_unused, AreBytes, firsts, cell_at, kind_at}
-use Rattle.dev_serial.proofs.Facade.{number_at, AreOf, byte_of, padded, counted_of, counted_bytes, ring_of, ring_bytes, behind_head, is_held_or_zero}
-use Rattle.dev_serial.proofs.Facade.{ring_holds, Counted, Ring, all_set, bytes_within, InRange, U8, I8, Timer, field_kinds, kinds, AreBytesIn, bytes_at}
-use Rattle.dev_serial.proofs.Facade.{number-lt, RX_COUNT, TIMEOUT_AT, RX_DATA, judged-all, Port, is_data_ready, has_come, interrupt, id_number, ◌||◌}
-use Rattle.dev_serial.proofs.Facade.{Option, Some, None, Ok, and-true, and-false, or-true, nat_le, is_some, lsr_of, LAST_MOMENT, moment_number, due_number}
-use Rattle.dev_serial.proofs.Facade.{shift_number, single_byte, fifo_bytes, in_array, in_ring, fcr_number, moment_of, shift_of, fifos_of, bytes_held, saved}
-use Rattle.dev_serial.proofs.Facade.{port_of, IsShort, same, has, is_stored_once, longest_timeout, registers_hold, fcr_holds, unused_hold, status_holds}
-use Rattle.dev_serial.proofs.Facade.{shift_holds, timeout_holds, latch_holds, id_holds, once_holds, rings_hold, rules, restored, IsShift, IsTimeout, IsSound}
-use Rattle.dev_serial.proofs.Facade.{Alike, Shift, Trigger, One, LONGEST_CHARACTER, NEVER, AllTrue}
-use Rattle.dev_serial.proofs.SoundLaws.{not_empty}
+use Rattle.dev_serial.proofs.Facade.{get_or-map-range_with_len, list_all_at, list_all_more, range_with_len, list_all, get_or_past, nat_lt, cond_both, is_empty}
+use Rattle.dev_serial.proofs.Facade.{ListsComeBack, HoldsWhatItGives, stored_bytes, is_unused, AreBytes, firsts, cell_at, kind_at, number_at, AreOf, byte_of}
+use Rattle.dev_serial.proofs.Facade.{padded, counted_of, counted_bytes, ring_of, ring_bytes, behind_head, is_held_or_zero, ring_holds, Counted, Ring, all_set}
+use Rattle.dev_serial.proofs.Facade.{bytes_within, InRange, U8, I8, Timer, field_kinds, kinds, AreBytesIn, bytes_at, number-lt, RX_COUNT, TIMEOUT_AT, RX_DATA}
+use Rattle.dev_serial.proofs.Facade.{judged-all, Port, is_data_ready, has_come, interrupt, id_number, ◌||◌, Option, Some, None, Ok, and-true, and-false}
+use Rattle.dev_serial.proofs.Facade.{or-true, nat_le, is_some, lsr_of, LAST_MOMENT, moment_number, due_number, shift_number, single_byte, fifo_bytes, in_array}
+use Rattle.dev_serial.proofs.Facade.{in_ring, fcr_number, moment_of, shift_of, fifos_of, bytes_held, saved, port_of, IsShort, same, has, is_stored_once}
+use Rattle.dev_serial.proofs.Facade.{longest_timeout, registers_hold, fcr_holds, unused_hold, status_holds, shift_holds, timeout_holds, latch_holds, id_holds}
+use Rattle.dev_serial.proofs.Facade.{once_holds, rings_hold, rules, restored, IsShift, IsTimeout, IsSound, Alike, Shift, Trigger, One, LONGEST_CHARACTER, NEVER}
 use Rattle.std.specs.Prelude.{min}
 
 -- ---- a test of each of the sixteen elements of a ring

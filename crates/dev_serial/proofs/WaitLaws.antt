@@ -1,10 +1,11 @@
 -- A span in two parts, and a span in which no byte is due.
-use Rattle.dev_serial.proofs.Facade.{◌≡◌, ℕ, ◌+◌, ◌<◌, ◌≤◌, Bool, true, false, cond, List, ◌∷◌, ◌++◌, length, Some, None, refl, sym, ap, ◌∙◌, arith, Option, []}
-use Rattle.dev_serial.proofs.Facade.{not, ◌&&◌, le-leb, lt-leb, eqb-true, eq-eqb, map-append, le-max_right, le-div, ReceiverState, TransmitterState, timetable}
-use Rattle.dev_serial.proofs.Facade.{departures, gone, staying, holding, arrived, on_line, bytes_of, run_until, gone_by, IsSentAfter, Mode, Shift}
-use Rattle.dev_serial.proofs.Facade.{is_empty, advanced, leaving, has, character_time, Port, mode_of, received, AdvancesInParts, WaitsUntilDue, LoopsAtMoment}
-use Rattle.dev_serial.specs.Transmit.{byte_of}
+use Rattle.dev_serial.proofs.Facade.{◌≡◌, ℕ, ◌+◌, ◌<◌, ◌≤◌, Bool, true, cond, List, ◌∷◌, ◌++◌, length, Some, None, refl, sym}
+use Rattle.dev_serial.proofs.Facade.{ap, ◌∙◌, arith, Option, [], not, ◌&&◌, le-leb, lt-leb, map-append, le-max_right, le-div, ReceiverState}
+use Rattle.dev_serial.proofs.Facade.{TransmitterState, timetable, departures, gone, staying, holding, arrived, on_line, bytes_of, run_until, gone_by}
+use Rattle.dev_serial.proofs.Facade.{IsSentAfter, Mode, Shift, is_empty, advanced, leaving, has, character_time, Port, mode_of, received, AdvancesInParts}
+use Rattle.dev_serial.proofs.Facade.{WaitsUntilDue, LoopsAtMoment}
 use Rattle.dev_serial.proofs.SendingLaws.{bytes_of-timetable, looped_none, run-twice, gone_by-twice, fewer}
+use Rattle.dev_serial.specs.Transmit.{byte_of}
 
 -- the bytes of two spans, one after the other
 on_line-append : (mode : Mode) (looped : Bool) (xs ys : List Shift)

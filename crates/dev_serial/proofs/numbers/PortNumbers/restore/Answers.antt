@@ -1,4 +1,4 @@
-use Rattle.dev_serial.proofs.Facade.{◌≡◌, [], ◌∷◌, ◌∙◌, refl, sym, Some, None, nat_eq, judged_by, id_holds}
+use Rattle.dev_serial.proofs.Facade.{◌≡◌, [], ◌∷◌, ◌∙◌, sym, Some, None, nat_eq, judged_by, id_holds}
 use Rattle.dev_serial.proofs.RestoredLaws.{restored_by, rule_within}
 use Rattle.dev_serial.proofs.numbers.PortNumbers.restore.Goals as goal
 

@@ -1,7 +1,6 @@
-use Rattle.dev_serial.proofs.Facade.{◌≡◌, ap, ◌∙◌, true, queues, line_of}
-use Rattle.dev_serial.proofs.SoundLaws.{queued-by, queue-line}
+use Rattle.dev_serial.proofs.{Facade.queues, SoundLaws.queued-by, SoundLaws.queue-line}
+use Rattle.dev_serial.specs.{View.port_view}
 use Rattle.std.proofs.Common.{rules}
-use Rattle.dev_serial.specs.View.{port_view}
 use Rattle.dev_serial.proofs.serial.Serial.queue.Goals as goal
 
 pub returns-clause-queued : goal.returns-clause-queued
