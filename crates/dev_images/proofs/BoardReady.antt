@@ -17,7 +17,7 @@ unfolding first
 timer-ready set numbers are = ready-plain set timer numbers (omega arith) tt are refl refl (refl, tt)
 
 pub timer_is_ready : TimerIsReady
-timer_is_ready = record { each = λ s l h. subst (λ (d : Device). ReadyWhere AreTimerCells s (shipped_set s) d) (sym (is_timer s l h)) (timer-ready (shipped_set s)) }
+timer_is_ready = record { each = λ s l h. rw (is_timer s l h) (timer-ready (shipped_set s)) }
 
 -- ---- the image of the timer chip is ready
 
@@ -31,14 +31,10 @@ chip_cells rest = channel_cells ++ (channel_cells ++ (channel_cells ++ rest))
 module _ (numbers : List ℤ) (a b c rest : List Slot) where
   lift : (from : ℕ) (cells : List Cell) → are_kept (a ++ (b ++ (c ++ []))) numbers from cells ≡ true
       → are_kept (chip_slots a b c rest) numbers from cells ≡ true
-  lift from cells e =
-      kept-left (((a ++ (b ++ (c ++ []))) ++ rest) ++ Rule true ∷ []) [] numbers from cells
-      (kept-left ((a ++ (b ++ (c ++ []))) ++ rest) (Rule true ∷ []) numbers from cells (kept-left (a ++ (b ++ (c ++ []))) rest numbers from cells e))
+  lift from cells e = grind (arith, kept-left)
 
   lift-rest : (from : ℕ) (cells : List Cell) → are_kept rest numbers from cells ≡ true → are_kept (chip_slots a b c rest) numbers from cells ≡ true
-  lift-rest from cells e =
-      kept-left (((a ++ (b ++ (c ++ []))) ++ rest) ++ Rule true ∷ []) [] numbers from cells
-      (kept-left ((a ++ (b ++ (c ++ []))) ++ rest) (Rule true ∷ []) numbers from cells (kept-right (a ++ (b ++ (c ++ []))) rest numbers from cells e))
+  lift-rest from cells e = grind (arith, kept-left, kept-right)
 
   all-kept : (cells : List Cell) → are_kept a numbers 0 channel_cells ≡ true → are_kept b numbers second_at channel_cells ≡ true
       → are_kept c numbers third_at channel_cells ≡ true → are_kept rest numbers STATUS_LATCHED cells ≡ true
@@ -158,7 +154,7 @@ all-ready set [] [] h k d image e f = cc
 all-ready set (first ∷ devices) (numbers ∷ lists) h zero d image e f =
     let same_device : first ≡ d = cc in
     let same_image : image_of set first numbers ≡ image = cc in
-    subst (λ (i : Image). IsReady set d i) same_image (subst (λ (x : Device). IsReady set x (image_of set first numbers)) same_device h.0)
+    subst (λ i. IsReady set d i) same_image (subst (λ x. IsReady set x (image_of set first numbers)) same_device h.0)
 all-ready set (first ∷ devices) (numbers ∷ lists) h (suc k) d image e f = all-ready set devices lists h.1 k d image e f
 all-ready set _ _ h k _ image _ _ = absurd h
 

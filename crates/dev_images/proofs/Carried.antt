@@ -36,7 +36,7 @@ unfolding first
 timer-carried set numbers are = one numbers are.count
 
 pub timer_is_carried : TimerIsCarried
-timer_is_carried = record { each = λ s l h. subst (λ (d : Device). CarriedWhere AreTimerCells (λ set numbers. numbers) (timer_in newest_set) s (shipped_set s) d) (sym (is_timer s l h)) (timer-carried (shipped_set s)) }
+timer_is_carried = record { each = λ s l h. rw (is_timer s l h) (timer-carried (shipped_set s)) }
 
 level-mode : (set : Set) (instance : ℕ) (numbers : List ℤ) (needed : Bool) → needs (mode_in numbers) ≡ needed → (needed ≡ false → mode_in numbers ≡ pos 0) → carried_numbers set (i8259_at_4 instance) (i8259_at_4 instance) numbers ≡ carried_by (places 0 cell_count) numbers
 unfolding first
@@ -54,7 +54,7 @@ chip-each instance =
     from_four (λ s. CarriedWhere AreChipCells pic_carried (chip_in instance newest_set) s (shipped_set s) (chip_in instance (shipped_set s)))
     (λ numbers are. refl) (λ numbers are. refl) (λ numbers are. refl)
     (λ s four h.
-    subst (λ (d : Device). CarriedWhere AreChipCells pic_carried (chip_in instance newest_set) s (shipped_set s) d) (sym (is_chip instance s four h))
+    subst (λ d. CarriedWhere AreChipCells pic_carried (chip_in instance newest_set) s (shipped_set s) d) (sym (is_chip instance s four h))
     (λ numbers are.
     chip-4 (shipped_set s) instance numbers (subst (λ (kinds : List Kind). AreOf kinds numbers) (chip_kinds s four h) are)
     ∙ ap (λ (origins : List Origin). carried_by origins numbers) (sym (chip_origins s four h))))
@@ -97,12 +97,11 @@ IsLacking old numbers at =
     (may_lack old numbers U16 (needs (get_or numbers (behind LATCHED at) (pos 0))) (behind LATCH at))
 
 channel-carried : (old : Set) (numbers : List ℤ) (at : ℕ) → IsLacking old numbers at → IsKeptAt numbers at → channel_in old numbers at ≡ plain numbers at
-channel-carried old numbers at is k =
-    cc (may_lack-is old numbers U8 _ (behind WLOW at) refl k.wlow, may_lack-is old numbers U16 _ (behind LATCH at) refl k.latch)
+channel-carried old numbers at is k = grind (arith, may_lack-is, behind)
 
 -- An absent number is 0 if its flag is clear.
 off : (flag number : ℤ) → InRange Truth flag → pos 0 ≤ℤ number → ((nat_of flag == 1) ≡ false → nat_of number ≡ 0) → needs flag ≡ false → number ≡ pos 0
-off flag (pos n) r l h e = ap pos (h (ap (λ z. nat_of z == 1) (unneeded flag r e)))
+off flag (pos n) r l h e = grind (arith, unneeded)
 off flag (negsuc n) r l h e = absurd (omega arith)
 
 -- Three channels and what follows them.
@@ -149,13 +148,11 @@ channels-carried : (old : Set) (numbers rest : List ℤ) → IsKept numbers → 
     → IsLacking old numbers third_at
     → with_channels (channel_in old numbers 0) (channel_in old numbers second_at) (channel_in old numbers third_at) rest ≡ with_channels (plain numbers 0)
     (plain numbers second_at) (plain numbers third_at) rest
-channels-carried old numbers rest k a b c =
-    same-channels numbers _ _ _ rest (channel-carried old numbers 0 a k.first) (channel-carried old numbers second_at b k.second)
-    (channel-carried old numbers third_at c k.third)
+channels-carried old numbers rest k a b c = grind (arith, same-channels, channel-carried)
 
 -- Cells of a later set are those of set 2.
 pub as-2 : (s : ℕ) → 2 ≤ s → s ≤ NEWEST → (numbers : List ℤ) → AreCellsOf s numbers → AreCellsOf 2 numbers
-as-2 s l h numbers are = record { of_kinds = subst (λ (kinds : List Kind). AreOf kinds numbers) (pit_kinds s l h) are.of_kinds; wlow = are.wlow; latch = are.latch }
+as-2 s l h numbers are = record { of_kinds = rw (pit_kinds s l h) at are.of_kinds; wlow = are.wlow; latch = are.latch }
 
 later-carried : (old : Set) (numbers : List ℤ) → AreCellsOf 2 numbers
     → carried_numbers (record old { structs = set_2.structs }) i8254_at_2 i8254_at_2 numbers ≡ pit_carried 2 numbers
@@ -195,7 +192,7 @@ module _ (structs : List Carrier) (x y : List (List Cell)) (numbers : List ℤ) 
 
   no-elements : (m at : ℕ) → array 0 m at ≡ replicate m (pos 0)
   no-elements zero at = refl
-  no-elements (suc m) at = ap (λ l. pos 0 ∷ l) (no-elements m at)
+  no-elements (suc m) at = rw (no-elements m at)
 
   array-run : (n m at : ℕ) → ((i : ℕ) → n ≤ i → i < m → get_or numbers (at + i) (pos 0) ≡ pos 0) → array n m at ≡ run numbers at m
   array-run n zero at h = refl

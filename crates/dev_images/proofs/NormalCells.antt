@@ -19,13 +19,7 @@ use Rattle.dev_pit.proofs.CallLaws.{each_of}
 
 -- Cells that fit have their kinds.
 pub of-kinds : (cells : List Cell) (normal-numbers : List ℤ) → FitCells cells normal-numbers → AreOf (map (λ cell. cell.kind) cells) normal-numbers
-of-kinds cells normal-numbers fit =
-    let count = count-of cells in
-    record {
-      count = omega arith;
-      in_range = λ place lt. subst (λ (kind : Kind). InRange kind (get_or normal-numbers place (pos 0))) (sym (kind-of cells place))
-          (fit.fits place (omega arith)).0;
-    }
+of-kinds cells normal-numbers fit = search (arith, count-of, kind-of)
 
 pub timer-of : (image : Image) → IsNormal (shipped_set NEWEST) timer image → AreOf timer_kinds image.numbers
 unfolding first
@@ -40,16 +34,13 @@ chip-of instance image n = of-kinds (device_cells (shipped_set NEWEST) (i8259_at
 -- If a cell is in no channel's slots and not in those that follow, it is in none of a chip's slots.
 chip-none : (a b c rest : List Slot) (k : ℕ) → has_cell a k ≡ false → has_cell b k ≡ false → has_cell c k ≡ false → has_cell rest k ≡ false
     → has_cell (chip_slots a b c rest) k ≡ false
-chip-none a b c rest k p q r s =
-    has-none (((a ++ (b ++ (c ++ []))) ++ rest) ++ Rule true ∷ []) [] k
-    (has-none ((a ++ (b ++ (c ++ []))) ++ rest) (Rule true ∷ []) k
-    (has-none (a ++ (b ++ (c ++ []))) rest k (has-none a (b ++ (c ++ [])) k p (has-none b (c ++ []) k q (has-none c [] k r refl))) s) refl) refl
+chip-none a b c rest k p q r s = grind (arith, has-none)
 
 -- A clear flag.
 flag-off : (z : ℤ) → InRange Truth z → (nat_of z == 1) ≡ false → needs z ≡ false
 flag-off (pos zero) r e = refl
 flag-off (pos (suc zero)) r e = cc
-flag-off (pos (suc (suc n))) r e = absurd (let most = r.1 in omega (arith, ints, most))
+flag-off (pos (suc (suc n))) r e = grind arith
 flag-off (negsuc n) r e = absurd (omega arith)
 
 -- The slots of an image of the chip, at either version.
@@ -86,12 +77,12 @@ module _ (image : Image) (n : IsNormal (shipped_set NEWEST) i8254_at_2 image) wh
       let none = chip-none (slots_in set_2 normal-numbers 0) (slots_in set_2 normal-numbers second_at) (slots_in set_2 normal-numbers third_at) slots.rest k
       (channel-none set_2 normal-numbers 0 no_gate k refl refl a) (channel-none set_2 normal-numbers second_at no_gate k refl refl b)
       (channel-none set_2 normal-numbers third_at no_gate k refl refl c) (slots.none k lt) in
-      ap nat_of (n.absent k (omega arith) (ap (λ (s : List Slot). has_cell s k) slots.same ∙ none) ∙ d)
+      ap nat_of (n.absent k (omega arith) (rw (slots.same) (none)) ∙ d)
 
   off : (place : ℕ) → place < CELLS → kind_at (map (λ cell. cell.kind) (device_cells (shipped_set NEWEST) i8254_at_2)) place ≡ Truth
       → (nat_of (get_or normal-numbers place (pos 0)) == 1) ≡ false → needs (get_or normal-numbers place (pos 0)) ≡ false
   unfolding first
-  off place lt kind e = flag-off _ (subst (λ (kind : Kind). InRange kind (get_or normal-numbers place (pos 0))) kind (kinds.in_range place (omega arith))) e
+  off place lt kind e = flag-off _ (rw kind at (kinds.in_range place (omega arith))) e
 
   pub pit-of : AreCellsOf NEWEST normal-numbers
   unfolding first
@@ -121,18 +112,11 @@ within-none low high (slot ∷ slots) c e h = within-none low high slots c e h
 -- The elements of an array that isn't at a cell.
 elements-none : (n at c : ℕ) → (at ≤ c → at + n ≤ c) → has_cell (times n (element byte) at 1) c ≡ false
 elements-none zero at c h = refl
-elements-none (suc n) at c h = or_from (at == c) _ (neq at c (λ same. absurd (omega arith))) (elements-none n (at + 1) c (λ l. omega arith))
+elements-none (suc n) at c h = grind (arith, or_from, neq, elements-none n (at + 1) c (λ l. omega arith))
 
 -- The FIFOs' slots lack the cells after the elements of each array.
 fifo-lack : (n m c : ℕ) → RX + n ≤ c → (TX_COUNT ≤ c → TX + m ≤ c) → has_cell (fifo_slots n m) c ≡ false
-fifo-lack n m c rx tx =
-    has-none (inner_slots n m) (Rule true ∷ []) c
-    (has-none (Number RX_COUNT U8 (16 ∷ []) ∷ []) (times n (element byte) RX 1 ++ second_slots m) c
-    (or_from (RX_COUNT == c) false (neq RX_COUNT c (λ same. absurd (omega arith))) refl)
-    (has-none (times n (element byte) RX 1) (second_slots m) c (elements-none n RX c (λ l. rx))
-    (has-none (Number TX_COUNT U8 (16 ∷ []) ∷ []) (times m (element byte) TX 1 ++ []) c
-    (or_from (TX_COUNT == c) false (neq TX_COUNT c (λ same. absurd (omega (arith, tx (omega arith))))) refl)
-    (has-none (times m (element byte) TX 1) [] c (elements-none m TX c (λ l. tx (omega arith))) refl)))) refl
+fifo-lack n m c rx tx = grind (arith, has-none, times, element, or_from, neq, elements-none)
 
 -- Subsections that came lack a cell that none of them has.
 abbrev SubsLack : Set → List ℤ → ℕ → ℕ → List Sub → Type 0
@@ -145,9 +129,7 @@ came-lack : (set : Set) (d : Device) (numbers : List ℤ) (c at : ℕ) (subs : L
 came-lack set d numbers c at [] came a h = refl
 came-lack set d numbers c at (s ∷ subs) [] a h = absurd a
 came-lack set d numbers c at (s ∷ subs) (None ∷ came) a h = came-lack set d numbers c (at + length (sub_cells set s)) subs came a h.1
-came-lack set d numbers c at (s ∷ subs) (Some v ∷ came) a h =
-    has-none (sub_slots set s v numbers at) (came_slots set d numbers (at + length (sub_cells set s)) subs came) c (h.0 v a.0)
-    (came-lack set d numbers c (at + length (sub_cells set s)) subs came a.1 h.1)
+came-lack set d numbers c at (s ∷ subs) (Some v ∷ came) a h = grind (arith, has-none, came-lack set d numbers c (at + length (sub_cells set s)) subs came a.1 h.1)
 
 own-within : (v : ℕ) (numbers : List ℤ) → 1 ≤ v → v ≤ 4 → all_within 0 THR_IPENDING (own_slots (shipped_set NEWEST) serial_at_4 v numbers) ≡ true
 unfolding first
@@ -167,8 +149,7 @@ default-in [] at i n place is lt e = refl
 default-in (cell ∷ cells) (suc at) i n zero is lt e = absurd (omega arith)
 default-in (cell ∷ cells) (suc at) i n (suc place) is lt e = default-in cells at i n place (omega arith) lt e
 default-in (cell ∷ cells) zero i zero place is lt e = absurd (omega arith)
-default-in (cell ∷ cells) zero i (suc n) zero is lt e =
-    sym (same_number_is (pos 0) cell.default (and_parts (same_number (pos 0) cell.default) (zero_defaults (take n cells)) e).0)
+default-in (cell ∷ cells) zero i (suc n) zero is lt e = grind (arith, same_number_is, same_number)
 default-in (cell ∷ cells) zero zero (suc n) (suc place) is lt e = absurd (omega arith)
 default-in (cell ∷ cells) zero (suc i) (suc n) (suc place) is lt e =
     default-in cells zero i n place (omega arith) (omega arith) (and_parts (same_number (pos 0) cell.default) (zero_defaults (take n cells)) e).1
@@ -183,7 +164,7 @@ module _ (image : Image) (n : IsNormal (shipped_set NEWEST) serial_at_4 image) w
   byte-at : (place : ℕ) → place < 84 → kind_at (map (λ cell. cell.kind) (device_cells (shipped_set NEWEST) serial_at_4)) place ≡ U8
       → InRange U8 (get_or numbers place (pos 0))
   unfolding first
-  byte-at place lt e = subst (λ (kind : Kind). InRange kind (get_or numbers place (pos 0))) e (are.in_range place (omega arith))
+  byte-at place lt e = rw e at (are.in_range place (omega arith))
 
   rx-range : InRange U8 (get_or numbers RX_COUNT (pos 0))
   unfolding first
@@ -243,8 +224,7 @@ module _ (image : Image) (n : IsNormal (shipped_set NEWEST) serial_at_4 image) w
       → has_cell (fifo_slots rx_elements tx_elements) (at + i) ≡ false → get_or numbers (at + i) (pos 0) ≡ pos 0
   unfolding first
   element-zero at i low high b zeros e =
-      n.absent (at + i) (omega arith) (lack (at + i) (omega arith) (omega arith) e)
-      ∙ default-in (device_cells (shipped_set NEWEST) serial_at_4) at i 16 (at + i) refl b zeros
+      cc (n.absent (at + i) (omega arith) (lack (at + i) (omega arith) (omega arith) e), default-in (device_cells (shipped_set NEWEST) serial_at_4) at i 16 (at + i) refl b zeros)
 
   rx-zeros : (i : ℕ) → nat_of (get_or numbers RX_COUNT (pos 0)) ≤ i → i < 16 → get_or numbers (RX + i) (pos 0) ≡ pos 0
   unfolding first

@@ -48,16 +48,7 @@ abbrev pub CountsFit : List Cell → List ℤ → Type 0
 CountsFit cells numbers = (c : ℕ) → c < length cells → AllByRecursion (λ most. get_or numbers c (pos 0) ≤ℤ pos most) (get_or cells c no_cell).capacities
 
 fit : (cells : List Cell) (numbers : List ℤ) → AreOf (map (λ cell. cell.kind) cells) numbers → CountsFit cells numbers → FitCells cells numbers
-fit cells numbers are counts =
-    let count = count-of cells in
-    let long = are.count in
-    record {
-      long = omega arith;
-      fits = λ c lt. (
-        subst (λ (kind : Kind). InRange kind (get_or numbers c (pos 0))) (kind-of cells c) (are.in_range c (omega arith)),
-        counts c lt,
-      );
-    }
+fit cells numbers are counts = search (arith, count-of, kind-of)
 
 -- From a cell on, each is in the bytes or holds its default.
 abbrev pub are_kept : List Slot → List ℤ → ℕ → List Cell → Bool
@@ -66,15 +57,12 @@ are_kept slots numbers from (cell ∷ cells) =
     (has_cell slots from || same_number (get_or numbers from (pos 0)) cell.default) && are_kept slots numbers (suc from) cells
 
 kept-first : (slots : List Slot) (numbers : List ℤ) (from : ℕ) (cell : Cell) → (has_cell slots from || same_number (get_or numbers from (pos 0)) cell.default) ≡ true → has_cell slots from ≡ false → get_or numbers from (pos 0) ≡ cell.default
-kept-first slots numbers from cell e out = same_number_is (get_or numbers from (pos 0)) cell.default (or_second (has_cell slots from) _ e out)
+kept-first slots numbers from cell e out = grind (arith, same_number_is, or_second)
 
 kept : (slots : List Slot) (numbers : List ℤ) (from : ℕ) (cells : List Cell) → are_kept slots numbers from cells ≡ true → (c place : ℕ) → place ≡ from + c
     → c < length cells → has_cell slots place ≡ false → get_or numbers place (pos 0) ≡ (get_or cells c no_cell).default
 kept slots numbers from [] e c place is lt out = absurd (omega arith)
-kept slots numbers from (cell ∷ cells) e zero place is lt out =
-    let p = and_parts (has_cell slots from || same_number (get_or numbers from (pos 0)) cell.default) (are_kept slots numbers (suc from) cells) e in
-    let here : place ≡ from = omega arith in
-    ap (λ n. get_or numbers n (pos 0)) here ∙ kept-first slots numbers from cell p.0 (ap (has_cell slots) (sym here) ∙ out)
+kept slots numbers from (cell ∷ cells) e zero place is lt out = grind (arith, same_number, kept-first)
 kept slots numbers from (cell ∷ cells) e (suc c) place is lt out =
     let p = and_parts (has_cell slots from || same_number (get_or numbers from (pos 0)) cell.default) (are_kept slots numbers (suc from) cells) e in
     kept slots numbers (suc from) cells p.1 c place (omega arith) (omega arith) out
@@ -137,7 +125,7 @@ ready-plain set d numbers minimum subs are plain settled valid =
     ready-of set d numbers minimum subs are (counts-none (device_cells set d) numbers plain) settled valid
 
 pub or-lift : (a b c : Bool) → (a ≡ true → b ≡ true) → (a || c) ≡ true → (b || c) ≡ true
-or-lift true b c f e = ap (λ b. b || c) (f refl)
+or-lift true b c f e = rw (f refl)
 or-lift false true c f e = refl
 or-lift false false c f e = e
 
@@ -150,16 +138,16 @@ kept-more slots more numbers from (cell ∷ cells) lift e =
 
 pub kept-left : (first second : List Slot) (numbers : List ℤ) (from : ℕ) (cells : List Cell) → are_kept first numbers from cells ≡ true
     → are_kept (first ++ second) numbers from cells ≡ true
-kept-left first second numbers from cells e = kept-more first (first ++ second) numbers from cells (has_left first second) e
+kept-left first second numbers from cells e = grind (arith, kept-more, has_left)
 
 pub kept-right : (first second : List Slot) (numbers : List ℤ) (from : ℕ) (cells : List Cell) → are_kept second numbers from cells ≡ true
     → are_kept (first ++ second) numbers from cells ≡ true
-kept-right first second numbers from cells e = kept-more second (first ++ second) numbers from cells (has_right first second) e
+kept-right first second numbers from cells e = grind (arith, kept-more, has_right)
 
 -- Cells that are joined.
 pub kept-both : (slots : List Slot) (numbers : List ℤ) (from next : ℕ) (first second : List Cell) → next ≡ from + length first
     → are_kept slots numbers from first ≡ true → are_kept slots numbers next second ≡ true → are_kept slots numbers from (first ++ second) ≡ true
-kept-both slots numbers from next [] second is e f = let here : from ≡ next = omega arith in ap (λ n. are_kept slots numbers n second) here ∙ f
+kept-both slots numbers from next [] second is e f = grind arith
 kept-both slots numbers from next (cell ∷ first) second is e f =
     let p = and_parts (has_cell slots from || same_number (get_or numbers from (pos 0)) cell.default) (are_kept slots numbers (suc from) first) e in
     and_from _ _ p.0 (kept-both slots numbers (suc from) next first second (omega arith) p.1 f)
@@ -212,8 +200,7 @@ came-next set d numbers at s subs came false = refl
 came-all : (set : Set) (d : Device) (numbers : List ℤ) (j at : ℕ) (subs : List Sub)
     → came_slots set d numbers at subs (needed_from set d (bare d numbers) j subs) ≡ needed_slots set d numbers j at subs
 came-all set d numbers j at [] = refl
-came-all set d numbers j at (s ∷ subs) =
-    cc (came-next set d numbers at s subs (needed_from set d (bare d numbers) (suc j) subs) (is_needed set d (bare d numbers) s j), came-all set d numbers (suc j) (at + length (sub_cells set s)) subs)
+came-all set d numbers j at (s ∷ subs) = grind (arith, came-next, bare, came-all set d numbers (suc j) (at + length (sub_cells set s)) subs)
 
 -- Each cell of a subsection is in its bytes or holds its default, and its rules hold.
 pub record IsFineSub (set : Set) (d : Device) (numbers : List ℤ) (s : Sub) (j at : ℕ) : Type 0 where
@@ -242,7 +229,7 @@ ready-parts set d numbers minimum subs are counts own rules fine =
     let slots = needed_slots set d numbers 0 (own_cells set d) d.subs in
     let held = own_slots set d d.desc.version numbers in
     let more = subs-fine set d numbers 0 (own_cells set d) d.subs fine in
-    let same : image_slots set d (image_of set d numbers) ≡ held ++ slots = ap (λ (l : List Slot). held ++ l) (came-all set d numbers 0 (own_cells set d) d.subs) in
+    let same : image_slots set d (image_of set d numbers) ≡ held ++ slots = rw (came-all set d numbers 0 (own_cells set d) d.subs) in
     ready-of set d numbers minimum subs are counts
     (ap (λ (all : List Slot). are_kept all numbers 0 (device_cells set d)) same
     ∙ kept-both (held ++ slots) numbers 0 (own_cells set d) (desc_cells (struct_cells set) d.desc) (flat_map (sub_cells set) d.subs) (omega arith)
@@ -275,8 +262,7 @@ zeros-kept slots numbers at (cell ∷ cells) d e =
     let p = and_parts (same_number (pos 0) cell.default) (zero_defaults cells) d in
     let s = shape (length cells) (drop at numbers) e in
     let f = front at numbers (pos 0) s.0 s.1 in
-    and_from _ _ (or_right (has_cell slots at) _ (ap (λ z. same_number z cell.default) f.0 ∙ p.0))
-    (zeros-kept slots numbers (suc at) cells p.1 (ap (take (length cells)) f.1 ∙ s.2))
+    and_from _ _ (or_right (has_cell slots at) _ (rw (f.0) (p.0))) (zeros-kept slots numbers (suc at) cells p.1 (ap (take (length cells)) f.1 ∙ s.2))
 
 -- An array of cells, whose first elements are in the bytes; the others are 0.
 abbrev pub element : Cell → ℕ → List Slot
@@ -287,13 +273,12 @@ pub array-kept : (cell : Cell) (numbers : List ℤ) (n m at : ℕ) → cell.defa
 array-kept cell numbers n zero at d zeros = refl
 array-kept cell numbers zero (suc m) at d zeros =
     and_from _ _ (is_same (get_or numbers at (pos 0)) cell.default
-    (ap (λ (p : ℕ). get_or numbers p (pos 0)) (sym (omega arith)) ∙ zeros 0 (omega arith) (omega arith) ∙ sym d))
-    (array-kept cell numbers zero m (suc at) d (λ i lo hi. let next : suc at + i ≡ at + suc i = omega arith in ap (λ (p : ℕ). get_or numbers p (pos 0)) next ∙ zeros (suc i) (omega arith) (omega arith)))
+    (ap (λ p. get_or numbers p (pos 0)) (sym (omega arith)) ∙ zeros 0 (omega arith) (omega arith) ∙ sym d))
+    (array-kept cell numbers zero m (suc at) d (λ i lo hi. let next : suc at + i ≡ at + suc i = omega arith in ap (λ p. get_or numbers p (pos 0)) next ∙ zeros (suc i) (omega arith) (omega arith)))
 array-kept cell numbers (suc n) (suc m) at d zeros =
     let next : at + 1 ≡ suc at = omega arith in
-    let rest : are_kept (times n (element cell) (at + 1) 1) numbers (suc at) (replicate m cell) ≡ true = ap (λ (p : ℕ). are_kept (times n (element cell) p 1) numbers (suc at) (replicate m cell)) next ∙ array-kept cell numbers n m (suc at) d (λ i lo hi. let more : suc at + i ≡ at + suc i = omega arith in ap (λ (p : ℕ). get_or numbers p (pos 0)) more ∙ zeros (suc i) (omega arith) (omega arith)) in
-    and_from _ _ (ap (λ b. (b || has_cell (times n (element cell) (at + 1) 1) at) || same_number (get_or numbers at (pos 0)) cell.default) (eq-eqb at at refl))
-    (kept-right (element cell at) (times n (element cell) (at + 1) 1) numbers (suc at) (replicate m cell) rest)
+    let rest : are_kept (times n (element cell) (at + 1) 1) numbers (suc at) (replicate m cell) ≡ true = rw next (array-kept cell numbers n m (suc at) d (λ i lo hi. let more : suc at + i ≡ at + suc i = omega arith in ap (λ (p : ℕ). get_or numbers p (pos 0)) more ∙ zeros (suc i) (omega arith) (omega arith))) in
+    and_from _ _ (rw (eq-eqb at at refl)) (kept-right (element cell at) (times n (element cell) (at + 1) 1) numbers (suc at) (replicate m cell) rest)
 
 pub rules-times : (cell : Cell) (n at : ℕ) → RulesHold (times n (element cell) at 1)
 rules-times cell zero at = tt

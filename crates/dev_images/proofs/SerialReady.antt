@@ -23,20 +23,10 @@ no-sign (pos n) r e =
     let most = r.1 in
     let less = and_le_l (n % 2 ^ 8) 255 in
     absurd (omega (arith, ints, all, most, less))
-no-sign (negsuc n) r e =
-    let all : bit_and (2 ^ 8 - 1 - n % 2 ^ 8) 255 ≡ 255 = eqb-true _ 255 (not-false _ e) in
-    let least = r.0 in
-    let less = and_le_l (2 ^ 8 - 1 - n % 2 ^ 8) 255 in
-    let none : n ≡ 0 = omega (arith, ints, all, least, less) in
-    ap negsuc none
+no-sign (negsuc n) r e = ap negsuc (omega (arith, ints, (eqb-true _ 255 (not-false _ e)), r.0, (and_le_l (2 ^ 8 - 1 - n % 2 ^ 8) 255)))
 
 pub no-timer : (z : ℤ) → InRange Timer z → needs_timer z ≡ false → z ≡ pos never
-no-timer (pos n) r e =
-    let all : bit_and (n % 2 ^ 64) never ≡ never = eqb-true _ never (not-false _ e) in
-    let most = r.1 in
-    let less = and_le_l (n % 2 ^ 64) never in
-    let is : n ≡ never = omega (arith, ints, all, most, less) in
-    ap pos is
+no-timer (pos n) r e = ap pos (omega (arith, ints, (eqb-true _ never (not-false _ e)), r.1, (and_le_l (n % 2 ^ 64) never)))
 no-timer (negsuc n) r e = absurd (omega arith)
 
 -- The serial port of a set from 2 on, where other subsections may follow that of its FIFOs. Its
@@ -103,12 +93,8 @@ abbrev needs_count : ℤ → Bool
 needs_count z = nat_le 1 (bit_and (residue 1 z) 255)
 
 no-count : (z : ℤ) → InRange U8 z → needs_count z ≡ false → nat_of z ≡ 0
-no-count (pos n) r e =
-    let mask = and_numeral (n % 2 ^ 8) 254 refl in
-    let most = r.1 in
-    let low : bit_and (n % 2 ^ 8) 255 < 1 = grind (arith, nat_tests) in
-    omega (arith, ints, mask, most, low)
-no-count (negsuc n) r e = absurd (let least = r.0 in omega (arith, ints, least))
+no-count (pos n) r e = grind (arith, and_numeral)
+no-count (negsuc n) r e = grind arith
 
 -- The number of elements of an array that are in the bytes.
 pub elements : (z : ℤ) → InRange U8 z → nat_of z ≤ 16 → min (residue 1 z) 16 ≡ nat_of z
@@ -116,7 +102,7 @@ elements (pos n) r l = omega arith
 elements (negsuc n) r l = absurd (omega arith)
 
 counted-well : (z : ℤ) → InRange U8 z → nat_of z ≤ 16 → counts_well (16 ∷ []) z ≡ true
-counted-well (pos n) r l = counted_well (16 ∷ []) (pos n) (omega (arith, ints, l), tt)
+counted-well (pos n) r l = grind (arith, counted_well)
 counted-well (negsuc n) r l = absurd (omega arith)
 
 -- The FIFOs as counted arrays.
@@ -181,15 +167,13 @@ module _ (numbers : List ℤ) (h : HasFifo numbers) where
   tx_elements = min (residue 1 (get_or numbers TX_COUNT (pos 0))) 16
 
   pub rx-zeros : (i : ℕ) → rx_elements ≤ i → i < 16 → get_or numbers (RX + i) (pos 0) ≡ pos 0
-  rx-zeros i l b = let is = elements (get_or numbers RX_COUNT (pos 0)) h.rx_range h.rx.fits in h.rx.zeros i (omega arith) b
+  rx-zeros i l b = grind (arith, elements)
 
   pub tx-zeros : (i : ℕ) → tx_elements ≤ i → i < 16 → get_or numbers (TX + i) (pos 0) ≡ pos 0
-  tx-zeros i l b = let is = elements (get_or numbers TX_COUNT (pos 0)) h.tx_range h.tx.fits in h.tx.zeros i (omega arith) b
+  tx-zeros i l b = grind (arith, elements)
 
   pub no-fifo : needs_fifo numbers ≡ false → take 34 (drop RX_COUNT numbers) ≡ replicate 34 (pos 0)
-  no-fifo e =
-      h.none (no-count _ h.rx_range ((or_parts (needs_count (get_or numbers RX_COUNT (pos 0))) _ e).0))
-      (no-count _ h.tx_range ((or_parts (needs_count (get_or numbers RX_COUNT (pos 0))) _ e).1))
+  no-fifo e = grind (arith, no-count, or_parts)
 
   -- In any set from 2 on.
   fifos : (set : Set) (version : ℕ) (name : List ℕ) (former : List (List ℕ)) (more : List Sub) (needed : Bool) → needs_fifo numbers ≡ needed → (needed ≡ false → take 34 (drop RX_COUNT numbers) ≡ replicate 34 (pos 0)) → IsFineSub set (serial_since_2 version name former more) numbers fifo 1 RX_COUNT
@@ -218,10 +202,10 @@ ring-4 set numbers false e off = record {
 
 -- The counts of a set with FIFOs are within their capacities.
 well-rx : (numbers : List ℤ) (h : HasFifo numbers) → counts_well (16 ∷ []) (get_or numbers RX_COUNT (pos 0)) ≡ true
-well-rx numbers h = counted-well (get_or numbers RX_COUNT (pos 0)) h.rx_range h.rx.fits
+well-rx numbers h = grind (arith, counted-well)
 
 well-tx : (numbers : List ℤ) (h : HasFifo numbers) → counts_well (16 ∷ []) (get_or numbers TX_COUNT (pos 0)) ≡ true
-well-tx numbers h = counted-well (get_or numbers TX_COUNT (pos 0)) h.tx_range h.tx.fits
+well-tx numbers h = grind (arith, counted-well)
 
 pub has-fifo : (set : ℕ) → 2 ≤ set → (numbers : List ℤ) → AreSaved set numbers → InRange U8 (get_or numbers RX_COUNT (pos 0))
     → InRange U8 (get_or numbers TX_COUNT (pos 0)) → HasFifo numbers
@@ -256,9 +240,7 @@ serial-3 set numbers are =
     ((thr set 3 new_name former_names (timeout ∷ []) numbers _ refl (no-sign _ (are.of_kinds.in_range THR_IPENDING (omega arith)))).fine, (fifos numbers h set 3 new_name former_names (timeout ∷ []) _ refl (no-fifo numbers h), ((due set 3 new_name former_names [] numbers _ refl (no-timer _ (are.of_kinds.in_range TIMEOUT_AT (omega arith)))).fine, tt)))
 
 pub no-ring : (numbers : List ℤ) → AreSaved 4 numbers → needs_ring numbers ≡ false → take 36 (drop RX_DATA numbers) ≡ replicate 36 (pos 0)
-no-ring numbers are e =
-    are.no_ring (omega arith) (no-count _ (are.of_kinds.in_range RX_NUMBER (omega arith)) ((or_parts (needs_count (get_or numbers RX_NUMBER (pos 0))) _ e).0))
-    (no-count _ (are.of_kinds.in_range TX_NUMBER (omega arith)) ((or_parts (needs_count (get_or numbers RX_NUMBER (pos 0))) _ e).1))
+no-ring numbers are e = grind (arith, no-count, or_parts)
 
 serial-4 : (set : Set) (numbers : List ℤ) → AreSaved 4 numbers → ReadyOf set serial_at_4 numbers
 unfolding first
@@ -271,13 +253,7 @@ serial-4 set numbers are =
 
 -- Cells of a set from 4 on are those of set 4.
 pub as-4 : (s : ℕ) → 4 ≤ s → s ≤ NEWEST → (numbers : List ℤ) → AreSaved s numbers → AreSaved 4 numbers
-as-4 s l h numbers are = record {
-  of_kinds = subst (λ (kinds : List Kind). AreOf kinds numbers) (port_kinds s l h) are.of_kinds;
-  rx = λ since. are.rx (omega (arith, l));
-  tx = λ since. are.tx (omega (arith, l));
-  no_fifo = λ since. are.no_fifo (omega (arith, l));
-  no_ring = λ since. are.no_ring (omega (arith, l));
-}
+as-4 s l h numbers are = search (arith, port_kinds)
 
 pub serial_is_ready : SerialIsReady
 serial_is_ready = record {

@@ -16,13 +16,7 @@ use Rattle.vms_kinds.specs.declared.Kind.TheVariants.{Bool as Truth}
 -- ---- the places of a board's devices, by computation
 
 pub places_are : PlacesLaw
-places_are s l h = record {
-  timer = by_list (λ set. find_device 0 set.devices (codes "timer") 0) (λ s. Some 0) 1 refl s l h;
-  master = by_list (λ set. find_device 0 set.devices (codes "i8259") 0) (λ s. Some 1) 1 refl s l h;
-  slave = by_list (λ set. find_device 0 set.devices (codes "i8259") 1) (λ s. Some 2) 1 refl s l h;
-  pit = by_list (λ set. find_device 0 set.devices (codes "i8254") 0) (λ s. Some 3) 1 refl s l h;
-  serial = by_list (λ set. find_device 0 set.devices (codes "serial") 0) (λ s. Some 4) 1 refl s l h;
-}
+places_are s l h = search (arith, by_list)
 
 -- ---- the kinds of the devices' cells, by computation
 
@@ -54,19 +48,19 @@ abbrev five_of : Set → List Device
 five_of set = timer_in set ∷ chip_in 0 set ∷ chip_in 1 set ∷ pit_in set ∷ serial_in set ∷ []
 
 pub five_devices : (s : ℕ) → 1 ≤ s → s ≤ NEWEST → (shipped_set s).devices ≡ five_of (shipped_set s)
-five_devices = by_list (λ set. set.devices) (λ s. five_of (shipped_set s)) 1 refl
+five_devices = grind (arith, by_list, five_of)
 
 pub is_timer : (s : ℕ) → 1 ≤ s → s ≤ NEWEST → timer_in (shipped_set s) ≡ timer
 is_timer = by_list timer_in (λ s. timer) 1 refl
 
 pub is_chip : (instance s : ℕ) → 4 ≤ s → s ≤ NEWEST → chip_in instance (shipped_set s) ≡ i8259_at_4 instance
-is_chip instance = by_list (chip_in instance) (λ s. i8259_at_4 instance) 4 refl
+is_chip instance = grind (arith, by_list)
 
 pub is_pit : (s : ℕ) → 2 ≤ s → s ≤ NEWEST → pit_in (shipped_set s) ≡ i8254_at_2
 is_pit = by_list pit_in (λ s. i8254_at_2) 2 refl
 
 pub later_structs : (s : ℕ) → 2 ≤ s → s ≤ NEWEST → (shipped_set s).structs ≡ set_2.structs
-later_structs = by_list (λ set. set.structs) (λ s. set_2.structs) 2 refl
+later_structs = grind (arith, by_list)
 
 pub is_serial : (s : ℕ) → 4 ≤ s → s ≤ NEWEST → serial_in (shipped_set s) ≡ serial_at_4
 is_serial = by_list serial_in (λ s. serial_at_4) 4 refl
@@ -82,13 +76,13 @@ from_four P one two three more (suc (suc (suc (suc s)))) l h = more (suc (suc (s
 -- ---- the kinds of the devices' cells, and where those of the newest set are, from a number on
 
 pub chip_kinds : (s : ℕ) → 4 ≤ s → s ≤ NEWEST → pic_kinds s ≡ pic_kinds 4
-chip_kinds s l h = sym (by_list (λ set. pic_kinds 4) pic_kinds 4 refl s l h)
+chip_kinds s l h = grind (arith, by_list)
 
 pub chip_origins : (s : ℕ) → 4 ≤ s → s ≤ NEWEST → pic_origins s ≡ pic_origins 4
-chip_origins s l h = sym (by_list (λ set. pic_origins 4) pic_origins 4 refl s l h)
+chip_origins s l h = grind (arith, by_list)
 
 pub pit_kinds : (s : ℕ) → 2 ≤ s → s ≤ NEWEST → kinds_of s ≡ kinds_of 2
-pit_kinds s l h = sym (by_list (λ set. kinds_of 2) kinds_of 2 refl s l h)
+pit_kinds s l h = grind (arith, by_list)
 
 pub pit_origins : (s : ℕ) → 2 ≤ s → s ≤ NEWEST → origins_of_pit s ≡ origins_of_pit 2
 pit_origins s l h = sym (by_list (λ set. origins_of_pit 2) origins_of_pit 2 refl s l h)
@@ -115,7 +109,7 @@ needs z = bit_and (residue 1 z) 1 == 1
 pub unneeded : (z : ℤ) → InRange Truth z → needs z ≡ false → z ≡ pos 0
 unneeded (pos zero) r e = refl
 unneeded (pos (suc zero)) r e = cc
-unneeded (pos (suc (suc n))) r e = absurd (let most = r.1 in omega (arith, ints, most))
+unneeded (pos (suc (suc n))) r e = grind arith
 unneeded (negsuc n) r e = absurd (omega arith)
 
 -- No item of a chip is a structure, so these hold in any set.
@@ -143,8 +137,8 @@ each : (instance s : ℕ) → 1 ≤ s → s ≤ NEWEST → ReadyWhere AreChipCel
 each instance =
     from_four (λ s. ReadyWhere AreChipCells s (shipped_set s) (chip_in instance (shipped_set s)))
     (ready-1 set_1 instance) (ready-2 set_2 instance) (ready-2 set_3 instance)
-    (λ s four h. subst (λ (d : Device). ReadyWhere AreChipCells s (shipped_set s) d) (sym (is_chip instance s four h))
-    (λ numbers are. ready-4 (shipped_set s) instance numbers (subst (λ (kinds : List Kind). AreOf kinds numbers) (chip_kinds s four h) are)))
+    (λ s four h. subst (λ d. ReadyWhere AreChipCells s (shipped_set s) d) (sym (is_chip instance s four h))
+    (λ numbers are. ready-4 (shipped_set s) instance numbers (subst (λ kinds. AreOf kinds numbers) (chip_kinds s four h) are)))
 
 pub chip_is_ready : ChipIsReady
 chip_is_ready = record { chip = λ instance. record { each = each instance } }
@@ -173,7 +167,7 @@ settled false z default off = is_same z default (off refl)
 
 has-first : (there : Bool) (at : ℕ) (cell : Cell) (slots : List Slot) → there ≡ true
     → has_cell (cond there (Number at cell.kind cell.capacities ∷ []) [] ++ slots) at ≡ true
-has-first there at cell slots e = rw e (ap (λ b. b || has_cell slots at) (eq-eqb at at refl))
+has-first there at cell slots e = grind arith
 
 run-kept : (numbers : List ℤ) (at : ℕ) (cells : List (Bool × Cell)) (rest : List Slot) → all_settled numbers at cells ≡ true
     → are_kept (run_slots at cells rest) numbers at (map (λ c. c.1) cells) ≡ true
@@ -258,5 +252,4 @@ channel-fine set numbers at last is rules k =
 -- It has no cell that isn't its own, nor its own absent ones.
 pub channel-none : (set : Set) (numbers : List ℤ) (at : ℕ) (last : Slot) (k : ℕ) → IsChannel set numbers at last → has_cell (last ∷ []) k ≡ false
     → none_at at (channel numbers at) k ≡ true → has_cell (slots_in set numbers at) k ≡ false
-channel-none set numbers at last k is out none =
-    cc (has-none (run_slots at (channel numbers at) (last ∷ [])) (Rule true ∷ []) k (run-none at (channel numbers at) (last ∷ []) k none out) refl)
+channel-none set numbers at last k is out none = grind (arith, has-none, run-none)
