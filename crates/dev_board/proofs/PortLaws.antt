@@ -20,47 +20,32 @@ none_of : (a b c d e f since : Bool) → a ≡ false → b ≡ false → c ≡ f
 none_of a b c d e f since p q r s t u = rw (p, q, r, s, t, u, and-false since) refl
 
 not_pair : (level port : ℕ) → port ≢ 0x20 → port ≢ 0x21 → port ≢ 0xa0 → port ≢ 0xa1 → port ≢ 0x4d0 → port ≢ 0x4d1 → is_port level port ≡ false
-not_pair level port a b c d e f =
-    none_of (port == 0x20) (port == 0x21) (port == 0xa0) (port == 0xa1) (port == 0x4d0) (port == 0x4d1) _
-    (ne_eqb port 0x20 a) (ne_eqb port 0x21 b) (ne_eqb port 0xa0 c) (ne_eqb port 0xa1 d) (ne_eqb port 0x4d0 e) (ne_eqb port 0x4d1 f)
+not_pair level port a b c d e f = grind (arith, none_of)
 
 -- A port between two chips', or after both and before their level registers, isn't the pair's.
 between : (level port : ℕ) → (0x21 < port) × (port < 0xa0) ⊎ (0xa1 < port) × (port < 0x4d0) → target_of level port ≡ other port
-between level port (inl (low, high)) =
-    by_pair level port false
-    (not_pair level port (λ e. omega arith) (λ e. omega arith) (λ e. omega arith) (λ e. omega arith) (λ e. omega arith) (λ e. omega arith))
-between level port (inr (low, high)) =
-    by_pair level port false
-    (not_pair level port (λ e. omega arith) (λ e. omega arith) (λ e. omega arith) (λ e. omega arith) (λ e. omega arith) (λ e. omega arith))
+between level port (inl (low, high)) = grind (arith, by_pair, not_pair)
+between level port (inr (low, high)) = grind (arith, by_pair, not_pair)
 
 counter_of : (port counter : ℕ) → 0x40 ≤ port → port ≤ 0x42 → port - 0x40 ≡ counter → other port ≡ Counter counter
-counter_of port counter low high back = rw (le-leb 0x40 port low, le-leb port 0x42 high) (ap Counter back)
+counter_of port counter low high back = grind arith
 
 counter_at : (level counter : ℕ) → counter < 3 → target_of level (0x40 + counter) ≡ Counter counter
-counter_at level counter m =
-    between level (0x40 + counter) (inl (omega arith, omega arith)) ∙ counter_of (0x40 + counter) counter (omega arith) (omega arith) (omega arith)
+counter_at level counter m = grind (arith, between, counter_of)
 
 control_at : (level : ℕ) → target_of level 0x43 ≡ Control
-control_at level = between level 0x43 (inl (omega arith, omega arith))
+control_at level = grind (arith, between)
 
 register_of : (port offset : ℕ) → 0x3f8 ≤ port → port ≤ 0x3ff → port - 0x3f8 ≡ offset → other port ≡ Register offset
-register_of port offset low high back =
-    rw (
-      le-leb 0x40 port (omega arith),
-      lt-leb port 0x42 (omega arith),
-      ne_eqb port 0x43 (λ e. omega arith),
-      le-leb 0x3f8 port low,
-      le-leb port 0x3ff high,
-    ) (ap Register back)
+register_of port offset low high back = grind arith
 
 register_at : (level offset : ℕ) → offset < 8 → target_of level (0x3f8 + offset) ≡ Register offset
-register_at level offset m =
-    between level (0x3f8 + offset) (inr (omega arith, omega arith)) ∙ register_of (0x3f8 + offset) offset (omega arith) (omega arith) (omega arith)
+register_at level offset m = grind (arith, between, register_of)
 
 -- A port below or above a range isn't in it.
 out_of : (low high port : ℕ) → (port < low) ⊎ (high < port) → (nat_le low port && nat_le port high) ≡ false
 out_of low high port (inl below) = rw (lt-leb low port below) refl
-out_of low high port (inr above) = rw (lt-leb port high above, and-false (nat_le low port)) refl
+out_of low high port (inr above) = grind (arith, and-false)
 
 wider : (port : ℕ) → (port < 0x40) ⊎ (0x43 < port) → (port < 0x40) ⊎ (0x42 < port)
 wider port (inl below) = inl below
@@ -71,18 +56,10 @@ not_control port (inl below) e = omega arith
 not_control port (inr above) e = omega arith
 
 nothing_at : (level port : ℕ) → is_port level port ≡ false → (port < 0x40) ⊎ (0x43 < port) → (port < 0x3f8) ⊎ (0x3ff < port) → target_of level port ≡ Nothing
-nothing_at level port own timer serial =
-    by_pair level port false own
-    ∙ rw (out_of 0x40 0x42 port (wider port timer), ne_eqb port 0x43 (not_control port timer), out_of 0x3f8 0x3ff port serial) refl
+nothing_at level port own timer serial = grind (arith, by_pair, out_of, wider)
 
 pub ports_are : PortsAre
-ports_are = record {
-  pair = λ level port own. by_pair level port true own;
-  counter = counter_at;
-  control = control_at;
-  register = register_at;
-  nothing = nothing_at;
-}
+ports_are = search (arith, by_pair, counter_at, control_at, register_at, nothing_at)
 
 -- ---- what is known of a port that reaches a target
 

@@ -21,22 +21,14 @@ bit-of true bits z = sym (and-true (has bits 1))
 bit-of false bits z = cc (and-false (has bits 1))
 
 or-bits : (a b c d : Bool) → has (bit_or (bit_or (bit_or (bits_where a 0x01) (bits_where b 0x02)) (bits_where c 0x20)) (bits_where d 0x40)) 1 ≡ b
-or-bits a b c d =
-    let x = bits_where a 0x01 in
-    let y = bits_where b 0x02 in
-    let z = bits_where c 0x20 in
-    let w = bits_where d 0x40 in
-    has-or (bit_or (bit_or x y) z) w 1 ∙ ap (λ t. has (bit_or (bit_or x y) z) 1 || t) (bit-of d 0x40 refl) ∙ or-false (has (bit_or (bit_or x y) z) 1)
-    ∙ has-or (bit_or x y) z 1 ∙ ap (λ t. has (bit_or x y) 1 || t) (bit-of c 0x20 refl) ∙ or-false (has (bit_or x y) 1)
-    ∙ has-or x y 1 ∙ ap (λ t. t || has y 1) (bit-of a 0x01 refl) ∙ bit-of b 0x02 refl
+or-bits a b c d = grind (arith, has-or, has, bit-of, or-false)
 
 pub lsr-overrun : (port : Port) → has (lsr_of port) 1 ≡ port.receiver.overrun
 unfolding lsr_of
 lsr-overrun port = or-bits _ port.receiver.overrun _ _
 
 no-overrun : (port : Port) → not (has (lsr_of port) 1) ≡ true → (lsr_read port).1 ≡ port
-no-overrun port e =
-    ap (λ (b : Bool). record port { receiver = record port.receiver { overrun = b } }) (sym (cc (lsr-overrun port, not-true (has (lsr_of port) 1) e)))
+no-overrun port e = grind (arith, lsr-overrun, has)
 
 -- A read of a register that leaves the port unchanged.
 abbrev Leaves : ℕ → Port → ℕ × Port → Type 0
@@ -73,7 +65,7 @@ module _ (m : State) (s : IsSound m) (before : Before) (b : IsBefore before m) w
   serial = cc
 
   still-taken : HasTaken before.lines m.pair
-  still-taken = subst (λ (n : ℕ). HasTaken n m.pair) (sym b.lines) (pair-taken m s)
+  still-taken = rw b.lines (pair-taken m s)
 
   -- A read of a register.
   port-stays : (offset : ℕ) (leaves : Bool) → leaves_port offset (registers_read offset m.moment m.serial).0 ≡ leaves
@@ -115,7 +107,7 @@ module _ (m : State) (s : IsSound m) (before : Before) (b : IsBefore before m) w
   pub after-read : (port value : ℕ) (after : State) (touch : Touch) → touch ≡ read_touches (target_of m.level port) (read port m).0
       → (value, after) ≡ read port m → Stays touch before after
   after-read port value after touch t e =
-      rw t (subst (λ (done : ℕ × State). Stays (read_touches (target_of m.level port) (read port m).0) before done.1) (sym e)
+      rw t (subst (λ done. Stays (read_touches (target_of m.level port) (read port m).0) before done.1) (sym e)
       (read-stays (target_of m.level port) port))
 
   pub after-write : (port value : ℕ) (after : State) (touch : Touch) → touch ≡ write_touches (target_of m.level port) port value → after ≡ write port value m
@@ -126,11 +118,11 @@ module _ (m : State) (s : IsSound m) (before : Before) (b : IsBefore before m) w
       → Stays touch before (record m { pair = pair })
   unfolding ack_touches
   after-ack value pair touch t e =
-      rw t (subst (λ (done : ℕ × PicPair). Stays (ack_touches before.lines) before (record m { pair = done.1 })) (sym e) (ack-stays (has before.lines 2) refl))
+      rw t (subst (λ done. Stays (ack_touches before.lines) before (record m { pair = done.1 })) (sym e) (ack-stays (has before.lines 2) refl))
 
   pub after-time : (to : ℕ) (act : Act) (after : State) (calm : Bool) → (act, after) ≡ waited to m
       → (calm ≡ true → pit_out 0 to m.pit ≡ pit_out 0 m.moment m.pit) → Stays (time_touches calm) before after
-  after-time to act after calm e still = subst (λ (done : Act × State). Stays (time_touches calm) before done.1) (sym e) (time-stays to calm still)
+  after-time to act after calm e still = subst (λ done. Stays (time_touches calm) before done.1) (sym e) (time-stays to calm still)
 
 -- ---- accesses after which no line has changed
 
@@ -163,21 +155,18 @@ module _ (m : State) (s : IsSound m) where
   -- A read.
   module _ (port value : ℕ) (after : State) (touched : read_touches (target_of m.level port) value ≡ Untouched) (e : (value, after) ≡ read port m) where
     read-devices : HasDevices after
-    read-devices = subst (λ (done : ℕ × State). HasDevices done.1) (sym e) (read_at-kept m s.devices (target_of m.level port) port)
+    read-devices = subst (λ done. HasDevices done.1) (sym e) (read_at-kept m s.devices (target_of m.level port) port)
 
     read-leaves : Stays Untouched before after
     read-leaves =
-        let same : value ≡ (read port m).0 = ap (λ (done : ℕ × State). done.0) e in
+        let same : value ≡ (read port m).0 = ap (λ done. done.0) e in
         after-read m s before is-before port value after Untouched (sym touched ∙ ap (read_touches (target_of m.level port)) same) e
 
     read-int : int_of m.pair ≡ int_of after.pair
     read-int = sym (is-before).int ∙ (read-leaves).int refl
 
     pub read-holds : (kept : Kept) → IsKept kept m → Holds kept after
-    read-holds kept k = record {
-      sound = still-sound Untouched after refl read-leaves read-devices;
-      kept = record { int = k.int ∙ read-int; calm = calm-read kept.calm m k.calm port value after e };
-    }
+    read-holds kept k = search (arith, still-sound, read-leaves, read-devices, read-int, calm-read)
 
     pub read-step : (event : Event) (seen : State) (kept : Kept) → IsKept kept m → event ≡ Read port → m ≡ seen
         → (saying (Some value) kept.int, after) ≡ step event seen
@@ -189,25 +178,17 @@ module _ (m : State) (s : IsSound m) where
       (h : HasDevices after) where
     is-serial : after ≡ record m { serial = written 0 value m.moment m.serial }
     unfolding written_at
-    is-serial = e ∙ ap (λ (target : Target). written_at target 0x3f8 value m) (ports_are.register m.level 0 (omega arith))
+    is-serial = cc (ports_are.register m.level 0 (omega arith))
 
     queue-stays : Stays Untouched before after
     unfolding before
-    queue-stays = record {
-      out = λ _. s.lines.out ∙ ap (λ (x : State). pit_out 0 x.moment x.pit) (sym is-serial);
-      serial = λ _. s.lines.serial ∙ sym line ∙ ap (λ (x : State). line_of x.moment after.serial) (sym is-serial);
-      int = λ _. ap (λ (x : State). int_of x.pair) (sym is-serial);
-      pair = λ _. subst (λ (x : State). HasTaken (lines_of m.pair) x.pair) (sym is-serial) (pair-taken m s);
-    }
+    queue-stays = search (arith, is-serial, pair-taken)
 
     queue-int : int_of m.pair ≡ int_of after.pair
-    queue-int = ap (λ (x : State). int_of x.pair) (sym is-serial)
+    queue-int = ap (λ x. int_of x.pair) (sym is-serial)
 
     pub queue-holds : (kept : Kept) → IsKept kept m → Holds kept after
-    queue-holds kept k = record {
-      sound = still-sound Untouched after refl queue-stays h;
-      kept = record { int = k.int ∙ queue-int; calm = subst (IsCalm kept.calm) (sym is-serial) k.calm };
-    }
+    queue-holds kept k = search (arith, still-sound, queue-stays, queue-int, is-serial)
 
     pub queue-step : (event : Event) (port : ℕ) (seen : State) (kept : Kept) → IsKept kept m → event ≡ Write port value → port ≡ 0x3f8 → m ≡ seen
         → (saying None kept.int, after) ≡ step event seen
@@ -228,10 +209,7 @@ module _ (m : State) (s : IsSound m) where
     command-leaves = after-write m s before is-before 0x20 value after Command touches e
 
     pub command-holds : (calm : ℕ) → IsCalm calm m → Holds (record { int = int; calm = calm }) after
-    command-holds calm k = record {
-      sound = still-sound Command after refl command-leaves h;
-      kept = record { int = out; calm = calm-write calm m k 0x20 value after Command touches e };
-    }
+    command-holds calm k = search (arith, still-sound, command-leaves, calm-write, touches)
 
     pub command-step : (event : Event) (port : ℕ) (seen : State) → event ≡ Write port value → port ≡ 0x20 → m ≡ seen
         → (saying None int, after) ≡ step event seen
@@ -252,14 +230,14 @@ module _ (m seen : State) (port : ℕ) (view : m ≡ seen) (at : port ≡ 0x3fd)
   unfolding read_at registers_read
   status-read A None e = refl
   status-read A (Some value) e =
-      rw (← view) (ap (λ (done : ℕ × Port). (done.0, record m { serial = done.1 })) e
-      ∙ ap (λ (target : Target). read_at target port m) (sym (subst (λ (x : State). target_of x.level port ≡ Register 5) (sym view) is-status)))
+      rw (← view) (ap (λ done. (done.0, record m { serial = done.1 })) e
+      ∙ ap (λ target. read_at target port m) (sym (subst (λ x. target_of x.level port ≡ Register 5) (sym view) is-status)))
 
   status-leaves : (value : ℕ) → Status value → leaves_port 5 value ≡ true
   unfolding leaves_port
   status-leaves value e =
-      let none : m.serial.receiver.overrun ≡ false = ap (λ (done : ℕ × Port). done.1.receiver.overrun) e in
-      let is : value ≡ lsr_of m.serial = ap (λ (done : ℕ × Port). done.0) e in
+      let none : m.serial.receiver.overrun ≡ false = ap (λ done. done.1.receiver.overrun) e in
+      let is : value ≡ lsr_of m.serial = ap (λ done. done.0) e in
       rw (is, lsr-overrun m.serial, none) refl
 
   pub status-touch : (A : Type 0) → (o : Option ℕ) → MatchOption o A Status → IfSome o (λ value. read_touches (target_of seen.level port) value ≡ Untouched)
@@ -274,8 +252,8 @@ module _ (m seen : State) (port : ℕ) (view : m ≡ seen) (at : port ≡ 0x40) 
   pub first-read : (value : ℕ) (pit : Pit) → (value, pit) ≡ pit_read 0 m.moment m.pit → (value, record m { pit = pit }) ≡ read port seen
   unfolding read_at
   first-read value pit e =
-      rw (← view) (ap (λ (done : ℕ × Pit). (done.0, record m { pit = done.1 })) e
-      ∙ ap (λ (target : Target). read_at target port m) (sym (subst (λ (x : State). target_of x.level port ≡ Counter 0) (sym view) is-first)))
+      rw (← view) (ap (λ done. (done.0, record m { pit = done.1 })) e
+      ∙ ap (λ target. read_at target port m) (sym (subst (λ x. target_of x.level port ≡ Counter 0) (sym view) is-first)))
 
   pub first-touch : (value : ℕ) → read_touches (target_of seen.level port) value ≡ Untouched
   first-touch value = rw is-first refl
@@ -287,23 +265,23 @@ none_at Nothing port m e = refl
 none_at _ port m e = cc
 
 pub none-read : (m : State) (port : ℕ) (has : Bool) → has ≡ has_port m.level port → has ≡ false → (0xff, m) ≡ read port m
-none-read m port has e none = none_at (target_of m.level port) port m (sym e ∙ none)
+none-read m port has e none = grind (arith, none_at)
 
 -- A write.
 module _ (m seen : State) (value : ℕ) (view : m ≡ seen) where
   pub command-written : (pair : PicPair) → pair ≡ written_pair 0x20 value m.pair → record m { pair = pair } ≡ write 0x20 value seen
   unfolding written_at
   command-written pair e =
-      rw (← view) (ap (λ (p : PicPair). record m { pair = p }) e
-      ∙ ap (λ (target : Target). written_at target 0x20 value m) (sym (ports_are.pair m.level 0x20 refl)))
+      rw (← view) (ap (λ p. record m { pair = p }) e
+      ∙ ap (λ target. written_at target 0x20 value m) (sym (ports_are.pair m.level 0x20 refl)))
 
   pub queue-written : (serial : Port) → serial ≡ written 0 value m.moment m.serial → record m { serial = serial } ≡ write 0x3f8 value seen
   unfolding written_at
   queue-written serial e =
-      rw (← view) (ap (λ (p : Port). record m { serial = p }) e
-      ∙ ap (λ (target : Target). written_at target 0x3f8 value m) (sym (ports_are.register m.level 0 (omega arith))))
+      rw (← view) (ap (λ p. record m { serial = p }) e
+      ∙ ap (λ target. written_at target 0x3f8 value m) (sym (ports_are.register m.level 0 (omega arith))))
 
 pub queue-devices : (m : State) → HasDevices m → (value : ℕ) → value < 256 → (serial : Port) (queued : Bool)
     → (queued ≡ true → (now : ℕ) → serial ≡ written 0 value now m.serial) → (queued ≡ false → serial ≡ m.serial) → HasDevices (record m { serial = serial })
-queue-devices m h value v serial true q f = subst (λ (p : Port). HasDevices (record m { serial = p })) (sym (q refl m.moment)) (serial-written m h 0 value v)
-queue-devices m h value v serial false q f = subst (λ (p : Port). HasDevices (record m { serial = p })) (sym (f refl)) h
+queue-devices m h value v serial true q f = rw (q refl m.moment) (serial-written m h 0 value v)
+queue-devices m h value v serial false q f = rw (f refl) h

@@ -29,10 +29,9 @@ chip_again : (chip : Chip) → IsSettled chip → settled chip.lines 0 chip ≡ 
 unfolding settled but_not requests_hold
 chip_again chip h =
     let e = level_inputs_of chip in
-    let he : e < 256 = level_inputs-lt chip.ltim chip.elcr h.elcr in
     let same : bit_and chip.irr e ≡ bit_and chip.lines e = (Decides-eqb (bit_and chip.irr e) (bit_and chip.lines e)).0 h.requests in
     let kept = bit_and (bit_or chip.irr (bit_or (bit_and chip.lines (255 - chip.lines)) 0)) (255 - e) in
-    ap (λ (n : ℕ). record chip { irr = n }) (ap (bit_or kept) (sym same) ∙ parts chip.irr chip.lines e h.irr h.lines he)
+    rw (ap (bit_or kept) (sym same) ∙ parts chip.irr chip.lines e h.irr h.lines (level_inputs-lt chip.ltim chip.elcr h.elcr))
 
 -- The inputs of two bytes.
 and-bytes : (a b c d : ℕ) → b < 256 → d < 256 → bit_and (a * 256 + b) (c * 256 + d) ≡ bit_and a c * 256 + bit_and b d
@@ -83,8 +82,8 @@ pair-again pair h =
     let m = pair.master.lines in
     let hs : s < 256 = h.slave.lines in
     let hm : m < 256 = h.master.lines in
-    let high : bit_and (s * 256 + m) DRIVEN / 256 ≡ s = ap (λ n. n / 256) (driven s m hs hm) ∙ omega (arith, and_le_l m 0xfb) in
-    let low : bit_and (s * 256 + m) DRIVEN % 256 ≡ bit_and m 0xfb = ap (λ n. n % 256) (driven s m hs hm) ∙ omega (arith, and_le_l m 0xfb) in
+    let high : bit_and (s * 256 + m) DRIVEN / 256 ≡ s = rw (driven s m hs hm) (omega (arith, and_le_l m 0xfb)) in
+    let low : bit_and (s * 256 + m) DRIVEN % 256 ≡ bit_and m 0xfb = rw (driven s m hs hm) (omega (arith, and_le_l m 0xfb)) in
     let slave : settled (bit_and (s * 256 + m) DRIVEN / 256) 0 pair.slave ≡ pair.slave = cc (chip_again pair.slave h.slave) in
     let bit : has m 2 ≡ slave_int_of pair = cc (low-two s m hm) in
     let after : Chip → PicPair = (λ chip. record pair { slave = chip; master = settled (with_cascade (slave_int_of (record pair { slave = chip })) (bit_and (s * 256 + m) DRIVEN % 256)) 0 pair.master }) in
@@ -95,12 +94,7 @@ pair-again pair h =
 -- ---- accesses of the pair after which it has still taken its lines
 
 kept-settled : (chip after : Chip) → Keeps chip after → IsSettled chip → IsSettled after
-kept-settled chip after k h = record {
-  irr = rw k.irr h.irr;
-  lines = rw k.lines h.lines;
-  elcr = rw k.elcr h.elcr;
-  requests = rw (k.irr, k.lines, k.elcr, k.ltim) h.requests;
-}
+kept-settled chip after k h = search arith
 
 -- The master of a pair changes, and its lines are the same.
 module _ (lines : ℕ) (pair : PicPair) (h : HasTaken lines pair) where
@@ -135,22 +129,21 @@ unfolding without_input but_not
 bit-without r w k h l = cc (bit_at_and r (255 - 2 ^ w) k, bit_at_not w8 (2 ^ w) k (pow_below w 8 h) l)
 
 no_bit : (r w : ℕ) → has r w ≡ false → bit_at r w ≡ 0
-no_bit r w e = let b = bit_at-lt r w in grind (arith, nat_tests)
+no_bit r w e = grind (arith, bit_at-lt)
 
 without-and : (r w e : ℕ) → r < 256 → w < 8 → has e w ≡ false → bit_and (without_input r w) e ≡ bit_and r e
 without-and r w e hr hw none =
     let b : without_input r w < 256 = without_input-lt r w hr in
     same_from_bits_below 8 _ _ (omega (arith, and_le_l (without_input r w) e)) (omega (arith, and_le_l r e))
     (λ k l. bit_at_and (without_input r w) e k ∙ ap (λ n. min n (bit_at e k)) (bit-without r w k hw l) ∙ ⊎_elim
-    (λ (is : k ≡ w). let zero : bit_at e k ≡ 0 = subst (λ (i : ℕ). bit_at e i ≡ 0) (sym is) (no_bit e w none) in
+    (λ (is : k ≡ w). let zero : bit_at e k ≡ 0 = rw is (no_bit e w none) in
     rw (bit_at_and r e k, zero) (omega arith)) (λ (other : k ≢ w). rw (bit_at_and r e k, bit_at-pow_other w k other) (omega (arith, bit_at-lt r k)))
     (cases_eq k w))
 
 without-none : (r w : ℕ) → r < 256 → w < 8 → has r w ≡ false → without_input r w ≡ r
 without-none r w hr hw none =
     same_from_bits_below 8 _ _ (without_input-lt r w hr) hr
-    (λ k l. bit-without r w k hw l ∙ ⊎_elim
-    (λ (is : k ≡ w). let zero : bit_at r k ≡ 0 = subst (λ (i : ℕ). bit_at r i ≡ 0) (sym is) (no_bit r w none) in rw zero (omega arith))
+    (λ k l. bit-without r w k hw l ∙ ⊎_elim (λ (is : k ≡ w). let zero : bit_at r k ≡ 0 = rw is (no_bit r w none) in rw zero (omega arith))
     (λ (other : k ≢ w). rw (bit_at-pow_other w k other) (omega (arith, bit_at-lt r k)))
     (cases_eq k w))
 
@@ -188,10 +181,9 @@ module _ (chip : Chip) (w : ℕ) (h : IsSettled chip) (hw : w < 8) where
   cascaded-is : (low : has chip.lines 2 ≡ false) (two : w ≡ 2) → cascaded chip ≡ taken w chip
   unfolding cascaded
   cascaded-is low two =
-      rw two (ap (λ (n : ℕ). record (taken 2 chip) { lines = n })
-      (ap (λ (n : ℕ). without_input n 2) at-two ∙ without-none chip.lines 2 h.lines (omega arith) low ∙ sym at-two)) where
+      rw two (rw (ap (λ (n : ℕ). without_input n 2) at-two ∙ without-none chip.lines 2 h.lines (omega arith) low ∙ sym at-two)) where
         at-two : (taken 2 chip).lines ≡ chip.lines
-        at-two = subst (λ (i : ℕ). (taken i chip).lines ≡ chip.lines) two taken-lines
+        at-two = grind (arith, taken, taken-lines)
 
 -- An acknowledge while the slave's output is low.
 module _ (lines : ℕ) (pair : PicPair) (h : HasTaken lines pair) (none : has lines 2 ≡ false) where
@@ -238,15 +230,14 @@ quiet false false true e = record { no_access = refl; no_edge = refl; equal = re
 quiet _ _ _ e = cc
 
 again : (lines inputs : ℕ) (pair : PicPair) → HasTaken lines pair → inputs ≡ bit_and lines DRIVEN → settled_pair inputs 0 pair ≡ pair
-again lines inputs pair h e = cc (pair-again pair (record { master = h.master; slave = h.slave; cascade = h.cascade; same = refl }))
+again lines inputs pair h e = grind (arith, pair-again)
 
 pub quiet-settled : (wires inputs : ℕ) (before : Before) (edge : Bool) (touch : Touch) (m : State) → Stays touch before m → inputs ≡ inputs_of wires m
     → is_quiet touch edge inputs before.lines ≡ true → settled_board wires edge m ≡ m
 unfolding settled_board is_quiet
 quiet-settled wires inputs before edge touch m stays is e =
     let q = quiet (is_access touch) edge (inputs == bit_and before.lines DRIVEN) e in
-    ap (λ (pair : PicPair). record m { pair = pair })
-    (ap (λ (b : Bool). settled_pair (inputs_of wires m) (bits_where b 0x01) m.pair) q.no_edge ∙ again before.lines (inputs_of wires m) m.pair
+    rw (ap (λ (b : Bool). settled_pair (inputs_of wires m) (bits_where b 0x01) m.pair) q.no_edge ∙ again before.lines (inputs_of wires m) m.pair
     (stays.pair q.no_access) (sym is ∙ (grind (arith, nat_tests))))
 
 -- If nothing was touched, the inputs are the lines.
@@ -280,6 +271,5 @@ unfolding settled_board is_untouched inputs_of
 untouched-settled wires before edge touch m stays e =
     let q = untouched touch edge (wires == bit_and before.lines WIRES) e in
     let same : wires ≡ bit_and before.lines WIRES = grind (arith, nat_tests) in
-    ap (λ (pair : PicPair). record m { pair = pair })
-    (ap (λ (b : Bool). settled_pair (inputs_of wires m) (bits_where b 0x01) m.pair) q.quiet.no_edge ∙ again before.lines (inputs_of wires m) m.pair
+    rw (ap (λ (b : Bool). settled_pair (inputs_of wires m) (bits_where b 0x01) m.pair) q.quiet.no_edge ∙ again before.lines (inputs_of wires m) m.pair
     (stays.pair q.quiet.no_access) (rw (same, sym (stays.out q.timer), sym (stays.serial q.port)) (own-inputs before.lines)))

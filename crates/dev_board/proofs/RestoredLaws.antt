@@ -41,16 +41,7 @@ agreed-ok found m e = agreed-by (lines_agree found) found m _ e
 pub made_of : (level : ℕ) (of_timer : Result ℕ Misfit) (of_pair : Result PicPair Misfit) (of_pit : Result Pit Misfit) (of_port : Result Port Misfit) (m : State)
     → joined level of_timer of_pair of_pit of_port ≡ Ok m → IsMadeOf level of_timer of_pair of_pit of_port m
 unfolding joined
-made_of level (Ok moment) (Ok pair) (Ok pit) (Ok serial) m e =
-    let is = agreed-ok (record { level = level; moment = moment; pair = pair; pit = pit; serial = serial }) m e in
-    record {
-      same_level = ap (λ s. s.level) (sym is.same);
-      timer = ap (λ s. Ok s.moment) is.same;
-      pair = ap (λ s. Ok s.pair) is.same;
-      pit = ap (λ s. Ok s.pit) is.same;
-      serial = ap (λ s. Ok s.serial) is.same;
-      lines = cc;
-    }
+made_of level (Ok moment) (Ok pair) (Ok pit) (Ok serial) m e = search (arith, agreed-ok)
 made_of level _ _ _ _ m e = cc
 
 pub chip-ok : (outcome : Result PicPair ChipFault) (pair : PicPair) → by_chip outcome ≡ Ok pair → outcome ≡ Ok pair
@@ -252,7 +243,7 @@ module _ (m : State) (t : IsTold m) (n : State) (e : restored m.level (saved NEW
 
   sound_pit : IsSoundPit m.moment m.pit
   unfolding saved
-  sound_pit = subst (IsSoundPit m.moment) same_pit (pit-back m.level (saved NEWEST m) t.level t.cells last n.pit made.pit).0
+  sound_pit = rw same_pit at (pit-back m.level (saved NEWEST m) t.level t.cells last n.pit made.pit).0
 
   port-again : port-restored m.serial.level m.moment (port-saved NEWEST m.moment m.serial) ≡ Ok n.serial
   unfolding saved
@@ -271,11 +262,11 @@ module _ (m : State) (t : IsTold m) (n : State) (e : restored m.level (saved NEW
   lines =
       let has_lines = has-lines n made.lines in
       record {
-        out = ap (λ (pair : PicPair). has (lines_of pair) 0) (sym same_pair) ∙ has_lines.out ∙ ap (λ (now : ℕ). pit_out 0 now n.pit) same_moment
-            ∙ ap (pit_out 0 m.moment) same_pit;
-        slave = ap (λ (pair : PicPair). has (lines_of pair) 2) (sym same_pair) ∙ has_lines.slave ∙ ap slave_int_of same_pair;
-        serial = ap (λ (pair : PicPair). has (lines_of pair) 4) (sym same_pair) ∙ has_lines.serial ∙ ap (λ (now : ℕ). line_of now n.serial) same_moment
-            ∙ same_line;
+        out = rw (sym same_pair) (has_lines.out ∙ ap (λ (now : ℕ). pit_out 0 now n.pit) same_moment
+            ∙ ap (pit_out 0 m.moment) same_pit);
+        slave = ap (λ pair. has (lines_of pair) 2) (sym same_pair) ∙ has_lines.slave ∙ ap slave_int_of same_pair;
+        serial = rw (sym same_pair) (has_lines.serial ∙ ap (λ (now : ℕ). line_of now n.serial) same_moment
+            ∙ same_line);
       }
 
   rules-sound : IsSound m

@@ -28,9 +28,7 @@ module _ (m : State) (port : Port) (a : AlikePorts m.serial port) where
 
   read_at-alike : (target : Target) (number : ℕ) → AnswersAlike Alike (read_at target number m) (read_at target number other)
   unfolding read_at
-  read_at-alike (Register offset) number =
-      let answers = reads_alike offset m.moment m.serial port a in
-      record { value = answers.value; alike = with-serial (read_of offset m.moment m.serial).1 (read_of offset m.moment port).1 answers.alike }
+  read_at-alike (Register offset) number = search (arith, reads_alike, with-serial)
   read_at-alike _ number = record { value = refl; alike = record { same = refl; serial = a } }
 
   written_at-alike : (target : Target) (number value : ℕ) → Alike (written_at target number value m) (written_at target number value other)
@@ -40,10 +38,7 @@ module _ (m : State) (port : Port) (a : AlikePorts m.serial port) where
 
   waited-alike : (to : ℕ) → AnswersAlike Alike (waited to m) (waited to other)
   unfolding waited
-  waited-alike to =
-      let answers = advances_alike to m.serial port a in
-      let act : List ℕ → Act = (λ bytes. record { value = None; edge = pit_edge 0 m.moment to m.pit; sent = bytes }) in
-      record { value = ap act answers.value; alike = record { same = refl; serial = answers.alike } }
+  waited-alike to = search (arith, advances_alike)
 
   acted-alike : (event : Event) → AnswersAlike Alike (acted event m) (acted event other)
   unfolding acted
@@ -61,17 +56,15 @@ module _ (m : State) (port : Port) (a : AlikePorts m.serial port) where
 
   pair-alike : (wires : ℕ) (edge : Bool) → (settled wires edge other).pair ≡ (settled wires edge m).pair
   unfolding settled
-  pair-alike wires edge = ap (λ n. settled_pair n (bits_where edge 0x01) m.pair) (inputs-alike wires)
+  pair-alike wires edge = rw (inputs-alike wires)
 
   settled-alike : (wires : ℕ) (edge : Bool) → Alike (settled wires edge m) (settled wires edge other)
   unfolding settled
-  settled-alike wires edge = record { same = ap (λ (pair : PicPair). record other { pair = pair }) (pair-alike wires edge); serial = a }
+  settled-alike wires edge = record { same = rw (pair-alike wires edge); serial = a }
 
   after_act-alike : (wires : ℕ) (act : Act) → AnswersAlike Alike (after_act wires (act, m)) (after_act wires (act, other))
   unfolding after_act
-  after_act-alike wires act =
-      let answer : PicPair → Answer = (λ pair. record { value = act.value; int = int_of pair; sent = record { items = act.sent } }) in
-      record { value = ap answer (pair-alike wires act.edge); alike = settled-alike wires act.edge }
+  after_act-alike wires act = search (arith, pair-alike, settled-alike)
 
 -- The lines of boards that are alike are updated after equal acts.
 settle-alike : (wires : ℕ) (first second : Act × State) → AnswersAlike Alike first second → AnswersAlike Alike (after_act wires first) (after_act wires second)
@@ -101,8 +94,7 @@ module _ {S : Type 0} (AreAlike : S → S → Type 0) (go : Event → S → Answ
   answers-alike [] m n a = refl
   answers-alike (event ∷ events) m n a =
       let now = each event m n a in
-      ap (λ (answer : Answer). answer ∷ answers_by go events (go event n).1) now.value
-      ∙ ap (λ (answers : List Answer). (go event m).0 ∷ answers) (answers-alike events (go event m).1 (go event n).1 now.alike)
+      rw (now.value, answers-alike events (go event m).1 (go event n).1 now.alike)
 
   after-alike : (events : List Event) (m n : S) → AreAlike m n → AreAlike (after_by go events m) (after_by go events n)
   unfolding after_by
@@ -116,11 +108,7 @@ pub alike_stays : AlikeStays
 alike_stays = stays-alike Alike step step-alike
 
 pub likeness : Likeness
-likeness = record {
-  itself = λ m. record { same = refl; serial = alike_itself m.serial };
-  back = λ m n a. record { same = ap (λ (s : State). record s { serial = m.serial }) (sym a.same); serial = alike_back m.serial n.serial a.serial };
-  on = λ m n o a b. record { same = cc; serial = alike_on m.serial n.serial o.serial a.serial b.serial };
-}
+likeness = search (arith, alike_itself, alike_back, alike_on)
 
 -- ---- what is saved of a board can be restored
 
@@ -143,13 +131,7 @@ lines-agree m h =
 
 pub has-lines : (m : State) → lines_agree m ≡ true → HasLines m
 unfolding lines_agree
-has-lines m e =
-    let rest = (and_parts (same (has (lines_of m.pair) 0) (pit_out 0 m.moment m.pit)) _ e).1 in
-    record {
-      out = same-is _ _ (and_parts (same (has (lines_of m.pair) 0) (pit_out 0 m.moment m.pit)) _ e).0;
-      slave = same-is _ _ (and_parts (same (has (lines_of m.pair) 2) (slave_int_of m.pair)) _ rest).0;
-      serial = same-is _ _ (and_parts (same (has (lines_of m.pair) 2) (slave_int_of m.pair)) _ rest).1;
-    }
+has-lines m e = search (arith, same-is)
 
 -- The board, if no device breaks a rule and the lines agree.
 joined-ok : (level moment : ℕ) (pair : PicPair) (pit : Pit) (port : Port) (of_timer : Result ℕ Misfit) (of_pair : Result PicPair ChipFault) (of_pit : Result Pit ℕ) (of_port : Result Port ℕ) → of_timer ≡ Ok moment → of_pair ≡ Ok pair → of_pit ≡ Ok pit → of_port ≡ Ok port → lines_agree (record { level = level; moment = moment; pair = pair; pit = pit; serial = port }) ≡ true → joined level of_timer (by_chip of_pair) (by_device PIT_DEVICE of_pit) (by_device SERIAL_DEVICE of_port) ≡ Ok (record { level = level; moment = moment; pair = pair; pit = pit; serial = port })
@@ -168,7 +150,6 @@ module _ (set : ℕ) (m : State) (s : IsSound m) (may : MaySaveUnder m.level set
   can level e =
       let is_level = subst IsLevel (sym e) s.devices.level in
       let own_level = sym e in
-      let moment = s.devices.moment in
       search
 
   newest : MayRestore (numbers_at NEWEST m)
@@ -188,16 +169,16 @@ module _ (set : ℕ) (m : State) (s : IsSound m) (may : MaySaveUnder m.level set
   le = omega arith
 
   master-carried : pic_carried set (saved_cells set m.pair.master) ≡ saved_cells NEWEST m.pair.master
-  master-carried = carried-saved m.pair.level set _ m.pair.master le s.pair.master
+  master-carried = grind (arith, carried-saved, le)
 
   slave-carried : pic_carried set (saved_cells set m.pair.slave) ≡ saved_cells NEWEST m.pair.slave
-  slave-carried = carried-saved m.pair.level set _ m.pair.slave le s.pair.slave
+  slave-carried = grind (arith, carried-saved, le)
 
   pair-back : restored_pair m.level (pic_carried set (saved_cells set m.pair.master)) (pic_carried set (saved_cells set m.pair.slave)) ≡ Ok m.pair
   pair-back =
-      ap (λ (cells : List ℤ). restored_pair m.level cells (pic_carried set (saved_cells set m.pair.slave))) master-carried
-      ∙ ap (λ (cells : List ℤ). restored_pair m.level (saved_cells NEWEST m.pair.master) cells) slave-carried
-      ∙ ap (λ (level : ℕ). restored_pair level (saved_cells NEWEST m.pair.master) (saved_cells NEWEST m.pair.slave)) (sym s.devices.pair_level)
+      ap (λ cells. restored_pair m.level cells (pic_carried set (saved_cells set m.pair.slave))) master-carried
+      ∙ ap (λ cells. restored_pair m.level (saved_cells NEWEST m.pair.master) cells) slave-carried
+      ∙ ap (λ level. restored_pair level (saved_cells NEWEST m.pair.master) (saved_cells NEWEST m.pair.slave)) (sym s.devices.pair_level)
       ∙ pair-restored m.pair s.pair
 
   pit-both : AreCellsOf NEWEST (pit_carried set (pit_cells set m.pit)) × (restored_pit m.level m.moment (pit_carried set (pit_cells set m.pit)) ≡ Ok m.pit)
@@ -210,13 +191,7 @@ module _ (set : ℕ) (m : State) (s : IsSound m) (may : MaySaveUnder m.level set
 
   carried-are : AreBoardCells (carried set (saved set m))
   unfolding carried saved
-  carried-are = record {
-    timer = moment-of m.moment s.devices.moment;
-    master = subst (AreOf (pic_kinds NEWEST)) (sym master-carried) (set-of m.pair.level NEWEST _ m.pair.master s.pair.master.registers);
-    slave = subst (AreOf (pic_kinds NEWEST)) (sym slave-carried) (set-of m.pair.level NEWEST _ m.pair.slave s.pair.slave.registers);
-    pit = pit-both.0;
-    serial = serial-both.may.port_cells;
-  }
+  carried-are = search (arith, moment-of, master-carried, set-of, slave-carried, pit-both.0, serial-both.may.port_cells)
 
   back-lines : (port : Port) → AlikePorts m.serial port → HasLines (record m { serial = port })
   back-lines port a = record { out = s.lines.out; slave = s.lines.slave; serial = cc (lines_alike m.moment m.serial port a) }
@@ -246,5 +221,5 @@ saved_comes_back = record { back = comes-back }
 pub saved_goes_on : SavedGoesOn
 saved_goes_on = record {
   answers = λ set m back events s may e. let there = comes-back set m s may in
-      alike_stays.answers events m back (subst (Alike m) (ok-same there.back back _ there.restored e) there.alike);
+      alike_stays.answers events m back (rw (ok-same there.back back _ there.restored e) at there.alike);
 }

@@ -109,7 +109,7 @@ module _ (m : State) (h : HasDevices m) where
   unfolding target_of written_at
   write-kept port value v =
       let keeps : Target → Type 0 = λ t. HasDevices (written_at t port value m) in
-      cond_both (is_port m.level port) _ _ keeps (λ e. pair-written port value v (ap (λ level. is_port level port) h.pair_level ∙ e)) (λ _.
+      cond_both (is_port m.level port) _ _ keeps (λ e. pair-written port value v (rw (h.pair_level) (e))) (λ _.
       either keeps (nat_le 0x40 port && nat_le port 0x42) _ _ (pit-written port value v)
       (either keeps (port == 0x43) _ _ (pit-written port value v)
       (either keeps (nat_le 0x3f8 port && nat_le port 0x3ff) _ _ (serial-written (port - 0x3f8) value v) h)))
@@ -185,10 +185,7 @@ no-edge counter at = no-edge_since counter.loaded_at counter.mode counter.count 
 
 -- Before the first of three turns that is after the base, none has come.
 not-yet : (base turn at to : ℕ) → at ≡ turn → base ≤ at → at ≤ to → to < later base turn → at ≡ base
-not-yet base turn at to e f l h =
-    ⊎_elim
-    (λ after. let test : nat_lt base turn ≡ true = grind (arith, nat_tests) in
-    let is : later base turn ≡ turn = rw test refl in absurd (omega arith)) (λ before. omega arith) (cases_lt base turn)
+not-yet base turn at to e f l h = grind (arith, later)
 
 none-came : (turns : Turns) (base at to : ℕ) → IsTurn turns base at → base ≤ at → at ≤ to → to < calm_by turns base → at ≡ base
 none-came turns base at to (inl e) f l h = e
@@ -212,10 +209,7 @@ record SameOut (before after : Counting) : Type 0 where
 
 same-out : (before after : Counting) → GoesOn before after → SameOut before after
 unfolding out_of edge_of
-same-out before after g = record {
-  out = λ at. rw (g.count, g.mode, g.loaded_at) refl;
-  edge = λ from to. rw (g.count, g.mode, g.loaded_at) refl;
-}
+same-out before after g = search arith
 
 read-same : (j now : ℕ) (pit : Pit) → SameOut (counter_of 0 pit) (counter_of 0 (pit_read j now pit).1)
 unfolding pit_read

@@ -104,7 +104,7 @@ unfolding with_wire
 named input wire wires true h l =
     cond_both (input == wire) _ _ (λ (b : Bool). has (bit_or wires (2 ^ input)) wire ≡ b)
     (λ e. let same : wire ≡ input = grind (arith, nat_tests) in
-    has-or wires (2 ^ input) wire ∙ ap (λ b. has wires wire || b) (ap (λ n. has (2 ^ input) n) same ∙ has-one input) ∙ or-true (has wires wire))
+    has-or wires (2 ^ input) wire ∙ ap (λ b. has wires wire || b) (rw same (has-one input)) ∙ or-true (has wires wire))
     (λ e. let other : wire ≢ input = grind (arith, nat_tests) in
     has-or wires (2 ^ input) wire ∙ ap (λ b. has wires wire || b) (has-one_other input wire other) ∙ or-false (has wires wire))
 named input wire wires false h l =
@@ -124,7 +124,7 @@ left _ wire wires l e = refl
 -- No device drives a wire.
 driven : (b : Bool) (input wire : ℕ) → wire ≢ input → has (bits_where b (2 ^ input)) wire ≡ false
 driven true input wire n = has-one_other input wire n
-driven false input wire n = ap (λ n. n == 1) (bit_at-zero wire)
+driven false input wire n = rw (bit_at-zero wire)
 
 inputs-wire : (wires wire : ℕ) (m : State) → is_wire wire ≡ true → has (inputs_of wires m) wire ≡ has wires wire
 unfolding inputs_of
@@ -136,8 +136,7 @@ taken inputs edges wire m bound e =
     let l : wire < 16 = wire-bound wire e in
     ⊎_elim (λ (low : wire < 8). lines_are_taken.master inputs edges wire m.pair bound low (λ s. wire-other wire 2 e refl (sym s)))
     (λ (high : 8 ≤ wire). let place : 8 + (wire - 8) ≡ wire = omega arith in
-    subst (λ n. has (lines_of (settled_pair inputs edges m.pair)) n ≡ has inputs n) place
-    (lines_are_taken.slave inputs edges (wire - 8) m.pair bound (omega arith))) (cases_lt wire 8)
+    rw place at (lines_are_taken.slave inputs edges (wire - 8) m.pair bound (omega arith))) (cases_lt wire 8)
 
 settled-wire : (wires wire : ℕ) (edge : Bool) (m : State) → AreWires wires → is_wire wire ≡ true
     → has (lines_of (settled wires edge m).pair) wire ≡ has wires wire

@@ -27,14 +27,12 @@ returns-then-queue c =
 
 pub invariant_of-self-then-not-has : goal.invariant_of-self-then-not-has
 invariant_of-self-then-not-has c =
-    let even : has c.in-Write.value 4 ≡ false = search rules in
-    let after = command-holds c.self.inside.parts c.self.invariant.sound c.in-Write.value _ c.command-self-inside.ensures.state even
+    let after = command-holds c.self.inside.parts c.self.invariant.sound c.in-Write.value _ c.command-self-inside.ensures.state (search rules)
     c.command-self-inside.ensures.kept _ c.command-self-inside.ensures.int c.self.inside.kept.calm c.self.invariant.kept.calm in
     record { sound = after.sound; kept = after.kept }
 
 pub returns-then-not-has : goal.returns-then-not-has
 returns-then-not-has c =
-    let even : has c.in-Write.value 4 ≡ false = search rules in
-    command-step c.self.inside.parts c.self.invariant.sound c.in-Write.value _ c.command-self-inside.ensures.state even
+    command-step c.self.inside.parts c.self.invariant.sound c.in-Write.value _ c.command-self-inside.ensures.state (search rules)
     c.command-self-inside.ensures.kept _ c.command-self-inside.ensures.int
     c.args.event c.in-Write.port c.args.self.now c.in-Write.is c.if-port-eq-COMMAND_PORT.true c.self.view_is

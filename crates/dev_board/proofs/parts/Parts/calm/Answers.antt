@@ -7,5 +7,5 @@ turns-requires-clause-loaded c = loaded (parts_view c.self.inside) c.self.invari
 pub returns : goal.returns
 returns c =
     subst (IsCalm c.calm_by.result) c.self.view_is
-    (subst (λ (until : ℕ). IsCalm until (parts_view c.self.inside)) (sym c.calm_by.ensures)
+    (subst (λ until. IsCalm until (parts_view c.self.inside)) (sym c.calm_by.ensures)
     (calm-turns (parts_view c.self.inside) c.self.invariant c.turns.result c.turns.ensures))

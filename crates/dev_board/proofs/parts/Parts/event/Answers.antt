@@ -28,7 +28,7 @@ invariant_of-self c = after-ack (parts_view c.self.inside) c.self.invariant c.ac
 pub settle-kept-requires-in-Ack-clause-stays : goal.settle-kept-requires-in-Ack-clause-stays
 settle-kept-requires-in-Ack-clause-stays c =
     ack-stays (parts_view c.self.inside) (subst IsSound (sym c.self.view_is) c.requires.sound) c.before-before.result
-    (subst (IsBefore c.before-before.result) (sym c.self.view_is) c.before-before.ensures)
+    (rw c.self.view_is c.before-before.ensures)
     c.ack-value.result c.ack-value.new.self _ c.ack_touches.ensures c.ack-value.ensures
 
 -- What is known of a board whose lines were updated.
@@ -46,16 +46,13 @@ unfolding settled
 returns-in-Write-clause-kept c =
     let calm = c.args.kept.now.calm in record {
       int = c.settle-kept-in-Write.ensures.int;
-      calm = subst (λ (until : ℕ). IsCalm until c.settle-kept-in-Write.new.self) (sym c.calm-kept.ensures)
-          (subst (IsCalm (calm_after c.write-touch.result calm)) (sym c.settle-kept-in-Write.ensures.state)
-          (calm-write calm c.args.self.now c.requires.kept.calm c.in-Write.port c.in-Write.value _ _ c.write-touch.ensures.touch c.write-touch.ensures.step));
+      calm = rw c.calm-kept.ensures (rw c.settle-kept-in-Write.ensures.state (calm-write calm c.args.self.now c.requires.kept.calm c.in-Write.port c.in-Write.value _ _ c.write-touch.ensures.touch c.write-touch.ensures.step));
     }
 
 pub returns-in-Byte-clause-kept : goal.returns-in-Byte-clause-kept
 unfolding settled
 returns-in-Byte-clause-kept c =
-    kept-by _ _ _ c.settle-kept-in-Byte.ensures.state c.settle-kept-in-Byte.ensures.int
-    (subst (IsCalm c.args.kept.now.calm) (sym c.byte_in.ensures) c.requires.kept.calm)
+    kept-by _ _ _ c.settle-kept-in-Byte.ensures.state c.settle-kept-in-Byte.ensures.int (rw c.byte_in.ensures c.requires.kept.calm)
 
 pub returns-in-Wire-clause-kept : goal.returns-in-Wire-clause-kept
 unfolding settled

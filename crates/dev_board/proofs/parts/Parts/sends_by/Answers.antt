@@ -8,6 +8,6 @@ holds false e = cc
 pub returns-clause-none : goal.returns-clause-none
 unfolding step after_act acted waited
 returns-clause-none c e =
-    let quiet : (advanced c.later_by-to.result c.self.inside.serial).0 ≡ [] = ap (λ (x : List ℕ × Port). x.0) (still c.later_by-to.result c.self.inside.serial (c.is_still.ensures.0 (holds c.is_still.result e))) in
-    subst (λ (to : ℕ). (advanced to c.args.self.now.serial).0 ≡ []) c.later_by-to.ensures.later
-    (subst (λ (m : State). (advanced c.later_by-to.result m.serial).0 ≡ []) c.self.view_is quiet)
+    let quiet : (advanced c.later_by-to.result c.self.inside.serial).0 ≡ [] = rw (still c.later_by-to.result c.self.inside.serial (c.is_still.ensures.0 (holds c.is_still.result e))) in
+    subst (λ to. (advanced to c.args.self.now.serial).0 ≡ []) c.later_by-to.ensures.later
+    (subst (λ m. (advanced c.later_by-to.result m.serial).0 ≡ []) c.self.view_is quiet)
