@@ -1,17 +1,17 @@
 -- The laws as they are stated: the paths of cells, images that are ready, and the bytes that are
 -- written.
-use Rattle.vms_bodies.proofs.Facade.{CellLaw, ReadyLaw, ZeroedLaw, size_of_device, cell_count, field_size, element_room, first_at, ◌≡◌, ℕ, zero, suc}
-use Rattle.vms_bodies.proofs.Facade.{◌+◌, ◌*◌, ◌<◌, ◌≤◌, List, ◌∷◌, length, length-append, Option, Some, None, refl, arith, Bool, true}
-use Rattle.vms_bodies.proofs.Facade.{false, nat_lt, if◌then◌else◌, [], flat_map, slice_get, ltb-true, get_or_from_slice_get, Item, Num, Struct, Field}
-use Rattle.vms_bodies.proofs.Facade.{Desc, Sub, Device, Set, Cell, no_desc, first, item_size, capacity_of, place_of, field_cells, cells_from, desc_cells}
-use Rattle.vms_bodies.proofs.Facade.{struct_cells, device_cells, sub_place, own_cells, item_at, element_at, path_at, desc_of_sub, cell_in, cell_at, get_or, ℤ}
-use Rattle.vms_bodies.proofs.Facade.{pos, negsuc, ◌≤ℤ◌, ap, not, ◌&&◌, ◌==◌, nat_le, ◌||◌, AllByRecursion, and_parts, not-true, leb-true}
-use Rattle.vms_bodies.proofs.Facade.{le-leb, eqb-true, eq-eqb, and_from, not_from_false, ints, Kind, lowest, highest, InRange, same_number, no_cell, Slot, Rule}
-use Rattle.vms_bodies.proofs.Facade.{Image, has_cell, image_slots, IsVersionOf, AreVersionsOf, FitsCell, FitCells, IsNormal, RulesHold, is_needed, ComeAsNeeded}
+use Rattle.vms_bodies.proofs.{Facade.CellLaw, Facade.ReadyLaw, Facade.ZeroedLaw, Places.place_up}
+use Rattle.vms_bodies.proofs.Facade.{size_of_device, cell_count, field_size, element_room, first_at, ◌≡◌, ℕ, zero, suc, ◌+◌, ◌*◌, ◌<◌}
+use Rattle.vms_bodies.proofs.Facade.{◌≤◌, List, ◌∷◌, length, length-append, Option, Some, None, refl, arith, Bool, true, false, nat_lt}
+use Rattle.vms_bodies.proofs.Facade.{if◌then◌else◌, [], flat_map, slice_get, ltb-true, get_or_from_slice_get, Item, Num, Struct, Field, Desc, Sub, Device}
+use Rattle.vms_bodies.proofs.Facade.{Set, Cell, no_desc, first, item_size, capacity_of, place_of, field_cells, cells_from, desc_cells, struct_cells}
+use Rattle.vms_bodies.proofs.Facade.{device_cells, sub_place, own_cells, item_at, element_at, path_at, desc_of_sub, cell_in, cell_at, get_or, ℤ, pos, negsuc}
+use Rattle.vms_bodies.proofs.Facade.{◌≤ℤ◌, ap, not, ◌&&◌, ◌==◌, nat_le, ◌||◌, AllByRecursion, and_parts, not-true, leb-true, le-leb}
+use Rattle.vms_bodies.proofs.Facade.{eqb-true, eq-eqb, and_from, not_from_false, ints, Kind, lowest, highest, InRange, same_number, no_cell, Slot, Rule, Image}
+use Rattle.vms_bodies.proofs.Facade.{has_cell, image_slots, IsVersionOf, AreVersionsOf, FitsCell, FitCells, IsNormal, RulesHold, is_needed, ComeAsNeeded}
 use Rattle.vms_bodies.proofs.Facade.{IsReady, int_le, in_range, counts_well, is_version_of, are_versions_of, fits_cell, fit_cells, are_settled, is_normal}
 use Rattle.vms_bodies.proofs.Facade.{rules_are_true, come_as_needed, is_ready, ranges, within, same_number_itself, same_number_is, Decides-and, Decides-eqb}
 use Rattle.vms_bodies.proofs.Facade.{Decides-like, Decides, replicate, length-replicate, Filler, Spells, zeroed, GoodLaw, ShippedLaw, well_good, shipped_stands}
-use Rattle.vms_bodies.proofs.Places.{place_up}
 
 -- ---- places
 

@@ -1,6 +1,6 @@
 -- What the elements of a description are: slots of its bytes, and lines of its text.
 use Rattle.vms_elements.proofs.Facade.{◌≡◌, ℕ, zero, suc, ◌+◌, ◌-◌, ◌≤◌, List, [], ◌++◌, map, arith, Bool, true, false, ◌&&◌}
-use Rattle.vms_elements.proofs.Facade.{Field, Element, Stand, behind, array_elements, index_text, ◌∷◌, length, get_or, ℤ, refl, sym, ap}
+use Rattle.vms_elements.proofs.Facade.{le-ltb, lt-ltb, Field, Element, Stand, behind, array_elements, index_text, ◌∷◌, length, get_or, ℤ, refl, sym, ap}
 use Rattle.vms_elements.proofs.Facade.{◌∙◌, two_more, if◌then◌else◌, Item, Struct, Desc, Set, Slot, Meaning, no_meaning, no_desc, first, times}
 use Rattle.vms_elements.proofs.Facade.{counted, capacity_of, elements_of, item_size, item_slots, slots_from, desc_slots, meaning, meanings, pick_append}
 use Rattle.vms_elements.proofs.Facade.{first_cells, elements_fit, first_long, Shape, no_shape, shape, cells_in, dotted, item_elements, stand_of, elements_from}
