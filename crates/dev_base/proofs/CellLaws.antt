@@ -23,10 +23,7 @@ cons-range kind number kinds cells first rest zero h = first
 cons-range kind number kinds cells first rest (suc place) h = rest.in_range place (omega (arith, h))
 
 pub of_more : (kind : Kind) (number : ℤ) (kinds : List Kind) (cells : List ℤ) → InRange kind number → AreOf kinds cells → AreOf (kind ∷ kinds) (number ∷ cells)
-of_more kind number kinds cells first rest = record {
-  count = ap suc rest.count;
-  in_range = cons-range kind number kinds cells first rest;
-}
+of_more kind number kinds cells first rest = search (arith, cons-range)
 
 -- The first cell, and the rest.
 pub of_first : (kind : Kind) (number : ℤ) (kinds : List Kind) (cells : List ℤ) → AreOf (kind ∷ kinds) (number ∷ cells) → InRange kind number
@@ -48,8 +45,7 @@ of_both (kind ∷ kinds) more_kinds (number ∷ cells) more all rest =
 
 -- The cells that are there if a test holds.
 pub of_where : (has : Bool) (kinds : List Kind) (cells : List ℤ) → AreOf kinds cells → AreOf (cond has kinds []) (cond has cells [])
-of_where true kinds cells all = all
-of_where false kinds cells all = of_none
+of_where has kinds cells all = grind (arith, of_none)
 
 -- Numbers that kinds hold.
 pub byte : (n : ℕ) → n < 2 ^ 8 → InRange U8 (pos n)
@@ -65,8 +61,7 @@ pub timer : (n : ℕ) → n < 2 ^ 64 → InRange Timer (pos n)
 timer n h = (omega (arith, ints), omega (arith, ints, h))
 
 pub flag : (b : Bool) → InRange Truth (pos (flag_number b))
-flag true = (omega (arith, ints), omega (arith, ints))
-flag false = (omega (arith, ints), omega (arith, ints))
+flag b = grind (arith, ints)
 
 -- The converse, for any kind.
 pub number-lt : (kind : Kind) (z : ℤ) → InRange kind z → nat_of z < suc (nat_of (highest kind))
@@ -78,8 +73,7 @@ number-lt kind (pos n) range = by (highest kind) range.1 where
 
 -- A truth value is that of its number.
 pub flag-back : (b : Bool) → (flag_number b == 1) ≡ b
-flag-back true = refl
-flag-back false = refl
+flag-back b = grind arith
 
 -- ---- what tables make of cells
 
@@ -126,7 +120,7 @@ none_lacks named set (row ∷ rows) others h lacks =
     (λ e. absurd (false≢true (sym e ∙ both.0)), none_lacks named set rows others both.1 lacks)
 
 counted : (n : ℕ) (kind : Kind) (xs : List ℤ) → AreOf (replicate n kind) xs → length xs ≡ n
-counted n kind xs are = are.count ∙ length-replicate n kind
+counted n kind xs are = cc (length-replicate n kind)
 
 -- the numbers of all rows
 abbrev pub whole : Named → List Row → List ℤ
@@ -140,7 +134,7 @@ module _ (named : Named) (set : ℕ) where
 
   defaults : (n : ℕ) (z : ℤ) (cells : List ℤ) → carried_by (replicate n (default_of z)) cells ≡ replicate n z
   defaults zero z cells = refl
-  defaults (suc n) z cells = ap (λ (l : List ℤ). z ∷ l) (defaults n z cells)
+  defaults (suc n) z cells = rw (defaults n z cells)
 
   -- a part of what was saved
   taken : (before here after : List ℤ) (at n : ℕ) → at ≡ length before → n ≡ length here → carried_by (places at n) (before ++ (here ++ after)) ≡ here
@@ -201,17 +195,14 @@ module _ (named : Named) (name : List ℕ) where
           → cell_at (before ++ whole named (row ∷ rows)) (place_from at (row ∷ rows) name + k) ≡ cell_at (numbers_of named name) k
       by (inl e) =
           let within : k < size_of row = rw e at l in
-          let past : (at + k) - length before ≡ k = omega (arith, a) in
           rw e
           (get_or-append_right before (here ++ whole named rows) (length before) (at + k) (pos 0) refl (omega (arith, a))
-          ∙ ap (cell_at (here ++ whole named rows)) past
-          ∙ get_or_append_left here (whole named rows) (pos 0) k (omega (arith, size, within))
+          ∙ ap (cell_at (here ++ whole named rows)) (omega (arith, a)) ∙ get_or_append_left here (whole named rows) (pos 0) k (omega (arith, size, within))
           ∙ ap (λ (text : List ℕ). cell_at (numbers_of named text) k) ((bytes_eq-Decides row.name name).0 e))
       by (inr e) =
           let within : k < size_at rows name = rw e at l in
           rw e
-          (ap (λ (l : List ℤ). cell_at l (place_from (at + size_of row) rows name + k)) (sym (append_assoc before here (whole named rows)))
-          ∙ rest (before ++ here) (at + size_of row) k (omega (arith, a, length-append before here, size)) within)
+          (rw (sym (append_assoc before here (whole named rows))) (rest (before ++ here) (at + size_of row) k (omega (arith, a, length-append before here, size)) within))
 
   pub stands : (rows : List Row) → AllHold named rows → Stands rows
   stands [] h = λ before at k a l. absurd (omega (arith, l))
@@ -221,7 +212,7 @@ module _ (named : Named) (name : List ℕ) where
 
 -- The values of a function at one number more.
 pub firsts_more : (f : ℕ → ℕ) (n value : ℕ) (xs ys : List ℕ) → xs ≡ firsts n f → value ≡ f n → ys ≡ xs ++ value ∷ [] → ys ≡ firsts (n + 1) f
-firsts_more f n value xs ys x e y = y ∙ rw (x, e) (sym (map-range_with_len_more f 0 n n (omega arith)))
+firsts_more f n value xs ys x e y = grind (arith, map-range_with_len_more)
 
 -- An array that is filled place by place.
 pub one_set : (f : ℕ → ℕ) (xs : List ℕ) (k value : ℕ) → k < length xs → value ≡ f k → ((i : ℕ) → i < k → get_or xs i 0 ≡ f i) → (i : ℕ) → i < k + 1 → get_or (set xs k value) i 0 ≡ f i
@@ -229,8 +220,7 @@ one_set f xs k value within e before i l =
     ⊎_elim (λ less. get_or-set_other xs k i value 0 (λ same. omega arith) ∙ before i less)
     (λ last.
     let same : i ≡ k = omega arith in
-    subst (λ (n : ℕ). get_or (set xs k value) n 0 ≡ f n) (sym same) (get_or-set_same xs k value 0 within ∙ e))
-    (cases_lt i k)
+    subst (λ n. get_or (set xs k value) n 0 ≡ f n) (sym same) (get_or-set_same xs k value 0 within ∙ e)) (cases_lt i k)
 
 pub all_set : (f : ℕ → ℕ) (xs : List ℕ) (n : ℕ) → length xs ≡ n → ((i : ℕ) → i < n → get_or xs i 0 ≡ f i) → xs ≡ firsts n f
 all_set f xs n len at =

@@ -21,7 +21,7 @@ pub grown : (a b c : ℕ) → a ≤ b → b ≤ c → nat_lt a c ≡ (nat_lt a b
 grown a b c h l = grind (arith, nat_tests)
 
 pub quotient_mono : (n a b : ℕ) → 0 < n → a ≤ b → a / n ≤ b / n
-quotient_mono n a b p h = le-div (a / n) b n p (omega (arith, div-mul-le_self a n))
+quotient_mono n a b p h = grind (arith, le-div)
 
 -- ---- the search for a rule that fails finds the first, and finds none where all hold
 
@@ -57,21 +57,11 @@ more number rules (Some rule) h = record {
 means_from : (number : ℕ) (rules : List Bool) → Means number rules (failing_from number rules)
 means_from number [] = λ place l. absurd (omega (arith, l))
 means_from number (true ∷ rules) = more number rules (failing_from (number + 1) rules) (means_from (number + 1) rules)
-means_from number (false ∷ rules) = record {
-  place = 0;
-  is = omega arith;
-  within = omega arith;
-  fails = refl;
-  others = λ other l. absurd (omega (arith, l));
-}
+means_from number (false ∷ rules) = search arith
 
 from_one : (rules : List Bool) (answer : Option ℕ) → Means 1 rules answer → MeansFailing rules answer
 from_one rules None h = h
-from_one rules (Some rule) h = let e = h.is in let l = h.within in record {
-  within = (omega (arith, e), omega (arith, e, l));
-  fails = let same : rule - 1 ≡ h.place = omega (arith, e) in rw same h.fails;
-  others = λ other b. h.others other (omega (arith, e, b));
-}
+from_one rules (Some rule) h = search arith
 
 pub first_failing_is_first : FirstFailingIsFirst
 first_failing_is_first rules = from_one rules (first_failing rules) (means_from 1 rules)
@@ -100,7 +90,7 @@ all_true rules e = all-from 1 rules e
 -- What is restored: the device if all rules hold, and only then.
 pub judged-all : {D : Type 0} (rules : List Bool) (device : D) → AllTrue rules → judged rules device ≡ Ok device
 unfolding judged_by
-judged-all rules device h = rw (none_failing rules h) refl
+judged-all rules device h = rw (none_failing rules h)
 
 record Accepted {D : Type 0} (answer : Option ℕ) (found device : D) : Type 0 where
   none : answer ≡ None
@@ -123,4 +113,4 @@ hook-ok (Err rule) device e = cc
 
 pub ok-hook : {D : Type 0} (outcome : Result D ℕ) (device : D) → outcome ≡ Ok device → hook_result outcome ≡ Ok device
 unfolding hook_result
-ok-hook outcome device e = rw e refl
+ok-hook outcome device e = rw e

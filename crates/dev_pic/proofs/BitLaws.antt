@@ -22,10 +22,10 @@ not_test (suc (suc a)) h = absurd (omega arith)
 not_test _ h = refl
 
 pub has-and : (a b i : ℕ) → has (bit_and a b) i ≡ (has a i && has b i)
-has-and a b i = cc (bit_at_and a b i, (both_tests (bit_at a i) (bit_at b i) (bit_at-lt a i) (bit_at-lt b i)).0)
+has-and a b i = grind (arith, bit_at_and, both_tests, bit_at-lt)
 
 pub has-or : (a b i : ℕ) → has (bit_or a b) i ≡ (has a i || has b i)
-has-or a b i = cc (bit_at_or a b i, (both_tests (bit_at a i) (bit_at b i) (bit_at-lt a i) (bit_at-lt b i)).1)
+has-or a b i = grind (arith, bit_at_or, both_tests, bit_at-lt)
 
 pub has-but_not : (a b i : ℕ) → b < 256 → i < 8 → has (but_not a b) i ≡ (has a i && not (has b i))
 unfolding but_not
@@ -39,12 +39,10 @@ pub has-one_other : (i other : ℕ) → other ≢ i → has (2 ^ i) other ≡ fa
 has-one_other i other h = rw (bit_at-pow_other i other h)
 
 pub and_not_true : (b : Bool) → (b && not true) ≡ false
-and_not_true true = refl
-and_not_true false = refl
+and_not_true b = grind arith
 
 and_not_false : (b : Bool) → (b && not false) ≡ b
-and_not_false true = refl
-and_not_false false = refl
+and_not_false b = grind arith
 
 -- An input that is taken out or put in.
 pub has-without_same : (r i : ℕ) → i < 8 → has (without_input r i) i ≡ false
@@ -100,10 +98,8 @@ has-all = each_input (λ i. has 0xff i ≡ true) refl refl refl refl refl refl r
 
 pub level_inputs_are : LevelInputsAre
 unfolding level_inputs
-level_inputs_are true elcr input within = cc (has-all input within, or-true (has elcr input))
-level_inputs_are false elcr input within = sym (or-false (has elcr input))
+level_inputs_are h0 elcr input within = grind (arith, has-all, or-true, has, or-false)
 
 pub level_inputs-lt : (ltim : Bool) (elcr : ℕ) → elcr < 256 → level_inputs ltim elcr < 256
 unfolding level_inputs
-level_inputs-lt true elcr h = omega arith
-level_inputs-lt false elcr h = h
+level_inputs-lt ltim elcr h = grind arith

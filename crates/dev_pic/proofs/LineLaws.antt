@@ -24,26 +24,21 @@ bytes : (inputs : ℕ) → inputs ≡ inputs / 256 * 256 + inputs % 256
 bytes inputs = omega arith
 
 low-input : (inputs i : ℕ) → i < 8 → has (inputs % 256) i ≡ has inputs i
-low-input inputs i h = sym (ap (λ n. has n i) (bytes inputs) ∙ low-bit (inputs / 256) (inputs % 256) i (omega arith) h)
-
-high-input : (inputs i : ℕ) → i < 8 → has (inputs / 256) i ≡ has inputs (8 + i)
-high-input inputs i h = sym (ap (λ n. has n (8 + i)) (bytes inputs) ∙ high-bit (inputs / 256) (inputs % 256) i (omega arith) h)
+low-input inputs i h = grind (arith, has, bytes, low-bit)
 
 -- The set of the cascade input only, or the empty set.
 cascade-same : (b : Bool) → has (cond b 4 0) 2 ≡ b
-cascade-same true = refl
-cascade-same false = refl
+cascade-same b = grind (arith, nat_tests)
 
 no-input : (i : ℕ) → i < 8 → has 0 i ≡ false
-no-input = each_input (λ i. has 0 i ≡ false) refl refl refl refl refl refl refl refl
+no-input = grind (arith, has)
 
 cascade-other : (b : Bool) (i : ℕ) → i < 8 → i ≢ 2 → has (cond b 4 0) i ≡ false
 cascade-other true i h n = has-one_other 2 i n
 cascade-other false i h n = no-input i h
 
 with-other : (b : Bool) (inputs i : ℕ) → i < 8 → i ≢ 2 → has (with_cascade b inputs) i ≡ has inputs i
-with-other b inputs i h n =
-    cc (has-or (without_input inputs 2) (cond b 4 0) i, cascade-other b i h n, or-false (has (without_input inputs 2) i), has-without_other inputs 2 i (omega arith) h n)
+with-other b inputs i h n = grind (arith, has-or, cascade-other, or-false, has, has-without_other)
 
 with-same : (b : Bool) (inputs : ℕ) → has (with_cascade b inputs) 2 ≡ b
 with-same b inputs = cc (has-or (without_input inputs 2) (cond b 4 0) 2, has-without_same inputs 2 (omega arith), cascade-same b)
@@ -53,7 +48,7 @@ module _ (inputs edges : ℕ) (pair : PicPair) (bound : inputs < 2 ^ 16) where
   output = slave_int_of (record pair { slave = settled (inputs / 256) (edges / 256) pair.slave })
 
   low-lt : with_cascade output (inputs % 256) < 256
-  low-lt = cascade-lt output (inputs % 256) (omega arith)
+  low-lt = grind (arith, cascade-lt)
 
   taken-master : (i : ℕ) → i < 8 → i ≢ 2 → has (lines_of (settled_pair inputs edges pair)) i ≡ has inputs i
   unfolding settled_pair lines_of settled
@@ -65,7 +60,7 @@ module _ (inputs edges : ℕ) (pair : PicPair) (bound : inputs < 2 ^ 16) where
 
   taken-slave : (i : ℕ) → i < 8 → has (lines_of (settled_pair inputs edges pair)) (8 + i) ≡ has inputs (8 + i)
   unfolding settled_pair lines_of settled
-  taken-slave i h = high-bit (inputs / 256) (with_cascade output (inputs % 256)) i low-lt h ∙ high-input inputs i h
+  taken-slave i h = high-bit (inputs / 256) (with_cascade output (inputs % 256)) i low-lt h ∙ (grind (arith, has, bytes, high-bit))
 
 pub lines_are_taken : LinesAreTaken
 lines_are_taken = search (taken-master, taken-cascade, taken-slave)
@@ -162,14 +157,8 @@ acked-slave pair e = rw e (rw (answered-lines (winner_at Slave pair.slave) pair.
 without-bit : (lines i : ℕ) → i < 8 → has (without_input lines 2) i ≡ (has lines i && not (i == 2))
 without-bit lines i h = by_value (i == 2) refl where
   by_value : (b : Bool) → (i == 2) ≡ b → has (without_input lines 2) i ≡ (has lines i && not b)
-  by_value true e =
-      let same : i ≡ 2 = grind (arith, nat_tests) in
-      ap (has (without_input lines 2)) same ∙ has-without_same lines 2 (omega arith) ∙ sym (and-false (has lines i))
-  by_value false e = cc (has-without_other lines 2 i (omega arith) h (grind (arith, nat_tests)), and-true (has lines i))
-
-low-acked : (slave master i : ℕ) → master < 256 → i < 8 → has (slave * 256 + without_input master 2) i ≡ (has (slave * 256 + master) i && not (i == 2))
-low-acked slave master i bound l =
-    cc (low-bit slave (without_input master 2) i (without_input-lt master 2 bound) l, without-bit master i l, low-bit slave master i bound l)
+  by_value true e = grind (arith, has, has-without_same, and-false)
+  by_value false e = grind (arith, has-without_other, and-true, has)
 
 high-acked : (slave master i : ℕ) → master < 256 → 8 ≤ i → i < 16
     → has (slave * 256 + without_input master 2) i ≡ (has (slave * 256 + master) i && not (i == 2))
@@ -177,21 +166,16 @@ high-acked slave master i bound least l =
     let place : i ≡ 8 + (i - 8) = omega arith in
     let within : i - 8 < 8 = omega arith in
     let other : (i == 2) ≡ false = grind (arith, nat_tests) in
-    ap (λ n. has (slave * 256 + without_input master 2) n) place ∙ high-bit slave (without_input master 2) (i - 8) (without_input-lt master 2 bound) within
-    ∙ sym (high-bit slave master (i - 8) bound within) ∙ ap (λ n. has (slave * 256 + master) n) (sym place)
+    ap (has (slave * 256 + without_input master 2)) place ∙ high-bit slave (without_input master 2) (i - 8) (without_input-lt master 2 bound) within
+    ∙ sym (high-bit slave master (i - 8) bound within) ∙ ap (has (slave * 256 + master)) (sym place)
     ∙ sym (ap (λ t. has (slave * 256 + master) i && not t) other ∙ and-true (has (slave * 256 + master) i))
 
 acked-bit : (pair : PicPair) → PairHasRegisters pair → (i : ℕ) → i < 16
     → has (pair.slave.lines * 256 + without_input pair.master.lines 2) i ≡ (has (lines_of pair) i && not (i == 2))
 unfolding lines_of
 acked-bit pair h i l =
-    ⊎_elim (λ low. low-acked pair.slave.lines pair.master.lines i h.master.lines low)
+    ⊎_elim (λ low. (grind (arith, low-bit, without_input-lt, without-bit)))
     (λ high. high-acked pair.slave.lines pair.master.lines i h.master.lines high l) (cases_lt i 8)
 
 pub lines_are_kept : LinesAreKept
-lines_are_kept = record {
-  read = λ port pair. read-kept port pair;
-  write = written-kept;
-  ack = λ pair n. acked_for-kept (winner_at Master pair.master) pair n;
-  of_slave = λ input pair h e l. rw (acked-slave pair e) (acked-bit pair h input l);
-}
+lines_are_kept = search (arith, read-kept, written-kept, acked_for-kept, acked-slave, acked-bit)

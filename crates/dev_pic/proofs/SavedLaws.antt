@@ -25,21 +25,7 @@ clear_vectors lowest state base h = grind (arith, nat_tests)
 -- A chip whose cells break no rule is sound.
 pub sound : (level : ℕ) (role : Role) (cells : List ℤ) → IsChipCells cells → AllTrue (rules level role cells) → IsSoundChip level role (chip_of cells)
 unfolding chip_of
-sound level role cells is hold = record {
-  registers = record {
-    irr = number-lt U8 _ (is.in_range IRR (omega arith));
-    isr = number-lt U8 _ (is.in_range ISR (omega arith));
-    imr = number-lt U8 _ (is.in_range IMR (omega arith));
-    lines = number-lt U8 _ (is.in_range LINES (omega arith));
-    lowest = low_priority _ _ _ hold.0;
-    base = number-lt U8 _ (is.in_range BASE (omega arith));
-    vectors = clear_vectors _ _ _ hold.0;
-    elcr = number-lt U8 _ (is.in_range ELCR (omega arith));
-    levels = hold.1.0;
-    mode = hold.1.1.1.0;
-  };
-  requests = hold.1.1.0;
-}
+sound level role cells is hold = search (arith, number-lt, low_priority, clear_vectors)
 
 restored-sound : (level : ℕ) (role : Role) (cells : List ℤ) (chip : Chip) → IsChipCells cells → restored level role cells ≡ Ok chip
     → IsSoundChip level role chip
@@ -170,8 +156,7 @@ no-levels level elcr role l h = grind (arith, nat_tests)
 
 no-mode : (level : ℕ) (ltim : Bool) → level < LTIM_SINCE → mode_holds level ltim ≡ true → ltim ≡ false
 unfolding mode_holds
-no-mode level true l h = absurd (let e : nat_le LTIM_SINCE level ≡ false = grind (arith, nat_tests) in false≢true (rw e at h))
-no-mode level false l h = refl
+no-mode level ltim l h = grind (arith, nat_tests, nat_le)
 
 -- Carried cells are those of the newest set.
 pub carried-saved : (level set : ℕ) (role : Role) (chip : Chip) → level ≤ set → IsSoundChip level role chip
@@ -189,8 +174,7 @@ carried-saved level set role chip le s =
 
 -- The level mode's cell if the subsection isn't needed.
 off : (ltim : Bool) → (flag_number ltim == 1) ≡ false → pos (flag_number ltim) ≡ pos 0
-off true e = cc
-off false e = refl
+off ltim e = grind (arith, nat_tests)
 
 unneeded : (set : ℕ) (chip : Chip) → LTIM_SINCE ≤ set → flag_in (saved_cells set chip) (codes "ltim") ≡ false
     → cell_in (saved_cells set chip) (codes "ltim") ≡ pos 0
@@ -218,7 +202,7 @@ saved_are_cells = record {
 
 -- A fault is that of its own number.
 told : (chip rule : ℕ) → chip < 2 → 1 ≤ rule → rule ≤ 10 → fault_of (hook_rule (record { chip = chip; rule = rule })) ≡ record { chip = chip; rule = rule }
-told zero rule c l h = let e : nat_le rule 10 ≡ true = grind (arith, nat_tests) in rw e refl
+told zero rule c l h = let e : nat_le rule 10 ≡ true = grind (arith, nat_tests) in rw e
 told (suc zero) rule c l h =
     let e : nat_le (10 + rule) 10 ≡ false = grind (arith, nat_tests) in
     let back : 10 + rule - 10 ≡ rule = omega arith in
@@ -239,11 +223,7 @@ pair-restored pair s = cc (restored-newest pair.level Master pair.master s.maste
 
 -- Both chips' cells in the newest set.
 newest-can : (numbers : Numbers) (pair : PicPair) → MayRestore numbers → IsSoundPair pair → CanRestore numbers (pair_cells NEWEST pair)
-newest-can numbers pair may s = record {
-  pass = may;
-  master = subst IsChipCells (sym (master-part NEWEST pair)) (set-of pair.level NEWEST Master pair.master s.master.registers);
-  slave = subst IsChipCells (sym (slave-part NEWEST pair)) (set-of pair.level NEWEST Slave pair.slave s.slave.registers);
-}
+newest-can numbers pair may s = search (arith, master-part, set-of, slave-part)
 
 newest-restored : (numbers : Numbers) (pair : PicPair) → numbers.level ≡ pair.level → IsSoundPair pair
     → hook_restored numbers (pair_cells NEWEST pair) ≡ Ok pair

@@ -41,13 +41,13 @@ two_words level chip icw1 icw2 is announced alone =
     rw (is, announced, alone) (record { ready = refl; base = refl; modes = (refl, refl, refl, refl); level_mode = refl; clear = (refl, refl, refl); shows_irr = (refl, refl); kept = (refl, refl, refl) })
 
 with_mode : (level icw1 : ℕ) (chip : Chip) → LTIM_SINCE ≤ level → ltim_after level icw1 chip ≡ has icw1 3
-with_mode level icw1 chip h = let e : nat_le LTIM_SINCE level ≡ true = grind (arith, nat_tests) in rw e refl
+with_mode level icw1 chip h = grind arith
 
 without_mode : (level icw1 : ℕ) (chip : Chip) → level < LTIM_SINCE → ltim_after level icw1 chip ≡ chip.ltim
-without_mode level icw1 chip h = let e : nat_le LTIM_SINCE level ≡ false = grind (arith, nat_tests) in rw e refl
+without_mode level icw1 chip h = grind arith
 
 pub initializes_by_words : InitializesByWords
-initializes_by_words = record { all = all_words; single = single_chip; without_icw4 = unannounced; shortest = two_words; level_mode = with_mode; without_level_mode = without_mode }
+initializes_by_words = search (arith, all_words, single_chip, unannounced, two_words, with_mode, without_mode)
 
 -- ---- laws of the modes in the data sheet's terms
 
@@ -81,9 +81,7 @@ ends_with : (chip : Chip) (input lowest : ℕ) → input < 8 → EndsService inp
 ends_with chip input lowest within = search (has-without_same, has-without_other)
 
 found : (chip : Chip) (input : ℕ) → IsHighestServed chip input → highest_served chip ≡ Some input
-found chip input h =
-    let e = h.in_order.1 in
-    highest_at chip.lowest (in_service_of chip) h.place h.in_order.0 (rw e at h.served) h.highest ∙ ap Some (sym e)
+found chip input h = grind (arith, highest_at)
 
 pub eoi_ends_highest : EoiEndsHighest
 unfolding commanded ended ended_lowest written_even
@@ -124,11 +122,7 @@ unfolding taken
 served_isr chip winner e = grind arith
 
 pub takes_winner : TakesWinner
-takes_winner = record {
-  edge = λ chip winner bound within e. rw (edge_irr chip winner e) (has-without_same chip.irr winner within);
-  level = level_irr;
-  served = λ chip winner bound within e. rw (served_isr chip winner e) (has-with_same chip.isr winner);
-}
+takes_winner = search (arith, edge_irr, has-without_same, level_irr, served_isr, has-with_same)
 
 -- A level input by its line, another by its request.
 by_mode : (requested line level : Bool) → ((requested && not level) || (line && level)) ≡ cond level line requested
@@ -152,7 +146,7 @@ takes_lines_over inputs edges chip input lines elcr within =
 
 poll_asked : (level value : ℕ) (chip : Chip) → has value 4 ≡ false → has value 3 ≡ true → has value 2 ≡ true → (written_even level value chip).poll ≡ true
 unfolding written_even selected
-poll_asked level value chip fourth third second = rw (fourth, third, second) refl
+poll_asked level value chip fourth third second = rw (fourth, third, second)
 
 polled : (role : Role) (is_odd : Bool) (chip : Chip) → chip.poll ≡ true → read_of role is_odd chip ≡ polled_by (winner_at role chip) chip
 unfolding read_of
@@ -179,12 +173,7 @@ by_winner None chip = refl
 by_winner (Some winner) chip = taken_poll winner (record chip { poll = false })
 
 pub polls_once : PollsOnce
-polls_once = record {
-  asked = poll_asked;
-  winner = poll_winner;
-  none = poll_none;
-  once = λ role is_odd chip poll. rw (polled role is_odd chip poll) (by_winner (winner_at role chip) chip);
-}
+polls_once = search (arith, poll_asked, poll_winner, poll_none, polled, by_winner)
 
 -- ---- special fully nested mode
 
@@ -197,11 +186,7 @@ unfolding served_of
 plain_slave chip = refl
 
 pub nests_specially : NestsSpecially
-nests_specially = record {
-  cascade = λ chip nested. rw (nested_served chip nested) (has-without_same (in_service_of chip) cascade_input (omega arith));
-  others = λ chip input nested within ne. rw (nested_served chip nested) (has-without_other (in_service_of chip) cascade_input input (omega arith) within ne);
-  slave = plain_slave;
-}
+nests_specially = search (arith, nested_served, has-without_same, has-without_other, plain_slave)
 
 -- ---- rotation
 
@@ -220,24 +205,15 @@ taken_is : (winner : ℕ) (chip : Chip) → taken winner chip ≡ taken_in chip.
 unfolding taken
 taken_is winner chip = refl
 
-ended_at_once : (rotate level : Bool) (winner : ℕ) (chip : Chip) → (taken_in true rotate level winner chip).isr ≡ chip.isr
-ended_at_once rotate level winner chip = grind arith
-
-rotated_to : (level : Bool) (winner : ℕ) (chip : Chip) → (taken_in true true level winner chip).lowest ≡ winner
-rotated_to level winner chip = grind arith
-
-kept_at : (level : Bool) (winner : ℕ) (chip : Chip) → (taken_in true false level winner chip).lowest ≡ chip.lowest
-kept_at level winner chip = grind arith
-
 pub rotates_at_once : RotatesAtOnce
 rotates_at_once = record {
   words = rotate_words;
   ended = λ chip winner auto. let level = has (level_inputs_of chip) winner in
-      ap (λ c. c.isr) (taken_is winner chip) ∙ ap (λ b. (taken_in b chip.rotate level winner chip).isr) auto ∙ ended_at_once chip.rotate level winner chip;
+      ap (λ c. c.isr) (taken_is winner chip) ∙ ap (λ b. (taken_in b chip.rotate level winner chip).isr) auto ∙ (grind arith);
   rotated = λ chip winner auto rotate. let level = has (level_inputs_of chip) winner in
       ap (λ c. c.lowest) (taken_is winner chip) ∙ ap (λ b. (taken_in b chip.rotate level winner chip).lowest) auto
-      ∙ ap (λ b. (taken_in true b level winner chip).lowest) rotate ∙ rotated_to level winner chip;
+      ∙ ap (λ b. (taken_in true b level winner chip).lowest) rotate ∙ (grind arith);
   kept = λ chip winner auto rotate. let level = has (level_inputs_of chip) winner in
       ap (λ c. c.lowest) (taken_is winner chip) ∙ ap (λ b. (taken_in b chip.rotate level winner chip).lowest) auto
-      ∙ ap (λ b. (taken_in true b level winner chip).lowest) rotate ∙ kept_at level winner chip;
+      ∙ ap (λ b. (taken_in true b level winner chip).lowest) rotate ∙ (grind arith);
 }

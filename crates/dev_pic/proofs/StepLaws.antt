@@ -261,7 +261,7 @@ elcr-written level role chip value l v h =
     let levels = levels_written level role value l in search
 
 pub cascade-lt : (is_high : Bool) (inputs : ℕ) → inputs < 256 → with_cascade is_high inputs < 256
-cascade-lt is_high inputs h = or_of_8 _ _ (without_input-lt inputs cascade_input h) (either (λ (n : ℕ). n < 256) is_high 4 0 (omega arith) (omega arith))
+cascade-lt is_high inputs h = grind (arith, or_of_8, without_input-lt, either)
 
 module _ (pair : PicPair) (h : PairHasRegisters pair) where
   with-master : (chip : Chip) → HasRegisters pair.level Master chip → PairHasRegisters (record pair { master = chip })

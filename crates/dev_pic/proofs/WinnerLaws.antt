@@ -49,14 +49,7 @@ module _ (p q : ℕ → Bool) (x : ℕ) (xs : List ℕ) where
   stopped holds = λ k h e. (0, omega arith, holds)
 
   found : p x ≡ false → q x ≡ true → Means p q (x ∷ xs) (Some x)
-  found np holds = record {
-    place = 0;
-    within = omega arith;
-    there = refl;
-    passes = holds;
-    least = λ k h. absurd (omega arith);
-    clear = λ k h. let z : 0 ≡ k = omega arith in subst (λ n. p (get_or (x ∷ xs) n 0) ≡ false) z np;
-  }
+  found np holds = search arith
 
   means-more : Means p q xs (find q (before p xs)) → Means p q (x ∷ xs) (find q (before p (x ∷ xs)))
   means-more m =
@@ -73,7 +66,7 @@ means p q [] = λ k h e. absurd (omega arith)
 means p q (x ∷ xs) = means-more p q x xs (means p q xs)
 
 at : (lowest place : ℕ) → place < 8 → get_or (order lowest) place 0 ≡ input_at lowest place
-at lowest place h = get_or-map-range_with_len (input_at lowest) 0 8 place place 0 h (omega arith)
+at lowest place h = grind (arith, get_or-map-range_with_len)
 
 turned : (lowest requests served : ℕ) (o : Option ℕ) → Means (has served) (has requests) (order lowest) o → MeansWinner lowest requests served o
 turned lowest requests served None m = λ k h e.
@@ -93,21 +86,11 @@ winner_of-means lowest requests served = turned lowest requests served _ (means 
 
 -- No two inputs meet the relation, and none does if there is no winner.
 only_for : (lowest requests served winner : ℕ) (o : Option ℕ) → MeansWinner lowest requests served o → IsWinner lowest requests served winner → o ≡ Some winner
-only_for lowest requests served winner None none w =
-    let blocked = none w.place w.in_order.0 (rw w.in_order.1 at w.requested) in
-    absurd (false≢true (sym (w.before_served blocked.0 blocked.1) ∙ blocked.2))
-only_for lowest requests served winner (Some found) f w =
-    ⊎_elim (λ less. absurd (false≢true (sym (w.least f.place less) ∙ (rw f.in_order.1 at f.requested))))
-    (λ le. ⊎_elim (λ more. absurd (false≢true (sym (f.least w.place more) ∙ (rw w.in_order.1 at w.requested))))
-    (λ ge. let same : f.place ≡ w.place = omega arith in
-    ap Some (f.in_order.1 ∙ ap (input_at lowest) same ∙ sym w.in_order.1)) (cases_lt w.place f.place)) (cases_lt f.place w.place)
+only_for lowest requests served winner None none w = grind arith
+only_for lowest requests served winner (Some found) f w = grind arith
 
 pub winner_is_least_request : WinnerIsLeastRequest
-winner_is_least_request = record {
-  means = winner_of-means;
-  only = λ lowest requests served winner w. only_for lowest requests served winner (winner_of lowest requests served)
-      (winner_of-means lowest requests served) w;
-}
+winner_is_least_request = search (arith, winner_of-means, only_for)
 
 -- The first of a list that passes.
 find_at : (q : ℕ → Bool) (xs : List ℕ) (k : ℕ) → k < length xs → q (get_or xs k 0) ≡ true → ((j : ℕ) → j < k → q (get_or xs j 0) ≡ false)
@@ -135,12 +118,11 @@ highest_none lowest inputs others = find_none (has inputs) (order lowest) (λ j 
 
 -- The first of a list that passes q before any passes p.
 find-before : (p q : ℕ → Bool) (x : ℕ) (xs : List ℕ) → find q (before p (x ∷ xs)) ≡ cond (p x) None (cond (q x) (Some x) (find q (before p xs)))
-find-before p q x xs =
-    elim (p x) as (λ b. find q (cond b [] (x ∷ before p xs)) ≡ cond b None (cond (q x) (Some x) (find q (before p xs)))) [ true ↦ refl | false ↦ refl ]
+find-before p q x xs = grind (arith, before)
 
 -- The input at a place is that place of the order.
 at_place : (lowest place input : ℕ) → place < 8 → input ≡ input_at lowest place → get_or (order lowest) place 0 ≡ input
-at_place lowest place input within is = cc (get_or-map-range_with_len (input_at lowest) 0 8 place place 0 within (omega arith))
+at_place lowest place input within is = grind (arith, get_or-map-range_with_len)
 
 -- One step of the search for a winner.
 pub ready_among-more : (lowest requests served place input : ℕ) → place < 8 → input ≡ input_at lowest place → ready_among requests served (drop place (order lowest)) ≡ cond (has served input) None (cond (has requests input) (Some input) (ready_among requests served (drop (place + 1) (order lowest))))
@@ -151,7 +133,7 @@ ready_among-more lowest requests served place input within is =
 -- One step of the search for the highest of a set.
 pub find-more : (lowest inputs place input : ℕ) → place < 8 → input ≡ input_at lowest place
     → find (has inputs) (drop place (order lowest)) ≡ cond (has inputs input) (Some input) (find (has inputs) (drop (place + 1) (order lowest)))
-find-more lowest inputs place input within is = cc (at_drop_more (find (has inputs)) (order lowest) place 0 within, at_place lowest place input within is)
+find-more lowest inputs place input within is = grind (arith, at_drop_more, has, at_place)
 
 module _ (lowest requests served : ℕ) where
   -- If no place so far is requested or served, the search continues after them.
@@ -244,9 +226,6 @@ up_high n j k within from = cc (cut (n * 2 ^ j) k within, with_zero (n * 2 ^ j),
 max_left : (a b : ℕ) → b ≡ 0 → max a b ≡ a
 max_left a b e = omega arith
 
-max_right : (a b : ℕ) → a ≡ 0 → max a b ≡ b
-max_right a b e = omega arith
-
 max_same : (a b : ℕ) → b ≡ a → max a b ≡ a
 max_same a b e = omega arith
 
@@ -256,10 +235,10 @@ bit_turned : (n s j k : ℕ) → n < 256 → s + j ≡ 8 → k < 8 → bit_at (b
 bit_turned n s j k small whole within =
     bit_at_or (n / 2 ^ s) (n * 2 ^ j % 2 ^ 8) k ∙ ⊎_elim low high (cases_lt k j) where
       low : k < j → max (bit_at (n / 2 ^ s) k) (bit_at (n * 2 ^ j % 2 ^ 8) k) ≡ bit_at n ((s + k) % 8)
-      low below = max_left _ _ (up_low n j k within below) ∙ down n s k ∙ ap (bit_at n) (omega arith)
+      low below = grind (arith, max_left, up_low, within, down)
 
       high : j ≤ k → max (bit_at (n / 2 ^ s) k) (bit_at (n * 2 ^ j % 2 ^ 8) k) ≡ bit_at n ((s + k) % 8)
-      high from = max_right _ _ (down n s k ∙ bit_at_above n 8 (s + k) small (omega arith)) ∙ up_high n j k within from ∙ ap (bit_at n) (omega arith)
+      high from = (omega (arith, down n s k ∙ bit_at_above n 8 (s + k) small (omega arith))) ∙ up_high n j k within from ∙ ap (bit_at n) (omega arith)
 
 bit_unturned : (n k : ℕ) → n < 256 → k < 8 → bit_at (bit_or (n / 2 ^ 0) (n * 2 ^ 0 % 2 ^ 8)) k ≡ bit_at n k
 bit_unturned n k small within =
@@ -278,11 +257,11 @@ turned_by n (suc s) k small turns within =
 
 -- The bit at a place is that of the input there.
 bit_at_place : (lowest inputs place : ℕ) → inputs < 256 → place < 8 → bit_at (rotate_right w8 inputs (lowest + 1)) place ≡ bit_at inputs (input_at lowest place)
-bit_at_place lowest inputs place small within = turned_by inputs ((lowest + 1) % 8) place small (omega arith) within ∙ ap (bit_at inputs) (omega arith)
+bit_at_place lowest inputs place small within = grind (arith, turned_by)
 
 by_bit : (lowest inputs place bit : ℕ) → inputs < 256 → place < 8 → bit_at (rotate_right w8 inputs (lowest + 1)) place ≡ bit
     → has inputs (input_at lowest place) ≡ (bit == 1)
-by_bit lowest inputs place bit small within e = rw (sym (bit_at_place lowest inputs place small within) ∙ e)
+by_bit lowest inputs place bit small within e = grind (arith, bit_at_place)
 
 none : (lowest inputs : ℕ) → inputs < 256 → rotate_right w8 inputs (lowest + 1) ≡ 0 → IsFirstPlace lowest inputs (trailing_zeros w8 0)
 none lowest inputs small zeros =

@@ -27,7 +27,7 @@ at_counter P k j counter pit here there = read-set P pit.counters k j counter po
 -- A fact of counter `k` after counter `j` made a step.
 pub at_step : (P : Counter → Type 0) (k j : ℕ) (step : Counter → Counter) (pit : Pit) → (k ≡ j → P (step (counter_of k pit))) → P (counter_of k pit)
     → P (counter_of k (with_counter j (step (counter_of j pit)) pit))
-at_step P k j step pit here there = at_counter P k j _ pit (λ e. subst (λ i. P (step (counter_of i pit))) e (here e)) there
+at_step P k j step pit here there = at_counter P k j _ pit (λ e. rw e at (here e)) there
 
 -- The number of counters stays.
 pub count-with : (j : ℕ) (counter : Counter) (pit : Pit) → length (with_counter j counter pit).counters ≡ length pit.counters
@@ -52,7 +52,7 @@ pub same : (counter : Counter) → GoesOn counter counter
 same counter = record { count = refl; mode = refl; loaded_at = refl }
 
 pub goes-on : (first second third : Counter) → GoesOn first second → GoesOn second third → GoesOn first third
-goes-on first second third a b = record { count = b.count ∙ a.count; mode = b.mode ∙ a.mode; loaded_at = b.loaded_at ∙ a.loaded_at }
+goes-on first second third a b = record { count = cc; mode = cc; loaded_at = cc }
 
 pub latched-goes_on : (now : ℕ) (counter : Counter) → GoesOn counter (latched now counter)
 unfolding latched
@@ -113,15 +113,12 @@ written-goes_on : (value now : ℕ) (counter : Counter) → completes counter.ac
 unfolding written
 written-goes_on value now counter e = by-goes_on counter.access value now counter e
 
-completing : (port k : ℕ) (b : Bool) → 0x40 ≤ port → k ≡ port - 0x40 → ((port == 0x40 + k) && b) ≡ false → b ≡ false
-completing port k b low here e = let l : port ≡ 0x40 + k = omega arith in let t : (port == 0x40 + k) ≡ true = grind (arith, nat_tests) in rw t at e
-
 write-goes_on : (k now port value : ℕ) (pit : Pit) → k < 3 → (0x40 ≤ port) × (port ≤ 0x43) × (value < 256) → ((port == 0x43) && sets_mode_of k (control_word value)) ≡ false → ((port == 0x40 + k) && completes (counter_of k pit).access (counter_of k pit)) ≡ false → GoesOn (counter_of k pit) (counter_of k (pit_written port value now pit))
 unfolding pit_written
 write-goes_on k now port value pit h c programs loads =
     ⊎_elim (λ control. rw control (control-goes_on (control_word value) k now pit (rw control at programs)))
     (λ data_port. rw data_port (at_step (GoesOn (counter_of k pit)) k (port - 0x40) (written value now) pit
-    (λ here. written-goes_on value now (counter_of k pit) (completing port k _ c.0 here loads)) (same (counter_of k pit)))) (cases_Bool (port == 0x43))
+    (λ here. written-goes_on value now (counter_of k pit) (grind arith)) (same (counter_of k pit)))) (cases_Bool (port == 0x43))
 
 pub counting_goes_on : CountingGoesOn
 unfolding called programs loads pit_read
@@ -164,7 +161,7 @@ abbrev Loaded : (now : ℕ) → Counter → Type 0
 Loaded now counter = LoadedBy now counter.loaded_at
 
 pub goes_on-loaded : (now : ℕ) (before after : Counter) → GoesOn before after → Loaded now before → Loaded now after
-goes_on-loaded now before after g h = subst (LoadedBy now) (sym g.loaded_at) h
+goes_on-loaded now before after g h = rw g.loaded_at h
 
 with-loaded : (now j : ℕ) (counter : Counter) (pit : Pit) → IsLoadedBy now pit → Loaded now counter → IsLoadedBy now (with_counter j counter pit)
 with-loaded now j counter pit h l k within = at_counter (Loaded now) k j counter pit (λ here. l) (h k within)
@@ -218,11 +215,10 @@ module _ (k now : ℕ) (after default : Counter) (pit : Pit) (within : k < lengt
   stepped : (step : Counter → Counter) → after ≡ step counter → ((counter : Counter) → Loaded now counter → Loaded now (step counter)) → (later : ℕ)
       → now ≤ later → IsLoadedBy later (with_counter k after pit)
   stepped step e keeps later l =
-      subst (λ c. IsLoadedBy later (with_counter k c pit)) (sym (e ∙ ap step (get_or_default pit.counters k default powered_on within)))
-      (pit-later now later (with_counter k (step (counter_of k pit)) pit) (step-loaded now k step pit keeps h) l)
+      rw (e ∙ ap step (get_or_default pit.counters k default powered_on within)) (pit-later now later (with_counter k (step (counter_of k pit)) pit) (step-loaded now k step pit keeps h) l)
 
   pub read_keeps : (value : ℕ) → (value, after) ≡ read_of now counter → (later : ℕ) → now ≤ later → IsLoadedBy later (with_counter k after pit)
-  read_keeps value e = stepped (λ c. (read_of now c).1) (ap (λ (a : ℕ × Counter). a.1) e) (λ c. goes_on-loaded now c _ (read-goes_on now c))
+  read_keeps value e = stepped (λ c. (read_of now c).1) (ap (λ a. a.1) e) (λ c. goes_on-loaded now c _ (read-goes_on now c))
 
   pub written_keeps : (value : ℕ) → after ≡ written value now counter → (later : ℕ) → now ≤ later → IsLoadedBy later (with_counter k after pit)
   written_keeps value e = stepped (written value now) e (written-loaded value now)
@@ -232,5 +228,4 @@ module _ (k now : ℕ) (after default : Counter) (pit : Pit) (within : k < lengt
 
 pub controlled_keeps : (word : ControlWord) (now later : ℕ) (after pit : Pit) → after ≡ controlled word now pit → IsLoadedBy now pit → now ≤ later
     → IsLoadedBy later after
-controlled_keeps word now later after pit e h l =
-    subst (IsLoadedBy later) (sym e) (pit-later now later (controlled word now pit) (controlled-loaded word now pit h) l)
+controlled_keeps word now later after pit e h l = rw e (pit-later now later (controlled word now pit) (controlled-loaded word now pit h) l)

@@ -33,8 +33,7 @@ both : (x u v w : Bool) → u ≡ (v || w) → (x && u) ≡ ((x && v) || (x && w
 both x u v w e = grind arith
 
 periods : (count a b c : ℕ) → a ≤ b → b ≤ c → (not (count == 1) && nat_lt (a / period count) (c / period count)) ≡ ((not (count == 1) && nat_lt (a / period count) (b / period count)) || (not (count == 1) && nat_lt (b / period count) (c / period count)))
-periods count a b c h l =
-    both (not (count == 1)) _ _ _ (grown _ _ _ (quotient_mono (period count) a b (period-pos count) h) (quotient_mono (period count) b c (period-pos count) l))
+periods count a b c h l = grind (arith, both, grown, quotient_mono, period-pos)
 
 rises-parts : (mode : Mode) (count a b c : ℕ) → a ≤ b → b ≤ c → rises mode count a c ≡ (rises mode count a b || rises mode count b c)
 unfolding rises
@@ -47,7 +46,7 @@ rises-parts _ count a b c h l = refl
 since-parts : (load : Option ℕ) (mode : Mode) (count from between to : ℕ) → from ≤ between → between ≤ to
     → edge_since load mode count from to ≡ (edge_since load mode count from between || edge_since load mode count between to)
 since-parts None mode count from between to h l = refl
-since-parts (Some load) mode count from between to h l = rises-parts mode count _ _ _ (ticks-mono load from between h) (ticks-mono load between to l)
+since-parts (Some load) mode count from between to h l = grind (arith, rises-parts, ticks-mono)
 
 pub edge_in_parts : EdgeInParts
 unfolding edge_of
@@ -70,40 +69,17 @@ record Starts (n before after : ℕ) : Type 0 where
   above : before < quotient * n
   within : quotient * n ≤ after
 
-starts : (n before after : ℕ) → 2 ≤ n → before / n < after / n → Starts n before after
-starts n before after h l =
-    record {
-      quotient = after / n;
-      positive = omega arith;
-      above = (div-lt_iff_lt-mul (omega arith)).0 l;
-      within = omega (arith, div-mul-le_self after n);
-    }
-
 -- The position in the period is 0 at its first tick, and n - 1 at the tick before.
 at_first : (n q : ℕ) → 2 ≤ n → q * n % n ≡ 0
-at_first n q h = let first : 0 < n = omega arith in subst (λ (x : ℕ). x % n ≡ 0) (omega arith) (mod-mul-add q n 0 first)
-
-before_first : (n q : ℕ) → 2 ≤ n → 0 < q → (q * n - 1) % n ≡ n - 1
-before_first n q h l =
-    let p : ℕ = q - 1 in
-    let e : q ≡ p + 1 = omega arith in
-    let same : p * n + (n - 1) ≡ (p + 1) * n - 1 = omega arith in
-    rw (e, ← same) (mod-mul-add p n (n - 1) (omega arith))
+at_first n q h = grind (arith, mod-mul-add)
 
 -- If the tick before is the last of a period, the quotient grew.
 grown-from_last : (n before after tick : ℕ) → 2 ≤ n → before < tick → tick ≤ after → (tick - 1) % n ≡ n - 1 → before / n < after / n
-grown-from_last n before after tick h above within last =
-    let first : 0 < n = omega arith in
-    let q : ℕ = (tick - 1) / n in
-    let parts : q * n + (tick - 1) % n ≡ tick - 1 = div-add-mod' (tick - 1) n in
-    let whole : (q + 1) * n ≡ tick = omega arith in
-    let a : before / n < q + 1 = (div-lt_iff_lt-mul first).1 (omega arith) in
-    omega (arith, le-div (q + 1) after n first (omega arith))
+grown-from_last n before after tick h above within last = grind (arith, le-div)
 
 -- The next position in a period, except at its last tick.
 next_place : (n tick : ℕ) → 0 < tick → (tick - 1) % n + 1 < n → tick % n ≡ (tick - 1) % n + 1
-next_place n tick h l =
-    subst (λ x. x % n ≡ (tick - 1) % n + 1) (sym (omega (arith, div-add-mod' (tick - 1) n))) (mod-mul-add ((tick - 1) / n) n ((tick - 1) % n + 1) l)
+next_place n tick h l = grind (arith, mod-mul-add)
 
 -- A rate generator.
 rate-low : (count k : ℕ) → (count == 1) ≡ false → k % period count ≡ period count - 1 → out_at RateGenerator count k ≡ false
@@ -140,12 +116,12 @@ periodic-turns : (mode : Mode) (count before after : ℕ) → (count == 1) ≡ f
     → ((k : ℕ) → k % period count ≡ 0 → out_at mode count k ≡ true) → before / period count < after / period count → Turns mode count before after
 periodic-turns mode count before after one low_last high_first l =
     let h : 2 ≤ period count = period-two count one in
-    let s : Starts (period count) before after = starts (period count) before after h l in
+    let s : Starts (period count) before after = (search arith) in
     record {
       tick = s.quotient * period count;
       above = s.above;
       within = s.within;
-      low = low_last _ (before_first (period count) s.quotient h s.positive);
+      low = low_last _ (grind (arith, mod-mul-add));
       high = high_first _ (at_first (period count) s.quotient h);
     }
 

@@ -22,7 +22,7 @@ Holds held counter = counter.latch ≡ Some held
 -- Latching again keeps what is latched.
 latched-holds : (held now : ℕ) (counter : Counter) → Holds held counter → Holds held (latched now counter)
 unfolding latched
-latched-holds held now counter h = rw h refl
+latched-holds held now counter h = rw h
 
 status_latched-holds : (held now : ℕ) (counter : Counter) → Holds held counter → Holds held (status_latched now counter)
 unfolding status_latched
@@ -30,10 +30,7 @@ status_latched-holds held now counter h = h
 
 read_back-holds : (count status : Bool) (held now : ℕ) (counter : Counter) → Holds held counter → Holds held (read_back count status now counter)
 unfolding read_back
-read_back-holds true true held now counter h = status_latched-holds held now _ (latched-holds held now counter h)
-read_back-holds true false held now counter h = latched-holds held now counter h
-read_back-holds false true held now counter h = status_latched-holds held now counter h
-read_back-holds false false held now counter h = h
+read_back-holds count status held now counter h = grind (arith, nat_tests, status_latched-holds, latched-holds)
 
 -- So does loading.
 loaded-holds : (count held now : ℕ) (counter : Counter) → Holds held counter → Holds held (loaded count now counter)
@@ -103,7 +100,7 @@ call-holds k held now (writes port value) pit l c p r h = write-holds k held now
 -- What is read of a latched count is the same at any moment.
 read_by-held : (status : Option ℕ) (now later held : ℕ) (counter : Counter) → counter.latch ≡ Some held
     → read_by status now counter ≡ read_by status later counter
-read_by-held None now later held counter e = rw e refl
+read_by-held None now later held counter e = rw e
 read_by-held (Some status) now later held counter e = refl
 
 read-held : (now later held : ℕ) (counter : Counter) → counter.latch ≡ Some held → read_of now counter ≡ read_of later counter
@@ -112,13 +109,10 @@ read-held now later held counter e = read_by-held counter.status now later held 
 
 pit_read-held : (k now later held : ℕ) (pit : Pit) → (counter_of k pit).latch ≡ Some held → pit_read k now pit ≡ pit_read k later pit
 unfolding pit_read
-pit_read-held k now later held pit e = rw (read-held now later held (counter_of k pit) e) refl
+pit_read-held k now later held pit e = rw (read-held now later held (counter_of k pit) e)
 
 pub latch_stays : LatchStays
-latch_stays = record {
-  in_calls = λ k now held call pit l c p r e. call-holds k held now call pit l c p r e;
-  in_time = λ k now later held pit e. pit_read-held k now later held pit e;
-}
+latch_stays = search (arith, call-holds, pit_read-held)
 
 -- ---- the read-back command by the chip's level
 
@@ -131,7 +125,7 @@ all-asked count status first second third now pit =
 none-asked : (count status first second third : Bool) (now : ℕ) (pit : Pit) → pit.level ≡ 1
     → controlled (ReadBack count status first second third) now pit ≡ pit
 unfolding controlled
-none-asked count status first second third now pit e = rw e refl
+none-asked count status first second third now pit e = rw e
 
 asked : (count status first second third : Bool) (now : ℕ) (pit : Pit) → 2 ≤ pit.level
     → controlled (ReadBack count status first second third) now pit ≡ all-asked count status first second third now pit

@@ -28,11 +28,11 @@ itself l e o = record { at = _; is = inl refl; from = omega arith; not_after = l
 -- a count of 1 of a mode with periods holds OUT high
 flat-rate : (count n before k tick : ℕ) → (count == 1) ≡ true → k ≤ tick → Marked RateGenerator count n before k tick
 unfolding rises out_at
-flat-rate count n before k tick one l = itself l (rw one refl) (rw one refl)
+flat-rate count n before k tick one l = itself l (rw one) (rw one)
 
 flat-square : (count n before k tick : ℕ) → (count == 1) ≡ true → k ≤ tick → Marked SquareWave count n before k tick
 unfolding rises out_at
-flat-square count n before k tick one l = itself l (rw one refl) (rw one refl)
+flat-square count n before k tick one l = itself l (rw one) (rw one)
 
 marked-terminal : (count before k tick : ℕ) → before ≤ k → k ≤ tick → Marked TerminalCount count (period count) before k tick
 unfolding rises out_at
@@ -54,7 +54,7 @@ marked-strobe count before k tick b l =
     (λ h. ⊎_elim
     (λ s. ⊎_elim
     (λ e. record { at = n; is = inr (inl refl); from = omega arith; not_after = h; edge = grind (arith, nat_tests); out = grind (arith, nat_tests) })
-    (λ e. second (omega arith) e)
+    (second (omega arith))
     (cases_lt tick (n + 1)))
     (λ s. ⊎_elim (λ e. ⊎_elim (λ f. itself l (grind (arith, nat_tests)) (grind (arith, nat_tests))) (λ f. second (omega arith) f) (cases_lt tick (n + 1)))
     (λ e. itself l (grind (arith, nat_tests)) (grind (arith, nat_tests)))
@@ -65,9 +65,6 @@ marked-strobe count before k tick b l =
 
 both_grew : (before first second : ℕ) → before < first → before < second → nat_lt before first ≡ nat_lt before second
 both_grew before first second h l = grind (arith, nat_tests)
-
-both_are : (first second last : ℕ) → first ≡ last → second ≡ last → (first == last) ≡ (second == last)
-both_are first second last h l = grind (arith, nat_tests)
 
 neither_is : (first second last : ℕ) → first < last → second < last → (first == last) ≡ (second == last)
 neither_is first second last h l = grind (arith, nat_tests)
@@ -84,7 +81,7 @@ record IsAt (n q r at : ℕ) : Type 0 where
   rest : at % n ≡ r
 
 place : (n q r at : ℕ) → r < n → at ≡ q * n + r → IsAt n q r at
-place n q r at h e = record { quotient = ap (λ x. x / n) e ∙ div-mul-add q n r h; rest = ap (λ x. x % n) e ∙ mod-mul-add q n r h }
+place n q r at h e = record { quotient = rw e (div-mul-add q n r h); rest = rw e (mod-mul-add q n r h) }
 
 -- the marks of the two modes with periods, of tick k
 module _ (count n before k tick : ℕ) (is_n : n ≡ period count) (b : before ≤ k) (l : k ≤ tick) where
@@ -119,19 +116,19 @@ module _ (count n before k tick : ℕ) (is_n : n ≡ period count) (b : before �
   rate-edge : (at : ℕ) → nat_lt (before / n) (at / n) ≡ nat_lt (before / n) (tick / n)
       → rises RateGenerator count before at ≡ rises RateGenerator count before tick
   unfolding rises
-  rate-edge at e = rw (← is_n) (ap (λ (x : Bool). not (count == 1) && x) e)
+  rate-edge at e = rw (← is_n) (rw e)
 
   rate-out : (at : ℕ) → (at % n == n - 1) ≡ (tick % n == n - 1) → out_at RateGenerator count at ≡ out_at RateGenerator count tick
   unfolding out_at
-  rate-out at e = rw (← is_n) (ap (λ (x : Bool). (count == 1) || not x) e)
+  rate-out at e = rw (← is_n) (rw e)
 
   square-edge : (at : ℕ) → nat_lt (before / n) (at / n) ≡ nat_lt (before / n) (tick / n) → rises SquareWave count before at ≡ rises SquareWave count before tick
   unfolding rises
-  square-edge at e = rw (← is_n) (ap (λ (x : Bool). not (count == 1) && x) e)
+  square-edge at e = rw (← is_n) (rw e)
 
   square-out : (at : ℕ) → nat_lt (at % n) (high_part n) ≡ nat_lt (tick % n) (high_part n) → out_at SquareWave count at ≡ out_at SquareWave count tick
   unfolding out_at
-  square-out at e = rw (← is_n) (ap (λ (x : Bool). (count == 1) || x) e)
+  square-out at e = rw (← is_n) (rw e)
 
   -- the tick itself, or tick k, which is in the same period
   abbrev Rate : Type 0
@@ -145,10 +142,7 @@ module _ (count n before k tick : ℕ) (is_n : n ≡ period count) (b : before �
   rate-k here h f = itself l (rate-edge k (ap (nat_lt (before / n)) here)) (rate-out k (neither_is _ _ _ h f))
 
   rate-last : k / n ≡ tick / n → tick % n ≡ n - 1 → Rate
-  rate-last here f =
-      let p = positive in
-      let e : tick ≡ k / n * n + n - 1 = omega (arith, div-add-mod' tick n, ap (λ q. q * n) here) in
-      record { at = tick; is = inr (inl e); from = l; not_after = omega arith; edge = refl; out = refl }
+  rate-last here f = search (arith, positive)
 
   -- the tick is in a later period
   rate-first : 2 ≤ n → k / n < tick / n → tick % n < n - 1 → Rate
@@ -161,13 +155,13 @@ module _ (count n before k tick : ℕ) (is_n : n ≡ period count) (b : before �
   rate-again two h f =
       let at = k / n * n + n + n - 1 in
       let here = next (n - 1) at (omega arith) (omega arith) h (omega arith) in
-      on here (inr (inr (inr refl))) (rate-edge at here.grew) (rate-out at (both_are _ _ _ here.rest f))
+      on here (inr (inr (inr refl))) (rate-edge at here.grew) (rate-out at (grind (arith, nat_tests)))
 
   rate : 2 ≤ n → Rate
   rate two =
       let order : k / n ≤ tick / n = quotient_mono n k tick (omega arith) l in
       let below : tick % n < n = omega arith in
-      ⊎_elim (λ h. ⊎_elim (λ f. rate-first two h f) (λ f. rate-again two h (omega arith)) (cases_lt (tick % n) (n - 1)))
+      ⊎_elim (λ h. ⊎_elim (rate-first two h) (λ f. rate-again two h (omega arith)) (cases_lt (tick % n) (n - 1)))
       (λ h. let here : k / n ≡ tick / n = omega arith in
       ⊎_elim (λ f. rate-k here (omega (arith, div-add-mod' k n, div-add-mod' tick n, ap (λ q. q * n) here)) f) (λ f. rate-last here (omega arith))
       (cases_lt (tick % n) (n - 1))) (cases_lt (k / n) (tick / n))
@@ -197,16 +191,15 @@ module _ (count n before k tick : ℕ) (is_n : n ≡ period count) (b : before �
 
   square-again : 2 ≤ n → k / n < tick / n → high_part n ≤ tick % n → Square
   square-again two h f =
-      let high : high_part n < n = omega arith in
       let at = k / n * n + n + high_part n in
-      let here = next (high_part n) at high refl h f in
+      let here = next (high_part n) at (omega arith) refl h f in
       on here (inr (inr (inr refl))) (square-edge at here.grew) (square-out at (none_below _ _ _ (omega arith) f))
 
   square : 2 ≤ n → Square
   square two =
       let order : k / n ≤ tick / n = quotient_mono n k tick (omega arith) l in
       let high = high_part n in
-      ⊎_elim (λ h. ⊎_elim (λ f. square-first two h f) (λ f. square-again two h f) (cases_lt (tick % n) high))
+      ⊎_elim (λ h. ⊎_elim (square-first two h) (λ f. square-again two h f) (cases_lt (tick % n) high))
       (λ h. let here : k / n ≡ tick / n = omega arith in
       let rests : k % n ≤ tick % n = omega (arith, div-add-mod' k n, div-add-mod' tick n, ap (λ q. q * n) here) in
       ⊎_elim (λ f. square-k here (both_below _ _ _ (omega arith) f))
@@ -214,12 +207,10 @@ module _ (count n before k tick : ℕ) (is_n : n ≡ period count) (b : before �
       (cases_lt (tick % n) high)) (cases_lt (k / n) (tick / n))
 
 periodic-rate : (one : Bool) (count before k tick : ℕ) → (count == 1) ≡ one → before ≤ k → k ≤ tick → Marked RateGenerator count (period count) before k tick
-periodic-rate true count before k tick e b l = flat-rate count (period count) before k tick e l
-periodic-rate false count before k tick e b l = rate count (period count) before k tick refl b l (period-two count e)
+periodic-rate one count before k tick e b l = grind (arith, nat_tests, flat-rate, period, rate, period-two)
 
 periodic-square : (one : Bool) (count before k tick : ℕ) → (count == 1) ≡ one → before ≤ k → k ≤ tick → Marked SquareWave count (period count) before k tick
-periodic-square true count before k tick e b l = flat-square count (period count) before k tick e l
-periodic-square false count before k tick e b l = square count (period count) before k tick refl b l (period-two count e)
+periodic-square one count before k tick e b l = grind (arith, nat_tests, flat-square, period, square, period-two)
 
 pub marked : (mode : Mode) (count before k tick : ℕ) → before ≤ k → k ≤ tick → Marked mode count (period count) before k tick
 unfolding rises out_at
@@ -252,7 +243,7 @@ turns_since load counter base =
 -- of a counter that isn't loaded, OUT stays
 pub stays_unloaded : (turns : Turns) (counter : Counter) (base : ℕ) → counter.loaded_at ≡ None → AreTurns turns counter base
 unfolding edge_of out_of
-stays_unloaded turns counter base e since to h b l = record { at = base; is = inl refl; from = omega arith; upto = l; edge = rw e refl; out = rw e refl }
+stays_unloaded turns counter base e since to h b l = record { at = base; is = inl refl; from = omega arith; upto = l; edge = rw e; out = rw e refl }
 
 module _ (load : ℕ) (counter : Counter) (since base to : ℕ) (loaded : counter.loaded_at ≡ Some load) (b : since ≤ base) (l : base ≤ to) where
   abbrev Mark : Type 0
@@ -302,5 +293,5 @@ module _ (load : ℕ) (counter : Counter) (since base to : ℕ) (loaded : counte
 
 pub turns_loaded : (load : ℕ) (counter : Counter) (base : ℕ) → counter.loaded_at ≡ Some load → AreTurns (turns_since load counter base) counter base
 turns_loaded load counter base e since to h b l =
-    by_mark load counter since base to e b l (subst (LoadedBy since) e h)
+    by_mark load counter since base to e b l (rw e at h)
     (marked counter.mode counter.count (ticks load since) (ticks load base) (ticks load to) (ticks-mono load since base b) (ticks-mono load base to l))

@@ -48,9 +48,6 @@ two_more = channel_kinds ++ channel_kinds ++ status_kinds
 abbrev one_more : List Kind
 one_more = channel_kinds ++ status_kinds
 
-zero_plus : (place : ℕ) → place ≡ channel_place 0 + place
-zero_plus place = omega arith
-
 module _ (cells : List ℤ) (h : IsPitCells cells) where
   -- The cell at a place fits the kind.
   abbrev Fits : ℕ → Kind → Type 0
@@ -59,7 +56,7 @@ module _ (cells : List ℤ) (h : IsPitCells cells) where
   first-channel : IsChannelAt 0 cells
   first-channel = record {
     within = (omega arith, h.of_kinds.count);
-    channel = λ place l. subst (λ (n : ℕ). Fits n (kind_at channel_kinds place)) (zero_plus place)
+    channel = λ place l. subst (λ n. Fits n (kind_at channel_kinds place)) (omega arith)
         (subst (Fits place) (front two_more place l) (h.of_kinds.in_range place (omega arith)));
     latched = h.of_kinds.in_range (latched_place 0) (omega arith);
     status = h.of_kinds.in_range (status_place 0) (omega arith);
@@ -68,8 +65,7 @@ module _ (cells : List ℤ) (h : IsPitCells cells) where
   second-channel : IsChannelAt 1 cells
   second-channel = record {
     within = (omega arith, h.of_kinds.count);
-    channel = λ place l. subst (Fits (channel_place 1 + place)) (after two_more place ∙ front one_more place l)
-        (h.of_kinds.in_range (channel_place 1 + place) (omega arith));
+    channel = λ place l. rw (after two_more place ∙ front one_more place l) at (h.of_kinds.in_range (channel_place 1 + place) (omega arith));
     latched = h.of_kinds.in_range (latched_place 1) (omega arith);
     status = h.of_kinds.in_range (status_place 1) (omega arith);
   }
@@ -80,8 +76,7 @@ module _ (cells : List ℤ) (h : IsPitCells cells) where
   third-channel : IsChannelAt 2 cells
   third-channel = record {
     within = (omega arith, h.of_kinds.count);
-    channel = λ place l. subst (Fits (channel_place 2 + place)) (further place ∙ front status_kinds place l)
-        (h.of_kinds.in_range (channel_place 2 + place) (omega arith));
+    channel = λ place l. rw (further place ∙ front status_kinds place l) at (h.of_kinds.in_range (channel_place 2 + place) (omega arith));
     latched = h.of_kinds.in_range (latched_place 2) (omega arith);
     status = h.of_kinds.in_range (status_place 2) (omega arith);
   }
@@ -100,16 +95,13 @@ record HasRanges (channel : Channel) : Type 0 where
   status : channel.status < 2 ^ 8
 
 if-below : (limit : ℕ) (b : Bool) (n : ℕ) → n < limit → HeldBelow limit (held_if b n)
-if-below limit true n h = h
-if-below limit false n h = tt
+if-below limit b n h = grind (arith, nat_tests)
 
 if-loaded : (now : ℕ) (b : Bool) (n : ℕ) → n ≤ now → LoadedBy now (held_if b n)
-if-loaded now true n h = h
-if-loaded now false n h = tt
+if-loaded now b n h = grind (arith, nat_tests)
 
 if-status : (level : ℕ) (b : Bool) (n : ℕ) → (nat_le READ_BACK_LEVEL level || not b) ≡ true → StatusFits level (held_if b n)
-if-status level true n h = grind (arith, nat_tests)
-if-status level false n h = tt
+if-status level b n h = grind (arith, nat_tests)
 
 halves : (access : Access) (read_high held : Bool) (n : ℕ) → (not read_high && not held) ≡ true → TogglesFit access read_high (held_if held n)
 halves LowByte false false n e = (refl, refl)
@@ -118,7 +110,7 @@ halves LowThenHigh read_high held n e = tt
 halves _ _ _ n e = cc
 
 three : (rw_number : ℕ) → (rw_number == 3) ≡ true → access_of rw_number ≡ LowThenHigh
-three rw_number e = let h : rw_number ≡ 3 = grind (arith, nat_tests) in rw h refl
+three rw_number e = grind arith
 
 if-toggles : (rw_number : ℕ) (read_high held : Bool) (n : ℕ) → ((rw_number == 3) || (not read_high && not held)) ≡ true
     → TogglesFit (access_of rw_number) read_high (held_if held n)
@@ -129,36 +121,16 @@ if-toggles rw_number read_high held n h =
 counter-sound : (level now : ℕ) (channel : Channel) → HasRanges channel → moment_holds now channel ≡ true → status_holds level channel ≡ true
     → toggles_hold channel ≡ true → PlainSound level now (counter_from channel)
 unfolding counter_from moment_holds status_holds toggles_hold
-counter-sound level now channel r m s t = record {
-  widths = record {
-    count = r.count;
-    loaded_at = if-below (2 ^ 64) channel.loaded channel.load_time r.load_time;
-    held_low = if-below (2 ^ 8) channel.wlow_held channel.wlow r.wlow;
-    latch = if-below (2 ^ 16) channel.latched channel.latch r.latch;
-    status = if-below (2 ^ 8) channel.status_latched channel.status r.status;
-  };
-  loaded = let l : nat_le channel.load_time now ≡ true = (and_parts _ _ m).0 in if-loaded now channel.loaded channel.load_time (grind (arith, nat_tests));
-  status = if-status level channel.status_latched channel.status (and_parts _ _ s).1;
-  toggles = if-toggles channel.rw channel.read_high channel.wlow_held channel.wlow t;
-}
+counter-sound level now channel r m s t = search (arith, if-below, if-loaded, if-status, if-toggles)
 
 -- The ranges of each channel's fields.
 ranges-at : (k : ℕ) (cells : List ℤ) → IsChannelAt k cells → HasRanges (channel_at k cells)
 unfolding channel_at
-ranges-at k cells h = record {
-  count = number-lt U16 _ (h.channel COUNT (omega arith));
-  load_time = number-lt U64 _ (h.channel LOAD_TIME (omega arith));
-  wlow = number-lt U8 _ (h.channel WLOW (omega arith));
-  latch = number-lt U16 _ (h.channel LATCH (omega arith));
-  status = number-lt U8 _ h.status;
-}
+ranges-at k cells h = search (arith, number-lt)
 
 -- A rule that holds for three channels holds for each.
 each : (rule : Channel → Bool) (cells : List ℤ) → three_hold rule cells ≡ true → (k : ℕ) → k < 3 → rule (channel_at k cells) ≡ true
-each rule cells e =
-    let a : (rule (channel_at 0 cells) ≡ true) × ((rule (channel_at 1 cells) && rule (channel_at 2 cells)) ≡ true) = and_parts _ _ e in
-    let b : (rule (channel_at 1 cells) ≡ true) × (rule (channel_at 2 cells) ≡ true) = and_parts _ _ a.1 in
-    each_of (λ k. rule (channel_at k cells) ≡ true) a.0 b.0 b.1
+each rule cells e = grind arith
 
 pit_of-sound : (level now : ℕ) (cells : List ℤ) → IsLevel level → now ≤ LAST_MOMENT → IsPitCells cells → AllTrue (rules level now cells)
     → IsSoundPit now (pit_of level cells)
@@ -185,7 +157,7 @@ pub pit-restored : (level now : ℕ) (cells : List ℤ) (pit : Pit) → IsLevel 
     → IsSoundPit now pit × (pit.level ≡ level)
 pit-restored level now cells pit l m h e =
     let ok = judged-ok (rules level now cells) (pit_of level cells) pit e in
-    subst (λ (p : Pit). IsSoundPit now p × (p.level ≡ level)) ok.1 (pit_of-sound level now cells l m h ok.0, pit_of-level level cells)
+    subst (λ p. IsSoundPit now p × (p.level ≡ level)) ok.1 (pit_of-sound level now cells l m h ok.0, pit_of-level level cells)
 
 pub restored_is_sound : RestoredIsSound
 restored_is_sound = record {
@@ -226,12 +198,11 @@ third-back first second third = simp flag-back
 
 rule-saved : (rule : Channel → Bool) (first second third : Channel) → rule first ≡ true → rule second ≡ true → rule third ≡ true
     → three_hold rule (three_cells NEWEST first second third) ≡ true
-rule-saved rule first second third a b c = rw (first-back first second third, second-back first second third, third-back first second third, a, b, c)
+rule-saved rule first second third a b c = grind (arith, first-back, second-back, third-back)
 
 pub pit_of-saved : (pit : Pit) → length pit.counters ≡ 3 → pit_of pit.level (pit_cells NEWEST pit) ≡ pit
 unfolding pit_of pit_cells
-pit_of-saved pit three =
-    simp (first-back, second-back, third-back, counter-back) (ap (λ counters. record pit { counters = counters }) (three_counters pit.counters powered_on three))
+pit_of-saved pit three = simp (first-back, second-back, third-back, counter-back) (rw (three_counters pit.counters powered_on three))
 
 -- The cells of a chip fit their kinds: each field has as many numbers of its kind as it counts.
 channel-holds : (counter : Counter) → HasWidths counter → AllHold (named (channel_of counter)) channel_rows
@@ -287,7 +258,7 @@ module _ (now : ℕ) (pit : Pit) (s : IsSoundPit now pit) where
       )
 
   pub restored-newest : restored_pit pit.level now (pit_cells NEWEST pit) ≡ Ok pit
-  restored-newest = judged-all (rules pit.level now (pit_cells NEWEST pit)) (pit_of pit.level (pit_cells NEWEST pit)) met ∙ ap Ok (pit_of-saved pit s.count)
+  restored-newest = cc (judged-all (rules pit.level now (pit_cells NEWEST pit)) (pit_of pit.level (pit_cells NEWEST pit)) met, pit_of-saved pit s.count)
 
   statuses-hold : AllHold (named_statuses (channel_of first) (channel_of second) (channel_of third)) status_rows
   unfolding channel_of
@@ -326,14 +297,12 @@ module _ (now : ℕ) (pit : Pit) (s : IsSoundPit now pit) where
 pub carried-saved : (set now : ℕ) (pit : Pit) → pit.level ≤ set → IsSoundPit now pit → carried set (pit_cells set pit) ≡ pit_cells NEWEST pit
 unfolding pit_cells three_cells channel_cells status_cells channel_of
 carried-saved set now pit le s =
-    let front = channel_cells (channel_in 0 pit) ++ channel_cells (channel_in 1 pit) ++ channel_cells (channel_in 2 pit) in
     let none : nat_le STATUS_SINCE set ≡ false → (k : ℕ) → k < 3 → (counter_of k pit).status ≡ None =
     λ e k l. no-status pit.level _ (grind (arith, nat_tests)) (plain-from_sound pit.level now _ (s.counters k l)).status in
-    ap (λ (late : List ℤ). front ++ late)
-    (carried_rows (named_statuses (channel_in 0 pit) (channel_in 1 pit) (channel_in 2 pit)) set status_rows (statuses-hold now pit s) (
-      (λ e. rw (none e 0 (omega arith), none e 1 (omega arith), none e 2 (omega arith)) refl),
-      ((λ e. rw (none e 0 (omega arith), none e 1 (omega arith), none e 2 (omega arith)) refl), tt),
-    ) front STATUS_LATCHED refl)
+    rw (carried_rows (named_statuses (channel_in 0 pit) (channel_in 1 pit) (channel_in 2 pit)) set status_rows (statuses-hold now pit s) (
+      (λ e. rw (none e 0 (omega arith), none e 1 (omega arith), none e 2 (omega arith))),
+      ((λ e. rw (none e 0 (omega arith), none e 1 (omega arith), none e 2 (omega arith))), tt),
+    ) (channel_cells (channel_in 0 pit) ++ channel_cells (channel_in 1 pit) ++ channel_cells (channel_in 2 pit)) STATUS_LATCHED refl)
 
 pub saved_are_cells : SavedAreCells
 saved_are_cells = record { of_set = λ numbers pit can s. cells-of numbers.moment pit s numbers.set }
@@ -348,12 +317,7 @@ is_sound now pit l m three h =
     (pit-restored pit.level now (pit_cells NEWEST pit) pit l m h.0 restored).0
 
 pub sound_meets_rules : SoundMeetsRules
-sound_meets_rules = record {
-  pit = λ now pit l m three. (
-    (λ s. (cells-of now pit s NEWEST, none_failing (rules pit.level now (pit_cells NEWEST pit)) (met now pit s))),
-    is_sound now pit l m three,
-  );
-}
+sound_meets_rules = search (arith, cells-of, none_failing, met, is_sound)
 
 restored-back : (numbers back : Numbers) (pit : Pit) → CanSave numbers pit → IsSoundPit numbers.moment pit → MayRestore back → back.level ≡ pit.level
     → back.moment ≡ numbers.moment
@@ -362,11 +326,10 @@ restored-back numbers back pit can s may level moment =
     let le : pit.level ≤ numbers.set = let l = can.level_le_set in omega arith in
     let same = carried-saved numbers.set numbers.moment pit le s in
     let newest : restored_pit back.level back.moment (pit_cells NEWEST pit) ≡ Ok pit =
-    ap (λ l. restored_pit l back.moment (pit_cells NEWEST pit)) level ∙ ap (λ m. restored_pit pit.level m (pit_cells NEWEST pit)) moment
-    ∙ restored-newest numbers.moment pit s
+    rw (level, moment) (restored-newest numbers.moment pit s)
     in (
       record { pass = may; normal = subst IsPitCells (sym same) (cells-of numbers.moment pit s NEWEST) },
-      subst (λ (cells : List ℤ). hook_restored back cells ≡ Ok pit) (sym same) (ok-hook _ pit newest),
+      rw same (ok-hook _ pit newest),
     )
 
 pub saved_is_restored : SavedIsRestored

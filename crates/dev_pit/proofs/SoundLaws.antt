@@ -65,7 +65,7 @@ status-back level (Some status) e = grind (arith, nat_tests)
 toggles-from : (access : Access) (read_high : Bool) (held : Option ℕ) → TogglesFit access read_high held
     → ((access_number access == 3) || (not read_high && not (is_some held))) ≡ true
 toggles-from LowThenHigh read_high held h = refl
-toggles-from _ read_high held h = rw (h.0, h.1) refl
+toggles-from _ read_high held h = rw (h.0, h.1)
 
 halves-back : (read_high : Bool) (held : Option ℕ) → (not read_high && not (is_some held)) ≡ true → (read_high ≡ false) × (held ≡ None)
 halves-back false None e = (refl, refl)
@@ -176,7 +176,7 @@ loaded-sound count level now counter m c s = search arith
 -- A counter of two bytes may hold one or not.
 holding : (level now : ℕ) (low : Option ℕ) (counter : Counter) → counter.access ≡ LowThenHigh → HeldBelow (2 ^ 8) low → PlainSound level now counter
     → PlainSound level now (record counter { held_low = low })
-holding level now low counter e h s = changed s h s.widths.latch s.widths.status s.status (subst (λ a. TogglesFit a counter.read_high low) (sym e) tt)
+holding level now low counter e h s = changed s h s.widths.latch s.widths.status s.status (rw e tt)
 
 first-sound : (low : Option ℕ) (value level now : ℕ) (counter : Counter) → now ≤ LAST_MOMENT → value < 256 → counter.access ≡ LowThenHigh
     → HeldBelow (2 ^ 8) low → PlainSound level now counter → PlainSound level now (written_low_first low value now counter)
@@ -200,8 +200,7 @@ no_latch level now counter s = changed s s.widths.held_low tt s.widths.status s.
 
 turned : (level now : ℕ) (read_high : Bool) (latch : Option ℕ) (counter : Counter) → counter.access ≡ LowThenHigh → HeldBelow (2 ^ 16) latch
     → PlainSound level now counter → PlainSound level now (record counter { read_high = read_high; latch = latch })
-turned level now read_high latch counter e h s =
-    changed s s.widths.held_low h s.widths.status s.status (subst (λ a. TogglesFit a read_high counter.held_low) (sym e) tt)
+turned level now read_high latch counter e h s = changed s s.widths.held_low h s.widths.status s.status (rw e tt)
 
 -- A sound counter, as the second part of an answer.
 abbrev Sounds : (level now : ℕ) → ℕ × Counter → Type 0
@@ -251,7 +250,7 @@ step-sound : (j now : ℕ) (step : Counter → Counter) (pit : Pit) → ((counte
 step-sound j now step pit keeps s = record {
   level = s.level;
   moment = s.moment;
-  count = count-with j (step (counter_of j pit)) pit ∙ s.count;
+  count = cc (count-with j (step (counter_of j pit)) pit);
   counters = λ k l. at_step (IsSoundCounter pit.level now) k j step pit
       (λ here. sound-from_plain _ _ _ (keeps (counter_of k pit) (plain-from_sound _ _ _ (s.counters k l)))) (s.counters k l);
 }

@@ -1,10 +1,10 @@
 -- Ports that are alike answer each call alike.
-use Rattle.dev_serial.proofs.Facade.{arith, ◌≡◌, ℕ, ℤ, Bool, true, false, not, ◌&&◌, cond, refl, pos, negsuc, ◌||◌, ◌==◌, Option, Some, None, sym, ap, ◌∙◌, int_eq}
-use Rattle.dev_serial.proofs.Facade.{bit_and, bit_or, is_some, nat_le, is_empty, lsr_of, iir_of, read_of, id_read, thr_written, ier_written, switch_of}
-use Rattle.dev_serial.proofs.Facade.{fcr_cleared, fcr_written, receiver_cleared, transmitter_cleared, written, came_in, advanced, has, bits_where, ipending_of}
-use Rattle.dev_serial.proofs.Facade.{latch_of, saved, Port, id_number, is_thr_empty, interrupt, line_of, Interrupt, LineStatus, ReceivedData, CharacterTimeout}
-use Rattle.dev_serial.proofs.Facade.{ThrEmpty, NonePending, AlikeItself, AlikeBack, AlikeOn, AnswersAlike, ReadsAlike, WritesAlike, BytesInAlike, AdvancesAlike}
-use Rattle.dev_serial.proofs.Facade.{SavesAlike, LinesAlike, Alike, Trigger}
+use Rattle.dev_serial.proofs.Facade.{arith, ◌≡◌, ℕ, ℤ, Bool, true, false, not, ◌&&◌, cond, refl, pos, negsuc, ◌||◌, ◌==◌, Option, Some}
+use Rattle.dev_serial.proofs.Facade.{None, ap, ◌∙◌, int_eq, bit_and, bit_or, is_some, nat_le, is_empty, lsr_of, iir_of, read_of, id_read, thr_written}
+use Rattle.dev_serial.proofs.Facade.{ier_written, switch_of, fcr_cleared, fcr_written, receiver_cleared, transmitter_cleared, written, came_in, advanced, has}
+use Rattle.dev_serial.proofs.Facade.{bits_where, ipending_of, latch_of, saved, Port, id_number, is_thr_empty, interrupt, line_of, Interrupt, LineStatus}
+use Rattle.dev_serial.proofs.Facade.{ReceivedData, CharacterTimeout, ThrEmpty, NonePending, AlikeItself, AlikeBack, AlikeOn, AnswersAlike, ReadsAlike}
+use Rattle.dev_serial.proofs.Facade.{WritesAlike, BytesInAlike, AdvancesAlike, SavesAlike, LinesAlike, Alike, Trigger}
 
 -- ---- the line status and the saved latch, as tables of truth
 
@@ -60,18 +60,14 @@ both P false x x' y y' p q = q
 
 same_identified : (status ready timeout enabled first second : Bool) → (enabled ≡ true → second ≡ first)
     → identified status ready timeout enabled second ≡ identified status ready timeout enabled first
-same_identified status ready timeout true first second h = rw (h refl)
-same_identified status ready timeout false first second h = refl
+same_identified status ready timeout enabled first second h = grind arith
 
 same_ipending : (enabled identified first second : Bool) → (enabled ≡ true → second ≡ first)
     → ipending_of enabled second identified ≡ ipending_of enabled first identified
-same_ipending true identified first second h = rw (h refl) refl
-same_ipending false identified first second h = refl
+same_ipending enabled identified first second h = grind arith
 
 sampled : (was is empty first second : Bool) → (was ≡ true → second ≡ first) → is ≡ true → cond (not was && is) empty second ≡ cond (not was && is) empty first
-sampled true is empty first second h e = h refl
-sampled false true empty first second h e = refl
-sampled false false empty first second h e = cc
+sampled was is empty first second h e = grind arith
 
 -- the other port is the first with another latch
 module _ (port : Port) (latch : Bool) (h : has port.ier 1 ≡ true → latch ≡ port.thr_empty) where
@@ -183,9 +179,7 @@ pub alike_itself : AlikeItself
 alike_itself port = record { same = refl; enabled = λ e. refl }
 
 pub alike_back : AlikeBack
-alike_back port other a =
-    let enabled : has other.ier 1 ≡ true → port.thr_empty ≡ other.thr_empty = (λ e. sym (a.enabled (ap (λ (p : Port). has p.ier 1) (sym a.same) ∙ e))) in
-    record { same = ap (λ (p : Port). record p { thr_empty = port.thr_empty }) (sym a.same); enabled = enabled }
+alike_back port other a = search arith
 
 pub alike_on : AlikeOn
 alike_on port _ third a b = record { same = cc; enabled = λ e. b.enabled (rw (a.same) (e)) ∙ a.enabled e }

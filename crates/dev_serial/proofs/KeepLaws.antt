@@ -1,11 +1,12 @@
 -- Each call keeps a port sound.
-use Rattle.dev_serial.proofs.{WaitLaws.character-positive, SoundLaws.latched-sound, SoundLaws.cleared-sound}
-use Rattle.dev_serial.proofs.Facade.{Trigger, ◌≡◌, ℕ, ◌+◌, ◌*◌, ◌<◌, ◌≤◌, ◌==◌, Bool, true, false, not, ◌&&◌, cond, Option, Some, None, refl, arith, ◌⊎◌, ◌/◌}
-use Rattle.dev_serial.proofs.Facade.{◌%◌, inl, inr, cond_both, leb-true, nat_le, is_some, bit_and, and_le_r, and-false, is_empty, with_taken, read_of, id_read}
-use Rattle.dev_serial.proofs.Facade.{lsr_read, thr_written, ier_written, switch_of, fcr_cleared, fcr_written, receiver_cleared, transmitter_cleared, written}
-use Rattle.dev_serial.proofs.Facade.{came_in, advanced, has, character_time, received, taken, IsSound, HasRegisters, LONGEST_CHARACTER, either, PowerOnIsSound}
-use Rattle.dev_serial.proofs.Facade.{ReadsKeepSound, WritesKeepSound, BytesInKeepSound, AdvancesKeepSound, Port, power_on, mode_of, interrupt, is_thr_empty}
-use Rattle.dev_serial.proofs.SoundLaws.{advance-transmitter, advance-receiver, character-longest, received-sound, taken-held, emptied-sound, thr-sound}
+use Rattle.dev_serial.proofs.{WaitLaws.character-positive, SoundLaws.emptied-sound, SoundLaws.thr-sound}
+use Rattle.dev_serial.proofs.Facade.{Trigger, ◌≡◌, ℕ, ◌+◌, ◌*◌, ◌<◌, ◌≤◌, ◌==◌, Bool, true, false, not, ◌&&◌, cond, Option}
+use Rattle.dev_serial.proofs.Facade.{Some, None, refl, arith, ◌⊎◌, ◌/◌, ◌%◌, inl, inr, cond_both, leb-true, nat_le, is_some, bit_and, and_le_r}
+use Rattle.dev_serial.proofs.Facade.{and-false, is_empty, with_taken, read_of, id_read, lsr_read, thr_written, ier_written, switch_of, fcr_cleared, fcr_written}
+use Rattle.dev_serial.proofs.Facade.{receiver_cleared, transmitter_cleared, written, came_in, advanced, has, character_time, received, taken, IsSound}
+use Rattle.dev_serial.proofs.Facade.{HasRegisters, LONGEST_CHARACTER, either, PowerOnIsSound, ReadsKeepSound, WritesKeepSound, BytesInKeepSound}
+use Rattle.dev_serial.proofs.Facade.{AdvancesKeepSound, Port, power_on, mode_of, interrupt, is_thr_empty}
+use Rattle.dev_serial.proofs.SoundLaws.{latched-sound, cleared-sound, advance-transmitter, advance-receiver, character-longest, received-sound, taken-held}
 
 pub power_on_is_sound : PowerOnIsSound
 unfolding power_on
@@ -17,7 +18,7 @@ module _ (now : ℕ) (port : Port) (sound : IsSound now port) where
   Kept answer = IsSound now answer.1
 
   longest : character_time port.divisor port.lcr ≤ LONGEST_CHARACTER
-  longest = character-longest port.divisor port.lcr sound.registers.divisor_range
+  longest = grind (arith, character-longest)
 
   id-kept : Kept (id_read now port)
   id-kept = record {
@@ -66,33 +67,14 @@ module _ (now : ℕ) (port : Port) (sound : IsSound now port) where
 
   advance-kept : (to : ℕ) → now ≤ to → IsSound to (advanced to port).1
   unfolding advanced
-  advance-kept to l = record {
-    registers = sound.registers;
-    receiver = advance-receiver _ now to port.level _ _ port.transmitter.shift port.transmitter.waiting port.receiver longest l
-        sound.transmitter.shift sound.transmitter.bytes sound.receiver;
-    transmitter = advance-transmitter _ now to _ port.thr_empty port.transmitter longest l sound.transmitter;
-  }
+  advance-kept to l = search (arith, advance-receiver, longest, advance-transmitter)
 
   thr-kept : (byte : ℕ) → byte < 256 → IsSound now (thr_written byte now port)
   unfolding thr_written
-  thr-kept byte b = record {
-    registers = sound.registers;
-    receiver = sound.receiver;
-    transmitter = thr-sound now (character_time port.divisor port.lcr) byte (is_some port.fifos) port.thr_empty port.transmitter
-        (character-positive port.divisor port.lcr) longest b sound.transmitter;
-  }
+  thr-kept byte b = search (arith, thr-sound, character-positive, longest)
 
   divisor-kept : (divisor : ℕ) → divisor < 65536 → IsSound now (record port { divisor = divisor })
   divisor-kept divisor h = search
-
-  lcr-kept : (value : ℕ) → value < 256 → IsSound now (record port { lcr = value })
-  lcr-kept value h = search
-
-  mcr-kept : (value : ℕ) → IsSound now (record port { mcr = bit_and value 0x1f })
-  mcr-kept value = let range = and_le_r value 0x1f in search
-
-  scr-kept : (value : ℕ) → value < 256 → IsSound now (record port { scr = value })
-  scr-kept value h = search
 
   ier-kept : (value : ℕ) → IsSound now (ier_written value port)
   unfolding ier_written
@@ -112,34 +94,15 @@ module _ (now : ℕ) (port : Port) (sound : IsSound now port) where
 
   -- lists are cleared, and the switch is set
   switched : (clears_sent clears_held : Bool) (fifos : Option Trigger) → (is_some fifos ≡ true → 2 ≤ port.level) → (clears_sent ≡ false → is_some fifos ≡ is_some port.fifos) → (clears_held ≡ false → is_some fifos ≡ is_some port.fifos) → IsSound now (record (transmitter_cleared clears_sent (receiver_cleared clears_held port)) { fifos = fifos })
-  switched true true fifos h s t = record {
-    registers = switched-registers fifos h;
-    receiver = emptied-sound now port.level (is_some fifos) port.receiver;
-    transmitter = cleared-sound now (is_some port.fifos) (is_some fifos) port.thr_empty _ port.transmitter sound.transmitter;
-  }
-  switched true false fifos h s t = record {
-    registers = switched-registers fifos h;
-    receiver = rw (t refl) sound.receiver;
-    transmitter = cleared-sound now (is_some port.fifos) (is_some fifos) port.thr_empty _ port.transmitter sound.transmitter;
-  }
-  switched false true fifos h s t = record {
-    registers = switched-registers fifos h;
-    receiver = emptied-sound now port.level (is_some fifos) port.receiver;
-    transmitter = rw (s refl) sound.transmitter;
-  }
-  switched false false fifos h s t = record {
-    registers = switched-registers fifos h;
-    receiver = rw (t refl) sound.receiver;
-    transmitter = rw (s refl) sound.transmitter;
-  }
+  switched clears_sent clears_held fifos h s t = grind (arith, switched-registers, emptied-sound, cleared-sound)
 
   fcr-kept-at : (value : ℕ) (before after : Option Trigger) → 2 ≤ port.level → port.fifos ≡ before
       → IsSound now (record (fcr_cleared before after value port) { fifos = after })
   unfolding fcr_cleared
-  fcr-kept-at value None None h e = switched false false None (λ _. h) (λ _. rw e refl) (λ _. rw e refl)
+  fcr-kept-at value None None h e = switched false false None (λ _. h) (λ _. rw e) (λ _. rw e)
   fcr-kept-at value None (Some trigger) h e = switched true true (Some trigger) (λ _. h) (λ f. cc) (λ f. cc)
   fcr-kept-at value (Some before) None h e = switched true true None (λ _. h) (λ f. cc) (λ f. cc)
-  fcr-kept-at value (Some before) (Some after) h e = switched (has value 2) (has value 1) (Some after) (λ _. h) (λ _. rw e refl) (λ _. rw e refl)
+  fcr-kept-at value (Some before) (Some after) h e = switched (has value 2) (has value 1) (Some after) (λ _. h) (λ _. rw e) (λ _. rw e)
 
   fcr-kept : (value : ℕ) → 2 ≤ port.level → IsSound now (fcr_written value port)
   unfolding fcr_written
@@ -154,10 +117,10 @@ module _ (now : ℕ) (port : Port) (sound : IsSound now port) where
       (either (IsSound now) (has port.lcr 7) _ _ (divisor-kept (value * 256 + port.divisor % 256) (omega arith)) (ier-kept value))
       (either (IsSound now) (offset == 2) _ _
       (cond_both (nat_le 2 port.level) (fcr_written value port) port (IsSound now) (λ e. fcr-kept value (leb-true 2 port.level e)) (λ _. sound))
-      (either (IsSound now) (offset == 3) _ _ (lcr-kept value v)
-      (either (IsSound now) (offset == 4) _ _ (mcr-kept value)
+      (either (IsSound now) (offset == 3) _ _ (search)
+      (either (IsSound now) (offset == 4) _ _ (let range = and_le_r value 0x1f in search)
       (either (IsSound now) (offset == 5) _ _ sound
-      (either (IsSound now) (offset == 6) _ _ sound (scr-kept value v)))))))
+      (either (IsSound now) (offset == 6) _ _ sound (search)))))))
 
 pub reads_keep_sound : ReadsKeepSound
 reads_keep_sound offset now port s = read-kept now port s offset

@@ -2,12 +2,12 @@
 -- there is room.
 use Rattle.dev_serial.proofs.Facade.{refl, NumbersAre, ◌≡◌, ℕ, Bool, true, false, not, ◌&&◌, cond, List, [], ◌∷◌, ◌++◌, Option, Some}
 use Rattle.dev_serial.proofs.Facade.{None, sym, ap, ◌∙◌, ◌/◌, arith, ◌==◌, is_some, nat_le, is_empty, switch_of, fcr_cleared, fcr_written}
-use Rattle.dev_serial.proofs.Facade.{receiver_cleared, transmitter_cleared, read_of, thr_written, ier_written, written, came_in, advanced, has, trigger_of}
+use Rattle.dev_serial.proofs.Facade.{receiver_cleared, transmitter_cleared, read_of, thr_written, ier_written, written, came_in, advanced, has}
 use Rattle.dev_serial.proofs.Facade.{Port, asks, interrupt, is_pending, line_of, IsFirstAsking, IdentifiesFirst, SomeAsks, LineTellsAsking, HasNoBytes}
 use Rattle.dev_serial.proofs.Facade.{SwitchClearsBoth, IsResetBy, ResetsByBits, StaysOff, IsSwitched, WritesSwitch, Interrupt, LineStatus, ReceivedData}
 use Rattle.dev_serial.proofs.Facade.{CharacterTimeout, ThrEmpty, NonePending, Trigger, either, ReadsKeepLevel, WritesKeepLevel, BytesInKeepLevel}
 use Rattle.dev_serial.proofs.Facade.{AdvancesKeepLevel, cond_both, first_asking, priorities, All-cons, All-nil, LoopsModem, ◌+◌, ◌*◌, ◌%◌, ◌<◌}
-use Rattle.dev_serial.proofs.Facade.{if◌then◌else◌, bit_or, bits_where, msr_of, ReachesDivisor, IsLooped, ◌≤◌, length, append_assoc, append-nil}
+use Rattle.dev_serial.proofs.Facade.{if◌then◌else◌, bit_or, bits_where, msr_of, ReachesDivisor, ◌≤◌, length, append_assoc, append-nil}
 use Rattle.dev_serial.proofs.Facade.{common_steps, room_of, received, all_came, RoomIsHeld}
 
 -- ---- the numbers are the constants' by their definition
@@ -36,18 +36,18 @@ module _ (now : ℕ) (port : Port) where
         itself = rest.itself;
         higher = one ∷ rest.higher;
         lower = rest.lower;
-        order = ap (λ l. one ∷ l) rest.order;
+        order = rw (rest.order);
         silent = All-cons Silent one rest.higher silent rest.silent;
       })
 
   -- if one is requested, that of highest priority isn't NonePending
   pending : (some : Interrupt) → Pending some → asks now port some ≡ true → Pending (first_asking now port priorities)
-  pending LineStatus p h = rw h refl
-  pending ReceivedData p h = either Pending (asks now port LineStatus) _ _ refl (rw h refl)
-  pending CharacterTimeout p h = either Pending (asks now port LineStatus) _ _ refl (either Pending (asks now port ReceivedData) _ _ refl (rw h refl))
+  pending LineStatus p h = rw h
+  pending ReceivedData p h = either Pending (asks now port LineStatus) _ _ refl (rw h)
+  pending CharacterTimeout p h = either Pending (asks now port LineStatus) _ _ refl (either Pending (asks now port ReceivedData) _ _ refl (rw h))
   pending ThrEmpty p h =
       either Pending (asks now port LineStatus) _ _ refl (either Pending (asks now port ReceivedData) _ _ refl
-      (either Pending (asks now port CharacterTimeout) _ _ refl (rw h refl)))
+      (either Pending (asks now port CharacterTimeout) _ _ refl (rw h)))
   pending NonePending p h = cc
 
   line : (line_of now port ≡ true → SomeAsks now port) × (SomeAsks now port → line_of now port ≡ true)
@@ -63,7 +63,7 @@ line_tells_asking now port = line now port
 
 -- the FIFO control register
 switched_to : (value : ℕ) → is_some (switch_of value) ≡ has value 0
-switched_to value = elim (has value 0) as (λ is_on. is_some (cond is_on (Some (trigger_of (value / 64))) None) ≡ is_on) [ true ↦ refl | false ↦ refl ]
+switched_to value = grind (arith, has, is_some)
 
 module _ (value : ℕ) (port : Port) where
   both : (before after : Option Trigger) → is_some after ≡ not (is_some before) → HasNoBytes (record (fcr_cleared before after value port) { fifos = after })
@@ -74,9 +74,7 @@ module _ (value : ℕ) (port : Port) where
 
   flags : (second first : Bool) (fifos : Option Trigger) → (second ≡ has value 2) → (first ≡ has value 1)
       → IsResetBy value port (record (transmitter_cleared second (receiver_cleared first port)) { fifos = fifos })
-  flags true true fifos s f = record { held = rw (← f) refl; timeout = rw (← f) refl; waiting = rw (← s) refl }
-  flags false false fifos s f = record { held = rw (← f) refl; timeout = rw (← f) refl; waiting = rw (← s) refl }
-  flags _ _ fifos s f = record { held = rw (← f) refl; timeout = rw (← f) refl; waiting = rw (← s) refl }
+  flags second first fifos s f = grind arith
 
   reset : (before after : Option Trigger) → is_some before ≡ true → is_some after ≡ true
       → IsResetBy value port (record (fcr_cleared before after value port) { fifos = after })
@@ -96,10 +94,7 @@ module _ (value : ℕ) (port : Port) where
 
   left : (second first : Bool) (fifos : Option Trigger) → fifos ≡ switch_of value
       → IsSwitched value port (record (transmitter_cleared second (receiver_cleared first port)) { fifos = fifos })
-  left true true fifos e = record { fifos = e; shift = refl; overrun = refl; latch = latch_of true (is_empty port.transmitter.waiting) }
-  left true false fifos e = record { fifos = e; shift = refl; overrun = refl; latch = latch_of true (is_empty port.transmitter.waiting) }
-  left false true fifos e = record { fifos = e; shift = refl; overrun = refl; latch = latch_of false (is_empty port.transmitter.waiting) }
-  left false false fifos e = record { fifos = e; shift = refl; overrun = refl; latch = latch_of false (is_empty port.transmitter.waiting) }
+  left second first fifos e = grind (arith, latch_of, is_empty)
 
   switched : (before after : Option Trigger) → after ≡ switch_of value → IsSwitched value port (record (fcr_cleared before after value port) { fifos = after })
   unfolding fcr_cleared
@@ -149,9 +144,7 @@ module _ (port : Port) where
   Stays after = Keeps after × (after.divisor ≡ port.divisor)
 
   cleared : (second first : Bool) → Stays (transmitter_cleared second (receiver_cleared first port))
-  cleared true true = (refl, refl)
-  cleared false false = (refl, refl)
-  cleared _ _ = (refl, refl)
+  cleared second first = grind arith
 
   pub switch_stays : (value : ℕ) (before after : Option Trigger) → Stays (fcr_cleared before after value port)
   unfolding fcr_cleared
@@ -194,26 +187,26 @@ advances_keep_level to port = advances port to
 
 low_read : (now : ℕ) (port : Port) → has port.lcr 7 ≡ true → read_of 0 now port ≡ (port.divisor % 256, port)
 unfolding read_of
-low_read now port set = rw set refl
+low_read now port set = rw set
 
 high_read : (now : ℕ) (port : Port) → has port.lcr 7 ≡ true → read_of 1 now port ≡ (port.divisor / 256, port)
 unfolding read_of
-high_read now port set = rw set refl
+high_read now port set = rw set
 
 low_written : (value now : ℕ) (port : Port) → has port.lcr 7 ≡ true → written 0 value now port ≡ record port { divisor = port.divisor / 256 * 256 + value }
 unfolding written
-low_written value now port set = rw set refl
+low_written value now port set = rw set
 
 high_written : (value now : ℕ) (port : Port) → has port.lcr 7 ≡ true → written 1 value now port ≡ record port { divisor = value * 256 + port.divisor % 256 }
 unfolding written
-high_written value now port set = rw set refl
+high_written value now port set = rw set
 
 low_stays : (high low value : ℕ) → value < 256 → high * 256 + (low * 256 + value) % 256 ≡ 256 * high + value
 low_stays high low value byte = omega arith
 
 both_written : (low high now later : ℕ) (port : Port) → low < 256 → has port.lcr 7 ≡ true
     → written 1 high later (written 0 low now port) ≡ record port { divisor = 256 * high + low }
-both_written low high now later port byte set = rw (low_written low now port set, high_written high later _ set, low_stays high _ low byte) refl
+both_written low high now later port byte set = rw (low_written low now port set, high_written high later _ set, low_stays high _ low byte)
 
 module _ (port : Port) where
   abbrev KeepsDivisor : Port → Type 0
@@ -221,8 +214,7 @@ module _ (port : Port) where
 
   -- a port is what a choice gives where its condition doesn't hold
   chosen : (b : Bool) (first second : Port) → b ≡ false → KeepsDivisor second → KeepsDivisor (if b then first else second)
-  chosen true first second e k = cc
-  chosen false first second e k = k
+  chosen b first second e k = grind arith
 
   hidden : (offset value now : ℕ) → has port.lcr 7 ≡ false → KeepsDivisor (written offset value now port)
   unfolding written thr_written ier_written fcr_written
@@ -256,20 +248,14 @@ looped_of rts dtr out1 out2 = record { cts = grind arith; dsr = grind arith; ri 
 
 msr_looped : (mcr : ℕ) → has mcr 4 ≡ true → msr_of mcr ≡ status_by (has mcr 1) (has mcr 0) (has mcr 2) (has mcr 3)
 unfolding msr_of
-msr_looped mcr loop = rw loop refl
-
-is_looped : (mcr : ℕ) → has mcr 4 ≡ true → IsLooped mcr (msr_of mcr)
-is_looped mcr loop =
-    let bits = looped_of (has mcr 1) (has mcr 0) (has mcr 2) (has mcr 3) in
-    let is = msr_looped mcr loop in
-    record { cts = rw is bits.cts; dsr = rw is bits.dsr; ri = rw is bits.ri; dcd = rw is bits.dcd; changes = rw is bits.changes }
+msr_looped mcr loop = rw loop
 
 modem_read : (now : ℕ) (port : Port) → read_of 6 now port ≡ (msr_of port.mcr, port)
 unfolding read_of
 modem_read now port = refl
 
 pub loops_modem : LoopsModem
-loops_modem = record { read = modem_read; looped = is_looped }
+loops_modem = record { read = modem_read; looped = (λ mcr loop. search (arith, looped_of, msr_looped)) }
 
 -- ---- bytes that come in while there is room
 
@@ -304,8 +290,4 @@ unfolding came_in received
 one_lost now byte port clear none = grind (arith, common_steps)
 
 pub room_is_held : RoomIsHeld
-room_is_held = record {
-  held = λ now bytes port h. (all_held now bytes port h).held;
-  overrun = λ now bytes port h. (all_held now bytes port h).overrun;
-  lost = one_lost;
-}
+room_is_held = search (arith, all_held, one_lost)

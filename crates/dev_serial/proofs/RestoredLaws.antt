@@ -1,16 +1,15 @@
 -- A restored port is sound, and the rules hold of a sound port alone.
-use Rattle.dev_serial.proofs.{SavedLaws.unused-at, AlikeLaws.IsStatus, AlikeLaws.lsr-status}
+use Rattle.dev_serial.proofs.{SavedLaws.runs-same, AlikeLaws.IsStatus, AlikeLaws.lsr-status, Facade.IsTold, Facade.IsByte, Facade.Shift}
 use Rattle.dev_serial.proofs.Facade.{◌≡◌, ℕ, true, Ok, ◌≤◌, Bool, List, [], ◌∷◌, length, Option, Some, refl, subst, ◌+◌, ◌<◌}
-use Rattle.dev_serial.proofs.Facade.{◌==◌, false, not, ◌&&◌, ◌||◌, cond, None, sym, ◌∙◌, arith, ◌%◌, ℤ, false≢true, leb-true}
-use Rattle.dev_serial.proofs.Facade.{ltb-true, and_parts, not-true, nat_le, nat_lt, is_some, judged-ok, first_failing_is_first, hook-ok, Port, port_of}
-use Rattle.dev_serial.proofs.Facade.{moment_of, shift_of, fifos_of, stored_bytes, registers_hold, fcr_holds, status_holds, shift_holds, timeout_holds}
-use Rattle.dev_serial.proofs.Facade.{latch_holds, rules, restored, unused_hold, id_holds, once_holds, rings_hold, longest_timeout, is_unused, PortNumbers}
-use Rattle.dev_serial.proofs.Facade.{first_failing, judged_by, IsFirstFailing, is_empty, IsShort, same, has, AreBytes, IsShift, IsTimeout, IsSound}
-use Rattle.dev_serial.proofs.Facade.{HasRegisters, IsReceiver, IsTransmitter, Trigger, LONGEST_CHARACTER, NEVER, cell_at, number_at, IsLevel, U8, U16}
-use Rattle.dev_serial.proofs.Facade.{number-lt, IsPortCells, bytes_at, array_at, ring_at, numbers_of, IsSoundAt, RestoredIsSound, DIVISOR, THR_IPENDING}
-use Rattle.dev_serial.proofs.Facade.{RX_COUNT, RX, TX_COUNT, TX, TIMEOUT_AT, RX_DATA, TX_DATA, eqb-true, LAST_MOMENT, lsr_of, SoundMeetsRules, saved}
-use Rattle.dev_serial.proofs.Facade.{fcr_number, moment_number, due_number, IsHeld, IsTold, IsByte, Shift}
-use Rattle.dev_serial.proofs.SavedLaws.{in_arrays, ring-bytes, stored-empty, stored-short, stored-bytes, firsts-bytes, byte-at, restored-saved, on, runs-same}
+use Rattle.dev_serial.proofs.Facade.{◌==◌, false, not, ◌&&◌, ◌||◌, cond, None, sym, arith, ◌%◌, ℤ, false≢true, leb-true, ltb-true}
+use Rattle.dev_serial.proofs.Facade.{and_parts, not-true, nat_le, nat_lt, is_some, judged-ok, first_failing_is_first, hook-ok, Port, port_of, moment_of}
+use Rattle.dev_serial.proofs.Facade.{shift_of, fifos_of, stored_bytes, registers_hold, fcr_holds, status_holds, shift_holds, timeout_holds, latch_holds, rules}
+use Rattle.dev_serial.proofs.Facade.{restored, unused_hold, id_holds, once_holds, rings_hold, longest_timeout, is_unused, PortNumbers, first_failing, judged_by}
+use Rattle.dev_serial.proofs.Facade.{IsFirstFailing, is_empty, IsShort, same, has, AreBytes, IsShift, IsTimeout, IsSound, HasRegisters, IsReceiver}
+use Rattle.dev_serial.proofs.Facade.{IsTransmitter, Trigger, LONGEST_CHARACTER, NEVER, cell_at, number_at, IsLevel, U8, U16, number-lt, IsPortCells, bytes_at}
+use Rattle.dev_serial.proofs.Facade.{array_at, ring_at, numbers_of, IsSoundAt, RestoredIsSound, DIVISOR, THR_IPENDING, RX_COUNT, RX, TX_COUNT, TX, TIMEOUT_AT}
+use Rattle.dev_serial.proofs.Facade.{RX_DATA, TX_DATA, eqb-true, LAST_MOMENT, lsr_of, SoundMeetsRules, saved, fcr_number, moment_number, due_number, IsHeld}
+use Rattle.dev_serial.proofs.SavedLaws.{unused-at, in_arrays, ring-bytes, stored-empty, stored-short, stored-bytes, firsts-bytes, byte-at, restored-saved, on}
 
 -- ---- every rule holds for numbers that are restored
 
@@ -37,7 +36,7 @@ pub restored_by : (level now : ℕ) (n : PortNumbers) (port : Port) (answer : Op
     → h ≡ latch_holds n → i ≡ id_holds level now n → j ≡ once_holds n → k ≡ rings_hold n → port ≡ port_of level n
     → answer ≡ first_failing (a ∷ b ∷ d ∷ e ∷ f ∷ g ∷ h ∷ i ∷ j ∷ k ∷ []) → judged_by answer port ≡ restored level now n
 unfolding restored
-restored_by level now n port answer a b d e f g h i j k qa qb qd qe qf qg qh qi qj qk p q = rw (q, p, qa, qb, qd, qe, qf, qg, qh, qi, qj, qk) refl
+restored_by level now n port answer a b d e f g h i j k qa qb qd qe qf qg qh qi qj qk p q = rw (q, p, qa, qb, qd, qe, qf, qg, qh, qi, qj, qk)
 
 -- the rule that fails is one of them
 pub rule_within : (rules : List Bool) (rule : ℕ) → first_failing rules ≡ Some rule → (1 ≤ rule) × (rule ≤ length rules)
@@ -46,18 +45,16 @@ rule_within rules rule e = let first : IsFirstFailing rules rule = rw e at (firs
 -- ---- each part of a restored port is sound
 
 switch : (off : Bool) (trigger : Trigger) → is_some (cond off None (Some trigger)) ≡ not off
-switch true trigger = refl
-switch false trigger = refl
+switch off trigger = grind arith
 
 pub is_on : (fcr : ℕ) → is_some (fifos_of fcr) ≡ not (fcr == 0)
 is_on fcr = switch (fcr == 0) _
 
 on_at : (off has_level bit : Bool) → (off || (has_level && bit)) ≡ true → not off ≡ true → has_level ≡ true
-on_at true has_level bit h n = cc
-on_at false has_level bit h n = (and_parts has_level bit h).0
+on_at off has_level bit h n = grind (arith, and_parts)
 
 pub level-on : (level fcr : ℕ) → ((fcr == 0) || (nat_le 2 level && (fcr % 64 == 1))) ≡ true → is_some (fifos_of fcr) ≡ true → 2 ≤ level
-level-on level fcr h n = leb-true 2 level (on_at (fcr == 0) (nat_le 2 level) (fcr % 64 == 1) h (sym (is_on fcr) ∙ n))
+level-on level fcr h n = grind (arith, on_at, is_on)
 
 pub short : (off is_held : Bool) (byte : ℕ) (bytes : List ℕ) → length bytes ≤ 16 → IsShort (not off) (cond off (cond is_held (byte ∷ []) []) bytes)
 short true true byte bytes h = record { short = omega arith; one = λ _. omega arith }
@@ -65,20 +62,14 @@ short true false byte bytes h = record { short = omega arith; one = λ _. omega 
 short false is_held byte bytes h = record { short = h; one = λ e. cc }
 
 pub are_bytes : (off is_held : Bool) (byte : ℕ) (bytes : List ℕ) → byte < 256 → AreBytes bytes → AreBytes (cond off (cond is_held (byte ∷ []) []) bytes)
-are_bytes true true byte bytes b h = (b, tt)
-are_bytes true false byte bytes b h = tt
-are_bytes false is_held byte bytes b h = h
+are_bytes off is_held byte bytes b h = grind arith
 
 ends : (runs : Bool) (now t : ℕ) → cond runs (not (t == NEVER) && nat_le t (now + longest_timeout)) (t == NEVER) ≡ true → IsTimeout now runs (moment_of t)
-ends true now t h =
-    let p = and_parts _ _ h in
-    rw (not-true (t == NEVER) p.0) (record { runs_now = refl; in_time = leb-true _ _ p.1 })
-ends false now t h = rw h
+ends runs now t h = grind (arith, and_parts, not-true, leb-true)
 
 runs_at : (has_timeout off is_held : Bool) (byte : ℕ) (bytes : List ℕ)
     → (has_timeout && (not off && not (is_empty bytes))) ≡ (has_timeout && (not off && not (is_empty (cond off (cond is_held (byte ∷ []) []) bytes))))
-runs_at has_timeout true is_held byte bytes = refl
-runs_at has_timeout false is_held byte bytes = refl
+runs_at has_timeout off is_held byte bytes = grind arith
 
 pub timeout : (has_timeout off is_held unused : Bool) (byte : ℕ) (bytes : List ℕ) (now t : ℕ) → is_empty bytes ≡ unused → cond (has_timeout && (not off && not unused)) (not (t == NEVER) && nat_le t (now + longest_timeout)) (t == NEVER) ≡ true → IsTimeout now (has_timeout && (not off && not (is_empty (cond off (cond is_held (byte ∷ []) []) bytes)))) (moment_of t)
 timeout has_timeout off is_held unused byte bytes now t e h = rw (← runs_at has_timeout off is_held byte bytes, e) (ends _ now t h)
@@ -86,19 +77,13 @@ timeout has_timeout off is_held unused byte bytes now t e h = rw (← runs_at ha
 module _ (now tsr due : ℕ) (empty : Bool) where
   pub shift : (idle : Bool) → (same idle (due == NEVER) && cond idle (empty && (tsr == 0)) (nat_lt now due && nat_le due (now + LONGEST_CHARACTER))) ≡ true
       → tsr < 256 → IsShift now (shift_of tsr due)
-  shift true h b = let q : (due == NEVER) ≡ true = (and_parts _ _ h).0 in rw q tt
-  shift false h b =
-      let p = and_parts _ _ h in
-      let q = and_parts _ _ p.1 in
-      rw (not-true (due == NEVER) p.0) (record { byte = b; later = ltb-true _ _ q.0; in_time = leb-true _ _ q.1 })
+  shift idle h b = grind (arith, and_parts, not-true, ltb-true, leb-true)
 
   pub idle-empty : (idle : Bool) → (same idle (due == NEVER) && cond idle (empty && (tsr == 0)) (nat_lt now due && nat_le due (now + LONGEST_CHARACTER))) ≡ true → is_some (shift_of tsr due) ≡ false → empty ≡ true
-  idle-empty true h n = (and_parts _ _ (and_parts _ _ h).1).0
-  idle-empty false h n = absurd (false≢true (sym (rw (not-true (due == NEVER) (and_parts _ _ h).0) at n)))
+  idle-empty idle h n = grind (arith, and_parts)
 
 pub waiting-empty : (off ready empty unused : Bool) (byte : ℕ) (first second some : Bool) (tx : List ℕ) → is_empty tx ≡ unused → cond off (first && second) (same ready some && same empty unused) ≡ true → empty ≡ true → is_empty (cond off (cond (not empty) (byte ∷ []) []) tx) ≡ true
-waiting-empty true ready empty unused byte first second some tx u h e = rw e refl
-waiting-empty false ready empty unused byte first second some tx u h e = u ∙ (let p : same empty unused ≡ true = (and_parts _ _ h).1 in rw e at p)
+waiting-empty off ready empty unused byte first second some tx u h e = grind (arith, same)
 
 -- ---- the whole port
 
@@ -114,8 +99,7 @@ record HasRanges (n : PortNumbers) : Type 0 where
   tx : AreBytes (stored_bytes n.tx n.tx_ring)
 
 implied : (a b : Bool) → (not a || b) ≡ true → a ≡ true → b ≡ true
-implied true b h e = h
-implied false b h e = cc
+implied a b h e = grind arith
 
 module _ (level now : ℕ) (n : PortNumbers) (is_level : IsLevel level) (ranges : HasRanges n) (rules : Hold level now n) where
   registers : HasRegisters level n.divisor n.ier n.lcr n.mcr n.scr (is_some (fifos_of n.fcr))
@@ -203,7 +187,7 @@ held now port h s =
 -- and back, by the rules
 fifos-level : (level : ℕ) (fifos : Option Trigger) (rest : Bool) → ((fcr_number fifos == 0) || (nat_le 2 level && rest)) ≡ true → is_some fifos ≡ true → 2 ≤ level
 fifos-level level None rest h e = cc
-fifos-level level (Some trigger) rest h e = leb-true 2 level (and_parts _ _ (rw (on trigger) at h)).0
+fifos-level level (Some trigger) rest h e = grind (arith, on)
 
 shift-from : (now : ℕ) (shift : Option Shift) (idle empty five : Bool) → idle ≡ (empty && not (is_some shift)) → IsByte shift
     → (same idle (due_number shift == NEVER) && cond idle five (nat_lt now (due_number shift) && nat_le (due_number shift) (now + LONGEST_CHARACTER))) ≡ true

@@ -9,7 +9,7 @@ use Rattle.dev_serial.proofs.Facade.{IsPortCells, FIFOS_SINCE, TIMEOUT_SINCE, RI
 use Rattle.dev_serial.proofs.Facade.{AreSaved, SavedAreCells, IsShort, Port, interrupt, id_number, saved, ipending_of, single_byte, fifo_bytes, in_array}
 use Rattle.dev_serial.proofs.Facade.{in_ring, fcr_number, shift_number, due_number, moment_number, IsSound, AreBytes, IsShift, IsTimeout, byte_of, padded}
 use Rattle.dev_serial.proofs.Facade.{counted_of, ring_of, Interrupt, LineStatus, Shift, Trigger, One, RX, TX_COUNT, TX, TIMEOUT_AT, number_at, RX_COUNT}
-use Rattle.dev_serial.proofs.Facade.{cells_at, hook_restored, ◌&&◌, not, Ok, leb-true, and_parts, nat_tests, AllLack, none_lacks, carried_rows, carried}
+use Rattle.dev_serial.proofs.Facade.{cells_at, hook_restored, ◌&&◌, not, Ok, nat_tests, AllLack, none_lacks, carried_rows, carried}
 use Rattle.dev_serial.proofs.Facade.{numbers_of, is_empty, SavedComesBack, Alike, Numbers, hook_result, CanSave, CanRestore}
 use Rattle.dev_serial.proofs.SavedLaws.{byte_of-lt, byte_of-padded, array-short, ring-short, restored-saved}
 
@@ -88,18 +88,15 @@ of_kinds set n r = of_rows (named n) set serial_rows (holds n r)
 
 -- A counted array is two rows, and a ring three.
 array_rows : (has : Bool) (count : ℤ) (bytes rest : List ℤ) → cond has (count ∷ bytes) [] ++ rest ≡ cond has (count ∷ []) [] ++ (cond has bytes [] ++ rest)
-array_rows true count bytes rest = refl
-array_rows false count bytes rest = refl
+array_rows has count bytes rest = grind (arith, nat_tests)
 
 ring_rows : (has : Bool) (elements : List ℤ) (head number : ℤ) (rest : List ℤ)
     → cond has (elements ++ head ∷ number ∷ []) [] ++ rest ≡ cond has elements [] ++ (cond has (head ∷ []) [] ++ (cond has (number ∷ []) [] ++ rest))
-ring_rows true elements head number rest = append_assoc elements (head ∷ number ∷ []) rest
-ring_rows false elements head number rest = refl
+ring_rows has elements head number rest = grind (arith, nat_tests, append_assoc)
 
 last_rows : (has : Bool) (elements : List ℤ) (head number : ℤ)
     → cond has (elements ++ head ∷ number ∷ []) [] ≡ cond has elements [] ++ (cond has (head ∷ []) [] ++ (cond has (number ∷ []) [] ++ []))
-last_rows true elements head number = refl
-last_rows false elements head number = refl
+last_rows has elements head number = grind (arith, nat_tests)
 
 to_right : (a b c d e f g h : List ℤ) → a ++ b ++ c ++ d ++ e ++ f ++ g ++ h ≡ a ++ (b ++ (c ++ (d ++ (e ++ (f ++ (g ++ h))))))
 to_right a b c d e f g h = simp append_assoc refl
@@ -161,8 +158,7 @@ fcr-range (Some One) = omega arith
 fcr-range _ = omega arith
 
 ipending-range : (enabled latch identified : Bool) → InRange I8 (ipending_of enabled latch identified)
-ipending-range true true true = (omega arith, omega arith)
-ipending-range _ _ _ = (omega arith, omega arith)
+ipending-range enabled latch identified = grind (arith, nat_tests)
 
 lsr-range : (now : ℕ) (port : Port) → now ≤ LAST_MOMENT → IsSound now port → lsr_of port < 256
 lsr-range now port h s = let m = (lsr-status port).mask in omega (arith, and_le_r (lsr_of port) 0x63)
@@ -217,7 +213,7 @@ array_in cells front back bytes place e l n s = record { fits = rw n s; zeros = 
 -- no bytes
 no-arrays : (first second : List ℕ) → length first ≡ 0 → length second ≡ 0
     → (pos (length first) ∷ map pos (padded first)) ++ (pos (length second) ∷ map pos (padded second)) ≡ replicate 34 (pos 0)
-no-arrays first second a b = rw (nil_from_length first a, nil_from_length second b) refl
+no-arrays first second a b = grind (arith, nil_from_length)
 
 module _ (now : ℕ) (port : Port) (early : now ≤ LAST_MOMENT) (sound : IsSound now port) where
   abbrev first : ℕ → List ℕ
@@ -257,7 +253,7 @@ module _ (now : ℕ) (port : Port) (early : now ≤ LAST_MOMENT) (sound : IsSoun
         → take 34 (drop RX_COUNT (cells n)) ≡ replicate 34 (pos 0)) set low high
         (λ h. absurd (omega arith)) (λ h. no-arrays (first 2) (second 2)) (λ h. no-arrays (first 3) (second 3)) (λ h. no-arrays (first 4) (second 4));
     no_ring = λ h. let e : set ≡ 4 = omega arith in
-        rw e (λ a b. rw (nil_from_length (in_ring 4 port.fifos port.receiver.held) a, nil_from_length (in_ring 4 port.fifos port.transmitter.waiting) b) refl);
+        rw e (λ a b. rw (nil_from_length (in_ring 4 port.fifos port.receiver.held) a, nil_from_length (in_ring 4 port.fifos port.transmitter.waiting) b));
   }
 
 pub saved_are_cells : SavedAreCells
@@ -274,29 +270,23 @@ numbers-back set now port = refl
 
 -- a port of an early level lacks what an older set lacks
 off-early : (now : ℕ) (port : Port) → IsSound now port → port.level < 2 → port.fifos ≡ None
-off-early now port s early = at port.fifos (λ on. let h = s.registers.fifos on in omega arith) where
-  at : (fifos : Option Trigger) → (is_some fifos ≡ true → 2 ≤ port.level) → fifos ≡ None
-  at None h = refl
-  at (Some trigger) h = absurd (let l = h refl in omega arith)
+off-early now port s early = grind (arith, is_some)
 
 no-timeout : (now : ℕ) (port : Port) → IsSound now port → port.level < 3 → port.receiver.timeout ≡ None
 no-timeout now port s early = none_at port.receiver.timeout s.receiver.timeout where
   none_at : (timeout : Option ℕ) → IsTimeout now (nat_le 3 port.level && (is_some port.fifos && not (is_empty port.receiver.held))) timeout → timeout ≡ None
   none_at None t = refl
-  none_at (Some moment) t = let h = leb-true 3 port.level (and_parts _ _ t.runs_now).0 in absurd (omega arith)
-
-no-array : (set : ℕ) (bytes : List ℕ) → in_array set None bytes ≡ []
-no-array set bytes = elim (nat_le 4 set) as (λ is. cond is [] (fifo_bytes None bytes) ≡ []) [ true ↦ refl | false ↦ refl ]
+  none_at (Some moment) t = grind arith
 
 module _ (set now : ℕ) (port : Port) (early : now ≤ LAST_MOMENT) (s : IsSound now port) (le : port.level ≤ set) where
   off : nat_le 2 set ≡ false → port.fifos ≡ None
-  off e = off-early now port s (grind (arith, nat_tests))
+  off e = grind (arith, off-early)
 
   empty : (bytes : List ℕ) → nat_le 2 set ≡ false → in_array set port.fifos bytes ≡ []
-  empty bytes e = rw (off e) (no-array set bytes)
+  empty bytes e = rw (off e) (grind arith)
 
   no-ring : (bytes : List ℕ) → nat_le 4 set ≡ false → in_ring set port.fifos bytes ≡ []
-  no-ring bytes e = rw e refl
+  no-ring bytes e = rw e
 
   -- no bytes
   no_bytes : (bytes : List ℕ) → bytes ≡ [] → map pos (padded bytes) ≡ replicate 16 (pos 0)
@@ -352,7 +342,7 @@ module _ (numbers : Numbers) (port : Port) (can : CanSave numbers port) (sound :
   newest = record numbers { set = NEWEST }
 
   same : carried numbers.set (cells_at numbers port) ≡ cells_of 4 (saved numbers.set numbers.moment port)
-  same = carried-saved numbers.set numbers.moment port can.moment sound (omega arith)
+  same = grind (arith, carried-saved)
 
   may : CanRestore newest (carried numbers.set (cells_at numbers port))
   may = record {
@@ -364,7 +354,7 @@ module _ (numbers : Numbers) (port : Port) (can : CanSave numbers port) (sound :
   unfolding hook_result
   back =
       let r = restored-saved numbers.set numbers.moment port can.moment sound in
-      (r.0, rw (same, numbers-back numbers.set numbers.moment port, can.own_level, r.1) refl, r.2)
+      (r.0, rw (same, numbers-back numbers.set numbers.moment port, can.own_level, r.1), r.2)
 
 pub saved_comes_back : SavedComesBack
 saved_comes_back numbers port can sound =

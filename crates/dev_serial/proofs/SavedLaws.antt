@@ -1,19 +1,18 @@
 -- The saved numbers of a sound port meet every rule, and are restored as a port like it.
+use Rattle.dev_serial.proofs.{Facade.AllTrue, SoundLaws.not_empty}
 use Rattle.dev_serial.proofs.AlikeLaws.{IsStatus, lsr-status, latch_back, IsLatchBack, latch_comes_back}
 use Rattle.dev_serial.proofs.Facade.{◌≡◌, ℕ, ◌+◌, ◌<◌, Bool, true, false, take, ap, ◌∙◌, arith, zero, suc, ◌-◌, ◌%◌, ◌≤◌}
 use Rattle.dev_serial.proofs.Facade.{◌==◌, not, ◌&&◌, cond, List, [], ◌∷◌, length, map, refl, sym, ⊎_elim, ◌++◌, ℤ, replicate, subst}
 use Rattle.dev_serial.proofs.Facade.{and_from, cases_lt, lt-ltb, le-leb, ne_eqb, eq-eqb, or_right, get_or-range_with_len, length-map-range_with_len}
-use Rattle.dev_serial.proofs.Facade.{get_or-map-range_with_len, list_all_at, list_all_more, range_with_len, list_all, min-eq_left, min-le_right, get_or_past}
-use Rattle.dev_serial.proofs.Facade.{nat_lt, cond_both, is_empty, ListsComeBack, HoldsWhatItGives, stored_bytes, is_unused, AreBytes, firsts, cell_at, kind_at}
-use Rattle.dev_serial.proofs.Facade.{number_at, AreOf, byte_of, padded, counted_of, counted_bytes, ring_of, ring_bytes, behind_head, is_held_or_zero}
-use Rattle.dev_serial.proofs.Facade.{ring_holds, Counted, Ring, all_set, bytes_within, InRange, U8, I8, Timer, field_kinds, kinds, AreBytesIn, bytes_at}
-use Rattle.dev_serial.proofs.Facade.{number-lt, RX_COUNT, TIMEOUT_AT, RX_DATA, judged-all, Port, is_data_ready, has_come, interrupt, id_number, ◌||◌}
-use Rattle.dev_serial.proofs.Facade.{Option, Some, None, Ok, and-true, and-false, or-true, nat_le, is_some, lsr_of, LAST_MOMENT, moment_number, due_number}
-use Rattle.dev_serial.proofs.Facade.{shift_number, single_byte, fifo_bytes, in_array, in_ring, fcr_number, moment_of, shift_of, fifos_of, bytes_held, saved}
-use Rattle.dev_serial.proofs.Facade.{port_of, IsShort, same, has, is_stored_once, longest_timeout, registers_hold, fcr_holds, unused_hold, status_holds}
-use Rattle.dev_serial.proofs.Facade.{shift_holds, timeout_holds, latch_holds, id_holds, once_holds, rings_hold, rules, restored, IsShift, IsTimeout, IsSound}
-use Rattle.dev_serial.proofs.Facade.{Alike, Shift, Trigger, One, LONGEST_CHARACTER, NEVER, AllTrue}
-use Rattle.dev_serial.proofs.SoundLaws.{not_empty}
+use Rattle.dev_serial.proofs.Facade.{get_or-map-range_with_len, list_all_at, list_all_more, range_with_len, list_all, get_or_past, nat_lt, cond_both, is_empty}
+use Rattle.dev_serial.proofs.Facade.{ListsComeBack, HoldsWhatItGives, stored_bytes, is_unused, AreBytes, firsts, cell_at, kind_at, number_at, AreOf, byte_of}
+use Rattle.dev_serial.proofs.Facade.{padded, counted_of, counted_bytes, ring_of, ring_bytes, behind_head, is_held_or_zero, ring_holds, Counted, Ring, all_set}
+use Rattle.dev_serial.proofs.Facade.{bytes_within, InRange, U8, I8, Timer, field_kinds, kinds, AreBytesIn, bytes_at, number-lt, RX_COUNT, TIMEOUT_AT, RX_DATA}
+use Rattle.dev_serial.proofs.Facade.{judged-all, Port, is_data_ready, has_come, interrupt, id_number, ◌||◌, Option, Some, None, Ok, and-true, and-false}
+use Rattle.dev_serial.proofs.Facade.{or-true, nat_le, is_some, lsr_of, LAST_MOMENT, moment_number, due_number, shift_number, single_byte, fifo_bytes, in_array}
+use Rattle.dev_serial.proofs.Facade.{in_ring, fcr_number, moment_of, shift_of, fifos_of, bytes_held, saved, port_of, IsShort, same, has, is_stored_once}
+use Rattle.dev_serial.proofs.Facade.{longest_timeout, registers_hold, fcr_holds, unused_hold, status_holds, shift_holds, timeout_holds, latch_holds, id_holds}
+use Rattle.dev_serial.proofs.Facade.{once_holds, rings_hold, rules, restored, IsShift, IsTimeout, IsSound, Alike, Shift, Trigger, One, LONGEST_CHARACTER, NEVER}
 use Rattle.std.specs.Prelude.{min}
 
 -- ---- a test of each of the sixteen elements of a ring
@@ -22,7 +21,7 @@ zero-add : (k : ℕ) → 0 + k ≡ k
 zero-add k = omega arith
 
 pub all_fails : (p : ℕ → Bool) (k : ℕ) → k < 16 → p k ≡ false → list_all p (range_with_len 0 16) ≡ false
-all_fails p k l e = list_all_at p (range_with_len 0 16) k 0 l (ap p (get_or-range_with_len 0 16 k 0 l ∙ zero-add k) ∙ e)
+all_fails p k l e = grind (arith, list_all_at, get_or-range_with_len, zero-add)
 
 pub all_more : (p : ℕ → Bool) (k : ℕ) → k < 16 → list_all p (take k (range_with_len 0 16)) ≡ true → p k ≡ true
     → list_all p (take (k + 1) (range_with_len 0 16)) ≡ true
@@ -32,35 +31,32 @@ all_more p k l h e = list_all_more p (range_with_len 0 16) k 0 l ∙ and_from _ 
 
 -- the bytes of a list, by their places
 firsts-back : (f : ℕ → ℕ) (bytes : List ℕ) → ((i : ℕ) → i < length bytes → f i ≡ byte_of bytes i) → firsts (length bytes) f ≡ bytes
-firsts-back f bytes h = sym (all_set f bytes (length bytes) refl (λ i l. sym (h i l)))
+firsts-back f bytes h = grind (arith, all_set)
 
 pub byte_of-padded : (bytes : List ℕ) (i : ℕ) → i < 16 → byte_of (padded bytes) i ≡ byte_of bytes i
 byte_of-padded bytes i l = get_or-map-range_with_len (byte_of bytes) 0 16 i i 0 l (omega arith)
 
 pub counted-back : (bytes : List ℕ) → length bytes ≤ 16 → counted_bytes (counted_of bytes) ≡ bytes
-counted-back bytes h = rw (min-eq_left h) (firsts-back (byte_of (padded bytes)) bytes (λ i l. byte_of-padded bytes i (omega arith)))
+counted-back bytes h = grind (arith, firsts-back, byte_of-padded)
 
 round : (i : ℕ) → i < 16 → (0 + i) % 16 ≡ i
 round i l = omega arith
 
 -- the ring of a list gives the list again
 pub ring-back : (bytes : List ℕ) → length bytes ≤ 16 → ring_bytes (ring_of bytes) ≡ bytes
-ring-back bytes h =
-    rw (min-eq_left h) (firsts-back (λ i. byte_of (padded bytes) ((0 + i) % 16)) bytes (λ i l.
-    let within : i < 16 = omega arith in
-    ap (byte_of (padded bytes)) (round i within) ∙ byte_of-padded bytes i within))
+ring-back bytes h = grind (arith, firsts-back, round, byte_of-padded)
 
 -- a test of a run of numbers
 all-range : (p : ℕ → Bool) (a n : ℕ) → ((k : ℕ) → a ≤ k → k < a + n → p k ≡ true) → list_all p (range_with_len a n) ≡ true
 all-range p a zero h = refl
-all-range p a (suc n) h = and_from _ _ (h a (omega arith) (omega arith)) (all-range p (a + 1) n (λ k l m. h k (omega arith) (omega arith)))
+all-range p a (suc n) h = grind (arith, and_from, all-range p (a + 1) n (λ k l m. h k (omega arith) (omega arith)))
 
 back-round : (k : ℕ) → k < 16 → (k + 16 - 0) % 16 ≡ k
 back-round k l = omega arith
 
 held-or-zero : (bytes : List ℕ) (k : ℕ) → k < 16 → is_held_or_zero (ring_of bytes) k ≡ true
 held-or-zero bytes k l = rw (back-round k l, byte_of-padded bytes k l) (
-    ⊎_elim (λ held. rw (lt-ltb k (length bytes) held) refl) (λ past. or_right (nat_lt k (length bytes)) _ (eq-eqb _ _ (get_or_past bytes k 0 past)))
+    ⊎_elim (λ held. rw (lt-ltb k (length bytes) held)) (λ past. or_right (nat_lt k (length bytes)) _ (eq-eqb _ _ (get_or_past bytes k 0 past)))
     (cases_lt k (length bytes)))
 
 pub ring_of-holds : (bytes : List ℕ) → length bytes ≤ 16 → ring_holds (ring_of bytes) ≡ true
@@ -73,24 +69,19 @@ ring_of-holds bytes h =
 -- whether there are any
 none : (n : ℕ) → (min n 16 == 0) ≡ (n == 0)
 none zero = refl
-none (suc n) = cc (ne_eqb (min (suc n) 16) 0 (λ e. omega arith), ne_eqb (suc n) 0 (λ e. omega arith))
+none (suc n) = grind arith
 
 firsts-empty : (n : ℕ) (f : ℕ → ℕ) → is_empty (firsts (min n 16) f) ≡ (n == 0)
 firsts-empty n f = cc (length-map-range_with_len f 0 (min n 16), none n)
 
 pub stored-empty : (array : Counted) (ring : Ring) → is_empty (stored_bytes array ring) ≡ is_unused array ring
-stored-empty array ring =
-    elim (array.count == 0) as (λ b. is_empty (counted_bytes array) ≡ b → is_empty (cond b (ring_bytes ring) (counted_bytes array)) ≡ (b && (ring.number == 0)))
-    [ true ↦ λ e. firsts-empty ring.number (λ i. byte_of ring.elements ((ring.head + i) % 16)) | false ↦ λ e. e ]
-    (firsts-empty array.count (byte_of array.bytes))
+stored-empty array ring = grind (arith, is_empty, firsts-empty)
 
 firsts-short : (n : ℕ) (f : ℕ → ℕ) → length (firsts (min n 16) f) ≤ 16
-firsts-short n f = rw (length-map-range_with_len f 0 (min n 16)) (min-le_right n 16)
+firsts-short n f = grind (arith, length-map-range_with_len)
 
 pub stored-short : (array : Counted) (ring : Ring) → length (stored_bytes array ring) ≤ 16
-stored-short array ring =
-    cond_both (array.count == 0) (ring_bytes ring) (counted_bytes array) (λ bytes. length bytes ≤ 16)
-    (λ _. firsts-short ring.number (λ i. byte_of ring.elements ((ring.head + i) % 16))) (λ _. firsts-short array.count (byte_of array.bytes))
+stored-short array ring = grind (arith, firsts-short)
 
 -- bytes
 pub byte_of-lt : (bytes : List ℕ) (i : ℕ) → AreBytes bytes → byte_of bytes i < 256
@@ -112,12 +103,9 @@ stored-bytes array ring a r =
 held-place : (head i : ℕ) → head ≤ 15 → i < 16 → ((head + i) % 16 + 16 - head) % 16 ≡ i
 held-place head i h l = omega arith
 
-place-held : (head place : ℕ) → head ≤ 15 → place < 16 → (head + (place + 16 - head) % 16) % 16 ≡ place
-place-held head place h l = omega arith
-
 pub holds_what_it_gives : HoldsWhatItGives
 holds_what_it_gives ring place h m l = (
-  λ held. (behind_head ring place, held, place-held ring.head place h l),
+  λ held. (behind_head ring place, held, (omega arith)),
   λ given.
       let within : given.0 < 16 = (let few = given.1 in omega arith) in
       let same : behind_head ring place ≡ given.0 = rw (← given.2) (held-place ring.head given.0 h within) in
@@ -137,7 +125,7 @@ ring-kinds k low high = bytes_within (field_kinds ++ U8 ∷ I8 ∷ replicate 34 
 
 -- the number in a cell that is a byte
 pub byte-at : (cells : List ℤ) → AreOf (kinds 4) cells → (place : ℕ) → place < 84 → kind_at (kinds 4) place ≡ U8 → number_at cells place < 256
-byte-at cells all place l e = number-lt U8 (cell_at cells place) (subst (λ kind. InRange kind (cell_at cells place)) e (all.in_range place (omega arith)))
+byte-at cells all place l e = grind (arith, number-lt)
 
 -- a run of bytes, within the arrays or the rings
 pub in_arrays : (cells : List ℤ) (place count : ℕ) → AreOf (kinds 4) cells → RX_COUNT ≤ place → place + count ≤ TIMEOUT_AT → AreBytesIn cells place count
@@ -172,7 +160,7 @@ fifos-back _ = refl
 pub fcr-saved : (level : ℕ) (fifos : Option Trigger) → (is_some fifos ≡ true → 2 ≤ level)
     → ((fcr_number fifos == 0) || (nat_le 2 level && (fcr_number fifos % 64 == 1))) ≡ true
 fcr-saved level None h = refl
-fcr-saved level (Some trigger) h = or_right (fcr_number (Some trigger) == 0) _ (and_from _ _ (le-leb 2 level (h refl)) (on_bit trigger))
+fcr-saved level (Some trigger) h = grind (arith, or_right, and_from, on_bit)
 
 pub unused-saved : (fifos : Option Trigger) (held waiting : List ℕ) → cond (fcr_number fifos == 0) (is_empty (fifo_bytes fifos held) && is_empty (fifo_bytes fifos waiting)) ((single_byte fifos held == 0) && (single_byte fifos waiting == 0)) ≡ true
 unused-saved None held waiting = refl
@@ -191,14 +179,13 @@ single-none (Some trigger) [] = refl
 single-none _ (x ∷ bytes) = rw (not_empty x bytes)
 
 same-self : (b : Bool) → same b b ≡ true
-same-self true = refl
-same-self false = refl
+same-self b = grind arith
 
 pub status-saved : (fifos : Option Trigger) (held waiting : List ℕ) (ready empty : Bool) → ready ≡ not (is_empty held) → empty ≡ is_empty waiting
     → cond (fcr_number fifos == 0) ((ready || (single_byte fifos held == 0)) && (not empty || (single_byte fifos waiting == 0)))
     (same ready (not (is_empty (fifo_bytes fifos held))) && same empty (is_empty (fifo_bytes fifos waiting))) ≡ true
-status-saved None held waiting ready empty r e = rw (r, e) (and_from _ _ (single-none None held) (single-none None waiting))
-status-saved (Some trigger) held waiting ready empty r e = rw (on trigger, r, e) (and_from _ _ (same-self (not (is_empty held))) (same-self (is_empty waiting)))
+status-saved None held waiting ready empty r e = grind (arith, and_from, single-none)
+status-saved (Some trigger) held waiting ready empty r e = grind (arith, on, and_from, same-self, is_empty)
 
 pub moment-back : (now : ℕ) (runs : Bool) (timeout : Option ℕ) → now ≤ LAST_MOMENT → IsTimeout now runs timeout → moment_of (moment_number timeout) ≡ timeout
 moment-back now runs None h t = refl
@@ -206,21 +193,20 @@ moment-back now runs (Some moment) h t = rw (ne_eqb moment NEVER (λ e. omega ar
 
 pub shift-back : (now : ℕ) (shift : Option Shift) → now ≤ LAST_MOMENT → IsShift now shift → shift_of (shift_number shift) (due_number shift) ≡ shift
 shift-back now None h s = refl
-shift-back now (Some shift) h s = rw (ne_eqb shift.due NEVER (λ e. omega arith))
+shift-back now (Some shift) h s = grind arith
 
 pub shift-saved : (now : ℕ) (shift : Option Shift) (idle empty : Bool) → now ≤ LAST_MOMENT → IsShift now shift → (is_some shift ≡ false → empty ≡ true)
     → idle ≡ (empty && not (is_some shift))
     → (same idle (due_number shift == NEVER) && cond idle (empty && (shift_number shift == 0))
     (nat_lt now (due_number shift) && nat_le (due_number shift) (now + LONGEST_CHARACTER))) ≡ true
 shift-saved now None idle empty h s i e = rw (e, i refl)
-shift-saved now (Some shift) idle empty h s i e = rw (e, and-false empty, ne_eqb shift.due NEVER (λ e. omega arith))
-    (and_from _ _ (lt-ltb now shift.due s.later) (le-leb shift.due _ s.in_time))
+shift-saved now (Some shift) idle empty h s i e = grind (arith, and-false, and_from)
 
 -- a timeout that runs exactly when it may
 timeout_at : (now : ℕ) (runs : Bool) (timeout : Option ℕ) → now ≤ LAST_MOMENT → IsTimeout now runs timeout
     → cond runs (not (moment_number timeout == NEVER) && nat_le (moment_number timeout) (now + longest_timeout)) (moment_number timeout == NEVER) ≡ true
 timeout_at now runs None h t = rw t
-timeout_at now runs (Some moment) h t = rw (t.runs_now, ne_eqb moment NEVER (λ e. omega arith)) (le-leb moment _ t.in_time)
+timeout_at now runs (Some moment) h t = grind arith
 
 pub runs-same : (fifos : Option Trigger) (held : List ℕ)
     → (not (fcr_number fifos == 0) && not (is_empty (fifo_bytes fifos held))) ≡ (is_some fifos && not (is_empty held))
@@ -236,37 +222,28 @@ timeout-saved level now fifos held timeout h t = rw (runs-same fifos held) (time
 -- the FIFOs of a list, in the counted array or in the ring
 module _ (set : ℕ) (fifos : Option Trigger) (bytes : List ℕ) where
   pub fifo-short : IsShort (is_some fifos) bytes → length (fifo_bytes fifos bytes) ≤ 16
-  fifo-short = elim fifos as (λ f. IsShort (is_some f) bytes → length (fifo_bytes f bytes) ≤ 16) [ None ↦ λ s. omega arith | Some trigger ↦ λ s. s.short ]
+  fifo-short = grind (arith, is_some)
 
   pub array-short : IsShort (is_some fifos) bytes → length (in_array set fifos bytes) ≤ 16
-  array-short s = elim (nat_le 4 set) as (λ b. length (cond b [] (fifo_bytes fifos bytes)) ≤ 16) [ true ↦ omega arith | false ↦ fifo-short s ]
+  array-short s = grind (arith, fifo-short)
 
   pub ring-short : IsShort (is_some fifos) bytes → length (in_ring set fifos bytes) ≤ 16
-  ring-short s = elim (nat_le 4 set) as (λ b. length (cond b (fifo_bytes fifos bytes) []) ≤ 16) [ true ↦ fifo-short s | false ↦ omega arith ]
+  ring-short s = grind (arith, fifo-short)
 
   pub unused-at : is_unused (counted_of (in_array set fifos bytes)) (ring_of (in_ring set fifos bytes)) ≡ is_empty (fifo_bytes fifos bytes)
-  unused-at = let held = fifo_bytes fifos bytes in
-      elim (nat_le 4 set) as (λ b. is_unused (counted_of (cond b [] held)) (ring_of (cond b held [])) ≡ is_empty held)
-      [ true ↦ refl | false ↦ and-true (is_empty held) ]
+  unused-at = grind (arith, is_empty, and-true)
 
   pub once-at : is_stored_once (counted_of (in_array set fifos bytes)) (ring_of (in_ring set fifos bytes)) ≡ true
-  once-at = let held = fifo_bytes fifos bytes in
-      elim (nat_le 4 set) as (λ b. is_stored_once (counted_of (cond b [] held)) (ring_of (cond b held [])) ≡ true)
-      [ true ↦ refl | false ↦ or-true (is_empty held) ]
+  once-at = grind (arith, or-true, is_empty)
 
   pub stored-at : IsShort (is_some fifos) bytes
       → stored_bytes (counted_of (in_array set fifos bytes)) (ring_of (in_ring set fifos bytes)) ≡ fifo_bytes fifos bytes
-  stored-at s = at (nat_le 4 set) (fifo_bytes fifos bytes) (fifo-short s) where
-    at : (b : Bool) (list : List ℕ) → length list ≤ 16 → stored_bytes (counted_of (cond b [] list)) (ring_of (cond b list [])) ≡ list
-    at true list h = ring-back list h
-    at false [] h = refl
-    at false (x ∷ list) h = rw (not_empty x list) (counted-back (x ∷ list) h)
+  stored-at s = grind (arith, fifo-short, ring-back, not_empty, counted-back)
 
 -- ---- the whole port
 
 implied : (a b : Bool) → (a ≡ true → b ≡ true) → (not a || b) ≡ true
-implied true b h = h refl
-implied false b h = refl
+implied a b h = grind arith
 
 module _ (set now : ℕ) (port : Port) (early : now ≤ LAST_MOMENT) (sound : IsSound now port) where
   abbrev lsr : IsStatus (lsr_of port) (not (is_empty port.receiver.held)) port.receiver.overrun (is_empty port.transmitter.waiting)

@@ -1,10 +1,10 @@
 -- The bytes that leave, and their order.
-use Rattle.dev_serial.proofs.Facade.{◌≡◌, ℕ, ◌+◌, ◌<◌, ◌≤◌, Bool, true, false, cond, List, ◌∷◌, ◌++◌, length, Some, None, refl, sym, ap, ◌∙◌, arith, []}
-use Rattle.dev_serial.proofs.Facade.{append_assoc, append-nil, get_or, suc, ◌-◌, Option, not, ◌&&◌, nat_tests, nat_le, remove, nat_lt, is_some, leb-true}
-use Rattle.dev_serial.proofs.Facade.{le-leb, eqb-true, not-false, map-append, length-map, ReceiverState, timetable, departures, gone, staying, holding, arrived}
-use Rattle.dev_serial.proofs.Facade.{on_line, looped_in, bytes_of, run_until, gone_by, pending_of, queued, loaded, Mode, Shift, is_empty, thr_written, advanced}
-use Rattle.dev_serial.proofs.Facade.{character_time, Port, Event, Writes, Advances, after, after_all, left_in, left_in_all, accepted_in, accepted_in_all}
-use Rattle.dev_serial.proofs.Facade.{replaces, pending, SendsInOrder, ReplacesOne, LeavesForLine}
+use Rattle.dev_serial.proofs.Facade.{◌≡◌, ℕ, ◌+◌, ◌<◌, ◌≤◌, Bool, true, false, cond, List, ◌∷◌, ◌++◌, length, Some, None, refl}
+use Rattle.dev_serial.proofs.Facade.{sym, ap, ◌∙◌, arith, [], append_assoc, append-nil, get_or, suc, ◌-◌, Option, not, ◌&&◌, nat_tests, nat_le}
+use Rattle.dev_serial.proofs.Facade.{remove, nat_lt, is_some, leb-true, le-leb, not-false, map-append, length-map, ReceiverState, timetable, departures, gone}
+use Rattle.dev_serial.proofs.Facade.{staying, holding, arrived, on_line, looped_in, bytes_of, run_until, gone_by, pending_of, queued, loaded, Mode, Shift}
+use Rattle.dev_serial.proofs.Facade.{is_empty, thr_written, advanced, character_time, Port, Event, Writes, Advances, after, after_all, left_in, left_in_all}
+use Rattle.dev_serial.proofs.Facade.{accepted_in, accepted_in_all, replaces, pending, SendsInOrder, ReplacesOne, LeavesForLine}
 use Rattle.dev_serial.specs.Transmit.{byte_of}
 
 -- ---- one byte at a time
@@ -23,22 +23,18 @@ bytes_of-timetable character due (byte ∷ bytes) = rw (bytes_of-timetable chara
 
 bytes_on_line : (looped : Bool) (byte : ℕ) (bytes line : List ℕ)
     → (line ++ cond looped [] (byte ∷ [])) ++ cond looped [] bytes ≡ line ++ cond looped [] (byte ∷ bytes)
-bytes_on_line true byte bytes line = simp append-nil
-bytes_on_line false byte bytes line = simp append_assoc
+bytes_on_line looped byte bytes line = grind (arith, nat_tests, append-nil, append_assoc)
 
 none_on_line : (looped : Bool) (line : List ℕ) → line ++ cond looped [] [] ≡ line
-none_on_line true line = append-nil line
-none_on_line false line = append-nil line
+none_on_line looped line = grind (arith, nat_tests, append-nil)
 
 looped_more : (looped : Bool) (mode : Mode) (shift : Shift) (later : List Shift) (receiver : ReceiverState) → cond looped (arrived mode (shift ∷ later) receiver) receiver ≡ cond looped (arrived mode later (cond looped (arrived mode (shift ∷ []) receiver) receiver)) (cond looped (arrived mode (shift ∷ []) receiver) receiver)
 unfolding arrived
-looped_more true mode shift later receiver = refl
-looped_more false mode shift later receiver = refl
+looped_more looped mode shift later receiver = grind (arith, nat_tests)
 
 pub looped_none : (looped : Bool) (mode : Mode) (receiver : ReceiverState) → cond looped (arrived mode [] receiver) receiver ≡ receiver
 unfolding arrived
-looped_none true mode receiver = refl
-looped_none false mode receiver = refl
+looped_none looped mode receiver = grind (arith, nat_tests)
 
 module _ (mode : Mode) (to : ℕ) (shift : Shift) where
   -- the byte in the shift register is not due
@@ -53,11 +49,11 @@ module _ (mode : Mode) (to : ℕ) (shift : Shift) where
     stays-left whole waiting e = rw (e, not_yet shift.due to h, bytes_of-timetable mode.character (shift.due + mode.character) waiting)
 
     pub stays-line : (whole line waiting : List ℕ) → whole ≡ line ++ on_line mode (gone to (departures mode.character (Some shift) waiting)) → line ≡ whole
-    stays-line whole line waiting e = sym (e ∙ rw (none-gone waiting) (none_on_line mode.is_looped line))
+    stays-line whole line waiting e = grind (arith, none-gone, none_on_line)
 
     pub stays-looped : (whole receiver : ReceiverState) (waiting : List ℕ)
         → whole ≡ looped_in mode (gone to (departures mode.character (Some shift) waiting)) receiver → receiver ≡ whole
-    stays-looped whole receiver waiting e = sym (e ∙ rw (none-gone waiting) (looped_none mode.is_looped mode receiver))
+    stays-looped whole receiver waiting e = grind (arith, none-gone, looped_none)
 
   -- it is due
   module _ (h : shift.due ≤ to) where
@@ -93,12 +89,10 @@ module _ (mode : Mode) (to : ℕ) (shift : Shift) where
     moves-left whole (x ∷ xs) rest next n r e l = e ∙ rw (due_by shift.due to h, n, r)
 
     pub moves-line : (whole line longer waiting rest : List ℕ) (next : ℕ) → next ≡ get_or waiting 0 next → rest ≡ remove waiting 0 → longer ≡ line ++ on_line mode (shift ∷ []) → whole ≡ line ++ on_line mode (gone to (departures mode.character (Some shift) waiting)) → 0 < length waiting → whole ≡ longer ++ on_line mode (gone to (departures mode.character (Some (record { byte = next; due = shift.due + mode.character })) rest))
-    moves-line whole line longer waiting rest next n r is e l =
-        e ∙ rw (gone-next waiting rest next l n r, is) (sym (bytes_on_line mode.is_looped shift.byte _ line))
+    moves-line whole line longer waiting rest next n r is e l = grind (arith, gone-next, bytes_on_line)
 
     pub moves-looped : (whole receiver after : ReceiverState) (waiting rest : List ℕ) (next : ℕ) → next ≡ get_or waiting 0 next → rest ≡ remove waiting 0 → after ≡ looped_in mode (shift ∷ []) receiver → whole ≡ looped_in mode (gone to (departures mode.character (Some shift) waiting)) receiver → 0 < length waiting → whole ≡ looped_in mode (gone to (departures mode.character (Some (record { byte = next; due = shift.due + mode.character })) rest)) after
-    moves-looped whole receiver after waiting rest next n r is e l =
-        e ∙ rw (gone-next waiting rest next l n r, is) (looped_more mode.is_looped mode shift _ receiver)
+    moves-looped whole receiver after waiting rest next n r is e l = grind (arith, gone-next, looped_more)
 
 -- ---- timetables, and what leaves by them
 
@@ -115,8 +109,7 @@ gone-staying to (shift ∷ later) = by_test (gone-staying to later) (nat_le shif
 staying-step : (a b : ℕ) (shift : Shift) (later : List Shift) (t : Bool) → nat_le shift.due a ≡ t → a ≤ b → staying b (staying a later) ≡ staying b later
     → staying b (cond t (staying a later) (shift ∷ later)) ≡ cond (nat_le shift.due b) (staying b later) (shift ∷ later)
 unfolding staying
-staying-step a b shift later true e h rest = let l = leb-true shift.due a e in rw (le-leb shift.due b (omega arith)) rest
-staying-step a b shift later false e h rest = refl
+staying-step a b shift later t e h rest = grind (arith, nat_tests, leb-true, le-leb)
 
 -- up to one moment and then up to a later one is up to the later one
 pub staying-twice : (a b : ℕ) (shifts : List Shift) → a ≤ b → staying b (staying a shifts) ≡ staying b shifts
@@ -126,8 +119,7 @@ staying-twice a b (shift ∷ later) h = staying-step a b shift later (nat_le shi
 
 gone-step : (a b : ℕ) (shift : Shift) (later : List Shift) (t : Bool) → nat_le shift.due a ≡ t → a ≤ b → gone a later ++ gone b (staying a later) ≡ gone b later → cond t (shift ∷ gone a later) [] ++ gone b (cond t (staying a later) (shift ∷ later)) ≡ cond (nat_le shift.due b) (shift ∷ gone b later) []
 unfolding gone
-gone-step a b shift later true e h rest = let l = leb-true shift.due a e in rw (le-leb shift.due b (omega arith)) (rw rest)
-gone-step a b shift later false e h rest = refl
+gone-step a b shift later t e h rest = grind (arith, nat_tests, leb-true, le-leb)
 
 pub gone-twice : (a b : ℕ) (shifts : List Shift) → a ≤ b → gone a shifts ++ gone b (staying a shifts) ≡ gone b shifts
 unfolding gone staying
@@ -156,7 +148,7 @@ departures-table character due (byte ∷ bytes) = rw (bytes_of-timetable charact
 
 departures-holding : (character : ℕ) (shifts : List Shift) → IsTable character shifts
     → departures character (holding shifts).shift (holding shifts).waiting ≡ shifts
-departures-holding character shifts t = rw (t.table) (departures-table character t.due t.bytes)
+departures-holding character shifts t = grind (arith, departures-table)
 
 -- the bytes to send after a moment are the rest of the timetable
 pub departures-later : (character to : ℕ) (shift : Option Shift) (waiting : List ℕ) → departures character (run_until character to shift waiting).shift (run_until character to shift waiting).waiting ≡ staying to (departures character shift waiting)
@@ -181,7 +173,7 @@ run-twice character a b (Some shift) waiting h =
     cc (run-holding character b (staying a (timetable character shift.due (shift.byte ∷ waiting))) (staying-table character a shift.due (shift.byte ∷ waiting)), staying-twice a b (timetable character shift.due (shift.byte ∷ waiting)) h)
 
 pub gone_by-twice : (character a b : ℕ) (shift : Option Shift) (waiting : List ℕ) → a ≤ b → gone_by character a shift waiting ++ gone_by character b (run_until character a shift waiting).shift (run_until character a shift waiting).waiting ≡ gone_by character b shift waiting
-gone_by-twice character a b shift waiting h = rw (departures-later character a shift waiting) (gone-twice a b (departures character shift waiting) h)
+gone_by-twice character a b shift waiting h = grind (arith, departures-later, gone-twice)
 
 -- no more bytes wait than before
 length-staying : (to : ℕ) (shifts : List Shift) → length (staying to shifts) ≤ length shifts
@@ -238,7 +230,7 @@ pending-append (Some shift) xs ys = refl
 
 pub none_left : (bytes : List ℕ) → is_empty bytes ≡ true → bytes ≡ []
 none_left [] e = refl
-none_left (byte ∷ bytes) e = let h = eqb-true (length (byte ∷ bytes)) 0 e in absurd (omega arith)
+none_left (byte ∷ bytes) e = grind arith
 
 queued-accepted : (has_fifos : Bool) (byte : ℕ) (waiting : List ℕ) → (not has_fifos && not (is_empty waiting)) ≡ false
     → queued has_fifos byte waiting ≡ waiting ++ cond (has_fifos && not (nat_lt (length waiting) 16)) [] (byte ∷ [])

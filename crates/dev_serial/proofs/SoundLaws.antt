@@ -12,7 +12,7 @@ use Rattle.dev_serial.specs.{declared.fifo.TheConstants.FIFO_BYTES}
 -- ---- each step of a part
 
 pub not_empty : (byte : ℕ) (bytes : List ℕ) → is_empty (byte ∷ bytes) ≡ false
-not_empty byte bytes = ne_eqb (length (byte ∷ bytes)) 0 (λ e. omega arith)
+not_empty byte bytes = grind arith
 
 pub AreBytes-push : (bytes : List ℕ) (byte : ℕ) → AreBytes bytes → byte < 256 → AreBytes (bytes ++ byte ∷ [])
 AreBytes-push [] byte h b = (b, tt)
@@ -26,8 +26,7 @@ many-full : (bytes : List ℕ) → 16 ≤ length bytes → is_empty bytes ≡ fa
 many-full bytes h = ne_eqb (length bytes) 0 (λ e. omega arith)
 
 bit-one : (b : Bool) → bits_where b 1 ≤ 1
-bit-one true = omega arith
-bit-one false = omega arith
+bit-one b = grind arith
 
 pub character-longest : (divisor lcr : ℕ) → divisor < 65536 → character_time divisor lcr ≤ LONGEST_CHARACTER
 unfolding character_time
@@ -93,14 +92,7 @@ module _ (now at character : ℕ) (looped : Bool) (early : at ≤ now) (quick : 
       → IsReceiver now level on (taken_at (mode_at character on (nat_le 3 level) looped) at held receiver).1
   unfolding taken_at
   taken-held level on [] receiver e s = s
-  taken-held level on (byte ∷ rest) receiver e s =
-      let short = rw e at s.short in
-      let bytes = rw e at s.bytes in
-      record {
-        short = record { short = let h = short.short in omega arith; one = λ f. let h = short.one f in omega arith };
-        bytes = bytes.1;
-        timeout = taken-timeout on (nat_le 3 level) byte rest receiver.timeout (rw e at s.timeout);
-      }
+  taken-held level on (byte ∷ rest) receiver e s = search (arith, taken-timeout)
 
 -- the receiver without its bytes, with FIFOs or not
 pub emptied-sound : (now level : ℕ) (on : Bool) (receiver : ReceiverState) → IsReceiver now level on (emptied receiver)
@@ -136,13 +128,7 @@ loaded-sound : (now due : ℕ) (on : Bool) (shift : Option Shift) (waiting : Lis
 unfolding loaded
 loaded-sound now due on (Some shift) waiting l h s b t = record { short = s; bytes = b; shift = t; idle = λ e. cc; latched = λ e. e }
 loaded-sound now due on None [] l h s b t = record { short = s; bytes = b; shift = tt; idle = λ e. refl; latched = λ e. e }
-loaded-sound now due on None (byte ∷ rest) l h s b t = record {
-  short = record { short = let k = s.short in omega arith; one = λ f. let k = s.one f in omega arith };
-  bytes = b.1;
-  shift = record { byte = b.0; later = l; in_time = h };
-  idle = λ e. cc;
-  latched = λ e. e;
-}
+loaded-sound now due on None (byte ∷ rest) l h s b t = search arith
 
 pub thr-sound : (now character byte : ℕ) (on latch : Bool) (transmitter : TransmitterState) → 1 ≤ character → character ≤ LONGEST_CHARACTER → byte < 256 → IsTransmitter now on transmitter latch → IsTransmitter now on (loaded (now + character) transmitter.shift (queued on byte transmitter.waiting)) (is_empty (loaded (now + character) transmitter.shift (queued on byte transmitter.waiting)).waiting)
 thr-sound now character byte on latch transmitter p q b s =
@@ -193,19 +179,15 @@ unfolding run_until departures
 run-sound character now to None waiting q l s b i = record { shift = tt; bytes = b; idle = i }
 run-sound character now to (Some shift) waiting q l s b i = holding-sound character to shift.due (shift.byte ∷ waiting) q (omega arith) (s.byte, b)
 
-stays_short : (on : Bool) (few many : List ℕ) → length few ≤ length many → IsShort on many → IsShort on few
-stays_short on few many h s = record { short = let k = s.short in omega arith; one = λ f. let k = s.one f in omega arith }
-
 latched : (end before latch : Bool) → (latch ≡ true → end ≡ true) → cond (end && not before) true latch ≡ true → end ≡ true
-latched true before latch h e = refl
-latched false before latch h e = h e
+latched end before latch h e = grind arith
 
 pub advance-transmitter : (character now to : ℕ) (on latch : Bool) (transmitter : TransmitterState) → character ≤ LONGEST_CHARACTER → now ≤ to → IsTransmitter now on transmitter latch → IsTransmitter to on (run_until character to transmitter.shift transmitter.waiting) (cond (is_empty (run_until character to transmitter.shift transmitter.waiting).waiting && not (is_empty transmitter.waiting)) true latch)
 advance-transmitter character now to on latch transmitter q l s =
     let few = fewer character to transmitter.shift transmitter.waiting in
     let holds = run-sound character now to transmitter.shift transmitter.waiting q l s.shift s.bytes s.idle in
     record {
-      short = stays_short on _ transmitter.waiting few s.short;
+      short = record { short = let k = s.short.short in omega arith; one = λ f. let k = s.short.one f in omega arith };
       bytes = holds.bytes;
       shift = holds.shift;
       idle = holds.idle;
@@ -249,10 +231,9 @@ advance-receiver character now to level on false shift waiting receiver q l h b 
 -- a byte waits then
 queued-filled : (has_fifos : Bool) (byte : ℕ) (waiting : List ℕ) → is_empty (queued has_fifos byte waiting) ≡ false
 unfolding queued
-queued-filled false byte waiting = refl
-queued-filled true byte [] = refl
 queued-filled true byte (first ∷ rest) =
     either (λ bytes. is_empty bytes ≡ false) (nat_lt (length (first ∷ rest)) FIFO_BYTES) _ _ (not_empty first (rest ++ byte ∷ [])) (not_empty first rest)
+queued-filled _ byte _ = refl
 
 loaded-busy : (due : ℕ) (shift : Option Shift) (waiting : List ℕ) → is_some shift ≡ true
     → loaded due shift waiting ≡ record { waiting = waiting; shift = shift }
@@ -267,8 +248,7 @@ record Queues (divisor latch busy : Bool) : Type 0 where
   is_busy : busy ≡ true
 
 parts : (divisor latch busy : Bool) → not (divisor || latch || not busy) ≡ true → Queues divisor latch busy
-parts false false true e = record { divisor_off = refl; latch_off = refl; is_busy = refl }
-parts _ _ _ e = cc
+parts divisor latch busy e = grind arith
 
 -- the port after the write
 pub queue-written : (byte now : ℕ) (port : Port) → queues port ≡ true
@@ -278,7 +258,7 @@ queue-written byte now port e =
     let q = parts (has port.lcr 7) port.thr_empty (is_some port.transmitter.shift) e in
     let waiting = queued (is_some port.fifos) byte port.transmitter.waiting in
     let filled : is_empty waiting ≡ false = queued-filled (is_some port.fifos) byte port.transmitter.waiting in
-    rw (q.divisor_off, loaded-busy _ port.transmitter.shift waiting q.is_busy, filled, q.latch_off) refl
+    rw (q.divisor_off, loaded-busy _ port.transmitter.shift waiting q.is_busy, filled, q.latch_off)
 
 -- the transmitter alone drives no line
 pub queue-line : (now : ℕ) (transmitter : TransmitterState) (port : Port) → line_of now (record port { transmitter = transmitter }) ≡ line_of now port

@@ -1,16 +1,16 @@
 -- A span in two parts, and a span in which no byte is due.
-use Rattle.dev_serial.proofs.Facade.{◌≡◌, ℕ, ◌+◌, ◌<◌, ◌≤◌, Bool, true, false, cond, List, ◌∷◌, ◌++◌, length, Some, None, refl, sym, ap, ◌∙◌, arith, Option, []}
-use Rattle.dev_serial.proofs.Facade.{not, ◌&&◌, le-leb, lt-leb, eqb-true, eq-eqb, map-append, le-max_right, le-div, ReceiverState, TransmitterState, timetable}
-use Rattle.dev_serial.proofs.Facade.{departures, gone, staying, holding, arrived, on_line, bytes_of, run_until, gone_by, IsSentAfter, Mode, Shift}
-use Rattle.dev_serial.proofs.Facade.{is_empty, advanced, leaving, has, character_time, Port, mode_of, received, AdvancesInParts, WaitsUntilDue, LoopsAtMoment}
-use Rattle.dev_serial.specs.Transmit.{byte_of}
+use Rattle.dev_serial.proofs.Facade.{◌≡◌, ℕ, ◌+◌, ◌<◌, ◌≤◌, Bool, true, cond, List, ◌∷◌, ◌++◌, length, Some, None, refl, sym}
+use Rattle.dev_serial.proofs.Facade.{ap, ◌∙◌, arith, Option, [], not, ◌&&◌, le-leb, lt-leb, map-append, le-max_right, le-div, ReceiverState}
+use Rattle.dev_serial.proofs.Facade.{TransmitterState, timetable, departures, gone, staying, holding, arrived, on_line, bytes_of, run_until, gone_by}
+use Rattle.dev_serial.proofs.Facade.{IsSentAfter, Mode, Shift, is_empty, advanced, leaving, has, character_time, Port, mode_of, received, AdvancesInParts}
+use Rattle.dev_serial.proofs.Facade.{WaitsUntilDue, LoopsAtMoment}
 use Rattle.dev_serial.proofs.SendingLaws.{bytes_of-timetable, looped_none, run-twice, gone_by-twice, fewer}
+use Rattle.dev_serial.specs.Transmit.{byte_of}
 
 -- the bytes of two spans, one after the other
 on_line-append : (mode : Mode) (looped : Bool) (xs ys : List Shift)
     → cond looped [] (bytes_of (xs ++ ys)) ≡ cond looped [] (bytes_of xs) ++ cond looped [] (bytes_of ys)
-on_line-append mode true xs ys = refl
-on_line-append mode false xs ys = map-append byte_of xs ys
+on_line-append mode looped xs ys = grind (arith, map-append, byte_of)
 
 arrived-append : (mode : Mode) (xs ys : List Shift) (receiver : ReceiverState) → arrived mode (xs ++ ys) receiver ≡ arrived mode ys (arrived mode xs receiver)
 unfolding arrived
@@ -18,25 +18,22 @@ arrived-append mode [] ys receiver = refl
 arrived-append mode (shift ∷ xs) ys receiver = arrived-append mode xs ys (received mode shift.byte shift.due receiver)
 
 looped-append : (mode : Mode) (looped : Bool) (xs ys : List Shift) (receiver : ReceiverState) → cond looped (arrived mode (xs ++ ys) receiver) receiver ≡ cond looped (arrived mode ys (cond looped (arrived mode xs receiver) receiver)) (cond looped (arrived mode xs receiver) receiver)
-looped-append mode true xs ys receiver = arrived-append mode xs ys receiver
-looped-append mode false xs ys receiver = refl
+looped-append mode looped xs ys receiver = grind (arith, arrived-append)
 
 -- the latch over two spans
 latch-twice : (before between end latch : Bool) → (before ≡ true → between ≡ true) → (between ≡ true → end ≡ true)
     → cond (end && not between) true (cond (between && not before) true latch) ≡ cond (end && not before) true latch
-latch-twice true between end latch p q = rw (p refl, q (p refl))
-latch-twice false true end latch p q = rw (q refl)
-latch-twice false false end latch p q = refl
+latch-twice before between end latch p q = grind arith
 
 pub stays_empty : (few many : List ℕ) → length few ≤ length many → is_empty many ≡ true → is_empty few ≡ true
-stays_empty few many h e = let z = eqb-true (length many) 0 e in eq-eqb (length few) 0 (omega arith)
+stays_empty few many h e = grind arith
 
 -- a port with what a span changes
 outcome : Port → List ℕ → ReceiverState → TransmitterState → Bool → List ℕ × Port
 outcome port line receiver transmitter latch = (line, record port { receiver = receiver; transmitter = transmitter; thr_empty = latch })
 
 same_outcome : (port : Port) (line line' : List ℕ) (receiver receiver' : ReceiverState) (transmitter transmitter' : TransmitterState) (latch latch' : Bool) → line ≡ line' → receiver ≡ receiver' → transmitter ≡ transmitter' → latch ≡ latch' → outcome port line receiver transmitter latch ≡ outcome port line' receiver' transmitter' latch'
-same_outcome port line line' receiver receiver' transmitter transmitter' latch latch' l r t h = rw (l, r, t, h) refl
+same_outcome port line line' receiver receiver' transmitter transmitter' latch latch' l r t h = rw (l, r, t, h)
 
 module _ (first second : ℕ) (port : Port) (h : first ≤ second) where
   abbrev character : ℕ
@@ -81,26 +78,18 @@ stays : (to : ℕ) (shift : Shift) (character : ℕ) (waiting : List ℕ) → to
 unfolding run_until departures timetable staying holding
 stays to shift character waiting h = rw (lt-leb shift.due to h, bytes_of-timetable character (shift.due + character) waiting)
 
-stays-whole : (to : ℕ) (shift : Shift) (character : ℕ) (transmitter : TransmitterState) → transmitter.shift ≡ Some shift → to < shift.due
-    → run_until character to transmitter.shift transmitter.waiting ≡ transmitter
-stays-whole to shift character transmitter e h =
-    ap (λ s. run_until character to s transmitter.waiting) e ∙ stays to shift character transmitter.waiting h
-    ∙ ap (λ s. let t : TransmitterState = record { waiting = transmitter.waiting; shift = s } in t) (sym e)
-
 no_line : (looped : Bool) → cond {A = List ℕ} looped [] [] ≡ []
-no_line true = refl
-no_line false = refl
+no_line looped = grind arith
 
 no_change : (empty latch : Bool) → cond (empty && not empty) true latch ≡ latch
-no_change true latch = refl
-no_change false latch = refl
+no_change empty latch = grind arith
 
 pub waits_until_due : WaitsUntilDue
 unfolding advanced arrived outcome
 waits_until_due to port shift e h =
     let none : leaving to port ≡ [] = rw e (waits to shift (character_time port.divisor port.lcr) port.transmitter.waiting h) in
     let still : run_until (character_time port.divisor port.lcr) to port.transmitter.shift port.transmitter.waiting ≡ port.transmitter =
-    stays-whole to shift (character_time port.divisor port.lcr) port.transmitter e h in
+    grind (arith, stays) in
     same_outcome port _ [] _ port.receiver _ port.transmitter _ port.thr_empty (rw none (no_line (has port.mcr 4)))
     (rw none (looped_none (has port.mcr 4) (mode_of port) port.receiver))
     still (rw still (no_change (is_empty port.transmitter.waiting) port.thr_empty))
@@ -109,7 +98,7 @@ idle : (to : ℕ) (port : Port) → port.transmitter.shift ≡ None → advanced
 unfolding advanced departures gone run_until arrived outcome
 idle to port e =
     let character = character_time port.divisor port.lcr in
-    let none : leaving to port ≡ [] = rw e refl in
+    let none : leaving to port ≡ [] = rw e in
     let same : run_until character to port.transmitter.shift port.transmitter.waiting ≡ port.transmitter = rw (e, sym e) in
     same_outcome port _ [] _ port.receiver _ port.transmitter _ port.thr_empty (rw none (no_line (has port.mcr 4)))
     (rw none (looped_none (has port.mcr 4) (mode_of port) port.receiver))
@@ -121,7 +110,7 @@ still-by (Some shift) to port e h = waits_until_due to port shift e h
 
 -- nothing leaves before it is due
 pub still : (to : ℕ) (port : Port) → IsSentAfter to port.transmitter.shift → advanced to port ≡ ([], port)
-still to port h = still-by port.transmitter.shift to port refl h
+still to port h = grind (arith, still-by)
 
 pub character-positive : (divisor lcr : ℕ) → 1 ≤ character_time divisor lcr
 unfolding character_time

@@ -1,8 +1,8 @@
 -- Worked listings.
-use Rattle.vms_analyze.proofs.{DevicesRead.not_told, Texts.last_place}
-use Rattle.vms_analyze.proofs.Facade.{◌≡◌, ℕ, zero, suc, true, not, ◌==◌, List, [], ◌∷◌, ◌++◌, get_or, take, drop, Some, None, pos, refl, arith, codes}
-use Rattle.vms_analyze.proofs.Facade.{list_all, and_parts, eq-eqb, digits, is_utf8, chars, devices_in, next, serde_json_on_literals, code, U64, Image, trailer}
-use Rattle.vms_analyze.proofs.Facade.{value_in, Sent, ToldDevice, told_tree, is_good_device, Lines, Differs, wants, found, Refused, Lists, HasNone, HasNoShape}
+use Rattle.vms_analyze.proofs.{DevicesRead.not_told, Texts.last_place, Facade.HasNone, Facade.HasNoShape}
+use Rattle.vms_analyze.proofs.Facade.{◌≡◌, ℕ, zero, suc, true, not, ◌==◌, List, [], ◌∷◌, ◌++◌, get_or, take, drop, Some, None, pos, refl}
+use Rattle.vms_analyze.proofs.Facade.{arith, codes, list_all, and_parts, eq-eqb, digits, is_utf8, chars, devices_in, next, serde_json_on_literals, code, U64}
+use Rattle.vms_analyze.proofs.Facade.{Image, trailer, value_in, Sent, ToldDevice, told_tree, is_good_device, Lines, Differs, wants, found, Refused, Lists}
 use Rattle.vms_analyze.specs.declared.fault.AnalyzeReason.TheVariants as reasons
 
 abbrev timer : List Image
@@ -17,37 +17,23 @@ smallest mark =
 abbrev says_timer : List ToldDevice
 says_timer = record { name = codes "timer"; instance = 0; version = 1; elements = Sent (codes "now") U64 ∷ []; subs = [] } ∷ []
 
--- its description has one number
-reads_the_description : value_in
-    (codes "{\"devices\":[{\"fields\":[{\"name\":\"now\",\"size\":8,\"type\":\"u64\"}],\"instance_id\":0,\"name\":\"timer\",\"subsections\":[],\"version\":1}]}")
-    ≡ Some (told_tree says_timer)
-unfolding serde_json_on_literals is_utf8 chars
-reads_the_description = refl
+record ListingRows : Type 0 where
+  -- its description has one number
+  reads_the_description : value_in
+      (codes "{\"devices\":[{\"fields\":[{\"name\":\"now\",\"size\":8,\"type\":\"u64\"}],\"instance_id\":0,\"name\":\"timer\",\"subsections\":[],\"version\":1}]}")
+      ≡ Some (told_tree says_timer)
+  is_of_the_shape : list_all is_good_device says_timer ≡ true
+  lists_the_smallest_stream : found (wants says_timer) 0 0 (smallest 0x7e) ≡ Lines (codes "section timer 0 v1" ∷ codes "now = 0" ∷ [])
+  refuses_another_footer : found (wants says_timer) 0 0 (smallest 0x7f) ≡ Differs 35
+  -- the end mark isn't the last byte
+  refuses_more_bytes : found (wants says_timer) 0 0 (smallest 0x7e ++ 0 ∷ []) ≡ Differs 41
+  refuses_fewer_bytes : found (wants says_timer) 0 0 (take 39 (smallest 0x7e)) ≡ Differs 35
+  -- the stream head is two units
+  refuses_another_version : found (wants says_timer) 0 0 (0x51 ∷ 0x45 ∷ 0x56 ∷ 0x4d ∷ 0 ∷ 0 ∷ 0 ∷ 2 ∷ []) ≡ Differs 4
 
-is_of_the_shape : list_all is_good_device says_timer ≡ true
-is_of_the_shape = refl
-
-lists_the_smallest_stream : found (wants says_timer) 0 0 (smallest 0x7e) ≡ Lines (codes "section timer 0 v1" ∷ codes "now = 0" ∷ [])
-unfolding digits code
-lists_the_smallest_stream = refl
-
-refuses_another_footer : found (wants says_timer) 0 0 (smallest 0x7f) ≡ Differs 35
-unfolding digits code
-refuses_another_footer = refl
-
--- the end mark isn't the last byte
-refuses_more_bytes : found (wants says_timer) 0 0 (smallest 0x7e ++ 0 ∷ []) ≡ Differs 41
-unfolding digits code
-refuses_more_bytes = refl
-
-refuses_fewer_bytes : found (wants says_timer) 0 0 (take 39 (smallest 0x7e)) ≡ Differs 35
-unfolding digits code
-refuses_fewer_bytes = refl
-
--- the stream head is two units
-refuses_another_version : found (wants says_timer) 0 0 (0x51 ∷ 0x45 ∷ 0x56 ∷ 0x4d ∷ 0 ∷ 0 ∷ 0 ∷ 2 ∷ []) ≡ Differs 4
-unfolding digits code
-refuses_another_version = refl
+listing_rows : ListingRows
+unfolding serde_json_on_literals is_utf8 chars digits code
+listing_rows = search
 
 no_six : (input : List ℕ) → list_all (λ b. not (b == 6)) input ≡ true → (p : ℕ) → get_or input p 0 ≡ 6 → ⊥
 no_six [] e p m = absurd (omega arith)

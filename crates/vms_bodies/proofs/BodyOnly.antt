@@ -56,7 +56,7 @@ filler_taken filler r p n len e = rw (front_long n filler r p.rest e len, front_
 
 -- no byte at all
 pub none_taken : (p : Progress) → take_slot (Filler 0) p ≡ Ok p
-none_taken p = filler_taken [] p.rest p 0 refl refl ∙ rw (add-zero p.place) refl
+none_taken p = grind (arith, filler_taken)
 
 -- ---- what is still to be taken
 
@@ -208,7 +208,7 @@ pick_long n xs i (x ∷ cells) = ap suc (pick_long n xs (suc i) cells)
 pick_from : (n : List ℤ) (xs : List Slot) (i j : ℕ) (cells : List Cell) (c : ℕ) → i + c ≡ j → c < length cells
     → get_or (pick n xs i cells) c (pos 0) ≡ (if has_cell xs j then get_or n j (pos 0) else (get_or cells c no_cell).default)
 pick_from n xs i j [] c e lt = absurd (omega arith)
-pick_from n xs i j (x ∷ cells) zero e lt = let same : i ≡ j = omega arith in rw same refl
+pick_from n xs i j (x ∷ cells) zero e lt = grind arith
 pick_from n xs i j (x ∷ cells) (suc c) e lt = pick_from n xs (suc i) j cells c (omega arith) (omega arith)
 
 -- another list has the same number, if it has at each cell and is no longer than the cells
@@ -223,18 +223,17 @@ picks n m xs cells c long h =
 -- if the same cells are named, the same is picked
 pick_same : (n : List ℤ) (xs ys : List Slot) (cells : List Cell) (c : ℕ) → has_cell xs c ≡ has_cell ys c
     → get_or (pick n xs 0 cells) c (pos 0) ≡ get_or (pick n ys 0 cells) c (pos 0)
-pick_same n xs ys cells c e = picks n _ xs cells c (pick_long n ys 0 cells) (λ lt. rw e (sym (pick_from n ys 0 c cells c (omega arith) lt)))
+pick_same n xs ys cells c e = grind (arith, picks, pick_long, pick_from)
 
 -- what is not named is at its default
 pick_default : (n : List ℤ) (xs : List Slot) (cells : List Cell) (c : ℕ) → has_cell xs c ≡ false
     → get_or (pick n xs 0 cells) c (pos 0) ≡ get_or (map (λ (x : Cell). x.default) cells) c (pos 0)
-pick_default n xs cells c e = picks n _ xs cells c (defaults_long cells) (λ lt. rw e (sym (defaults_at cells c)))
+pick_default n xs cells c e = grind (arith, picks, defaults_long, defaults_at)
 
 -- if what isn't picked is at its default, the numbers are picked as they are
 pick_all : (n : List ℤ) (xs : List Slot) (cells : List Cell) (c : ℕ) → length n ≡ length cells
     → (c < length n → has_cell xs c ≡ false → get_or n c (pos 0) ≡ (get_or cells c no_cell).default) → get_or (pick n xs 0 cells) c (pos 0) ≡ get_or n c (pos 0)
-pick_all n xs cells c long h = picks n n xs cells c long (λ lt.
-    ⊎_elim (λ (e : has_cell xs c ≡ true). rw e refl) (λ (e : has_cell xs c ≡ false). rw e (sym (h (omega arith) e))) (cases_Bool (has_cell xs c)))
+pick_all n xs cells c long h = grind (arith, picks)
 
 -- what a subsection that is spelled has
 pub record IsSub (set : Set) (d : Device) (image : Image) (j w : ℕ) (front : List ℕ) : Type 0 where
@@ -271,7 +270,7 @@ module _ (set : Set) (d : Device) (image : Image) where
   image_at came = record { version = image.version; came = came; numbers = so_far came }
 
   so_long : (came : List (Option ℕ)) → length (so_far came) ≡ length (device_cells set d)
-  so_long came = pick_long image.numbers (own ++ parts came) 0 (device_cells set d)
+  so_long came = grind (arith, pick_long, own, parts)
 
   module _ (normal : IsNormal set d image) where
     -- a region in which no other part has a cell

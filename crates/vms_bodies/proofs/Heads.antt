@@ -24,7 +24,7 @@ big_from_take i zero xs m le = refl
 big_from_take i (suc k) xs m le = rw (get_or-take m xs i 0 (omega arith), (big_from_take (suc i) k xs m (omega arith))) refl
 
 pub split_four : (xs : List ℕ) → IsBytes xs → 4 ≤ length xs → xs ≡ be32 (big_number 4 xs) ++ drop 4 xs
-split_four xs ok long = cc (take-append-drop 4 xs, again U32 (take 4 xs) (length-take-le 4 xs long) (bytes_first 4 xs ok), big_from_take 0 4 xs 4 (omega arith))
+split_four xs ok long = grind (arith, again, big_from_take)
 
 pub four_at : (k after : ℕ) (rest : List ℕ) → IsBytes rest → after ≡ k + 4 → after ≤ length rest → drop k rest ≡ be32 (number_at 4 k rest) ++ drop after rest
 four_at k after rest ok e le =

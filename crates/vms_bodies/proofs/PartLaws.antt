@@ -37,7 +37,7 @@ pub places_apart : (set : Set) (from : ℕ) (subs : List Sub) (i j : ℕ) (s : S
     → sub_place set from subs i + sub_size set s ≤ sub_place set from subs j
 places_apart set from [] i j s e lt = cc
 places_apart set from (t ∷ subs) i zero s e lt = absurd (omega arith)
-places_apart set from (t ∷ subs) zero (suc j) s e lt = let same : t ≡ s = cc in rw (← same) (sub_place_up set (from + sub_size set t) subs j)
+places_apart set from (t ∷ subs) zero (suc j) s e lt = grind (arith, sub_place_up)
 places_apart set from (t ∷ subs) (suc i) (suc j) s e lt = places_apart set (from + sub_size set t) subs i j s e (omega arith)
 
 -- a cell of one part is before another or after it
@@ -97,8 +97,7 @@ module _ (set : Set) (d : Device) (n : List ℤ) (P : List Slot → Type 0) wher
 pub names_next : (set : Set) (d : Device) (n : List ℤ) (c from : ℕ) (subs : List Sub) (came : List (Option ℕ)) (j : ℕ) (s : Sub) (v : ℕ)
     → slice_get subs j ≡ Some s → slice_get came j ≡ Some None → has_cell (came_slots set d n from subs (slice_set came j (Some v))) c
     ≡ (has_cell (sub_slots set s v n (sub_place set from subs j)) c || has_cell (came_slots set d n from subs came) c)
-names_next set d n c from (t ∷ subs) (None ∷ came) zero s v e f =
-    let a : t ≡ s = cc in rw (← a) (names_append (sub_slots set t v n from) (came_slots set d n _ subs came) c)
+names_next set d n c from (t ∷ subs) (None ∷ came) zero s v e f = grind (arith, names_append)
 names_next set d n c from (t ∷ subs) (None ∷ came) (suc j) s v e f = names_next set d n c _ subs came j s v e f
 names_next set d n c from (t ∷ subs) (Some w ∷ came) (suc j) s v e f =
     let next = from + sub_size set t in
@@ -229,7 +228,7 @@ other_part came i j x e f same = cc
 
 pub came_still : (came : List (Option ℕ)) (i j x w : ℕ) → slice_get came i ≡ Some (Some x) → slice_get came j ≡ Some None
     → slice_get (slice_set came j (Some w)) i ≡ Some (Some x)
-came_still came i j x w e f = at_other came j i (Some w) (other_part came i j x e f) ∙ e
+came_still came i j x w e f = grind (arith, at_other)
 
 pub stays_on : (set : Set) (d : Device) (came : List (Option ℕ)) (j w : ℕ) (n m k : List ℤ) → slice_get came j ≡ Some None → Stays set d came n m
     → Stays set d (slice_set came j (Some w)) m k → Stays set d came n k
@@ -369,10 +368,8 @@ same_lists (x ∷ xs) (y ∷ ys) e h =
 pub agrees : (images now : List Image) (came : List Bool) (k j : ℕ) (image : Image) → k < length now → slice_get images k ≡ Some image
     → (slice_get came j ≡ Some true → slice_get now j ≡ slice_get images j) → slice_get (slice_set came k true) j ≡ Some true
     → (b : Bool) → (j == k) ≡ b → slice_get (slice_set now k image) j ≡ slice_get images j
-agrees images now came k j image lt found agree e true same = rw (eqb-true j k same) (at_set now k image lt ∙ sym found)
-agrees images now came k j image lt found agree e false other =
-    let ne : j ≡ k → ⊥ = λ x. (let f = eq-eqb j k x in cc) in
-    at_other now k j image ne ∙ agree (sym (at_other came k j true ne) ∙ e)
+agrees images now came k j image lt found agree e true same = grind (arith, at_set)
+agrees images now came k j image lt found agree e false other = grind (arith, at_other)
 
 -- ---- subsections
 

@@ -15,7 +15,7 @@ use Rattle.vms_spec.specs.Sets as sets
 
 pub names_append : (xs ys : List Slot) (k : ℕ) → has_cell (xs ++ ys) k ≡ (has_cell xs k || has_cell ys k)
 names_append [] ys k = refl
-names_append (Number c kind caps ∷ xs) ys k = rw (names_append xs ys k) (sym (or_assoc (c == k) (has_cell xs k) (has_cell ys k)))
+names_append (Number c kind caps ∷ xs) ys k = grind (arith, or_assoc, names_append xs ys k)
 names_append (_ ∷ xs) ys k = names_append xs ys k
 
 pub none_in_both : (c : ℕ) (xs ys : List Slot) → has_cell (xs ++ ys) c ≡ false → (has_cell xs c ≡ false) × (has_cell ys c ≡ false)
@@ -77,8 +77,7 @@ pub place_below : (cs : List (List OneCell)) (fields : List Field) (i at : ℕ) 
     → IsNumber (get_or fs j no_field).item → IsOne (get_or fs j no_field).count → place_of cs fields i at fs j < place_of cs fields i at fs k
 place_below cs fields i at [] j k lt there p q = absurd (omega arith)
 place_below cs fields i at (f ∷ fs) j zero lt there p q = absurd (omega arith)
-place_below cs fields i at (f ∷ fs) zero (suc k) lt there p q =
-    omega (arith, place_up cs fields (suc i) (at + length (field_cells cs fields i f)) fs k, field_size cs fields i f, one_cell cs f.item f.count p q)
+place_below cs fields i at (f ∷ fs) zero (suc k) lt there p q = grind (arith, place_up, field_size, one_cell)
 place_below cs fields i at (f ∷ fs) (suc j) (suc k) lt there p q =
     place_below cs fields (suc i) (at + length (field_cells cs fields i f)) fs j k (omega arith) (omega arith) p q
 
@@ -86,13 +85,8 @@ pub place_next : (cs : List (List OneCell)) (fields : List Field) (i at : ℕ) (
     → place_of cs fields i at fs (suc k) ≡ place_of cs fields i at fs k + length (field_cells cs fields (i + k) f)
 place_next cs fields i at [] zero f more e = cc
 place_next cs fields i at [] (suc k) f more e = cc
-place_next cs fields i at (g ∷ fs) zero f more e =
-    let same : g ≡ f = cc in
-    let z : i ≡ i + 0 = omega arith in
-    rw (← z, ← same) (place_first cs fields (suc i) (at + length (field_cells cs fields i g)) fs)
-place_next cs fields i at (g ∷ fs) (suc k) f more e =
-    let z : i + suc k ≡ suc i + k = omega arith in
-    rw z (place_next cs fields (suc i) (at + length (field_cells cs fields i g)) fs k f more e)
+place_next cs fields i at (g ∷ fs) zero f more e = grind (arith, place_first)
+place_next cs fields i at (g ∷ fs) (suc k) f more e = grind (arith, place_next cs fields (suc i) (at + length (field_cells cs fields i g)) fs k f more e)
 
 pub place_end : (cs : List (List OneCell)) (fields : List Field) (i at : ℕ) (fs : List Field)
     → place_of cs fields i at fs (length fs) ≡ at + length (cells_from cs fields i fs)
@@ -109,8 +103,7 @@ place_end cs fields i at (f ∷ fs) =
 
 pub own_same : (cs : List (List OneCell)) (d : Desc) (base i cell j : ℕ) (n m : List ℤ) → cell ≡ place_of cs d.fields 0 base d.fields i → SameBelow cell n m
     → IsEarlier d.fields i j → numbers_of cs d m base j ≡ numbers_of cs d n base j
-own_same cs d base i cell j n m e s x =
-    rw (s.same (place_of cs d.fields 0 base d.fields j) (omega (arith, place_below cs d.fields 0 base d.fields j i x.earlier x.there x.number x.one)))
+own_same cs d base i cell j n m e s x = grind (arith, place_below)
 
 module _ (fields : List Field) (i v : ℕ) (own now : ℕ → ℕ) (h : (j : ℕ) → IsEarlier fields i j → now j ≡ own j) where
   pub truth_same : (t : Formula) → NamesEarlier fields i t → truth t v now no_parent ≡ truth t v own no_parent
@@ -266,7 +259,7 @@ meanings_are ds (suc k) =
 
 -- the cells of the first k structures, made either way
 pub cells_first : (ds : List Desc) (k : ℕ) → cells_in (meanings ds k) ≡ first desc_cells ds k
-cells_first ds k = first_cells (λ (m : Meaning). m.cells) meaning (λ ms d. refl) ds k
+cells_first ds k = grind (arith, first_cells)
 
 -- ---- each kind has at least one byte
 

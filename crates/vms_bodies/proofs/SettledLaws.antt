@@ -23,8 +23,7 @@ in_less low base cell end n k up le s = record { same = λ c h lt. s.same c (ome
 
 pub own_in : (cs : List (List Cell)) (d : Desc) (base i cell j : ℕ) (n m : List ℤ) → cell ≡ place_of cs d.fields 0 base d.fields i → SameIn base cell n m
     → IsEarlier d.fields i j → numbers_of cs d m base j ≡ numbers_of cs d n base j
-own_in cs d base i cell j n m e s x =
-    rw (s.same _ (place_up cs d.fields 0 base d.fields j) (omega (arith, place_below cs d.fields 0 base d.fields j i x.earlier x.there x.number x.one)))
+own_in cs d base i cell j n m e s x = grind (arith, place_up, place_below)
 
 pub record MeansSettled (m : Meaning) : Type 0 where
   pub means : (at low end : ℕ) (n k : List ℤ) → low ≤ at → at + length m.cells ≤ end → SameIn low end n k → m.slots k at ≡ m.slots n at
@@ -133,7 +132,7 @@ fits_agree n k (_ ∷ xs) h f = fits_agree n k xs h f
 -- a named cell is one of these
 pub named_inside : (all : List Cell) (xs : List Slot) (c : ℕ) → AreCells all xs → has_cell xs c ≡ true → c < length all
 named_inside all [] c a e = cc
-named_inside all (Number k kind caps ∷ xs) c a e = either_of (k == c) _ e (λ t. let f = eqb-true k c t in omega arith) (named_inside all xs c a.1)
+named_inside all (Number k kind caps ∷ xs) c a e = grind (arith, named_inside all xs c a.1)
 named_inside all (_ ∷ xs) c a e = named_inside all xs c a e
 
 pub skip_long : (n : ℕ) (cells : List Cell) → length (replicate n no_cell ++ cells) ≡ n + length cells

@@ -110,7 +110,7 @@ module _ (set : Set) where
   in_device (Some d) (Some j) path c h = in_sub d j path c (slice_get d.subs j) refl h
 
   pub cell_inside : (k : ℕ) (part : Option ℕ) (path : List (ℕ × ℕ)) (c : ℕ) → cell_at set k part path ≡ Some c → c < cell_count set k
-  cell_inside k part path c h = in_device (slice_get set.devices k) part path c h
+  cell_inside k part path c h = grind (arith, in_device)
 
 -- ---- the tests of readiness are the relations: numbers
 
@@ -124,7 +124,7 @@ pub is_same : (z u : ℤ) → z ≡ u → same_number z u ≡ true
 is_same z u e = rw (← e) (same_number_itself z)
 
 pub ranged : (kind : Kind) (z : ℤ) → InRange kind z → in_range kind z ≡ true
-ranged kind z h = and_from _ _ (below_int (lowest kind) z h.0) (below_int z (highest kind) h.1)
+ranged kind z h = grind (arith, and_from, below_int, lowest)
 
 pub counted_well : (caps : List ℕ) (z : ℤ) → AllByRecursion (λ most. z ≤ℤ pos most) caps → counts_well caps z ≡ true
 counted_well [] z h = refl
@@ -230,7 +230,7 @@ module _ (set : Set) (d : Device) (image : Image) where
   are_needed j [] (o ∷ came) h = cc
   are_needed j (s ∷ subs) [] h = absurd h
   are_needed j (s ∷ subs) (None ∷ came) h = and_from _ _ (not_from_false _ h.0) (are_needed (suc j) subs came h.1)
-  are_needed j (s ∷ subs) (Some v ∷ came) h = and_from _ _ (and_from _ _ h.0 (eq-eqb v s.desc.version h.1)) (are_needed (suc j) subs came h.2)
+  are_needed j (s ∷ subs) (Some v ∷ came) h = grind (arith, and_from, are_needed (suc j) subs came h.2)
 
   pub ready_decides : Decides (is_ready set d image) (IsReady set d image)
   ready_decides =

@@ -142,7 +142,7 @@ module _ (total : List ℤ → List Slot) (Holds : ℕ → List Slot → Progres
 
   pairs_cells : (ts : List Taker) (ms : List Meaning) → Pairs ts ms → map (λ (m : Meaning). m.cells) ms ≡ cells_of ts
   pairs_cells [] [] p = refl
-  pairs_cells (t ∷ ts) (m ∷ ms) p = let e = pairs_cells ts ms p.2 in let f : t.cells ≡ m.cells = p.0 in cc
+  pairs_cells (t ∷ ts) (m ∷ ms) p = grind (arith, pairs_cells ts ms p.2)
   pairs_cells _ _ p = absurd p
 
   pairs_append : (ts : List Taker) (ms : List Meaning) (t : Taker) (m : Meaning) → Pairs ts ms → (t.cells ≡ m.cells) → TakesSlots t m

@@ -37,92 +37,14 @@ n = number U8 (codes "n")
 abbrev v_of : ℕ → Field
 v_of most = record (number U16 (codes "v")) { count = Counted 0 most }
 
--- ---- the shipped sets
-
-refuses_a_newer_machine : compared set_3 set_1 ≡ mismatch 1 whole whole
-unfolding compared
-refuses_a_newer_machine = refl
-
-refuses_a_device_that_new_has_not : compared (record set_0 { machines = [] }) empty_set ≡ mismatch 2 device whole
-unfolding compared
-refuses_a_device_that_new_has_not = refl
-
-refuses_a_device_that_old_has_not : compared empty_set (record set_0 { machines = [] }) ≡ mismatch 3 whole device
-unfolding compared
-refuses_a_device_that_old_has_not = refl
-
--- ---- versions, fields, counts, kinds, tests, names
-
-refuses_a_newer_version : compared (box_at 3 (n ∷ []) [] []) (box_at 2 (n ∷ []) [] []) ≡ mismatch 4 device device
-unfolding compared first
-refuses_a_newer_version = refl
-
-refuses_a_field_that_new_has_not : compared (box_set (n ∷ number U8 (codes "m") ∷ []) [] []) (box_set (n ∷ []) [] []) ≡ mismatch 5 (field 1) device
-unfolding compared first
-refuses_a_field_that_new_has_not = refl
-
-refuses_one_for_an_array_of_one : compared (box_set (n ∷ []) [] []) (box_set (record n { count = Fixed 1 } ∷ []) [] []) ≡ mismatch 7 (field 0) (field 0)
-unfolding compared first
-refuses_one_for_an_array_of_one = refl
-
-refuses_another_kind : compared (box_set (n ∷ []) [] []) (box_set (number I8 (codes "n") ∷ []) [] []) ≡ mismatch 8 (field 0) (field 0)
-unfolding compared first
-refuses_another_kind = refl
-
-refuses_a_test_that_is_left_out : compared tested_set
-    (box_set (number U8 (codes "f") ∷ number U8 (codes "g") ∷ []) (Cell Own 0 255 Lt 10 ∷ []) []) ≡ mismatch 9 (field 1) (field 1)
-unfolding compared first
-refuses_a_test_that_is_left_out = refl
-
--- a version atom that holds is folded away
-accepts_a_test_that_holds_at_the_version : compared tested_set
-    (box_at 2 (number U8 (codes "f") ∷ record (number U8 (codes "g")) { test = Some (And (Below 2) (Cell Own 0 255 Eq 1)) } ∷ [])
-    (Cell Own 0 255 Lt 10 ∷ []) [])
-    ≡ None
-unfolding compared first
-accepts_a_test_that_holds_at_the_version = refl
-
-refuses_another_name : compared (box_set (n ∷ []) [] []) (box_set (number U8 (codes "m") ∷ []) [] []) ≡ mismatch 10 (field 0) (field 0)
-unfolding compared first
-refuses_another_name = refl
-
-refuses_a_smaller_capacity : compared (box_set (n ∷ v_of 4 ∷ []) [] []) counted_set ≡ mismatch 11 (field 1) (field 1)
-unfolding compared first
-refuses_a_smaller_capacity = refl
-
-refuses_an_absent_array_that_is_too_small : compared (box_set (n ∷ []) [] []) (box_at 2 (n ∷ record (v_of 2) { since = 2 } ∷ []) [] [])
-    ≡ mismatch 11 (field 0) (field 0)
-unfolding compared first
-refuses_an_absent_array_that_is_too_small = refl
-
 abbrev constant : ℕ → Set
 constant z = box_set (record n { item = Equal U8 (pos z) } ∷ []) [] []
-
-refuses_a_constant_of_another_number : compared (constant 1) (constant 2) ≡ mismatch 12 (field 0) (field 0)
-unfolding compared first
-refuses_a_constant_of_another_number = refl
-
--- ---- subsections and validations
-
-refuses_a_subsection_that_new_has_not : compared subsection_set (box_set (number U8 (codes "a") ∷ []) [] (sub_of (codes "box/p") (codes "x") 5 ∷ []))
-    ≡ mismatch 13 (here (parts.Sub 0 1)) device
-unfolding compared first
-refuses_a_subsection_that_new_has_not = refl
 
 abbrev old_sub : Sub
 old_sub = sub_of (codes "box/p") (codes "x") 5
 
 abbrev raised : Desc → Desc
 raised d = record d { version = 3; minimum = 2 }
-
-refuses_a_subsection_that_is_too_old : compared (box_set [] [] (old_sub ∷ [])) (box_set [] [] (record old_sub { desc = raised old_sub.desc } ∷ []))
-    ≡ mismatch 14 (here (parts.Sub 0 0)) (here (parts.Sub 0 0))
-unfolding compared first
-refuses_a_subsection_that_is_too_old = refl
-
-refuses_a_new_validation : compared (box_set (n ∷ []) [] []) (box_set (n ∷ []) (Cell Own 0 255 Lt 10 ∷ []) []) ≡ mismatch 15 device device
-unfolding compared first
-refuses_a_new_validation = refl
 
 -- ---- structures
 
@@ -138,12 +60,6 @@ y = record (number U8 (codes "y")) { since = 2 }
 abbrev with_point : Desc → Set
 with_point d = record (box_set (record (number U8 (codes "p")) { item = Struct 0 } ∷ []) [] []) { structs = d ∷ [] }
 
--- each side at its structure's own version
-refuses_a_structure_that_gained_a_field : compared (with_point (point 1 (x ∷ []))) (with_point (point 2 (x ∷ y ∷ [])))
-    ≡ mismatch 6 (here (parts.Struct 0)) (in_field (parts.Struct 0) 1)
-unfolding compared first
-refuses_a_structure_that_gained_a_field = refl
-
 -- ---- carried numbers
 
 abbrev two_numbers : Set
@@ -154,20 +70,47 @@ abbrev newer : Set
 newer = box_at 2 (record (number U8 (codes "c")) { former = codes "a" ∷ [] } ∷ record (number U8 (codes "gap")) { item = Unused 1 }
     ∷ record (number U16 (codes "d")) { since = 2; default = pos 300 } ∷ []) [] (old_sub ∷ [])
 
-accepts_a_newer_box : compared two_numbers newer ≡ None
-unfolding compared first
-accepts_a_newer_box = refl
+record ComparedRows : Type 0 where
+  -- the shipped sets
+  refuses_a_newer_machine : compared set_3 set_1 ≡ mismatch 1 whole whole
+  refuses_a_device_that_new_has_not : compared (record set_0 { machines = [] }) empty_set ≡ mismatch 2 device whole
+  refuses_a_device_that_old_has_not : compared empty_set (record set_0 { machines = [] }) ≡ mismatch 3 whole device
+  -- versions, fields, counts, kinds, tests, names
+  refuses_a_newer_version : compared (box_at 3 (n ∷ []) [] []) (box_at 2 (n ∷ []) [] []) ≡ mismatch 4 device device
+  refuses_a_field_that_new_has_not : compared (box_set (n ∷ number U8 (codes "m") ∷ []) [] []) (box_set (n ∷ []) [] []) ≡ mismatch 5 (field 1) device
+  refuses_one_for_an_array_of_one : compared (box_set (n ∷ []) [] []) (box_set (record n { count = Fixed 1 } ∷ []) [] []) ≡ mismatch 7 (field 0) (field 0)
+  refuses_another_kind : compared (box_set (n ∷ []) [] []) (box_set (number I8 (codes "n") ∷ []) [] []) ≡ mismatch 8 (field 0) (field 0)
+  refuses_a_test_that_is_left_out : compared tested_set
+      (box_set (number U8 (codes "f") ∷ number U8 (codes "g") ∷ []) (Cell Own 0 255 Lt 10 ∷ []) []) ≡ mismatch 9 (field 1) (field 1)
+  -- a version atom that holds is folded away
+  accepts_a_test_that_holds_at_the_version : compared tested_set
+      (box_at 2 (number U8 (codes "f") ∷ record (number U8 (codes "g")) { test = Some (And (Below 2) (Cell Own 0 255 Eq 1)) } ∷ [])
+      (Cell Own 0 255 Lt 10 ∷ []) [])
+      ≡ None
+  refuses_another_name : compared (box_set (n ∷ []) [] []) (box_set (number U8 (codes "m") ∷ []) [] []) ≡ mismatch 10 (field 0) (field 0)
+  refuses_a_smaller_capacity : compared (box_set (n ∷ v_of 4 ∷ []) [] []) counted_set ≡ mismatch 11 (field 1) (field 1)
+  refuses_an_absent_array_that_is_too_small : compared (box_set (n ∷ []) [] []) (box_at 2 (n ∷ record (v_of 2) { since = 2 } ∷ []) [] [])
+      ≡ mismatch 11 (field 0) (field 0)
+  refuses_a_constant_of_another_number : compared (constant 1) (constant 2) ≡ mismatch 12 (field 0) (field 0)
+  -- subsections and validations
+  refuses_a_subsection_that_new_has_not : compared subsection_set (box_set (number U8 (codes "a") ∷ []) [] (sub_of (codes "box/p") (codes "x") 5 ∷ []))
+      ≡ mismatch 13 (here (parts.Sub 0 1)) device
+  refuses_a_subsection_that_is_too_old : compared (box_set [] [] (old_sub ∷ [])) (box_set [] [] (record old_sub { desc = raised old_sub.desc } ∷ []))
+      ≡ mismatch 14 (here (parts.Sub 0 0)) (here (parts.Sub 0 0))
+  refuses_a_new_validation : compared (box_set (n ∷ []) [] []) (box_set (n ∷ []) (Cell Own 0 255 Lt 10 ∷ []) []) ≡ mismatch 15 device device
+  -- each side at its structure's own version
+  refuses_a_structure_that_gained_a_field : compared (with_point (point 1 (x ∷ []))) (with_point (point 2 (x ∷ y ∷ [])))
+      ≡ mismatch 6 (here (parts.Struct 0)) (in_field (parts.Struct 0) 1)
+  accepts_a_newer_box : compared two_numbers newer ≡ None
+  carries_shared_numbers : carried two_numbers newer (record { version = 1; came = []; numbers = pos 1 ∷ pos 2 ∷ [] } ∷ [])
+      ≡ record { version = 1; came = None ∷ []; numbers = pos 1 ∷ pos 300 ∷ pos 5 ∷ [] } ∷ []
+  carries_into_a_larger_array : carried counted_set (box_set (n ∷ v_of 4 ∷ []) [] [])
+      (record { version = 1; came = []; numbers = pos 1 ∷ pos 7 ∷ pos 0 ∷ [] } ∷ [])
+      ≡ record { version = 1; came = []; numbers = pos 1 ∷ pos 7 ∷ pos 0 ∷ pos 0 ∷ pos 0 ∷ [] } ∷ []
 
-carries_shared_numbers : carried two_numbers newer (record { version = 1; came = []; numbers = pos 1 ∷ pos 2 ∷ [] } ∷ [])
-    ≡ record { version = 1; came = None ∷ []; numbers = pos 1 ∷ pos 300 ∷ pos 5 ∷ [] } ∷ []
-unfolding carried first
-carries_shared_numbers = refl
-
-carries_into_a_larger_array : carried counted_set (box_set (n ∷ v_of 4 ∷ []) [] [])
-    (record { version = 1; came = []; numbers = pos 1 ∷ pos 7 ∷ pos 0 ∷ [] } ∷ [])
-    ≡ record { version = 1; came = []; numbers = pos 1 ∷ pos 7 ∷ pos 0 ∷ pos 0 ∷ pos 0 ∷ [] } ∷ []
-unfolding carried first
-carries_into_a_larger_array = refl
+compared_rows : ComparedRows
+unfolding compared first carried
+compared_rows = search
 
 -- ---- the shipped sets, each with every later one
 

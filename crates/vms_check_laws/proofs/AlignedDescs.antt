@@ -176,7 +176,7 @@ module _ (sides : Sides) where
         → body ++ r' ≡ zeroed numbers (OldSlots e ++ more_old) ++ r → Past p i e f es fs more_old more_new r r'
     past p i e f es fs more_old more_new st body r r' s h =
         let t = spells_split numbers' (NewSlots f) more_new body s in
-        let split = behind_first numbers (OldSlots e) more_old t.0 t.1 r r' (ap (λ l. l ++ r') (sym t.2) ∙ h) in
+        let split = behind_first numbers (OldSlots e) more_old t.0 t.1 r r' (rw (sym t.2) (h)) in
         record {
           front = t.0;
           rest = t.1;

@@ -234,7 +234,7 @@ module _ (sides : Sides) where
 -- ---- what well-formedness gives to the laws on pairs of sets
 
 both_true : (a b c d : Bool) → (a ≡ true → c ≡ true) → (b ≡ true → d ≡ true) → (a && b) ≡ true → (c && d) ≡ true
-both_true a b c d f g h = let p = and_parts a b h in and_from c d (f p.0) (g p.1)
+both_true a b c d f g h = grind (arith, and_from)
 
 names_more : (ok ok' : ℕ → Bool) (t : Formula) → ((i : ℕ) → ok i ≡ true → ok' i ≡ true) → names_well ok nobody t ≡ true → names_well ok' nobody t ≡ true
 names_more ok ok' (sets.Cell Own i mask rel value) more h = more i h
@@ -245,7 +245,7 @@ names_more ok ok' (Or s t) more h = both_true _ _ _ _ (names_more ok ok' s more)
 names_more ok ok' _ more h = refl
 
 earlier_steady : (d : Desc) (k i : ℕ) → is_earlier_in d k i ≡ true → is_steady_in d i ≡ true
-earlier_steady d k i h = (and_parts (nat_lt i k) (is_steady_in d i) h).1
+earlier_steady d k i h = grind arith
 
 test_named : (d : Desc) (k : ℕ) (t : Option Formula) → test_names_well d k t ≡ true → NamedRest (is_steady_in d) t
 test_named d k None h = tt

@@ -148,9 +148,7 @@ module _ (sides : Sides) (ok : ℕ → Bool) where
 
   pub rule_carries : compare_validations ks a b v w part part' o n ≡ None → RulesNamed ok b.validate → Agree o n ok (older sides) (newer sides)
       → Carries numbers (Rule (all_hold a.validate v (older sides)) ∷ []) numbers' (Rule (all_hold b.validate w (newer sides)) ∷ [])
-  rule_carries h named agree =
-      let every_is = (passes 15 (list_all (λ t. is_kept ks a b v w part part' o n (reduced w t)) b.validate) [] (here part) (here part') h).0 in
-      record { spells = refl; rules = λ h. (rules_hold _ named agree h.0 every_is, tt) }
+  rule_carries h named agree = search (arith, rules_hold)
 
 -- ---- whole descriptions
 
@@ -190,13 +188,7 @@ module _ {ks : List Comparer} {cs : List Carrier} {ms ns : List Meaning} {number
   new_same at' = let z : at' + 0 ≡ at' = omega arith in rw z at (slots_entries ns b.fields w (newer (sides at')) numbers' at' 0 0 b.fields)
 
   pub first_state : (at' : ℕ) → State (sides at') 0 0 es fs
-  first_state at' = record {
-    known = known;
-    known' = all_known ns b.fields w numbers' at';
-    above = present_above _ b.fields w 0 0 b.fields;
-    later = λ k j le place. place;
-    same = λ k j lt named place. absurd (omega arith);
-  }
+  first_state at' = search (arith, known, all_known, present_above)
 
   module _ (old : OldFields below own a.fields) (good : DescGood below' b) (fits : FitsAt (desc_cells (cells_in ms) a) numbers at) where
     module _ (none : compare_desc ks (cells_in ms) (cells_in ns) a b v w part part' ≡ None) where

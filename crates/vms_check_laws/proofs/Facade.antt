@@ -1,8 +1,8 @@
 -- The names of other crates, and of this crate's `specs`, that the proofs use.
 pub use Rattle.std.proofs.{Math.Bool.or-false, Math.Nat.eq-or-lt_of_le, lemmas.Int.ints, lemmas.Slice.Eq.bytes_eq-Decides, lemmas.Slice.Zip.AllZip-long}
-pub use Rattle.std.proofs.Common.{Bool, IfSome, List, None, Option, Some, [], ap, append_assoc, arith, false, get_or, if◌then◌else◌, inl, inr, length, map, min}
-pub use Rattle.std.proofs.Common.{nat_le, nat_lt, negsuc, pos, refl, replicate, slice_set, suc, sym, take, true, zero, ℕ, ℤ, ◌&&◌, ◌*◌, ◌++◌, ◌+◌, ◌-◌, ◌<◌}
-pub use Rattle.std.proofs.Common.{◌==◌, ◌||◌, ◌∙◌, ◌∷◌, ◌≡◌, ◌≤ℤ◌, ◌≤◌, ◌⊎◌}
+pub use Rattle.std.proofs.Common.{Bool, IfSome, List, None, Option, Some, [], ap, append_assoc, arith, false, get_or, if◌then◌else◌, inl, inr, length}
+pub use Rattle.std.proofs.Common.{map, min, nat_le, nat_lt, negsuc, pos, refl, replicate, slice_set, suc, sym, take, true, zero, ℕ, ℤ, ◌&&◌, ◌*◌}
+pub use Rattle.std.proofs.Common.{◌++◌, ◌+◌, ◌-◌, ◌<◌, ◌==◌, ◌||◌, ◌∙◌, ◌∷◌, ◌≡◌, ◌≤ℤ◌, ◌≤◌, ◌⊎◌}
 pub use Rattle.std.proofs.Math.Seq.{drop-append_seam, take-append_seam}
 pub use Rattle.std.proofs.lemmas.Bool.{and_from, and_parts, cases_eq, cases_lt, eq-eqb, eqb-true, false_from_ne_true, leb-true, ltb-true, or_parts}
 pub use Rattle.std.proofs.lemmas.List.{append-nil, ext_get_or, get_or-append-add, get_or_append_left, get_or_past, length-append, length-map, length-replicate}
@@ -40,17 +40,17 @@ pub use Rattle.vms_bodies.specs.{Cells.AreCells}
 pub use Rattle.vms_stream.proofs.Stated.{trailed}
 pub use Rattle.vms_stream.specs.Streams.{HasSection, IsSection, IsStream, SectionsSpell}
 pub use Rattle.vms_check.proofs.{PairLaws.passes, CapacityLaws.IfOpen, CapacityLaws.open_reduced, CapacityLaws.reduced_holds}
-pub use Rattle.vms_check.specs.{declared.mismatch.Mismatch.Mismatch, Comparing.same_constant, Comparing.same_count}
+pub use Rattle.vms_check.specs.{declared.mismatch.Mismatch.Mismatch, Comparing.position_from, Comparing.present, Comparing.present_from}
 pub use Rattle.vms_check.specs.Carrying.{Carrier, carried_at, carried_device, carried_sub, carrier_of, carriers, carry_desc, carry_field, carry_from}
 pub use Rattle.vms_check.specs.Carrying.{carry_item, carry_items, carry_next, carrying, default_field, defaults, entries_left, no_carrier, no_image, sub_came}
-pub use Rattle.vms_check.specs.Comparing.{same_item, same_kind, same_place, same_reduced, same_rest, same_test, Comparer, Compatible, Entry, absent_hold, bound}
-pub use Rattle.vms_check.specs.Comparing.{compare_desc, compare_device, compare_fields, compare_sub, compare_subs, compare_validations, comparer_of, comparers}
-pub use Rattle.vms_check.specs.Comparing.{comparing, entry_of, failing_pair, greatest, has_room, holds_as_much, is_covered, is_found, is_in, is_kept, least_of}
-pub use Rattle.vms_check.specs.Comparing.{names_match, no_comparer, pair_rules, pair_structs, paired_device, position_from, present, present_from}
+pub use Rattle.vms_check.specs.Comparing.{same_constant, same_count, same_item, same_kind, same_place, same_reduced, same_rest, same_test, Comparer, Compatible}
+pub use Rattle.vms_check.specs.Comparing.{Entry, absent_hold, bound, compare_desc, compare_device, compare_fields, compare_sub, compare_subs}
+pub use Rattle.vms_check.specs.Comparing.{compare_validations, comparer_of, comparers, comparing, entry_of, failing_pair, greatest, has_room, holds_as_much}
+pub use Rattle.vms_check.specs.Comparing.{is_covered, is_found, is_in, is_kept, least_of, names_match, no_comparer, pair_rules, pair_structs, paired_device}
 pub use Rattle.vms_check.specs.Partners.{Pairer, array_partners, desc_partners, field_partners, fields_left, item_partners, named_partners, no_pairer}
 pub use Rattle.vms_check.specs.Partners.{pairer_of, pairers, part_partners, partners_from, unpaired}
 pub use Rattle.vms_check.specs.Reducing.{Known, Open, Reduced, left_of, presence, reduced, truth_of}
 unfoldable pub use Rattle.vms_check.specs.{Carrying.carried, Comparing.first_mismatch, Partners.device_partners}
 pub use Rattle.vms_check_laws.specs.{Carried.IsAtVersions, Carried.IsCarried, CellLaws.CarriedLaw, Fronts.FrontAligns, Pairing.ArePartners, Positions.IsPartOf}
-pub use Rattle.vms_check_laws.specs.{Positions.IsRead, SubCells.IsCellOf, Laws.ArePaired, Laws.DeviceLaw, Laws.IsSaved, Laws.UpgradeLaw}
-pub use Rattle.vms_check_laws.specs.Segments.{Aligns, Carries, FitsAt, Holds}
+pub use Rattle.vms_check_laws.specs.{Positions.IsRead, SubCells.IsCellOf, Segments.Aligns, Segments.Carries, Segments.FitsAt, Segments.Holds}
+pub use Rattle.vms_check_laws.specs.Laws.{ArePaired, DeviceLaw, IsSaved, UpgradeLaw}

@@ -64,7 +64,7 @@ module _ (sides : Sides) where
   items_sized i j d (suc m) (suc most) k lt = grind (arith, length-append, item_sized, items_sized i j d m most (k + old_size i) lt)
 
   field_sized : (e : Entry) (i : ℕ) (f : Field) → ItemBelow below' f.item → length (one_field e f) ≡ length (cells_at i f)
-  field_sized e i f lt = cc (items_sized e.field.item f.item f.default _ _ _ lt, field_size (news sides) b.fields i f)
+  field_sized e i f lt = grind (arith, items_sized, field_size, news)
 
   next_sized : (i : ℕ) (g : Field) (pr : Option (Option Formula)) (es : List Entry) → ItemBelow below' g.item
       → length (next_field i g pr es) ≡ length (cells_at i g)
@@ -175,10 +175,7 @@ module _ (sides : Sides) where
       → FitsAt (item_cells (olds sides) i caps d) numbers x → Holds numbers' y (one_item i j d' x)
       → Reads numbers numbers' (item_slots ms i caps numbers x) (item_slots ns j caps' numbers' y) y (item_cells (news sides) j caps' d') (one_item i j d' x)
   item_reads (Num k) (Num l) caps caps' d d' x y pair constant fits held = number_reads _ k l caps caps' d' x y pair.same pair.same held
-  item_reads (Equal k z) (Equal l u) caps caps' d d' x y pair constant fits held = record {
-    carries = record { spells = ([], rw (same_number_is z u constant, kinds_same k l pair.same), refl); rules = λ h. h };
-    settled = settled_empty _ y [] [] refl;
-  }
+  item_reads (Equal k z) (Equal l u) caps caps' d d' x y pair constant fits held = search (arith, same_number_is, kinds_same, settled_empty)
   item_reads (Unused m) (Unused r) caps caps' d d' x y pair constant fits held = record {
     carries = carries_filler numbers numbers' _ r (filler_length numbers m ∙ eqb-true m r pair.same);
     settled = settled_empty _ y [] [] refl;
@@ -225,7 +222,7 @@ module _ (sides : Sides) where
         → elements_of c (older sides) ≡ elements_of d (newer sides)
     same_elements One One agree fits named same room = refl
     same_elements (Fixed p) (Fixed q) agree fits named same room = eqb-true p q same
-    same_elements (Counted by most) (Counted by' most') agree fits named same room = omega (arith, agree by by' named same, leb-true most most' room)
+    same_elements (Counted by most) (Counted by' most') agree fits named same room = grind arith
     same_elements _ _ agree fits named same room = absurd (cc)
 
     elements_room : (c d : Count) → same_count o n c d ≡ true → holds_as_much c d ≡ true → elements_of c (older sides) ≤ capacity_of d

@@ -1,14 +1,13 @@
 -- What is carried of a device, cell by cell.
-use Rattle.vms_check_laws.proofs.{PairDevices.or_split, PairDevices.Found, PairDevices.look_up, Facade.parts_together, Facade.CarriedLaw}
-use Rattle.vms_check_laws.proofs.Facade.{◌≡◌, ◌⊎◌, inl, inr, ℕ, ◌+◌, ◌-◌, ◌<◌, Bool, true, false, ◌||◌, List, ◌++◌, length}
-use Rattle.vms_check_laws.proofs.Facade.{get_or, Option, Some, None, ℤ, pos, refl, sym, ◌∙◌, arith, flat_map, slice_get, get_or_append_left}
-use Rattle.vms_check_laws.proofs.Facade.{get_or-append-add, or_parts, slice_get_within, length-append, ap, or-false, zero, suc, ◌∷◌, ext_get_or, [], Sub}
-use Rattle.vms_check_laws.proofs.Facade.{Device, Set, Cell, no_cell, desc_cells, device_cells, struct_cells, Image, has_cell, image_slots, own_slots, own_cells}
-use Rattle.vms_check_laws.proofs.Facade.{came_slots, sub_slots, sub_place, find_sub, WellFormed, names_append, none_in_both, its_below, its_in, sub_size}
-use Rattle.vms_check_laws.proofs.Facade.{sub_place_up, part_apart, defaults_at, defaults_long, device_parts, sub_clean, sub_found, defaults, carrying}
-use Rattle.vms_check_laws.proofs.Facade.{carried_sub, carried_device, IsCellOf, IsCarried, IsAtVersions, part_partners, named_partners, device_partners}
-use Rattle.vms_check_laws.proofs.GoesFields.{part_goes, below_of}
-use Rattle.vms_check_laws.proofs.PairDevices.{device_paired, one_sub, own_or_sub, StandsIn, all_long, part_in, part_number, stands_in, has_part, one_part}
+use Rattle.vms_check_laws.proofs.{PairDevices.has_part, PairDevices.one_part, Facade.device_partners, GoesFields.part_goes, GoesFields.below_of}
+use Rattle.vms_check_laws.proofs.Facade.{parts_together, CarriedLaw, ◌≡◌, ◌⊎◌, inl, inr, ℕ, ◌+◌, ◌-◌, ◌<◌, Bool, true, false}
+use Rattle.vms_check_laws.proofs.Facade.{◌||◌, List, ◌++◌, length, get_or, Option, Some, None, ℤ, pos, refl, sym, ◌∙◌, arith, flat_map}
+use Rattle.vms_check_laws.proofs.Facade.{slice_get, get_or_append_left, get_or-append-add, or_parts, slice_get_within, length-append, ap, or-false, zero, suc}
+use Rattle.vms_check_laws.proofs.Facade.{◌∷◌, ext_get_or, [], Sub, Device, Set, Cell, no_cell, desc_cells, device_cells, struct_cells, Image, has_cell}
+use Rattle.vms_check_laws.proofs.Facade.{image_slots, own_slots, own_cells, came_slots, sub_slots, sub_place, find_sub, WellFormed, names_append, none_in_both}
+use Rattle.vms_check_laws.proofs.Facade.{its_below, its_in, sub_size, sub_place_up, part_apart, defaults_at, defaults_long, device_parts, sub_clean, sub_found}
+use Rattle.vms_check_laws.proofs.Facade.{defaults, carrying, carried_sub, carried_device, IsCellOf, IsCarried, IsAtVersions, part_partners, named_partners}
+use Rattle.vms_check_laws.proofs.PairDevices.{or_split, Found, look_up, device_paired, one_sub, own_or_sub, StandsIn, all_long, part_in, part_number, stands_in}
 use Rattle.vms_check_laws.proofs.PairLists.{Goes, IsBehind, at_left, at_right, at_none, before_or_behind, behind_at}
 
 module _ (old new : Set) (good_old : WellFormed old) (good_new : WellFormed new) (i i' : ℕ) (d e : Device) (at_i : slice_get old.devices i ≡ Some d)
@@ -89,7 +88,7 @@ module _ (old new : Set) (good_old : WellFormed old) (good_new : WellFormed new)
 
   named_is : (s t : Sub) (l : ℕ) → slice_get e.subs l ≡ Some t → s.desc.name ≡ t.desc.name
       → named_partners old new e s ≡ part_partners old new s.desc.version s.desc t.desc (place' l)
-  named_is s t l at_l names = rw (names, sub_found new good_new i' l e t at_k at_l, at_l)
+  named_is s t l at_l names = grind (arith, sub_found)
 
   abbrev ps : List (Option ℕ)
   ps = part_partners old new d.desc.version d.desc e.desc 0

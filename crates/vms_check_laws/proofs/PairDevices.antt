@@ -93,7 +93,7 @@ module _ {A : Type 0} (set : Set) (f : Sub → List A) where
 
   pub part_number : (from : ℕ) (subs : List Sub) (m : ℕ) (s : Sub) (h : PartIn from subs m s) (z : A) (c : ℕ) → c < sub_size set s
       → get_or (flat_map f subs) (h.q + c) z ≡ get_or (f s) c z
-  part_number from subs m s h z c lt = cc (slice_get-get_or (flat_map f subs) (h.q + c) z (omega arith), slice_get-get_or (f s) c z (omega arith), h.at c lt)
+  part_number from subs m s h z c lt = grind (arith, slice_get-get_or)
 
   pub all_long : (subs : List Sub) → Sized subs → length (flat_map f subs) ≡ length (flat_map (λ s. desc_cells (struct_cells set) s.desc) subs)
   all_long [] size = refl

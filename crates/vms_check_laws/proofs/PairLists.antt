@@ -1,9 +1,9 @@
 -- Partners of cells among the cells from a place on; numbers that are in the bytes, or at their defaults.
-use Rattle.vms_check_laws.proofs.Facade.{◌≡◌, ◌⊎◌, inl, inr, ℕ, zero, suc, ◌+◌, ◌-◌, ◌<◌, ◌≤◌, List, ◌∷◌, ◌++◌, length, get_or, replicate, Option, Some, None}
-use Rattle.vms_check_laws.proofs.Facade.{refl, sym, ap, ◌∙◌, arith, slice_get, get_or_append_left, get_or-append-add, length-replicate, cases_lt, ℤ, pos}
-use Rattle.vms_check_laws.proofs.Facade.{true, length-append, length-map, Bool, if◌then◌else◌, [], false, or-false, or_parts}
-use Rattle.vms_check_laws.proofs.Facade.{false_from_ne_true, slice_get_within, Cell, no_cell, Kind, Item, Num, Slot, item_cells, has_cell, has_left}
-use Rattle.vms_check_laws.proofs.Facade.{has_right, defaults, names_append, defaults_at, defaults_long, either_of}
+use Rattle.vms_check_laws.proofs.Facade.{◌≡◌, ◌⊎◌, inl, inr, ℕ, zero, suc, ◌+◌, ◌-◌, ◌<◌, ◌≤◌, List, ◌∷◌, ◌++◌}
+use Rattle.vms_check_laws.proofs.Facade.{length, get_or, replicate, Option, Some, None, refl, sym, ap, ◌∙◌, arith, slice_get, get_or_append_left}
+use Rattle.vms_check_laws.proofs.Facade.{get_or-append-add, length-replicate, cases_lt, ℤ, pos, true, length-append, length-map, Bool, if◌then◌else◌}
+use Rattle.vms_check_laws.proofs.Facade.{[], false, or-false, or_parts, false_from_ne_true, slice_get_within, Cell, no_cell, Kind, Item, Num, Slot, item_cells}
+use Rattle.vms_check_laws.proofs.Facade.{has_cell, has_left, has_right, defaults, names_append, defaults_at, defaults_long, either_of}
 
 abbrev pub one_cell : Kind → List ℕ → ℤ → List Cell
 one_cell kind caps default = record { kind = kind; capacities = caps; default = default } ∷ []
@@ -42,7 +42,7 @@ at_left (x ∷ xs) ys zero lt = refl
 at_left (x ∷ xs) ys (suc c) lt = at_left xs ys c (omega arith)
 
 pub at_right : {A : Type 0} (xs ys : List A) (c : ℕ) → slice_get (xs ++ ys) (length xs + c) ≡ slice_get ys c
-at_right [] ys c = let z : 0 + c ≡ c = omega arith in ap (slice_get ys) z
+at_right [] ys c = grind arith
 at_right (x ∷ xs) ys c = grind (arith, at_right xs ys c)
 
 pub at_none : (n c k : ℕ) → slice_get (replicate n None) c ≡ Some (Some k) → ⊥
@@ -74,7 +74,7 @@ behind_at xs ys c b e = rw (b.is, at_right xs ys b.more) at e
 pub once_append : (p q : List (Option ℕ)) → IsOnce p → IsOnce q → Apart p q → IsOnce (p ++ q)
 once_append p q first second apart b c k e f = either (before_or_behind _ b) (before_or_behind _ c) where
   either : (b < length p) ⊎ IsBehind (length p) b → (c < length p) ⊎ IsBehind (length p) c → b ≡ c
-  either (inl lb) (inl lc) = first b c k (sym (at_left p q b lb) ∙ e) (sym (at_left p q c lc) ∙ f)
+  either (inl lb) (inl lc) = grind (arith, at_left)
   either (inl lb) (inr dc) = absurd (apart b c k lb dc e f)
   either (inr db) (inl lc) = absurd (apart c b k lc db f e)
   either (inr db) (inr dc) = omega (arith, second db.more dc.more k (behind_at p q b db e) (behind_at p q c dc f))

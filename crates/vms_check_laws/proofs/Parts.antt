@@ -255,14 +255,7 @@ module _ (old new : Set) (good_old : WellFormed old) (good_new : WellFormed new)
   one_reads t ts place (inl s) held size h =
       let first : Settled [] place (sub_cells t) (carried_of t) = rw s.numbers (settled_defaults [] place _) in
       record { versions = rw s.came h.versions; rules = rw s.came h.rules; settled = rw s.came (settled_append size first (omega arith) h.settled) }
-  one_reads t ts place (inr c) held size h =
-      let r = sub_reads t c place held in
-      record {
-        versions = rw c.came (c.within, h.versions);
-        rules = rw c.came (rules_append (sub_slots new t c.version numbers' place)
-            (came_slots new e numbers' (place + length (sub_cells t)) ts (map came_of ts)) (r.carries.rules c.rules) h.rules);
-        settled = rw c.came (settled_append size r.settled (omega arith) h.settled);
-      }
+  one_reads t ts place (inr c) held size h = search (arith, sub_reads, rules_append, settled_append)
 
   pub subs_read : (ts : List Sub) (place : ℕ) → Facts ts → Holds numbers' place (flat_map carried_of ts) → SubsRead ts place
   subs_read [] place h held = record { versions = tt; rules = tt; settled = settled_empty [] place [] [] refl }

@@ -215,7 +215,7 @@ RestAt xs j ys = (m : ℕ) → slice_get xs (j + m) ≡ slice_get ys m
 
 -- values from a place on
 pub at_first : {A : Type 0} (f : ℕ → A) (j : ℕ) {g : ℕ → A} → ((m : ℕ) → f (j + m) ≡ g m) → f j ≡ g 0
-at_first f j h = let z : j + 0 ≡ j = omega arith in rw z at (h 0)
+at_first f j h = grind arith
 
 pub one_on : {A : Type 0} (f : ℕ → A) (j : ℕ) {g : ℕ → A} → ((m : ℕ) → f (j + m) ≡ g m) → (m : ℕ) → f (suc j + m) ≡ g (suc m)
 one_on f j h m = grind arith

@@ -57,21 +57,7 @@ module _ (old new : Set) (good_old : WellFormed old)
     pub compared_is : compared old new i d ≡ compare_device old new i d (Some number) (Some device)
 
   pub pair : (i : ℕ) (d : Device) → slice_get old.devices i ≡ Some d → Pair i d
-  pair i d e =
-      let some_k = found_some _ ((passes 2 (is_in new d) [] (here (parts.Device (0 + i))) (here parts.Set) (answers_none _ 0 old.devices all_in i d e)).0) in
-      let f = found_device 0 new.devices d.desc.name d.instance some_k.0 some_k.1 in
-      let k_is : f.0 ≡ some_k.0 = omega arith in
-      let stands : slice_get new.devices some_k.0 ≡ Some f.2.device = rw (k_is) at f.2.stands in
-      record {
-        number = some_k.0;
-        found = some_k.1;
-        device = f.2.device;
-        stands = stands;
-        name_is = f.2.name_is;
-        instance_is = f.2.instance_is;
-        compared_is = ap (λ r. compare_device old new i d r (slice_get new.devices (index r))) some_k.1
-            ∙ ap (compare_device old new i d (Some some_k.0)) stands;
-      }
+  pair i d e = search (arith, found_some, answers_none, all_in, found_device)
 
   pub back : (i : ℕ) (d : Device) → slice_get old.devices i ≡ Some d → (p : Pair i d) → find_device 0 old.devices p.device.desc.name p.device.instance ≡ Some i
   back i d e p = grind (arith, device_found)
@@ -101,13 +87,7 @@ module _ (old new : Set) (good_old : WellFormed old) (good_new : WellFormed new)
 
   pub rules : Rules
   unfolding first_mismatch
-  rules =
-      let p = or_else_none (failing_pair ((1, list_all (is_one_of new.machines) old.machines) ∷ []) (here parts.Set) (here parts.Set)) _ none in
-      let q = or_else_none (first_answer (λ i d. failing_pair ((2, is_in new d) ∷ []) (here (parts.Device i)) (here parts.Set)) 0 old.devices) _ p.1 in
-      let r = or_else_none (first_answer (λ i d. failing_pair ((3, is_in old d) ∷ []) (here parts.Set) (here (parts.Device i))) 0 new.devices)
-      (first_answer (λ i d. compared old new i d) 0 old.devices) q.1 in
-      let first = passes 1 (list_all (is_one_of new.machines) old.machines) [] (here parts.Set) (here parts.Set) p.0 in
-      record { machines = first.0; olds = q.0; news = r.0; devices = r.1 }
+  rules = search (arith, or_else_none)
 
   -- each device of old is one of new
   pub all_in : first_answer (λ i d. failing_pair ((2, is_in new d) ∷ []) (here (parts.Device i)) (here parts.Set)) 0 old.devices ≡ None

@@ -73,22 +73,14 @@ fits_whole cells numbers h = record { each = λ c lt. let z : c ≡ 0 + c = omeg
 pub come_version : (set : Set) (d : Device) (image : Image) (k : ℕ) (subs : List Sub) (came : List (Option ℕ)) (j : ℕ) (s : Sub) (v : ℕ)
     → ComeAsNeeded set d image k subs came → slice_get subs j ≡ Some s → slice_get came j ≡ Some (Some v) → v ≡ s.desc.version
 come_version set d image k (x ∷ subs) [] j s v h e e' = absurd h
-come_version set d image k (x ∷ subs) (Some u ∷ came) zero s v h e e' =
-    let same : x ≡ s = cc in
-    let same' : u ≡ v = cc in
-    cc
+come_version set d image k (x ∷ subs) (Some u ∷ came) zero s v h e e' = grind arith
 come_version set d image k (x ∷ subs) (None ∷ came) (suc j) s v h e e' = come_version set d image (suc k) subs came j s v h.1 e e'
 come_version set d image k (x ∷ subs) (Some u ∷ came) (suc j) s v h e e' = come_version set d image (suc k) subs came j s v h.2 e e'
 come_version set d image k _ _ _ s v h e e' = absurd (cc)
 
 -- a ready image is a saved one
 pub saved : (set : Set) (d : Device) (image : Image) → IsReady set d image → IsSaved set d image
-saved set d image r = record {
-  normal = r.normal;
-  valid = r.valid;
-  version = r.version;
-  subs = λ j s v at_j at_came. come_version set d image 0 d.subs _ j s v r.needed at_j at_came;
-}
+saved set d image r = search (arith, come_version)
 
 pub at_map : {A B : Type 0} (f : A → B) (xs : List A) (j : ℕ) (x : A) → slice_get xs j ≡ Some x → slice_get (map f xs) j ≡ Some (f x)
 at_map f xs j x e = rw (slice_get-map f xs j, e)
@@ -184,7 +176,7 @@ module _ (old new : Set) (good_old : WellFormed old) (good_new : WellFormed new)
   facts = facts_from 0 e.subs (from_zero (slice_get e.subs))
 
   back : (j : ℕ) (s : Sub) → slice_get d.subs j ≡ Some s → (p : Found e.subs s.desc.name) → find_sub 0 d.subs p.sub.desc.name ≡ Some j
-  back j s at_j p = rw p.name_is (sub_found old good_old i j d s at_i at_j)
+  back j s at_j p = grind (arith, sub_found)
 
   abbrev came_here : (j : ℕ) (s : Sub) (v : ℕ) (at_j : slice_get d.subs j ≡ Some s) → slice_get image.came j ≡ Some (Some v) → (p : Found e.subs s.desc.name)
       → Came old new good_old good_new d e image numbers' came p.sub

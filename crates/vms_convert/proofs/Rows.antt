@@ -1,8 +1,8 @@
 -- Worked rows: small sets, and the serial port of two shipped sets.
-use Rattle.vms_convert.proofs.Facade.{◌≡◌, ℕ, suc, List, [], ◌∷◌, ◌++◌, get_or, map, replicate, Option, Some, None, ℤ, pos, negsuc, refl, codes, range_with_len}
-use Rattle.vms_convert.proofs.Facade.{U8, Num, Unused, One, Counted, Field, Sub, Device, Set, set_1, set_2, set_4, serial, serial_fields, divider, divisor, fcr}
-use Rattle.vms_convert.proofs.Facade.{thr_ipending, fifo, timeout, ring, never, i8254_at_1, i8254_at_2, first, device_cells, has_cell, image_slots}
-use Rattle.vms_convert.proofs.Facade.{carried_device, image_of, taken, whole, device_partners}
+use Rattle.vms_convert.proofs.Facade.{◌≡◌, ℕ, suc, List, [], ◌∷◌, ◌++◌, get_or, map, replicate, Option, Some, None, ℤ, pos, negsuc, codes}
+use Rattle.vms_convert.proofs.Facade.{range_with_len, U8, Num, Unused, One, Counted, Field, Sub, Device, Set, set_1, set_2, set_4, serial, serial_fields}
+use Rattle.vms_convert.proofs.Facade.{divider, divisor, fcr, thr_ipending, fifo, timeout, ring, never, i8254_at_1, i8254_at_2, first, device_cells, has_cell}
+use Rattle.vms_convert.proofs.Facade.{image_slots, carried_device, image_of, taken, whole, device_partners}
 use Rattle.vms_spec.specs.Layout.{Cell as OneCell}
 
 abbrev number : List ℕ → Field
@@ -32,47 +32,32 @@ pair = box 1 (number (codes "a") ∷ number (codes "b") ∷ []) []
 abbrev renamed : Device
 renamed = box 2 (record (number (codes "c")) { former = codes "a" ∷ [] } ∷ number (codes "b") ∷ record (number (codes "d")) { since = 2 } ∷ []) []
 
-renamed_partners : device_partners (lab pair) (lab renamed) pair renamed ≡ Some 0 ∷ Some 1 ∷ []
-unfolding device_partners first
-renamed_partners = refl
-
 -- ---- a number whose bytes are unused now
 
 abbrev covered : Device
 covered = box 1 (number (codes "a") ∷ record (number (codes "gap")) { item = Unused 1 } ∷ []) []
-
-covered_partners : device_partners (lab pair) (lab covered) pair covered ≡ Some 0 ∷ None ∷ []
-unfolding device_partners first
-covered_partners = refl
-
-covered_taken : taken_by (lab pair) (lab covered) pair covered (pos 7 ∷ []) (pos 7 ∷ pos 0 ∷ []) ≡ pos 7 ∷ pos 0 ∷ []
-unfolding device_partners first
-covered_taken = refl
 
 -- ---- a count above the older capacity isn't taken, so none of its elements is in the bytes
 
 abbrev counted : ℕ → Device
 counted most = box 1 (number (codes "n") ∷ record (number (codes "v")) { count = Counted 0 most } ∷ []) []
 
-counted_partners : device_partners (lab (counted 2)) (lab (counted 4)) (counted 2) (counted 4) ≡ Some 0 ∷ Some 1 ∷ Some 2 ∷ []
-unfolding device_partners first
-counted_partners = refl
+record BoxRows : Type 0 where
+  renamed_partners : device_partners (lab pair) (lab renamed) pair renamed ≡ Some 0 ∷ Some 1 ∷ []
+  covered_partners : device_partners (lab pair) (lab covered) pair covered ≡ Some 0 ∷ None ∷ []
+  covered_taken : taken_by (lab pair) (lab covered) pair covered (pos 7 ∷ []) (pos 7 ∷ pos 0 ∷ []) ≡ pos 7 ∷ pos 0 ∷ []
+  counted_partners : device_partners (lab (counted 2)) (lab (counted 4)) (counted 2) (counted 4) ≡ Some 0 ∷ Some 1 ∷ Some 2 ∷ []
+  too_many : taken_by (lab (counted 2)) (lab (counted 4)) (counted 2) (counted 4) (pos 3 ∷ pos 10 ∷ pos 11 ∷ pos 12 ∷ pos 0 ∷ []) (pos 0 ∷ pos 0 ∷ pos 0 ∷ [])
+      ≡ pos 0 ∷ pos 0 ∷ pos 0 ∷ []
+  few_enough : taken_by (lab (counted 2)) (lab (counted 4)) (counted 2) (counted 4) (pos 1 ∷ pos 10 ∷ pos 0 ∷ pos 0 ∷ pos 0 ∷ []) (pos 1 ∷ pos 10 ∷ pos 0 ∷ [])
+      ≡ pos 1 ∷ pos 10 ∷ pos 0 ∷ []
+  -- the first of them is lost: carried to the newer set again the count is 0
+  count_is_lost : (carried_device (lab (counted 2)) (lab (counted 4)) (counted 2) (counted 4)
+      (image_of (lab (counted 2)) (counted 2) (pos 0 ∷ pos 0 ∷ pos 0 ∷ []))).numbers ≡ replicate 5 (pos 0)
 
-too_many : taken_by (lab (counted 2)) (lab (counted 4)) (counted 2) (counted 4) (pos 3 ∷ pos 10 ∷ pos 11 ∷ pos 12 ∷ pos 0 ∷ []) (pos 0 ∷ pos 0 ∷ pos 0 ∷ [])
-    ≡ pos 0 ∷ pos 0 ∷ pos 0 ∷ []
+box_rows : BoxRows
 unfolding device_partners first
-too_many = refl
-
-few_enough : taken_by (lab (counted 2)) (lab (counted 4)) (counted 2) (counted 4) (pos 1 ∷ pos 10 ∷ pos 0 ∷ pos 0 ∷ pos 0 ∷ []) (pos 1 ∷ pos 10 ∷ pos 0 ∷ [])
-    ≡ pos 1 ∷ pos 10 ∷ pos 0 ∷ []
-unfolding device_partners first
-few_enough = refl
-
--- the first of them is lost: carried to the newer set again the count is 0
-count_is_lost : (carried_device (lab (counted 2)) (lab (counted 4)) (counted 2) (counted 4)
-    (image_of (lab (counted 2)) (counted 2) (pos 0 ∷ pos 0 ∷ pos 0 ∷ []))).numbers ≡ replicate 5 (pos 0)
-unfolding first
-count_is_lost = refl
+box_rows = search
 
 -- ---- the serial port
 
@@ -88,14 +73,6 @@ serial_at_4 = serial 4 (divisor ∷ serial_fields ++ fcr ∷ []) (thr_ipending �
 abbrev some_from : ℕ → ℕ → List (Option ℕ)
 some_from a n = map (λ (k : ℕ). Some k) (range_with_len a n)
 
-port_1 : device_partners set_1 set_4 serial_at_1 serial_at_4 ≡ some_from 0 11 ++ some_from 12 1
-unfolding device_partners first
-port_1 = refl
-
-port_2 : device_partners set_2 set_4 serial_at_2 serial_at_4 ≡ some_from 0 47
-unfolding device_partners first
-port_2 = refl
-
 -- one byte is held, and its timeout runs
 abbrev held : ℤ → List ℤ
 held timeout_at =
@@ -107,20 +84,16 @@ held_back =
     pos 12 ∷ pos 0 ∷ pos 1 ∷ pos 0 ∷ pos 0 ∷ pos 97 ∷ pos 0 ∷ pos 0 ∷ pos 0 ∷ pos 0 ∷ pos never ∷ pos 1 ∷ negsuc 0 ∷ []
     ++ (pos 1 ∷ pos 65 ∷ replicate 32 (pos 0))
 
-held_taken : taken_by set_2 set_4 serial_at_2 serial_at_4 (held (pos 5)) held_back ≡ held_back
+record PortRows : Type 0 where
+  port_1 : device_partners set_1 set_4 serial_at_1 serial_at_4 ≡ some_from 0 11 ++ some_from 12 1
+  port_2 : device_partners set_2 set_4 serial_at_2 serial_at_4 ≡ some_from 0 47
+  held_taken : taken_by set_2 set_4 serial_at_2 serial_at_4 (held (pos 5)) held_back ≡ held_back
+  -- the FIFO is needed and the latch is not; carried to the newest set again, all is there but the timeout
+  held_image : (image_of set_2 serial_at_2 held_back).came ≡ None ∷ Some 1 ∷ []
+  timeout_is_lost : (carried_device set_2 set_4 serial_at_2 serial_at_4 (image_of set_2 serial_at_2 held_back)).numbers ≡ held (pos never)
+  -- structures: the timer chip's three counters, cell by cell
+  chip_1 : device_partners set_1 set_4 i8254_at_1 i8254_at_2 ≡ some_from 0 33
+
+port_rows : PortRows
 unfolding device_partners first
-held_taken = refl
-
--- the FIFO is needed and the latch is not; carried to the newest set again, all is there but the timeout
-held_image : (image_of set_2 serial_at_2 held_back).came ≡ None ∷ Some 1 ∷ []
-unfolding first
-held_image = refl
-
-timeout_is_lost : (carried_device set_2 set_4 serial_at_2 serial_at_4 (image_of set_2 serial_at_2 held_back)).numbers ≡ held (pos never)
-unfolding first
-timeout_is_lost = refl
-
--- structures: the timer chip's three counters, cell by cell
-chip_1 : device_partners set_1 set_4 i8254_at_1 i8254_at_2 ≡ some_from 0 33
-unfolding device_partners first
-chip_1 = refl
+port_rows = search

@@ -28,9 +28,8 @@ module _ {B : Type 0} (h : List Element → List B) (both : (xs ys : List Elemen
       → (e n m at : ℕ) → m ≡ stand.count - e → m ≤ n → h (array_elements f stand part step e n at) ≡ outs out step e m at
   array_of here past e zero zero at c le = none
   array_of here past e zero (suc m) at c le = absurd (omega arith)
-  array_of here past e (suc n) zero at c le = rw (both, le-ltb e stand.count (omega arith), past e at) (array_of here past (suc e) n zero (at + step) (omega arith) (omega arith))
-  array_of here past e (suc n) (suc m) at c le =
-      rw (both, lt-ltb e stand.count (omega arith), here e at) (rw (array_of here past (suc e) n m (at + step) (omega arith) (omega arith)))
+  array_of here past e (suc n) zero at c le = grind (arith, both, array_of here past (suc e) n zero (at + step) (omega arith) (omega arith))
+  array_of here past e (suc n) (suc m) at c le = grind (arith, both, array_of here past (suc e) n m (at + step) (omega arith) (omega arith))
 
 -- ---- the elements that are in the bytes are the slots
 
@@ -69,7 +68,7 @@ AreMeant ss ms = (j : ℕ) (n : List ℤ) (at : ℕ) → slots_of ((get_or ss j 
 
 module _ (ss : List Shape) (ms : List Meaning) (cells : cells_in ss ≡ map (λ m. m.cells) ms) (meant : AreMeant ss ms) where
   item_meant : (item : Item) (caps : List ℕ) (z : ℤ) (n : List ℤ) (at : ℕ) → slots_of (item_elements ss item caps z n at) ≡ item_slots ms item caps n at
-  item_meant (Struct j) caps z n at = slots_dotted ((get_or ss j no_shape).elements n at) ∙ meant j n at
+  item_meant (Struct j) caps z n at = grind (arith, slots_dotted)
   item_meant _ caps z n at = refl
 
   fields_meant : (fields : List Field) (v : ℕ) (own : ℕ → ℕ) (n : List ℤ) (i at : ℕ) (fs : List Field) → slots_of (elements_from ss fields v own n i at fs) ≡ slots_from ms fields v own n i at fs
@@ -87,7 +86,7 @@ module _ (ss : List Shape) (ms : List Meaning) (cells : cells_in ss ≡ map (λ 
   desc_meant d v n at = rw (slots_append, fields_meant _ v _ n 0 at _, cells) refl
 
 meaning_cells : (ds : List Desc) (k : ℕ) → cells_in (first shape ds k) ≡ map (λ m. m.cells) (meanings ds k)
-meaning_cells ds k = cc (shapes_cells ds k, first_cells (λ (m : Meaning). m.cells) meaning (λ ms d. refl) ds k)
+meaning_cells ds k = grind (arith, shapes_cells, first_cells)
 
 are_meant : (ds : List Desc) (k : ℕ) → AreMeant (first shape ds k) (meanings ds k)
 unfolding first
@@ -123,7 +122,7 @@ under_append path n xs ys = simp (printed_append, map-append, text_append)
 under_map : (path text : List ℕ) (n : List ℤ) (f : Element → Element) → ((x : Element) → (f x).name ≡ text ++ x.name) → ((x : Element) → (f x).cell ≡ x.cell)
     → ((x : Element) → ((f x).counted && is_number (f x).what) ≡ (x.counted && is_number x.what)) → (xs : List Element) → under path n (map f xs) ≡ under (path ++ text) n xs
 under_map path text n f name cell same [] = refl
-under_map path text n f name cell same (x ∷ xs) = by ((f x).counted && is_number (f x).what) (x.counted && is_number x.what) (same x) (under_map path text n f name cell same xs)
+under_map path text n f name cell same (x ∷ xs) = grind (arith, by, under_map path text n f name cell same xs)
   where
     by : (b c : Bool) → b ≡ c → under path n (map f xs) ≡ under (path ++ text) n xs
         → text_of (map (λ x. path ++ number_line n x) (if b then f x ∷ printed (map f xs) else printed (map f xs))) ≡ text_of (map (λ x. (path ++ text) ++ number_line n x) (if c then x ∷ printed xs else printed xs))
@@ -143,7 +142,7 @@ ArePrinted ss ps = (j : ℕ) (path : List ℕ) (n : List ℤ) (at : ℕ) → und
 module _ (ss : List Shape) (ps : List Printer) (cells : cells_in ss ≡ map (λ p. p.cells) ps) (are : ArePrinted ss ps) where
   item_printed : (path : List ℕ) (item : Item) (caps : List ℕ) (z : ℤ) (n : List ℤ) (at : ℕ) → under path n (item_elements ss item caps z n at) ≡ item_lines ps item path n at
   item_printed path (Num kind) caps z n at = simp append_assoc
-  item_printed path (Struct j) caps z n at = under_map path (codes ".") n dotted (λ x. refl) (λ x. refl) (λ x. refl) ((get_or ss j no_shape).elements n at) ∙ are j (path ++ codes ".") n at
+  item_printed path (Struct j) caps z n at = grind (arith, under_map)
   item_printed path _ caps z n at = refl
 
   -- of an array those before the count, under a path each
@@ -164,7 +163,7 @@ module _ (ss : List Shape) (ps : List Printer) (cells : cells_in ss ≡ map (λ 
     where
       go : (c : Count) → f.count ≡ c → (to : ℕ → List ℕ) → ((e : ℕ) → path ++ (f.name ++ index_text c e) ≡ to e)
           → under path n (field_elements ss fields v own n i at f) ≡ outs (λ e a. item_lines ps f.item (to e) n a) (item_size (map (λ p. p.cells) ps) f.item) 0 (elements_of c own) at
-      go c is to names = rw (← is, ← cells) (array_printed path n f (stand_of i f v own) (counted i fields) (item_size (cells_in ss) f.item) to (λ e. rw is (names e)) (capacity_of f.count) at (elements_fit f.count own))
+      go c is to names = grind (arith, array_printed, counted, elements_fit)
 
       many : (c : Count) → f.count ≡ c → ((e : ℕ) → index_text c e ≡ codes "[" ++ (decimal e ++ codes "]")) → under path n (field_elements ss fields v own n i at f) ≡ element_lines ps f.item (path ++ f.name) n at (item_size (map (λ p. p.cells) ps) f.item) 0 (elements_of c own)
       many c is text = go c is (λ e. (path ++ f.name) ++ codes "[" ++ decimal e ++ codes "]") (λ e. rw (text e) (simp append_assoc)) ∙ lines_all f.item _ n _ 0 _ at
@@ -182,7 +181,7 @@ module _ (ss : List Shape) (ps : List Printer) (cells : cells_in ss ≡ map (λ 
   desc_printed path d v n at = rw (under_append, append-nil, fields_printed path _ v _ n 0 at _, cells) refl
 
 printer_cells : (ds : List Desc) (k : ℕ) → cells_in (first shape ds k) ≡ map (λ p. p.cells) (first printer ds k)
-printer_cells ds k = cc (shapes_cells ds k, first_cells (λ (p : Printer). p.cells) printer (λ ps d. refl) ds k)
+printer_cells ds k = grind (arith, shapes_cells, first_cells)
 
 are_printed : (ds : List Desc) (k : ℕ) → ArePrinted (first shape ds k) (first printer ds k)
 unfolding first
@@ -223,7 +222,7 @@ machine_text None = refl
 machine_text (Some name) = refl
 
 pub text_is : (set : Set) (machine : Option (List ℕ)) (images : List Image) → text_of (values_lines set machine images) ≡ values_text set machine images
-text_is set machine images = text_append _ _ ∙ both _ _ _ _ (machine_text machine) (devices_text set _ images)
+text_is set machine images = grind (arith, text_append, both, machine_text, devices_text)
 
 -- ---- the lines of the entries are the lines of the values text
 

@@ -138,7 +138,7 @@ both xs ys zs ws e f = rw (e, f)
 
 -- the cells of structures, by their shapes
 pub shapes_cells : (ds : List Desc) (k : ℕ) → cells_in (first shape ds k) ≡ first desc_cells ds k
-shapes_cells ds k = first_cells (λ (s : Shape). s.cells) shape (λ ss d. refl) ds k
+shapes_cells ds k = grind (arith, first_cells, shape)
 
 pub cells_at : (ss : List Shape) (j : ℕ) → get_or (cells_in ss) j [] ≡ (get_or ss j no_shape).cells
 cells_at (s ∷ ss) (suc j) = cells_at ss j

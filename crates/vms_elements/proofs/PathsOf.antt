@@ -274,7 +274,7 @@ module _ (set : Set) (d : Desc) (base : ℕ) where
   inside path c h = let w = counts_within path c base _ laid (has path c h) in rw (numbers_long all, cells) at w
 
   same_path : (path path' : List (ℕ × ℕ)) (c : ℕ) → IsPath path c → IsPath path' c → path ≡ path'
-  same_path path path' c h k = one_path path path' c base _ laid (has path c h) (has path' c k)
+  same_path path path' c h k = grind (arith, one_path, laid, has)
 
   -- a cell of the description has this path
   record HasOwnPath (c : ℕ) (x : Cell) : Type 0 where

@@ -79,7 +79,7 @@ module _ {text : List ℕ} {f : Element → Element} (s : IsStep text f) where
 
   pub names_map : (xs : List Element) → names_of (map f xs) ≡ map (λ l. text ++ l) (names_of xs)
   names_map [] = refl
-  names_map (x ∷ xs) = by (is_number (f x).what) (is_number x.what) (ap is_number (s.what x)) (names_map xs)
+  names_map (x ∷ xs) = grind (arith, by, names_map xs)
     where
       by : (b c : Bool) → b ≡ c → names_of (map f xs) ≡ map (λ l. text ++ l) (names_of xs)
           → map (λ x. x.name) (if b then f x ∷ numbers_in (map f xs) else numbers_in (map f xs)) ≡ map (λ l. text ++ l) (map (λ x. x.name) (if c then x ∷ numbers_in xs else numbers_in xs))

@@ -66,13 +66,12 @@ unfolding chip_of
 own-back chip s =
     let cmos : firsts REGISTERS (register_in (newest chip)) ≡ chip.cmos =
     sym (all_set (register_in (newest chip)) chip.cmos REGISTERS s.count (λ k lt. sym (register-there chip s k lt))) in
-    rw (cmos, mask-there chip s, flag-there chip s) refl
+    rw (cmos, mask-there chip s, flag-there chip s)
 
 -- ---- the rules
 
 unmasked : (version : ℕ) (flag : Bool) → (nat_le NMI_SINCE version ≡ false → flag ≡ false) → (nat_le NMI_SINCE version || not flag) ≡ true
-unmasked version flag =
-    elim (nat_le NMI_SINCE version) as (λ b. (b ≡ false → flag ≡ false) → (b || not flag) ≡ true) [ true ↦ λ h. refl | false ↦ λ h. rw (h refl) refl ]
+unmasked version flag = grind arith
 
 pub met : (chip : Rtc) → IsSound chip → AllTrue (rules chip.version (newest chip))
 met chip s =
@@ -108,7 +107,7 @@ back-as numbers back chip can s may same =
     let e = sym (carried-newest numbers.set chip s le) in
     let own : restored back.level (newest chip) ≡ Ok chip = cc (restored-own chip s) in (
       subst (CanRestore back) e (record { pass = may; of_kinds = (subst (AreOf (kinds NEWEST_CLOCK)) (saved-newest chip) (of-set NEWEST_CLOCK chip s)) }),
-      subst (λ (cells : List ℤ). hook_restored back cells ≡ Ok chip) e (ok-hook (restored back.level (newest chip)) chip own),
+      subst (λ cells. hook_restored back cells ≡ Ok chip) e (ok-hook (restored back.level (newest chip)) chip own),
     )
 
 pub saved_is_restored : SavedIsRestored
@@ -129,24 +128,16 @@ pub register_of : (version : ℕ) (cells : List ℤ) (k : ℕ) → k < REGISTERS
 unfolding chip_of
 register_of version cells k lt = get_or-map-range_with_len (register_in cells) 0 REGISTERS k k 0 lt (omega arith)
 
-low : (version : ℕ) (cells : List ℤ) → index_holds cells ≡ true → index_in cells ≤ 63
-low version cells h = grind (arith, nat_tests, h)
-
 record Registers (cells : List ℤ) : Type 0 where
   a : register_in cells REGISTER_A ≤ 127
   c : register_in cells REGISTER_C ≡ 0
   d : register_in cells REGISTER_D ≡ 0
 
 registers : (cells : List ℤ) → registers_hold cells ≡ true → Registers cells
-registers cells h =
-    let first = and_parts (nat_le (register_in cells REGISTER_A) 127) ((register_in cells REGISTER_C == 0) && (register_in cells REGISTER_D == 0)) h in
-    let second = and_parts (register_in cells REGISTER_C == 0) (register_in cells REGISTER_D == 0) first.1 in
-    record { a = grind (arith, nat_tests, first.0); c = grind (arith, nat_tests, second.0); d = grind (arith, nat_tests, second.1) }
+registers cells h = search arith
 
 clear : (b flag : Bool) → (b || not flag) ≡ true → b ≡ false → flag ≡ false
-clear true flag h e = cc
-clear false true h e = sym h
-clear false false h e = refl
+clear b flag h e = grind (arith, nat_tests)
 
 pub sound : (version : ℕ) (cells : List ℤ) → IsUpTo NEWEST_CLOCK version → AreOf (kinds NEWEST_CLOCK) cells → AllTrue (rules version cells)
     → IsSound (chip_of version cells)
@@ -155,7 +146,7 @@ sound version cells v are hold =
     let n = registers cells hold.1.0 in
     record {
       version = v;
-      index = low version cells hold.0;
+      index = grind (arith, nat_tests, hold.0);
       count = length-map-range_with_len (register_in cells) 0 REGISTERS;
       bytes = λ k lt.
           let is : register k (chip_of version cells) ≡ register_in cells k = register_of version cells k lt in
@@ -163,7 +154,7 @@ sound version cells v are hold =
       a = n.a;
       c = n.c;
       d = n.d;
-      mask = λ none. clear (nat_le NMI_SINCE version) (nmi_mask_in cells) hold.1.1.0 none;
+      mask = clear (nat_le NMI_SINCE version) (nmi_mask_in cells) hold.1.1.0;
     }
 
 made : (version : ℕ) (cells : List ℤ) → (chip_of version cells).version ≡ version
@@ -179,7 +170,7 @@ module _ (numbers : Numbers) (cells : List ℤ) (chip : Rtc) (e : hook_restored 
   is-sound can = subst IsSound accepted.1 (sound numbers.level cells can.pass.is_version can.of_kinds accepted.0)
 
   has-version : chip.version ≡ numbers.level
-  has-version = ap (λ (c : Rtc). c.version) (sym accepted.1) ∙ made numbers.level cells
+  has-version = rw (sym accepted.1) (made numbers.level cells)
 
 pub restored_is_sound : RestoredIsSound
 restored_is_sound = record { sound = λ numbers cells chip can e. is-sound numbers cells chip e can; version = has-version }

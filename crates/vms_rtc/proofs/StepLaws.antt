@@ -12,24 +12,7 @@ use Rattle.vms_rtc.proofs.Facade.{get_or-replicate, get_or-set_same, length-set,
 
 pub numbers_are : NumbersAre
 unfolding read_of written line_of ticks
-numbers_are = record {
-  ports = λ port. refl;
-  reads_index = λ chip. refl;
-  reads_data = λ chip. refl;
-  writes_index = λ value chip. refl;
-  writes_data = λ value chip. refl;
-  enables = λ chip. refl;
-  seconds = λ seconds. omega arith;
-  index_port = refl;
-  data_port = refl;
-  crystal = refl;
-  register_a = refl;
-  register_b = refl;
-  register_c = refl;
-  register_d = refl;
-  registers = refl;
-  nmi = refl;
-}
+numbers_are = search arith
 
 -- ---- when a period ends in a span of time
 
@@ -58,21 +41,16 @@ period-positive a = either IsPositive (a / 16 % 8 == 2) (period_of_rate (a % 16)
 within-parts : (period : Option ℕ) (first middle last : ℕ) → IsPositive period → first ≤ middle → middle ≤ last
     → ends_within period first last ≡ (ends_within period first middle || ends_within period middle last)
 within-parts None first middle last p h l = refl
-within-parts (Some period) first middle last p h l =
-    grown (ticks first / period) (ticks middle / period) (ticks last / period)
-    (quotient_mono period (ticks first) (ticks middle) p (ticks-mono first middle h))
-    (quotient_mono period (ticks middle) (ticks last) p (ticks-mono middle last l))
+within-parts (Some period) first middle last p h l = grind (arith, grown, quotient_mono, ticks-mono)
 
 set-either : (flag first second whole : Bool) → whole ≡ (first || second) → ((flag || first) || second) ≡ (flag || whole)
-set-either true first second whole e = refl
-set-either false first second whole e = sym e
+set-either flag first second whole e = grind (arith, nat_tests)
 
 parts : (first middle last : ℕ) (chip : Rtc) → first ≤ middle → middle ≤ last → passed middle last (passed first middle chip) ≡ passed first last chip
 unfolding passed
 parts first middle last chip h l =
     let period = period_of (register REGISTER_A chip) in
-    ap (λ (flag : Bool). record chip { pf = flag })
-    (set-either chip.pf (ends_within period first middle) (ends_within period middle last) (ends_within period first last)
+    rw (set-either chip.pf (ends_within period first middle) (ends_within period middle last) (ends_within period first last)
     (within-parts period first middle last (period-positive (register REGISTER_A chip)) h l))
 
 pub parts_are_whole : PartsAreWhole
@@ -84,9 +62,7 @@ multiple-of : (period from to : ℕ) → 0 < period → ends_within (Some period
 multiple-of period from to p e = (ticks to / period, (div-lt_iff_lt-mul p).0 (ltb-true _ _ e), div-mul-le_self (ticks to) period)
 
 ends-at : (period from to : ℕ) → 0 < period → (k : ℕ) × (ticks from < k * period) × (k * period ≤ ticks to) → ends_within (Some period) from to ≡ true
-ends-at period from to p m =
-    let whole : ticks from / period < ticks to / period = omega (arith, (div-lt_iff_lt-mul p).1 m.1, le-div m.0 (ticks to) period p m.2) in
-    grind (arith, nat_tests)
+ends-at period from to p m = grind (arith, le-div)
 
 ends-means : (period : Option ℕ) (from to : ℕ) → IsPositive period → (ends_within period from to ≡ true) ↔ HasMultiple period from to
 ends-means None from to p = (λ e. false≢true e, λ none. absurd none)
@@ -124,11 +100,7 @@ not_come tick to h = omega arith
 
 -- from there on a period has ended, and before none
 ended : (period from to : ℕ) → 0 < period → end_after period from ≤ to → nat_lt (ticks from / period) (ticks to / period) ≡ true
-ended period from to p h =
-    let here : (ticks from / period + 1) * period ≤ ticks to =
-    omega (arith, next-tick period (ticks from), came (ticks from - ticks from % period + period) to h) in
-    let more : ticks from / period + 1 ≤ ticks to / period = le-div (ticks from / period + 1) (ticks to) period p here in
-    grind (arith, nat_tests)
+ended period from to p h = grind (arith, next-tick, came, le-div)
 
 not_ended : (period from to : ℕ) → 0 < period → to < end_after period from → nat_lt (ticks from / period) (ticks to / period) ≡ false
 not_ended period from to p h =
@@ -175,10 +147,7 @@ left_as number value chip is =
     (λ other. get_or-set_other chip.cmos chip.index number _ 0 (λ same. false≢true (sym other ∙ is (sym same))))
 
 pub flags_are_kept : FlagsAreKept
-flags_are_kept = record {
-  c = λ value chip. left_as REGISTER_C value chip (λ e. grind (arith, nat_tests, e));
-  d = λ value chip. left_as REGISTER_D value chip (λ e. grind (arith, nat_tests, e));
-}
+flags_are_kept = search (arith, left_as)
 
 -- ---- the version
 
@@ -220,13 +189,10 @@ index-sound value chip s =
 -- a register of a written chip
 byte-kept : (xs : List ℕ) (i v k : ℕ) → i < length xs → v < 256 → get_or xs k 0 < 256 → get_or (set xs i v) k 0 < 256
 byte-kept xs i v k within small old =
-    ⊎_elim (λ (e : k ≡ i). subst (λ (n : ℕ). get_or (set xs i v) n 0 < 256) (sym e) (rw (get_or-set_same xs i v 0 within) small)) (λ other. rw (get_or-set_other xs i k v 0 other) old) (cases_eq k i)
+    ⊎_elim (λ (e : k ≡ i). rw e (rw (get_or-set_same xs i v 0 within) small)) (λ other. rw (get_or-set_other xs i k v 0 other) old) (cases_eq k i)
 
 abbrev kept-of : ℕ → ℕ → ℕ
 kept-of index value = if index == REGISTER_A then value % 128 else value
-
-kept-small : (index value : ℕ) → value < 256 → kept-of index value < 256
-kept-small index value small = either (λ (n : ℕ). n < 256) (index == REGISTER_A) (value % 128) value (omega arith) small
 
 register-a : (xs : List ℕ) (index value : ℕ) → index < length xs → get_or xs REGISTER_A 0 ≤ 127 → get_or (set xs index (kept-of index value)) REGISTER_A 0 ≤ 127
 register-a xs index value within old = by (cases_Bool (index == REGISTER_A))
@@ -250,7 +216,7 @@ data-sound value chip small s =
       version = s.version;
       index = s.index;
       count = cc (length-set chip.cmos chip.index (kept-of chip.index value));
-      bytes = λ k lt. byte-kept chip.cmos chip.index (kept-of chip.index value) k within (kept-small chip.index value small) (s.bytes k lt);
+      bytes = λ k lt. byte-kept chip.cmos chip.index (kept-of chip.index value) k within (grind (arith, either)) (s.bytes k lt);
       a = register-a chip.cmos chip.index value within s.a;
       c = cc (get_or-set_other chip.cmos chip.index REGISTER_C (kept-of chip.index value) 0 (λ same. false≢true (sym other ∙ grind (arith, nat_tests, same))));
       d = cc (get_or-set_other chip.cmos chip.index REGISTER_D (kept-of chip.index value) 0 (λ same. false≢true (sym other ∙ grind (arith, nat_tests, same))));

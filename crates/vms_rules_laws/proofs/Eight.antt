@@ -25,7 +25,7 @@ none_answers f i (x ∷ xs) h =
     (none_answers f (suc i) xs (λ j y e. let more : i + suc j ≡ suc i + j = omega arith in rw more at (h (suc j) y e)))
 
 from_zero : {X Y : Type 0} (f : ℕ → X → Option Y) (xs : List X) → ((j : ℕ) (x : X) → At xs j x → f j x ≡ None) → first_answer f 0 xs ≡ None
-from_zero f xs h = none_answers f 0 xs (λ j x e. let same : j ≡ 0 + j = omega arith in rw same at (h j x e))
+from_zero f xs h = grind (arith, none_answers)
 
 -- ---- devices of one name and instance
 
@@ -40,7 +40,7 @@ any_found p (x ∷ xs) (suc i) e = elim (split (p x) (list_any p (take i xs)) e)
 any_there : {X : Type 0} (p : X → Bool) (xs : List X) (i k : ℕ) (x : X) → k < i → At xs k x → p x ≡ true → list_any p (take i xs) ≡ true
 any_there p xs zero k x lt e t = absurd (omega arith)
 any_there p [] (suc i) k x lt e t = cc
-any_there p (y ∷ xs) (suc i) zero x lt e t = let same : x ≡ y = cc in or_left (p y) _ (rw same at t)
+any_there p (y ∷ xs) (suc i) zero x lt e t = grind (arith, or_left)
 any_there p (y ∷ xs) (suc i) (suc k) x lt e t = or_right (p y) _ (any_there p xs i k x (omega arith) e t)
 
 abbrev AreNone : Set → ℕ → Device → Type 0
@@ -72,10 +72,7 @@ module _ (k : ℕ) (d : Desc) (rules : List Bool) where
   }
 
   desc_back : (part : Part) → AllTrue rules → IsDesc k d → desc_fault k d part rules ≡ None
-  desc_back part own h =
-      both_none _ _ (none_failing 1 rules _ own)
-      (both_none _ _ (from_zero _ d.fields (λ i f e. none_failing 1 (field_rules k d i f) (in_field part i) ((field_decides k d i f).1 (h.fields i f e))))
-      (from_zero _ d.validate (λ i t e. none_failing 1 (validation_rules d t) (here part) ((validation_decides d t).1 (h.validations i t e)))))
+  desc_back part own h = grind (arith, both_none, none_failing, from_zero, in_field, field_decides, here, validation_decides)
 
 -- ---- structures
 

@@ -195,7 +195,7 @@ count_decides d i (Counted k n) = (λ e. so e, λ h. back (h k n refl))
         rw is at here
 
     back : ((steady : IsEarlier d i k) × IsCounting steady.1.field.item) → count_names_well d i (Counted k n) ≡ true
-    back h = and_from _ _ ((earlier_decides d i k).1 h.0) (item_at h.0.1 ∙ (counting_decides h.0.1.field.item).1 h.1)
+    back h = grind (arith, and_from, item_at)
 
 uses_decides : (k : ℕ) (item : Item) → Decides (uses_below k item) ((j : ℕ) → item ≡ Struct j → j < k)
 uses_decides k (Struct i) = (λ e j same. let is : i ≡ j = cc in rw is at ((Decides-ltb i k).0 e), λ h. (Decides-ltb i k).1 (h i refl))

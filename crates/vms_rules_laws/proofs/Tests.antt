@@ -23,10 +23,8 @@ part_count _ = refl
 pub shallow_test : (n : ℕ) (t : Formula) → (Nests n t → ⊥) → depth t ≤ n
 shallow_test zero t h = absurd (h tt)
 shallow_test (suc n) (Not t) h = omega (arith, shallow_test n t (λ nests. h (t, refl, nests)))
-shallow_test (suc n) (And s t) h =
-    let both = max-le (shallow_test n s (λ nests. h (s, inl refl, nests))) (shallow_test n t (λ nests. h (t, inr refl, nests))) in omega arith
-shallow_test (suc n) (Or s t) h =
-    let both = max-le (shallow_test n s (λ nests. h (s, inl refl, nests))) (shallow_test n t (λ nests. h (t, inr refl, nests))) in omega arith
+shallow_test (suc n) (And s t) h = grind (arith, shallow_test n s (λ nests. h (s, inl refl, nests)), shallow_test n t (λ nests. h (t, inr refl, nests)))
+shallow_test (suc n) (Or s t) h = grind (arith, shallow_test n s (λ nests. h (s, inl refl, nests)), shallow_test n t (λ nests. h (t, inr refl, nests)))
 shallow_test (suc n) _ h = omega arith
 
 some_depth : (t : Formula) → 1 ≤ depth t
@@ -35,10 +33,7 @@ some_depth _ = omega arith
 
 -- a test within another has fewer levels
 within_either : (s t u : Formula) → (s ≡ t) ⊎ (s ≡ u) → depth s < 1 + max (depth t) (depth u)
-within_either s t u w =
-    let l = le-max_left (depth t) (depth u) in
-    let r = le-max_right (depth t) (depth u) in
-    elim w [ inl e ↦ let same = ap depth e in omega arith | inr e ↦ let same = ap depth e in omega arith ]
+within_either s t u w = grind arith
 
 within_less : (s t : Formula) → IsWithinTest s t → depth s < depth t
 within_less s (Not t) w = rw w (omega arith)
@@ -48,7 +43,7 @@ within_less s _ w = absurd w
 
 pub deep_test : (n : ℕ) (t : Formula) → Nests n t → n < depth t
 deep_test zero t h = some_depth t
-deep_test (suc n) t h = let inner = deep_test n h.0 h.2 in let less = within_less h.0 t h.1 in omega arith
+deep_test (suc n) t h = grind (arith, within_less, deep_test n h.0 h.2)
 
 -- ---- structures
 
@@ -65,8 +60,8 @@ most-deep sizes n (f ∷ fs) h = max-le (h 0 f refl) (most-deep sizes n fs (λ k
 
 as-deep : (sizes : List ℕ) (fs : List Field) (k : ℕ) (f : Field) → At fs k f → item_depth sizes f.item ≤ deepest sizes fs
 as-deep sizes [] k f e = cc
-as-deep sizes (g ∷ fs) zero f e = let same : g ≡ f = cc in rw (← same) (le-max_left (item_depth sizes g.item) (deepest sizes fs))
-as-deep sizes (g ∷ fs) (suc k) f e = let inner = as-deep sizes fs k f e in let l = le-max_right (item_depth sizes g.item) (deepest sizes fs) in omega arith
+as-deep sizes (g ∷ fs) zero f e = grind arith
+as-deep sizes (g ∷ fs) (suc k) f e = grind (arith, as-deep sizes fs k f e)
 
 module _ (ds : List Desc) where
   own-depth : (i : ℕ) (d : Desc) → At ds i d → depth_at ds i ≡ 1 + deepest (depths ds i) d.fields
@@ -75,14 +70,10 @@ module _ (ds : List Desc) where
 
   -- the depth of an earlier structure
   earlier-depth : (i j : ℕ) → i < length ds → j < i → get_or (depths ds i) j 0 ≡ depth_at ds j
-  earlier-depth i j l e =
-      cc (
-        first_at (λ earlier d. 1 + deepest earlier d.fields) ds 0 i j e,
-        first_at (λ earlier d. 1 + deepest earlier d.fields) ds 0 (length ds) j (omega arith),
-      )
+  earlier-depth i j l e = grind (arith, first_at)
 
   later-depth : (i j : ℕ) → i ≤ j → get_or (depths ds i) j 0 ≡ 0
-  later-depth i j l = let long = first_long (λ earlier d. 1 + deepest earlier d.fields) ds i in get_or_past _ j 0 (omega arith)
+  later-depth i j l = grind (arith, first_long, get_or_past)
 
   pub deep_struct : (n i : ℕ) → i < length ds → UsesOn ds n i → n < depth_at ds i
   deep_struct zero i l h = let own = own-depth i (get_or ds i no_desc) (slice_get-get_or ds i no_desc l) in omega arith
@@ -113,7 +104,7 @@ module _ (ds : List Desc) where
           before j (get_or ds j no_desc) (slice_get-get_or ds j no_desc (omega arith))
           (λ on. h (j, record { desc = d; there = there; place = k; field = f; among = e; is = is; earlier = less }, on)) in
           omega arith
-      by (inr behind_i) = let past = later-depth i j (grind (arith, nat_tests, behind_i)) in omega arith
+      by (inr behind_i) = grind (arith, later-depth)
   bounded-item n i d there before h k f e _ is = omega arith
 
   pub shallow_struct : (n i : ℕ) (d : Desc) → At ds i d → (UsesOn ds n i → ⊥) → depth_at ds i ≤ n
@@ -260,31 +251,24 @@ AreCounted ss sizes = (j : ℕ) (numbers : List ℤ) (at : ℕ) → items_among 
 
 module _ (ss : List Shape) (sizes : List ℕ) (good : AreCounted ss sizes) where
   item_counts : (item : Item) (caps : List ℕ) (z : ℤ) (n : List ℤ) (at : ℕ) → items_among (item_elements ss item caps z n at) ≡ item_count sizes item
-  item_counts (Struct j) caps z n at = items_dotted ((get_or ss j no_shape).elements n at) ∙ good j n at
+  item_counts (Struct j) caps z n at = grind (arith, items_dotted)
   item_counts _ caps z n at = refl
 
   array_counts : (f : Field) (stand : Stand) (part : ℕ → List Element) (size : ℕ) → ((at : ℕ) → items_among (part at) ≡ size)
       → (step e n at : ℕ) → items_among (array_elements f stand part step e n at) ≡ n * size
   array_counts f stand part size h step e zero at = omega arith
-  array_counts f stand part size h step e (suc n) at =
-      let here = map (behind (stand.number, e) (f.name ++ index_text f.count e) (nat_lt e stand.count) (stand.there && nat_lt e stand.count)) (part at) in
-      let own = items_behind (stand.number, e) (f.name ++ index_text f.count e) (nat_lt e stand.count) (stand.there && nat_lt e stand.count) (part at) ∙ h at in
-      let rest = array_counts f stand part size h step (suc e) n (at + step) in
-      items_append here (array_elements f stand part step (suc e) n (at + step)) ∙ omega (arith, suc-mul n size)
+  array_counts f stand part size h step e (suc n) at = grind (arith, behind, items_behind, items_append, array_counts f stand part size h step (suc e) n (at + step))
 
   module _ (fields : List Field) (v : ℕ) (own : ℕ → ℕ) (n : List ℤ) where
     field_counts : (i at : ℕ) (f : Field) → items_among (field_elements ss fields v own n i at f) ≡ capacity_of f.count * item_count sizes f.item
-    field_counts i at f = array_counts f _ _ _ (λ a. item_counts f.item _ _ n a) _ 0 _ at
+    field_counts i at f = grind (arith, array_counts, item_counts)
 
     fields_count : (i at : ℕ) (fs : List Field) → items_among (elements_from ss fields v own n i at fs) ≡ items_in sizes fs
     fields_count i at [] = refl
     fields_count i at (f ∷ fs) = rw (items_append, field_counts i at f, fields_count (suc i) (at + length (field_cells (cells_in ss) fields i f)) fs) refl
 
   desc_counts : (d : Desc) (v : ℕ) (n : List ℤ) (at : ℕ) → items_among (desc_elements ss d v n at) ≡ items_in sizes d.fields
-  desc_counts d v n at =
-      let own = numbers_of (cells_in ss) d n at in
-      let end = single (at + length (desc_cells (cells_in ss) d)) (Rule (all_hold d.validate v own)) in
-      omega (arith, fields_count d.fields v own n 0 at d.fields, items_append (elements_from ss d.fields v own n 0 at d.fields) (end ∷ []))
+  desc_counts d v n at = grind (arith, all_hold, fields_count, items_append)
 
 are_counted : (ds : List Desc) (k : ℕ) → AreCounted (first shape ds k) (first (λ sizes d. items_in sizes d.fields) ds k)
 unfolding first
@@ -312,9 +296,4 @@ module _ (set : Set) where
 
   pub set_counts : (devices : List Device) → items_of set devices ≡ devices_items (struct_items set.structs) devices
   set_counts [] = refl
-  set_counts (d ∷ devices) =
-      let image = default_image set d in
-      let here = part_counts d.desc image.version image.numbers 0 in
-      let later = subs_count d.subs image.numbers (own_cells set d) in
-      let rest = set_counts devices in
-      omega (arith, items_append (elements_in set d.desc image.version image.numbers 0) (subs_elements set d.subs image.came image.numbers (own_cells set d)))
+  set_counts (d ∷ devices) = grind (arith, part_counts, subs_count, items_append, set_counts devices)

@@ -2,7 +2,7 @@
 -- first faults.
 use Rattle.vms_spec.proofs.Facade.{ℕ, List, [], ◌∷◌, Some, None, pos, negsuc, codes, Kind, U8, U16, U32, I8, Num, Equal, Unused, Struct, One, Counted}
 use Rattle.vms_spec.proofs.Facade.{Eq, Ne, Lt, Ge, Own, Parent, Set, Device, Desc, Field, Sub, Formula, AtLeast, Below, Cell, And, Or, ◌+◌, ◌-◌}
-use Rattle.vms_spec.proofs.Facade.{◌*◌, nat_lt, if◌then◌else◌, ◌++◌, ◌≡◌, refl, first, cell_at, cell_count, set_3, map, Bool, true, false}
+use Rattle.vms_spec.proofs.Facade.{◌*◌, nat_lt, if◌then◌else◌, ◌++◌, ◌≡◌, Place, first, cell_at, cell_count, set_3, map, Bool, true, false}
 use Rattle.vms_spec.proofs.Facade.{Option, list_all, Image, default_image, is_normal, is_ready, shipped_sets, values_read, set_0, digits, values_text}
 use Rattle.vms_spec.proofs.Facade.{ValuesRead, Values, Bad, Fixed, SetFault, first_fault, here, in_field}
 use Rattle.vms_kinds.specs.declared.Kind.TheVariants.{Bool as Truth}
@@ -120,44 +120,25 @@ lines (text ∷ more) = text ++ 10 ∷ lines more
 
 -- ---- the cells of paths
 
-counts_cells : cell_count counted_set 0 ≡ 3
-unfolding first
-counts_cells = refl
+record PathRows : Type 0 where
+  counts_cells : cell_count counted_set 0 ≡ 3
+  finds_an_element : cell_at counted_set 0 None ((1, 1) ∷ []) ≡ Some 2
+  finds_no_element_past_the_capacity : cell_at counted_set 0 None ((1, 2) ∷ []) ≡ None
+  finds_no_constant : cell_at constant_set 0 None ((1, 0) ∷ []) ≡ None
+  finds_a_number_in_a_structure : cell_at mixed_set 0 None ((1, 2) ∷ (2, 0) ∷ []) ≡ Some 9
+  finds_a_number_of_a_subsection : cell_at mixed_set 0 (Some 0) ((1, 0) ∷ []) ≡ Some 14
+  -- the latch of the timer chip's third counter
+  finds_a_latch : cell_at set_3 3 None ((0, 2) ∷ (10, 0) ∷ []) ≡ Some 32
 
-finds_an_element : cell_at counted_set 0 None ((1, 1) ∷ []) ≡ Some 2
+path_rows : PathRows
 unfolding first
-finds_an_element = refl
-
-finds_no_element_past_the_capacity : cell_at counted_set 0 None ((1, 2) ∷ []) ≡ None
-unfolding first
-finds_no_element_past_the_capacity = refl
-
-finds_no_constant : cell_at constant_set 0 None ((1, 0) ∷ []) ≡ None
-unfolding first
-finds_no_constant = refl
-
-finds_a_number_in_a_structure : cell_at mixed_set 0 None ((1, 2) ∷ (2, 0) ∷ []) ≡ Some 9
-unfolding first
-finds_a_number_in_a_structure = refl
-
-finds_a_number_of_a_subsection : cell_at mixed_set 0 (Some 0) ((1, 0) ∷ []) ≡ Some 14
-unfolding first
-finds_a_number_of_a_subsection = refl
-
--- the latch of the timer chip's third counter
-finds_a_latch : cell_at set_3 3 None ((0, 2) ∷ (10, 0) ∷ []) ≡ Some 32
-unfolding first
-finds_a_latch = refl
+path_rows = search
 
 -- ---- the images that may be written
 
 -- each device's default image is ready
 abbrev defaults_are_ready : Set → Bool
 defaults_are_ready set = list_all (λ (d : Device). is_ready set d (default_image set d)) set.devices
-
-writes_the_defaults_of_each_shipped_set : list_all defaults_are_ready shipped_sets ≡ true
-unfolding first
-writes_the_defaults_of_each_shipped_set = refl
 
 -- a test of the image of a set's only device
 abbrev of_box : (Set → Device → Image → Bool) → Set → Image → Bool
@@ -166,26 +147,6 @@ of_box test set image = list_all (λ (d : Device). test set d image) set.devices
 abbrev image_of : List (Option ℕ) → List ℕ → Image
 image_of came numbers = record { version = 1; came = came; numbers = map pos numbers }
 
-writes_no_count_above_the_capacity : of_box is_normal counted_set (image_of [] (3 ∷ 0 ∷ 0 ∷ [])) ≡ false
-unfolding first
-writes_no_count_above_the_capacity = refl
-
-writes_no_number_out_of_range : of_box is_normal counted_set (image_of [] (1 ∷ 65536 ∷ 0 ∷ [])) ≡ false
-unfolding first
-writes_no_number_out_of_range = refl
-
-writes_no_field_that_is_not_there : of_box is_normal tested_set (image_of [] (0 ∷ 7 ∷ [])) ≡ false
-unfolding first
-writes_no_field_that_is_not_there = refl
-
-writes_no_failing_validation : of_box is_ready tested_set (image_of [] (10 ∷ 0 ∷ [])) ≡ false
-unfolding first
-writes_no_failing_validation = refl
-
-writes_no_subsection_that_is_not_needed : of_box is_ready subsection_set (image_of (Some 1 ∷ None ∷ []) (9 ∷ 5 ∷ 6 ∷ [])) ≡ false
-unfolding first
-writes_no_subsection_that_is_not_needed = refl
-
 abbrev of_mixed : ℕ → ℕ → Image
 of_mixed version sub_version = record {
   version = version;
@@ -193,17 +154,20 @@ of_mixed version sub_version = record {
   numbers = pos 2 ∷ pos 1 ∷ pos 515 ∷ pos 9 ∷ pos 4 ∷ pos 5 ∷ pos 9 ∷ pos 0 ∷ pos 0 ∷ pos 9 ∷ pos 1 ∷ pos 1543 ∷ negsuc 0 ∷ pos 8 ∷ pos 1 ∷ [];
 }
 
-writes_the_set's_versions : of_box is_ready mixed_set (of_mixed 2 2) ≡ true
-unfolding first
-writes_the_set's_versions = refl
+record ImageRows : Type 0 where
+  writes_the_defaults_of_each_shipped_set : list_all defaults_are_ready shipped_sets ≡ true
+  writes_no_count_above_the_capacity : of_box is_normal counted_set (image_of [] (3 ∷ 0 ∷ 0 ∷ [])) ≡ false
+  writes_no_number_out_of_range : of_box is_normal counted_set (image_of [] (1 ∷ 65536 ∷ 0 ∷ [])) ≡ false
+  writes_no_field_that_is_not_there : of_box is_normal tested_set (image_of [] (0 ∷ 7 ∷ [])) ≡ false
+  writes_no_failing_validation : of_box is_ready tested_set (image_of [] (10 ∷ 0 ∷ [])) ≡ false
+  writes_no_subsection_that_is_not_needed : of_box is_ready subsection_set (image_of (Some 1 ∷ None ∷ []) (9 ∷ 5 ∷ 6 ∷ [])) ≡ false
+  writes_the_set's_versions : of_box is_ready mixed_set (of_mixed 2 2) ≡ true
+  writes_no_older_subsection : of_box is_ready mixed_set (of_mixed 2 1) ≡ false
+  finds_an_older_subsection_normal : of_box is_normal mixed_set (of_mixed 2 1) ≡ true
 
-writes_no_older_subsection : of_box is_ready mixed_set (of_mixed 2 1) ≡ false
+image_rows : ImageRows
 unfolding first
-writes_no_older_subsection = refl
-
-finds_an_older_subsection_normal : of_box is_normal mixed_set (of_mixed 2 1) ≡ true
-unfolding first
-finds_an_older_subsection_normal = refl
+image_rows = search
 
 -- ---- how values texts are read
 
@@ -214,56 +178,26 @@ reads set text = values_read set text
 abbrev now : ℕ → Image
 now n = record { version = 1; came = []; numbers = pos n ∷ [] }
 
--- ---- the shipped set 0
+record TextRows : Type 0 where
+  -- the shipped set 0
+  reads_a_number : reads set_0 (lines (codes "section timer 0 v1" ∷ codes "now = 0" ∷ [])) ≡ Values None (now 0 ∷ [])
+  refuses_a_leading_zero : reads set_0 (lines (codes "section timer 0 v1" ∷ codes "now = 00" ∷ [])) ≡ Bad 2 reasons.Number
+  refuses_a_missing_line : reads set_0 (lines (codes "section timer 0 v1" ∷ [])) ≡ Bad 2 reasons.Form
+  -- arrays, tests, validations, subsections
+  refuses_too_large_a_count : reads counted_set (lines (codes "section box 0 v1" ∷ codes "n = 3" ∷ [])) ≡ Bad 2 reasons.Count
+  refuses_a_number_that_is_not_there : reads tested_set (lines (codes "section box 0 v1" ∷ codes "f = 0" ∷ codes "g = 7" ∷ [])) ≡ Bad 3 reasons.Absent
+  refuses_a_failing_validation : reads tested_set (lines (codes "section box 0 v1" ∷ codes "f = 10" ∷ codes "g = 0" ∷ [])) ≡ Bad 1 reasons.Invalid
+  -- the first pass comes before the second
+  refuses_a_bad_line_before_a_failing_validation : reads tested_set (lines (codes "section box 0 v1" ∷ codes "f = 10" ∷ codes "g = 256" ∷ []))
+      ≡ Bad 3 reasons.Number
+  refuses_a_needed_subsection_that_did_not_come : reads subsection_set (lines (codes "section box 0 v1" ∷ codes "a = 9" ∷ codes "sub box/p -" ∷ codes "x = 8" ∷ codes "sub box/q -" ∷ codes "y = 6" ∷ []))
+      ≡ Bad 3 reasons.Needed
+  -- a printed text can be read
+  reads_what_is_shown : reads mixed_set (values_text mixed_set (Some (codes "lab")) (of_mixed 2 2 ∷ [])) ≡ Values (Some (codes "lab")) (of_mixed 2 2 ∷ [])
 
-reads_a_number : reads set_0 (lines (codes "section timer 0 v1" ∷ codes "now = 0" ∷ [])) ≡ Values None (now 0 ∷ [])
+text_rows : TextRows
 unfolding reads first digits
-reads_a_number = refl
-
-refuses_a_leading_zero : reads set_0 (lines (codes "section timer 0 v1" ∷ codes "now = 00" ∷ [])) ≡ Bad 2 reasons.Number
-unfolding reads first digits
-refuses_a_leading_zero = refl
-
-refuses_a_missing_line : reads set_0 (lines (codes "section timer 0 v1" ∷ [])) ≡ Bad 2 reasons.Form
-unfolding reads first digits
-refuses_a_missing_line = refl
-
--- ---- arrays, tests, validations, subsections
-
-refuses_too_large_a_count : reads counted_set (lines (codes "section box 0 v1" ∷ codes "n = 3" ∷ [])) ≡ Bad 2 reasons.Count
-unfolding reads first digits
-refuses_too_large_a_count = refl
-
-refuses_a_number_that_is_not_there : reads tested_set (lines (codes "section box 0 v1" ∷ codes "f = 0" ∷ codes "g = 7" ∷ [])) ≡ Bad 3 reasons.Absent
-unfolding reads first digits
-refuses_a_number_that_is_not_there = refl
-
-refuses_a_failing_validation : reads tested_set (lines (codes "section box 0 v1" ∷ codes "f = 10" ∷ codes "g = 0" ∷ [])) ≡ Bad 1 reasons.Invalid
-unfolding reads first digits
-refuses_a_failing_validation = refl
-
--- the first pass comes before the second
-refuses_a_bad_line_before_a_failing_validation : reads tested_set (lines (codes "section box 0 v1" ∷ codes "f = 10" ∷ codes "g = 256" ∷ [])) ≡ Bad 3 reasons.Number
-unfolding reads first digits
-refuses_a_bad_line_before_a_failing_validation = refl
-
-refuses_a_needed_subsection_that_did_not_come : reads subsection_set (lines (codes "section box 0 v1" ∷ codes "a = 9" ∷ codes "sub box/p -" ∷ codes "x = 8" ∷ codes "sub box/q -" ∷ codes "y = 6" ∷ []))
-    ≡ Bad 3 reasons.Needed
-unfolding reads first digits
-refuses_a_needed_subsection_that_did_not_come = refl
-
--- ---- a printed text can be read
-
-abbrev mixed : Image
-mixed = record {
-  version = 2;
-  came = Some 2 ∷ [];
-  numbers = pos 2 ∷ pos 1 ∷ pos 515 ∷ pos 9 ∷ pos 4 ∷ pos 5 ∷ pos 9 ∷ pos 0 ∷ pos 0 ∷ pos 9 ∷ pos 1 ∷ pos 1543 ∷ negsuc 0 ∷ pos 8 ∷ pos 1 ∷ [];
-}
-
-reads_what_is_shown : reads mixed_set (values_text mixed_set (Some (codes "lab")) (mixed ∷ [])) ≡ Values (Some (codes "lab")) (mixed ∷ [])
-unfolding reads first digits
-reads_what_is_shown = refl
+text_rows = search
 
 -- ---- first faults of sets: each rule, and the order of the walk
 
@@ -271,56 +205,38 @@ unfoldable faulty : Set → Option SetFault
 unfolding first_fault
 faulty set = first_fault set
 
--- ---- names
+abbrev fault : ℕ → Place → Option SetFault
+fault rule place = Some (record { rule = rule; place = place })
 
-refuses_a_subsection_of_another_device : faulty (box_set [] [] (sub_of (codes "bax/p") (codes "x") 5 ∷ [])) ≡ Some (record { rule = 1; place = here (parts.Sub 0 0) })
+record FaultRows : Type 0 where
+  -- names
+  refuses_a_subsection_of_another_device : faulty (box_set [] [] (sub_of (codes "bax/p") (codes "x") 5 ∷ [])) ≡ fault 1 (here (parts.Sub 0 0))
+  refuses_a_machine_that_comes_twice : faulty (record empty_set { machines = codes "a" ∷ codes "b" ∷ codes "a" ∷ [] }) ≡ fault 2 (here parts.Set)
+  refuses_a_field_that_comes_twice : faulty (box_set (number U8 (codes "a") ∷ number U8 (codes "b") ∷ number U8 (codes "a") ∷ []) [] [])
+      ≡ fault 2 (in_field (parts.Device 0) 2)
+  -- versions, and what tests and counts name
+  refuses_a_minimum_above_the_version : faulty (record empty_set { devices = record { instance = 0; subs = []; desc = record { name = codes "box"; version = 1; minimum = 2; fields = []; validate = [] } } ∷ [] })
+      ≡ fault 3 (here (parts.Device 0))
+  refuses_a_count_by_a_later_field : faulty (box_set (record (number U8 (codes "v")) { count = Counted 1 2 } ∷ number U8 (codes "n") ∷ []) [] [])
+      ≡ fault 4 (in_field (parts.Device 0) 0)
+  -- a field's fault comes before a validation's of the same description
+  refuses_a_bad_field_before_a_bad_validation : faulty (box_set (record (number U8 (codes "a")) { count = Fixed 0 } ∷ []) (Cell Own 1 255 Lt 10 ∷ []) [])
+      ≡ fault 8 (in_field (parts.Device 0) 0)
+  -- a needed test's fault is at the subsection, before its fields
+  refuses_a_needed_test_of_no_field : faulty (box_set [] [] (record (sub_of (codes "box/p") [] 5) { needed = Cell Parent 0 255 Eq 1 } ∷ []))
+      ≡ fault 4 (here (parts.Sub 0 0))
+  -- structures, defaults, limits, counts
+  refuses_a_structure_that_uses_itself :
+      faulty (record empty_set { structs = record point { fields = record (number U8 (codes "p")) { item = Struct 0 } ∷ []; validate = [] } ∷ [] })
+      ≡ fault 5 (in_field (parts.Struct 0) 0)
+  -- at the count's own field
+  refuses_a_default_above_a_capacity :
+      faulty (box_set (record (number U8 (codes "n")) { default = pos 3 } ∷ record (number U8 (codes "v")) { count = Counted 0 2 } ∷ []) [] [])
+      ≡ fault 6 (in_field (parts.Device 0) 0)
+  refuses_too_many_items : faulty (box_set (record (number U8 (codes "a")) { count = Fixed 16385 } ∷ []) [] []) ≡ fault 7 (here parts.Set)
+  refuses_a_structure_without_a_field : faulty (record empty_set { structs = record point { fields = []; validate = [] } ∷ [] })
+      ≡ fault 8 (here (parts.Struct 0))
+
+fault_rows : FaultRows
 unfolding faulty first
-refuses_a_subsection_of_another_device = refl
-
-refuses_a_machine_that_comes_twice : faulty (record empty_set { machines = codes "a" ∷ codes "b" ∷ codes "a" ∷ [] }) ≡ Some (record { rule = 2; place = here parts.Set })
-unfolding faulty first
-refuses_a_machine_that_comes_twice = refl
-
-refuses_a_field_that_comes_twice : faulty (box_set (number U8 (codes "a") ∷ number U8 (codes "b") ∷ number U8 (codes "a") ∷ []) [] []) ≡ Some (record { rule = 2; place = in_field (parts.Device 0) 2 })
-unfolding faulty first
-refuses_a_field_that_comes_twice = refl
-
--- ---- versions, and what tests and counts name
-
-refuses_a_minimum_above_the_version : faulty (record empty_set { devices = record { instance = 0; subs = []; desc = record { name = codes "box"; version = 1; minimum = 2; fields = []; validate = [] } } ∷ [] })
-    ≡ Some (record { rule = 3; place = here (parts.Device 0) })
-unfolding faulty first
-refuses_a_minimum_above_the_version = refl
-
-refuses_a_count_by_a_later_field : faulty (box_set (record (number U8 (codes "v")) { count = Counted 1 2 } ∷ number U8 (codes "n") ∷ []) [] []) ≡ Some (record { rule = 4; place = in_field (parts.Device 0) 0 })
-unfolding faulty first
-refuses_a_count_by_a_later_field = refl
-
--- a field's fault comes before a validation's of the same description
-refuses_a_bad_field_before_a_bad_validation : faulty (box_set (record (number U8 (codes "a")) { count = Fixed 0 } ∷ []) (Cell Own 1 255 Lt 10 ∷ []) []) ≡ Some (record { rule = 8; place = in_field (parts.Device 0) 0 })
-unfolding faulty first
-refuses_a_bad_field_before_a_bad_validation = refl
-
--- a needed test's fault is at the subsection, before its fields
-refuses_a_needed_test_of_no_field : faulty (box_set [] [] (record (sub_of (codes "box/p") [] 5) { needed = Cell Parent 0 255 Eq 1 } ∷ [])) ≡ Some (record { rule = 4; place = here (parts.Sub 0 0) })
-unfolding faulty first
-refuses_a_needed_test_of_no_field = refl
-
--- ---- structures, defaults, limits, counts
-
-refuses_a_structure_that_uses_itself : faulty (record empty_set { structs = record point { fields = record (number U8 (codes "p")) { item = Struct 0 } ∷ []; validate = [] } ∷ [] }) ≡ Some (record { rule = 5; place = in_field (parts.Struct 0) 0 })
-unfolding faulty first
-refuses_a_structure_that_uses_itself = refl
-
--- at the count's own field
-refuses_a_default_above_a_capacity : faulty (box_set (record (number U8 (codes "n")) { default = pos 3 } ∷ record (number U8 (codes "v")) { count = Counted 0 2 } ∷ []) [] []) ≡ Some (record { rule = 6; place = in_field (parts.Device 0) 0 })
-unfolding faulty first
-refuses_a_default_above_a_capacity = refl
-
-refuses_too_many_items : faulty (box_set (record (number U8 (codes "a")) { count = Fixed 16385 } ∷ []) [] []) ≡ Some (record { rule = 7; place = here parts.Set })
-unfolding faulty first
-refuses_too_many_items = refl
-
-refuses_a_structure_without_a_field : faulty (record empty_set { structs = record point { fields = []; validate = [] } ∷ [] }) ≡ Some (record { rule = 8; place = here (parts.Struct 0) })
-unfolding faulty first
-refuses_a_structure_without_a_field = refl
+fault_rows = search

@@ -1,15 +1,15 @@
 -- In the fields of a part the judge reads slot by slot, as the structural reader does: taking a
 -- slot is what is seen of its unit.
-use Rattle.vms_stream.proofs.{Finding.advances, Finding.IsFramed, Finding.behind_each, Judging.solid, Facade.owes, Facade.State, Facade.Inside, Facade.image_at}
-use Rattle.vms_stream.proofs.Facade.{part_at, known_at, after, by_state, ◌≡◌, if_both, ℕ, length, take, Option, Some, None, ℤ, refl, ap, ◌∙◌}
-use Rattle.vms_stream.proofs.Facade.{Bool, true, false, not, nat_lt, ◌&&◌, if◌then◌else◌, zero, suc, ◌+◌, ◌<◌, List, [], ◌∷◌, get_or}
-use Rattle.vms_stream.proofs.Facade.{drop, slice_set, Ok, Err, sym, arith, slice_get, drop-append_seam, Kind, width, value_of, Reason, is_truth, is_above}
-use Rattle.vms_stream.proofs.Facade.{exceeds, same_number, is_bad_bool, Slot, desc_slots, meanings, desc_cells, Progress, Taken, refuse, on, if_whole}
-use Rattle.vms_stream.proofs.Facade.{take_value, take_slot, Refusal, take_desc, takers, cells_of, Piece, Number, Constant, Filler, raw_same, bad_same, raw}
-use Rattle.vms_stream.proofs.Facade.{Field, Due, AfterFields, due_field, rules_hold, Whole, Cut, needs, Found, unit_at, Seen, Good, Bad, Short, seen, seen_in}
-use Rattle.vms_stream.proofs.Facade.{seen_by, Known, beyond, skipped, first_row, alone, first_of, put, taken_by, Set, Device, Desc, Image, Verdict, Faulty}
-use Rattle.vms_stream.proofs.Facade.{Reading, Refused, reading_after, part_slots, reading_on, at_set, set_twice, one_unit, none_taken, IsSound, AreSound}
-use Rattle.vms_stream.proofs.Facade.{same_refl, drop_next, Comes, set_desc_comes, step, Walks, Is, steps_keep, cut_in, Grammar, judge, judge_found, by_row}
+use Rattle.vms_stream.proofs.{Finding.advances, Finding.IsFramed, Finding.behind_each, Judging.solid, Facade.judge_found, Facade.by_row}
+use Rattle.vms_stream.proofs.Facade.{owes, State, Inside, image_at, part_at, known_at, after, by_state, ◌≡◌, if_both, ℕ, length, take, Option, Some}
+use Rattle.vms_stream.proofs.Facade.{None, ℤ, refl, ap, ◌∙◌, Bool, true, false, not, nat_lt, ◌&&◌, if◌then◌else◌, zero, suc, ◌+◌, ◌<◌}
+use Rattle.vms_stream.proofs.Facade.{List, [], ◌∷◌, get_or, drop, slice_set, Ok, Err, sym, arith, slice_get, drop-append_seam, Kind, width, value_of}
+use Rattle.vms_stream.proofs.Facade.{Reason, is_truth, is_above, exceeds, same_number, is_bad_bool, Slot, desc_slots, meanings, desc_cells, Progress, Taken}
+use Rattle.vms_stream.proofs.Facade.{refuse, on, if_whole, take_value, take_slot, Refusal, take_desc, takers, cells_of, Piece, Number, Constant, Filler}
+use Rattle.vms_stream.proofs.Facade.{raw_same, bad_same, raw, Field, Due, AfterFields, due_field, rules_hold, Whole, Cut, needs, Found, unit_at, Seen, Good}
+use Rattle.vms_stream.proofs.Facade.{Bad, Short, seen, seen_in, seen_by, Known, beyond, skipped, first_row, alone, first_of, put, taken_by, Set, Device, Desc}
+use Rattle.vms_stream.proofs.Facade.{Image, Verdict, Faulty, Reading, Refused, reading_after, part_slots, reading_on, at_set, set_twice, one_unit, none_taken}
+use Rattle.vms_stream.proofs.Facade.{IsSound, AreSound, same_refl, drop_next, Comes, set_desc_comes, step, Walks, Is, steps_keep, cut_in, Grammar, judge}
 use Rattle.vms_spec.specs.Layout.{Number as NumberSlot, Constant as ConstantSlot, Filler as FillerSlot, Rule as RuleSlot}
 use Rattle.vms_spec.specs.Readings.{Over as IsOver}
 use Rattle.vms_bodies.proofs.SpellLaws.{after as step_after, Refuses}

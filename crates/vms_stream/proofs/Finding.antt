@@ -195,10 +195,7 @@ module _ {S : Type 0} (g : Grammar S) (solid : (s : S) → IsSolid (g.due s)) wh
   on_found s rest Cut h = if_both (Advanced rest) (owes (g.due s) rest) _ (Over s) tt tt
 
   pub advances : Advances (judge g)
-  advances = record {
-    goes = λ s rest n next e. subst (Advanced rest) e
-        (if_both (Advanced rest) (g.holds s) _ _ (on_found s rest (unit_at (g.due s) rest) (stays (g.due s) rest (solid s))) tt);
-  }
+  advances = search (arith, on_found, stays)
 
 -- of the units so far: the fields that are due leave fillers of 0 bytes out
 pub field_solid : (t : Tail) (o : Option ℕ) (slots : List Slot) → IsSolid (due_field t o slots)

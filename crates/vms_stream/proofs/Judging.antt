@@ -211,13 +211,7 @@ module _ {S : Type 0} (set : Set) (names : List (List ℕ)) (g : Grammar S) (sol
 
 module _ (set : Set) (names : List (List ℕ)) where
   pub units_mirror : Mirrored set names (by_units set names) (λ u s. s ≡ u)
-  units_mirror = record {
-    due_is = λ u s e. ap (due set) e;
-    holds_is = λ u s e. ap (holds set) e;
-    section_is = λ u s e. ap (opened set) e;
-    reason_is = λ u s x e may. rw e;
-    after_is = λ u s x e held may none. rw e;
-  }
+  units_mirror = search arith
 
   pub units_refuse : Refuses set names (by_units set names) []
   units_refuse = refuses set names (by_units set names) (due_solid set) (λ u s. s ≡ u) units_mirror [] refl
@@ -299,15 +293,7 @@ module _ (set : Set) where
 
   reads_part : (u : List Piece) (o : Option ℕ) → opened set u ≡ o → spot_of u ≡ inside o (id_of u) (part set u) (passed set u)
       → due set u ≡ due_field (tail set u) o (drop (passed set u) (slots set u)) → Reads u
-  reads_part u None e s d = record {
-    section = rw (s, e);
-    due_is = rw (s, d);
-    held = rw (s, e, drop-nil (passed set u));
-    known_is = λ i. absurd (rw d at i);
-    to_part = λ j. rw (s, e);
-    next = rw (s, e);
-    put = λ step. rw e;
-  }
+  reads_part u None e s d = search arith
   reads_part u (Some k) e s d =
       let i = (images_of u).here k e in
       record {

@@ -88,9 +88,7 @@ front_holds set names well heads u rest ok front sound =
   where
     by : (x : Reading (List Piece)) → Says set names (by_units set names) (due_solid set) (λ u s. s ≡ u) (units_mirror set names) u (spelled u ++ rest) x
         → GoesOn set names (spelled u ++ rest) u
-    by (Accepted n end) w =
-        let ends = rw w.is at w.ends in
-        record { taken = n; more = w.more; ends = ends; takes = units_hold set names well heads (spelled u ++ rest) n (w.more ++ u) ok ends }
+    by (Accepted n end) w = search (arith, units_hold)
     by (Refused place section reason size) f = absurd (sound place section reason size f)
 
 -- ---- streams and faults
@@ -181,10 +179,4 @@ trailed None h = refl
 trailed (Some text) h = (h, refl)
 
 pub whole_holds : WholeLaw
-whole_holds set names few machine text images named fits ready =
-    let c = configured names machine named in
-    let t = trailed text fits in
-    record {
-      stream = written_is_stream set names few machine text images c t ready.one_each ready.ready;
-      taken = λ rest all. written_holds set names few machine text images c t ready rest all;
-    }
+whole_holds set names few machine text images named fits ready = search (arith, configured, trailed, written_is_stream, written_holds)

@@ -192,14 +192,7 @@ module _ {r : Run} {s : State} {place : ℕ} {rest : List ℕ} (ok : IsBytes res
 
   by_row_of : (x : Piece) (m : ℕ) → IsThere (gr.due s) rest x m → (o : Option (Option ℕ × Reason)) → gr.reason s x ≡ o
       → Then (by_row gr o m (after r.set s x)) → Steps r s place rest
-  by_row_of x m w None e h = record {
-    unit = x;
-    more = drop m rest;
-    may = w.may;
-    there = w.there;
-    none = e;
-    goes = record { is = rw (w.long) (h) };
-  }
+  by_row_of x m w None e h = search arith
   by_row_of x m w (Some (section, reason)) e h = cc
 
   by_owes : (b : Bool) → owes (gr.due s) rest ≡ b

@@ -170,10 +170,7 @@ every_bytes (b ∷ name) e =
     let p = and_parts (is_name_byte b) (list_all is_name_byte name) e in let low = name_byte_low b p.0 in (omega arith, every_bytes name p.1)
 
 pub is_named : (most : ℕ) (name : List ℕ) → most < 256 → is_name most name ≡ true → IsNamed name
-is_named most name lt e =
-    let p = and_parts (nat_le 1 (length name) && nat_le (length name) most) (list_all is_name_byte name) e in
-    let top : length name ≤ most = leb-true (length name) most (and_parts (nat_le 1 (length name)) (nat_le (length name) most) p.0).1 in
-    record { octets = every_bytes name p.1; short = omega arith }
+is_named most name lt e = search (arith, every_bytes)
 
 sub_named : (device name : List ℕ) → is_name 100 device ≡ true → is_sub_name device name ≡ true → IsNamed name
 sub_named device name d e =

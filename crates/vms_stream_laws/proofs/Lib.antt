@@ -1,4 +1,3 @@
-pub mod Bounds
 pub mod Facade
 pub mod Onward
 pub mod Parts

@@ -1,14 +1,14 @@
 -- A text that was accepted is the one of its machine and images.
 use Rattle.vms_values_laws.proofs.{BadLines.fine_text, BadLines.NoneBad, Meeting.named_is, Meeting.Ends, ReadyParts.device_ready, Rights.AreGood}
-use Rattle.vms_values_laws.proofs.AllCome.{images_of, short_are}
-use Rattle.vms_values_laws.proofs.Facade.{all_both, all_from, all_parts, ◌≡◌, ℕ, suc, ◌+◌, Bool, true, false, ◌==◌, List, [], ◌∷◌, ◌++◌, length, get_or, map}
-use Rattle.vms_values_laws.proofs.Facade.{Option, Some, None, ℤ, pos, append_cancel_left, refl, sym, ap, ◌∙◌, arith, codes, zero, ◌≤◌, AllByRecursion}
-use Rattle.vms_values_laws.proofs.Facade.{slice_get, eqb-true, leb-true, ext_get_or, Sub, Device, Set, desc_cells, struct_cells, Image, own_cells, version_text}
-use Rattle.vms_values_laws.proofs.Facade.{Element, elements_in, printed, sub_line, Entry, OfMachine, OfSub, OfNumber, number_entries, subs_entries}
-use Rattle.vms_values_laws.proofs.Facade.{devices_entries, entry_line, device_entries, entries, part_reason, is_of_cell, has_line, IsShaped, AreShaped}
-use Rattle.vms_values_laws.proofs.Facade.{AreUnsaid, AllUnsaid, IsAtVersion, AreAtVersions, IsMachineOf, AreFine, Says, Demand, ForSection, ForNumber}
-use Rattle.vms_values_laws.proofs.Facade.{demand_of, Taken, lines_of, Follows, Along, ValuesReason, first_line, IsReady, AreReady, BadLine, ValuesRead, Values}
-use Rattle.vms_values_laws.proofs.Facade.{Bad, machine_named, or_bad, WellFormed, IsGood, device_parts, sub_clean, OfSection, DefaultsFit, device_cells}
+use Rattle.vms_values_laws.proofs.{AllCome.images_of, AllCome.short_are, Facade.DefaultsFit, Facade.device_cells}
+use Rattle.vms_values_laws.proofs.Facade.{all_both, all_from, all_parts, ◌≡◌, ℕ, suc, ◌+◌, Bool, true, false, ◌==◌, List, [], ◌∷◌}
+use Rattle.vms_values_laws.proofs.Facade.{◌++◌, length, get_or, map, Option, Some, None, ℤ, pos, append_cancel_left, refl, sym, ap, ◌∙◌, arith}
+use Rattle.vms_values_laws.proofs.Facade.{codes, zero, ◌≤◌, AllByRecursion, slice_get, eqb-true, leb-true, ext_get_or, Sub, Device, Set, desc_cells}
+use Rattle.vms_values_laws.proofs.Facade.{struct_cells, Image, own_cells, version_text, Element, elements_in, printed, sub_line, Entry, OfMachine, OfSub}
+use Rattle.vms_values_laws.proofs.Facade.{OfNumber, number_entries, subs_entries, devices_entries, entry_line, device_entries, entries, part_reason, is_of_cell}
+use Rattle.vms_values_laws.proofs.Facade.{has_line, IsShaped, AreShaped, AreUnsaid, AllUnsaid, IsAtVersion, AreAtVersions, IsMachineOf, AreFine, Says, Demand}
+use Rattle.vms_values_laws.proofs.Facade.{ForSection, ForNumber, demand_of, Taken, lines_of, Follows, Along, ValuesReason, first_line, IsReady, AreReady}
+use Rattle.vms_values_laws.proofs.Facade.{BadLine, ValuesRead, Values, Bad, machine_named, or_bad, WellFormed, IsGood, device_parts, sub_clean, OfSection}
 use Rattle.vms_values_laws.proofs.SecondPass.{AreShort, of_numbers, number_same, as_bad, parts_from}
 
 -- ---- Two states with the same lines, and with defaults where there is no line, are the same.
@@ -92,9 +92,7 @@ by_demand c _ = refl
 module _ (n m : List ℤ) (short : AreShort n) (short' : AreShort m) where
   one_number : (e f : Entry) (c : ℕ) → IsOwn n e → IsOwn m f → demand_of e ≡ demand_of f → entry_line e ≡ entry_line f → is_of_cell c e ≡ true
       → get_or n c (pos 0) ≡ get_or m c (pos 0)
-  one_number (OfNumber x k) (OfNumber y l) c is of demand line at =
-      let same : y ≡ x = cc in
-      rw (← (eqb-true x.cell c at)) (number_same x.name _ _ (short x.cell) (short' x.cell) (rw (is, of, same) at line))
+  one_number (OfNumber x k) (OfNumber y l) c is of demand line at = grind (arith, number_same)
   one_number _ _ c is of demand line at = absurd (cc)
 
   -- a number has the same line in both, or it is this default in both
@@ -106,7 +104,7 @@ module _ (n m : List ℤ) (short : AreShort n) (short' : AreShort m) where
         → ((has_line es c ≡ false → get_or n c (pos 0) ≡ z) → (has_line fs c ≡ false → get_or m c (pos 0) ≡ z) → get_or n c (pos 0) ≡ get_or m c (pos 0))
         → get_or n c (pos 0) ≡ get_or m c (pos 0)
     by true p later = one_number e f c a.0 b.0 h.0 h.1 p
-    by false p later = later (λ g. u (rw (p, g) refl)) (λ g. u' (rw (by_demand c f ∙ ap (of_demand c) (sym h.0) ∙ sym (by_demand c e) ∙ p, g) refl))
+    by false p later = grind (arith, by_demand)
   same_at c z _ _ a b h u u' = absurd h
 
 abbrev came_with : Entry → List (Option ℕ) → List (Option ℕ)
@@ -134,14 +132,14 @@ one_came s t (Some v) None same a b e = absurd (not_both t v (sym (rw same at e)
 
 came_one : (n m : List ℤ) (e f : Entry) (came : List (Option ℕ)) → IsOwn n e → IsOwn m f → demand_of e ≡ demand_of f → entry_line e ≡ entry_line f
     → came_with e came ≡ came_with f came
-came_one n m (OfSub d image j s at o) (OfSub d' image' j' t at' p) came a b h l = let same : s ≡ t = cc in rw (one_came s t o p same a b l) refl
+came_one n m (OfSub d image j s at o) (OfSub d' image' j' t at' p) came a b h l = grind (arith, one_came)
 came_one n m (OfSub d image j s at o) _ came a b h l = absurd (cc)
 came_one n m _ (OfSub d image j s at o) came a b h l = absurd (cc)
 came_one n m _ _ came a b h l = refl
 
 came_same : (n m : List ℤ) (es fs : List Entry) → AreOwn n es → AreOwn m fs → Match es fs → came_of es ≡ came_of fs
 came_same n m [] [] a b h = refl
-came_same n m (e ∷ es) (f ∷ fs) a b h = cc (came_same n m es fs a.1 b.1 h.2, came_one n m e f (came_of fs) a.0 b.0 h.0 h.1)
+came_same n m (e ∷ es) (f ∷ fs) a b h = grind (arith, came_one, came_same n m es fs a.1 b.1 h.2)
 came_same n m _ _ a b h = absurd h
 
 module _ (set : Set) (d : Device) (image : Image) where
@@ -154,11 +152,10 @@ module _ (set : Set) (d : Device) (image : Image) where
   subs_came j at _ _ long = absurd (omega arith)
 
   whole_came : length image.came ≡ length d.subs → came_of (inside_of set d image) ≡ image.came
-  whole_came long =
-      numbers_came image.numbers (printed (elements_in set d.desc d.desc.version image.numbers 0)) _ ∙ subs_came 0 (own_cells set d) d.subs image.came long
+  whole_came long = grind (arith, numbers_came, subs_came)
 
 same_image : (i j : Image) → i.version ≡ j.version → i.came ≡ j.came → i.numbers ≡ j.numbers → i ≡ j
-same_image i j e f g = let same : i ≡ record { version = j.version; came = j.came; numbers = j.numbers } = rw (← e, ← f, ← g) refl in same
+same_image i j e f g = grind arith
 
 device_same : (set : Set) (d : Device) (image image' : Image) → IsShaped set d image → IsShaped set d image'
     → AreUnsaid set d image → AreUnsaid set d image' → Match (inside_of set d image) (inside_of set d image') → image ≡ image'

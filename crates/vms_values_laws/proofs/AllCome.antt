@@ -1,13 +1,13 @@
 -- All devices, read as entries, and which devices reading requires.
-use Rattle.vms_values_laws.proofs.Facade.{all_from, ◌≡◌, ℕ, suc, ◌+◌, List, ◌∷◌, ◌++◌, length, map, true, false, Option, Some, None, ℤ, Ok, Err, Result, refl}
-use Rattle.vms_values_laws.proofs.Facade.{sym, ap, ◌∙◌, subst, arith, [], length-append, length-map, bytes_eq-Decides, zero, ◌<◌, get_or, slice_set, Bool}
-use Rattle.vms_values_laws.proofs.Facade.{⊎_elim, AllByRecursion, or_right, cases_eq, if◌then◌else◌, pos, negsuc, get_or-set_other, append-nil, list_all}
-use Rattle.vms_values_laws.proofs.Facade.{and_parts, length-set, get_or-set_same, get_or-map, Device, Set, desc_cells, struct_cells, device_cells, Image}
-use Rattle.vms_values_laws.proofs.Facade.{default_image, own_cells, first_line, Standing, BadLine, ReadSubs, readers, read_desc, read_subs, then_subs}
-use Rattle.vms_values_laws.proofs.Facade.{next_line, rest_of, is_line, IsSound, AreSound, section_line, Entry, OfSection, device_entries, Said, ForSection}
-use Rattle.vms_values_laws.proofs.Facade.{reason_for, Taken, Follows, Along, Begins, Moved, either_of, no_cell, Cell, ReadDevice, ReadAll, read_devices}
-use Rattle.vms_values_laws.proofs.Facade.{device_read, with_device, IsShort, devices_entries, is_short, IsShaped, AreShaped, AreUnsaid, AllUnsaid, put_all}
-use Rattle.vms_values_laws.proofs.Facade.{Demand, IsGood, DefaultsFit, ranged, I64, U64, and_from, le-leb}
+use Rattle.vms_values_laws.proofs.Facade.{all_from, ◌≡◌, ℕ, suc, ◌+◌, List, ◌∷◌, ◌++◌, length, map, true, false, Option, Some, None, ℤ}
+use Rattle.vms_values_laws.proofs.Facade.{Ok, Err, Result, refl, sym, ap, ◌∙◌, subst, arith, [], length-append, length-map, bytes_eq-Decides, zero}
+use Rattle.vms_values_laws.proofs.Facade.{◌<◌, get_or, slice_set, Bool, ⊎_elim, AllByRecursion, or_right, cases_eq, if◌then◌else◌, pos, negsuc}
+use Rattle.vms_values_laws.proofs.Facade.{get_or-set_other, append-nil, list_all, and_parts, length-set, get_or-set_same, get_or-map, Device, Set, desc_cells}
+use Rattle.vms_values_laws.proofs.Facade.{struct_cells, device_cells, Image, default_image, own_cells, first_line, Standing, BadLine, ReadSubs, readers}
+use Rattle.vms_values_laws.proofs.Facade.{read_desc, read_subs, then_subs, next_line, rest_of, is_line, IsSound, AreSound, section_line, Entry, OfSection}
+use Rattle.vms_values_laws.proofs.Facade.{device_entries, Said, ForSection, reason_for, Taken, Follows, Along, Begins, Moved, either_of, no_cell, Cell}
+use Rattle.vms_values_laws.proofs.Facade.{ReadDevice, ReadAll, read_devices, device_read, with_device, IsShort, devices_entries, is_short, IsShaped, AreShaped}
+use Rattle.vms_values_laws.proofs.Facade.{AreUnsaid, AllUnsaid, put_all, Demand, IsGood, DefaultsFit, ranged, I64, U64, and_from, le-leb}
 use Rattle.vms_values_laws.proofs.SaidLaws.{moved_none, moved_one, moved_then, unsaid_kept, AreShortSaid, short}
 use Rattle.vms_values_laws.proofs.SecondPass.{AreShort, numbers_come, follows_then, along_then, short_within, AreLined}
 use Rattle.vms_values_laws.proofs.SubsCome.{line_taken, AreSoundSubs, cells_long, none_at, subs_come, Went, Come, stopped_first, behind_numbers, numbers_first}
@@ -111,8 +111,8 @@ short_all n (s ∷ said) h short = short_all (slice_set n s.element.cell s.numbe
 
 -- as a test that computes
 is_short_one : (z : ℤ) → IsShort z → is_short z ≡ true
-is_short_one (pos n) h = or_right _ _ (and_from _ _ (le-leb 0 n (omega arith)) (le-leb n 0xffff_ffff_ffff_ffff (omega arith)))
-is_short_one (negsuc n) h = let e = le-leb n 0x7fff_ffff_ffff_ffff (omega arith) in rw e refl
+is_short_one (pos n) h = grind (arith, or_right, and_from)
+is_short_one (negsuc n) h = grind arith
 
 pub are_short : (n : List ℤ) → AreShort n → list_all is_short n ≡ true
 are_short [] h = refl

@@ -1,8 +1,9 @@
 -- The names of other crates, and of this crate's `specs`, that the proofs use.
 pub use Rattle.std.proofs.{Math.ListN.get_or-eq_default, Math.Seq.drop-append_seam, Math.Seq.drop-cons, lemmas.Int.ints, lemmas.Slice.Eq.bytes_eq-Decides}
 pub use Rattle.std.proofs.Common.{Bool, Err, List, None, Ok, Option, Result, Some, [], ap, append-nil, append_assoc, arith, codes, drop, false, get_or}
-pub use Rattle.std.proofs.Common.{get_or-set_other, if◌then◌else◌, inl, inr, length, map, nat_le, negsuc, not, pos, refl, slice_set, subst, suc, sum_by, sym}
-pub use Rattle.std.proofs.Common.{take, true, zero, ℕ, ℤ, ⊎_elim, ◌&&◌, ◌*◌, ◌++◌, ◌+◌, ◌-◌, ◌<◌, ◌==◌, ◌||◌, ◌∙◌, ◌∷◌, ◌≡◌, ◌≤◌, ◌⊎◌}
+pub use Rattle.std.proofs.Common.{get_or-set_other, if◌then◌else◌, inl, inr, length, map, nat_le, negsuc, not, pos, refl, slice_set, subst, suc, sum_by}
+pub use Rattle.std.proofs.Common.{sym, take, true, zero, ℕ, ℤ, ⊎_elim, ◌&&◌, ◌*◌, ◌++◌, ◌+◌, ◌-◌, ◌<◌, ◌==◌, ◌||◌}
+pub use Rattle.std.proofs.Common.{◌∙◌, ◌∷◌, ◌≡◌, ◌≤◌, ◌⊎◌}
 pub use Rattle.std.proofs.Math.Bool.{and-false, and-true, and_assoc, or_assoc}
 pub use Rattle.std.proofs.lemmas.Bool.{and_from, and_parts, cases_eq, cases_lt, eq-eqb, eqb-true, le-leb, le-ltb, leb-true, lt-ltb, ne_eqb, not-true, or_from}
 pub use Rattle.std.proofs.lemmas.Bool.{or_parts, or_right}
@@ -12,19 +13,19 @@ pub use Rattle.std.proofs.lemmas.Option.{get_or_from_slice_get, same_Some, some_
 pub use Rattle.std.specs.{Fmt.decimal, Fmt.signed_decimal, Str.bytes_eq, List.AllByRecursion, List.flat_map, List.list_all, List.slice_get}
 pub use Rattle.vms_kinds.specs.declared.Item.{Item, TheVariants.Num, TheVariants.Struct}
 pub use Rattle.vms_kinds.specs.declared.Kind.{Kind, TheVariants.I64, TheVariants.U64, TheVariants.U8}
-pub use Rattle.vms_spec.proofs.{WellFormedLaws.struct_clean, Tables.readers_cells, Tables.elements_fit, Tables.field_size, Tables.first_long, Tables.two_more}
+pub use Rattle.vms_spec.proofs.{WellFormedLaws.ranges, Tables.readers_cells, Tables.elements_fit, Tables.field_size, Tables.first_long, Tables.two_more}
 pub use Rattle.vms_spec.proofs.ListsAndNumbers.{name_byte_high, either_of, or_second, not_exceeds, same_number_is, within_all}
-pub use Rattle.vms_spec.proofs.WellFormedLaws.{sub_clean, well_good, few_devices, machine_short, or_else_none, Clean, device_parts, get_none, ranges}
-pub use Rattle.vms_spec.specs.{Images.own_cells, Numbers.exceeds, Numbers.same_number, Readiness.rules_are_true, Rules.in_range, Sets.Desc, Sets.Device}
-pub use Rattle.vms_spec.specs.{Sets.Field, Sets.Set, Sets.Sub, Spelling.begins_with, Spelling.first_line, Spelling.number_spelled, Streams.optional}
-pub use Rattle.vms_spec.specs.{Values.values_text, Values.version_text, declared.Count.Count, declared.Place.Place, declared.ValuesReason.ValuesReason}
-pub use Rattle.vms_spec.specs.{Good.DefaultsFit, Good.IsFit, Good.IsGood, Lists.first_answer, Lists.or_else}
-pub use Rattle.vms_spec.specs.Images.{own_slots, sub_slots, AreVersionsOf, FitsCell, Image, RulesHold, came_slots, default_image, has_cell, image_slots}
+pub use Rattle.vms_spec.proofs.WellFormedLaws.{struct_clean, sub_clean, well_good, few_devices, machine_short, or_else_none, Clean, device_parts, get_none}
+pub use Rattle.vms_spec.specs.{Images.image_slots, Readiness.rules_are_true, Rules.in_range, Sets.Desc, Sets.Device, Sets.Field, Sets.Set, Sets.Sub}
+pub use Rattle.vms_spec.specs.{Spelling.begins_with, Spelling.first_line, Spelling.number_spelled, Streams.is_one_of, Values.values_text, Values.version_text}
+pub use Rattle.vms_spec.specs.{declared.Count.Count, declared.Place.Place, declared.ValuesReason.ValuesReason, Good.DefaultsFit, Good.IsFit, Good.IsGood}
+pub use Rattle.vms_spec.specs.{Lists.first_answer, Lists.or_else, Names.is_name, Names.is_name_byte, Names.is_sub_name}
+pub use Rattle.vms_spec.specs.Images.{own_cells, own_slots, sub_slots, AreVersionsOf, FitsCell, Image, RulesHold, came_slots, default_image, has_cell}
 pub use Rattle.vms_spec.specs.Layout.{Cell, Slot, all_hold, capacity_of, cells_from, counted, desc_cells, desc_slots, device_cells, elements_of, field_cells}
 pub use Rattle.vms_spec.specs.Layout.{item_size, meanings, no_cell, no_desc, no_field, numbers_of, place_of, struct_cells}
-pub use Rattle.vms_spec.specs.Names.{is_name, is_name_byte, is_sub_name}
+pub use Rattle.vms_spec.specs.Numbers.{exceeds, same_number}
 pub use Rattle.vms_spec.specs.Sound.{AreSound, AreSoundFields, IsEarlier, IsNumber, IsOne, IsSound, IsSoundField}
-pub use Rattle.vms_spec.specs.Streams.{trailer, written, AreReady, ComeAsNeeded, IsConfiguration, IsReady, IsTrailer, configuration, is_needed, is_one_of}
+pub use Rattle.vms_spec.specs.Streams.{optional, trailer, written, AreReady, ComeAsNeeded, IsConfiguration, IsReady, IsTrailer, configuration, is_needed}
 pub use Rattle.vms_spec.specs.ValuesReading.{Bad, BadLine, CellLine, Read, ReadAll, ReadDevice, ReadSubs, Reader, Standing, Values, ValuesRead, after_machine}
 pub use Rattle.vms_spec.specs.ValuesReading.{also, answer_of, are_defaults, device_read, ended, if_bad, is_line, is_said_well, judge_device, judge_devices}
 pub use Rattle.vms_spec.specs.ValuesReading.{judge_subs, judged, machine_named, next_line, no_reader, or_bad, put_line, put_number, read_array, read_desc}
@@ -52,7 +53,7 @@ pub use Rattle.vms_elements.specs.Lines.{number_line, printed, section_line, sub
 pub use Rattle.vms_elements.specs.Parts.{CountsUp, cells_of, cells_with, elements_in, is_number, numbers_in, slot_of, slots_of}
 pub use Rattle.vms_elements.specs.Reading.{AllUnsaid, AreAtVersions, AreFine, AreShaped, AreUnsaid, IsAtVersion, IsBadLine, IsMachineOf, IsShaped, IsText}
 pub use Rattle.vms_elements.specs.Reading.{Reads, Refused, Says, has_line, is_of_cell, is_short}
-pub use Rattle.vms_values_laws.specs.{Rounds.FitsText, Rounds.PackedLaw, Rounds.ShownLaw, Rounds.WrittenLaw, Taken.ForSection, Taken.ForSub}
+pub use Rattle.vms_values_laws.specs.{Rounds.FitsText, Rounds.PackedLaw, Rounds.ShownLaw, Rounds.WrittenLaw, Taken.ForMachine, Taken.ForNumber}
 pub use Rattle.vms_values_laws.specs.Laws.{AcceptedLaw, LineLaw, OnlyLaw, PrintedLaw, ReadLaw, device_lines, most_lines}
 pub use Rattle.vms_values_laws.specs.Said.{Agrees, AreBelow, AreFrom, Meets, Said, put_all, said_line}
-pub use Rattle.vms_values_laws.specs.Taken.{Moved, Taken, demand_of, lines_of, reason_for, Along, AreFineTaken, Begins, Demand, Follows, ForMachine, ForNumber}
+pub use Rattle.vms_values_laws.specs.Taken.{ForSection, ForSub, Moved, Taken, demand_of, lines_of, reason_for, Along, AreFineTaken, Begins, Demand, Follows}

@@ -1,16 +1,17 @@
 -- Lines without a line feed: a text leads along one list of lines, and the entries of a fit set have no other.
-use Rattle.vms_values_laws.proofs.{SecondPass.reason_same, SaidLaws.if_none, SaidLaws.some_if, SaidLaws.short, Facade.name_byte_high}
-use Rattle.vms_values_laws.proofs.Facade.{IsMachineOf, decimal_all, if_both, elements_each, all_both, all_from, ◌≡◌, ℕ, suc, ◌+◌, Bool, true, false, ◌==◌}
-use Rattle.vms_values_laws.proofs.Facade.{if◌then◌else◌, List, ◌∷◌, ◌++◌, length, drop, Option, Some, None, ℤ, pos, negsuc, refl, sym, ap, ◌∙◌, arith, codes}
-use Rattle.vms_values_laws.proofs.Facade.{[], map, append_assoc, ne_eqb, decimal, signed_decimal, bytes_eq, bytes_eq-Decides, some_pair_parts, AllByRecursion}
-use Rattle.vms_values_laws.proofs.Facade.{◌&&◌, get_or, nat_le, take, slice_get, list_all, and_parts, get_or_from_slice_get, take-append-drop, or_else_none}
-use Rattle.vms_values_laws.proofs.Facade.{either_of, Cell, first_line, begins_with, number_spelled, spelled_holds, begun, What, Number, Element, sub_line}
-use Rattle.vms_values_laws.proofs.Facade.{text_of, if_not, element_reason, spelled_reason, Entry, entry_line, line_reason, front_reason, Demand, ForMachine}
-use Rattle.vms_values_laws.proofs.Facade.{ForSection, ForSub, ForNumber, reason_for, demand_of, Taken, lines_of, AreFineTaken, Follows, ValuesReason, AreFine}
-use Rattle.vms_values_laws.proofs.Facade.{or_else, Count, One, Field, Desc, Sub, Device, Set, no_desc, counted, desc_cells, struct_cells, Image, index_text}
-use Rattle.vms_values_laws.proofs.Facade.{is_number, printed, OfNumber, number_entries, subs_entries, device_entries, devices_entries, entries, Place}
-use Rattle.vms_values_laws.proofs.Facade.{first_answer, is_name_byte, is_name, is_sub_name, is_one_of, machine_named, WellFormed, first_fault, failing, here}
-use Rattle.vms_values_laws.proofs.Facade.{set_rules, struct_fault, device_fault, size_rules, Clean, struct_clean, device_parts, sub_clean, get_none}
+use Rattle.vms_values_laws.proofs.{SecondPass.reason_same, SaidLaws.if_none, SaidLaws.some_if, SaidLaws.short}
+use Rattle.vms_values_laws.proofs.Facade.{name_byte_high, IsMachineOf, decimal_all, if_both, elements_each, all_both, all_from, ◌≡◌, ℕ, suc, ◌+◌}
+use Rattle.vms_values_laws.proofs.Facade.{Bool, true, false, ◌==◌, if◌then◌else◌, List, ◌∷◌, ◌++◌, length, drop, Option, Some, None, ℤ}
+use Rattle.vms_values_laws.proofs.Facade.{pos, negsuc, refl, sym, ap, ◌∙◌, arith, codes, [], map, append_assoc, ne_eqb, decimal, signed_decimal, bytes_eq}
+use Rattle.vms_values_laws.proofs.Facade.{bytes_eq-Decides, some_pair_parts, AllByRecursion, ◌&&◌, get_or, nat_le, take, slice_get, list_all, and_parts}
+use Rattle.vms_values_laws.proofs.Facade.{get_or_from_slice_get, take-append-drop, or_else_none, either_of, Cell, first_line, begins_with, number_spelled}
+use Rattle.vms_values_laws.proofs.Facade.{spelled_holds, begun, What, Number, Element, sub_line, text_of, if_not, element_reason, spelled_reason, Entry}
+use Rattle.vms_values_laws.proofs.Facade.{entry_line, line_reason, front_reason, Demand, ForMachine, ForSection, ForSub, ForNumber, reason_for, demand_of}
+use Rattle.vms_values_laws.proofs.Facade.{Taken, lines_of, AreFineTaken, Follows, ValuesReason, AreFine, or_else, Count, One, Field, Desc, Sub, Device, Set}
+use Rattle.vms_values_laws.proofs.Facade.{no_desc, counted, desc_cells, struct_cells, Image, index_text, is_number, printed, OfNumber, number_entries}
+use Rattle.vms_values_laws.proofs.Facade.{subs_entries, device_entries, devices_entries, entries, Place, first_answer, is_name_byte, is_name, is_sub_name}
+use Rattle.vms_values_laws.proofs.Facade.{is_one_of, machine_named, WellFormed, first_fault, failing, here, set_rules, struct_fault, device_fault, size_rules}
+use Rattle.vms_values_laws.proofs.Facade.{Clean, struct_clean, device_parts, sub_clean, get_none}
 use Rattle.vms_spec.specs.declared.ValuesReason.TheVariants as reasons
 use Rattle.vms_spec.specs.declared.Part.TheVariants as parts
 
@@ -124,7 +125,7 @@ meet [] (x ∷ before) after rest rest' o o' f clean fine fine' e ends =
 meet (t ∷ taken) [] [] rest rest' o o' f clean fine fine' e ends = absurd f
 meet (t ∷ taken) [] (x ∷ after) rest rest' o o' f clean fine fine' e ends =
     let same : reason_for (demand_of x) (Some (t.line, [])) ≡ None = rw (f.0) fine.0 in
-    let is : rest' ≡ t.line ++ 10 ∷ (text_of (lines_of taken) ++ rest) = sym e ∙ append_assoc t.line (10 ∷ text_of (lines_of taken)) rest in
+    let is : rest' ≡ t.line ++ 10 ∷ (text_of (lines_of taken) ++ rest) = cc (append_assoc t.line (10 ∷ text_of (lines_of taken)) rest) in
     absurd (not_ended o' x after t.line (text_of (lines_of taken) ++ rest) (fine_feed (demand_of x) t.line clean.0 same) same (rw (is) at ends))
 meet (t ∷ taken) (x ∷ before) after rest rest' o o' f clean fine fine' e ends =
     let feed' = fine_feed _ _ clean.0 (fine_entry x fine'.0) in
@@ -219,8 +220,7 @@ named_one (m ∷ machines) name e h =
 -- a machine that is named is one of the set
 pub named_is : (machines : List (List ℕ)) (o : Option (List ℕ × List ℕ)) (name : List ℕ) → machine_named machines o ≡ Some name → is_one_of machines name ≡ true
 named_is machines None name e = cc
-named_is machines (Some (line, rest)) name e =
-    let p = some_if (begins_with (codes "machine ") line && is_one_of machines (drop 8 line)) _ _ e in rw (← p.1) (and_parts _ _ p.0).1
+named_is machines (Some (line, rest)) name e = grind (arith, some_if)
 
 module _ (set : Set) (well : WellFormed set) where
   clean_structs : (j : ℕ) → AreCleanFields (get_or set.structs j no_desc).fields

@@ -1,13 +1,13 @@
 -- Images that may be written, part by part, and the first bad part.
-use Rattle.vms_values_laws.proofs.{SaidLaws.if_none, SaidLaws.short, AllCome.are_short}
-use Rattle.vms_values_laws.proofs.Facade.{all_both, ◌≡◌, ℕ, suc, ◌+◌, ◌≤◌, Bool, true, false, List, ◌∷◌, ◌++◌, length, get_or, Option, Some, None, ℤ, refl}
-use Rattle.vms_values_laws.proofs.Facade.{sym, ap, ◌∙◌, arith, [], map, flat_map, slice_get, printed, or_else_none, ValuesReason, or_else, Desc, Sub, Device}
-use Rattle.vms_values_laws.proofs.Facade.{Set, Cell, no_cell, Slot, desc_cells, struct_cells, device_cells, Image, own_cells, own_slots, sub_slots}
-use Rattle.vms_values_laws.proofs.Facade.{came_slots, image_slots, RulesHold, AreVersionsOf, is_needed, ComeAsNeeded, IsReady, DefaultsFit, rules_append}
-use Rattle.vms_values_laws.proofs.Facade.{rules_decide, elements_in, Entry, OfSub, number_entries, subs_entries, device_entries, if_not, have_defaults}
-use Rattle.vms_values_laws.proofs.Facade.{came_well, part_reason, AreFine, IsShaped, AreUnsaid, AreAtVersions, walks, elements_slots, BadLine, or_bad, pos}
-use Rattle.vms_values_laws.proofs.Facade.{codes, ranged, devices_entries, entries, AreShaped, AllUnsaid, IsText, Says, entry_law, text_is, OfSection}
-use Rattle.vms_values_laws.proofs.Facade.{bytes_eq, bytes_eq-Decides, entry_line, is_of_cell, line_reason, or_right, rules_split, section_line, sub_line}
+use Rattle.vms_values_laws.proofs.{SaidLaws.if_none, SaidLaws.short, AllCome.are_short, Facade.sub_line}
+use Rattle.vms_values_laws.proofs.Facade.{all_both, ◌≡◌, ℕ, suc, ◌+◌, ◌≤◌, Bool, true, false, List, ◌∷◌, ◌++◌, length, get_or}
+use Rattle.vms_values_laws.proofs.Facade.{Option, Some, None, ℤ, refl, sym, ap, ◌∙◌, arith, [], map, flat_map, slice_get, printed, or_else_none}
+use Rattle.vms_values_laws.proofs.Facade.{ValuesReason, or_else, Desc, Sub, Device, Set, Cell, no_cell, Slot, desc_cells, struct_cells, device_cells, Image}
+use Rattle.vms_values_laws.proofs.Facade.{own_cells, own_slots, sub_slots, came_slots, image_slots, RulesHold, AreVersionsOf, is_needed, ComeAsNeeded, IsReady}
+use Rattle.vms_values_laws.proofs.Facade.{DefaultsFit, rules_append, rules_decide, elements_in, Entry, OfSub, number_entries, subs_entries, device_entries}
+use Rattle.vms_values_laws.proofs.Facade.{if_not, have_defaults, came_well, part_reason, AreFine, IsShaped, AreUnsaid, AreAtVersions, walks, elements_slots}
+use Rattle.vms_values_laws.proofs.Facade.{BadLine, or_bad, pos, codes, ranged, devices_entries, entries, AreShaped, AllUnsaid, IsText, Says, entry_law, text_is}
+use Rattle.vms_values_laws.proofs.Facade.{OfSection, bytes_eq, bytes_eq-Decides, entry_line, is_of_cell, line_reason, or_right, rules_split, section_line}
 use Rattle.vms_values_laws.proofs.Rights.{right_none, part, right_by, known_both, Known, defaults_are, AreGood, IfDefaults}
 use Rattle.vms_values_laws.proofs.SecondPass.{of_numbers, AreShort, short_within, desc_rules, as_bad, parts_from}
 use Rattle.vms_spec.specs.declared.ValuesReason.TheVariants as reasons
@@ -115,13 +115,11 @@ module _ (set : Set) (d : Device) (image : Image) (short : AreShort image.number
   device_known version long versions =
       let ss = own_slots set d image.version n in
       let later = came_slots set d n (own_cells set d) d.subs image.came in
-      let its : Known set n 0 (number_entries set d.desc n 0) (desc_cells (struct_cells set) d.desc) ss (Unit {0}) =
-      rw version (desc_part set n short d.desc d.desc.version 0) in
       let line = bytes_same (section_line d image.version) (section_line d d.desc.version) (ap (section_line d) version) in
       let rules = desc_rules set d.desc image.version n 0 in
       let own : Known set n 0 (OfSection d image ∷ number_entries set d.desc n 0) (desc_cells (struct_cells set) d.desc) ss (RulesHold ss) =
       head_known (OfSection d image) (λ k. refl) line (λ g. (rules_decide ss).0 (sym rules ∙ if_none _ _ g))
-      (λ m. rw (rules ∙ (rules_decide ss).1 m) refl) its in
+      (λ m. rw (rules ∙ (rules_decide ss).1 m) refl) (rw version (desc_part set n short d.desc d.desc.version 0)) in
       known_both (λ a b. (rules_append ss later a b.0, b.1)) (λ m. let r = rules_split ss later m.0 in (r.0, (r.1, m.1))) (omega arith) own
       (subs_known 0 (own_cells set d) d.subs _ long versions)
 

@@ -1,13 +1,14 @@
 -- Which numbers have fine lines, and which entries.
-use Rattle.vms_values_laws.proofs.{Facade.has_default, SaidLaws.if_none, SaidLaws.lines_both, SecondPass.AreShort, SecondPass.of_numbers}
-use Rattle.vms_values_laws.proofs.Facade.{if_both, all_both, all_parts, ◌≡◌, ℕ, Bool, true, false, List, ◌∷◌, ◌++◌, length, get_or, drop, Some, None, ℤ, pos}
-use Rattle.vms_values_laws.proofs.Facade.{refl, sym, ap, ◌∙◌, codes, or_from, and_from, and-true, and-false, not-true, append_assoc, if◌then◌else◌, ◌||◌, []}
-use Rattle.vms_values_laws.proofs.Facade.{zero, suc, ◌+◌, ◌-◌, ◌<◌, ◌≤◌, ◌&&◌, ◌==◌, subst, arith, ⊎_elim, signed_decimal, eq-eqb, ne_eqb, and_parts, or_parts}
-use Rattle.vms_values_laws.proofs.Facade.{drop-append_seam, get_or_append_left, get_or-append-add, length-append, cases_lt, Entry, AreCounted, or_else_none}
-use Rattle.vms_values_laws.proofs.Facade.{same_number, Cell, no_cell, Slot, FitsCell, has_cell, begins_with, is_same, ranged, ranges, or_second, same_number_is}
-use Rattle.vms_values_laws.proofs.Facade.{within_all, not_exceeds, IsShort, number_holds, Number, Element, What, number_line, printed, OfNumber, if_not}
-use Rattle.vms_values_laws.proofs.Facade.{number_reason, element_reason, line_reason, have_defaults, DefaultsFit, names_append, cells_of, slots_of, numbers_in}
-use Rattle.vms_values_laws.proofs.Facade.{CountsUp, AreFine, has_line, Set, AllByRecursion, part_reason, none_joined, is_number, cells_with, slot_of}
+use Rattle.vms_values_laws.proofs.{SaidLaws.if_none, SaidLaws.lines_both, SecondPass.AreShort, SecondPass.of_numbers}
+use Rattle.vms_values_laws.proofs.Facade.{has_default, if_both, all_both, all_parts, ◌≡◌, ℕ, Bool, true, false, List, ◌∷◌, ◌++◌, length}
+use Rattle.vms_values_laws.proofs.Facade.{get_or, drop, Some, None, ℤ, pos, refl, sym, ap, ◌∙◌, codes, or_from, and_from, and-true, and-false, not-true}
+use Rattle.vms_values_laws.proofs.Facade.{append_assoc, if◌then◌else◌, ◌||◌, [], zero, suc, ◌+◌, ◌-◌, ◌<◌, ◌≤◌, ◌&&◌, ◌==◌}
+use Rattle.vms_values_laws.proofs.Facade.{subst, arith, ⊎_elim, signed_decimal, eq-eqb, ne_eqb, and_parts, or_parts, drop-append_seam, get_or_append_left}
+use Rattle.vms_values_laws.proofs.Facade.{get_or-append-add, length-append, cases_lt, Entry, AreCounted, or_else_none, same_number, Cell, no_cell, Slot}
+use Rattle.vms_values_laws.proofs.Facade.{FitsCell, has_cell, begins_with, is_same, ranged, ranges, or_second, same_number_is, within_all, not_exceeds, IsShort}
+use Rattle.vms_values_laws.proofs.Facade.{number_holds, Number, Element, What, number_line, printed, OfNumber, if_not, number_reason, element_reason}
+use Rattle.vms_values_laws.proofs.Facade.{line_reason, have_defaults, DefaultsFit, names_append, cells_of, slots_of, numbers_in, CountsUp, AreFine, has_line}
+use Rattle.vms_values_laws.proofs.Facade.{Set, AllByRecursion, part_reason, none_joined, is_number, cells_with, slot_of}
 use Rattle.vms_spec.specs.declared.ValuesReason.TheVariants as reasons
 use Rattle.vms_spec.specs.Layout as slots
 
@@ -15,7 +16,7 @@ use Rattle.vms_spec.specs.Layout as slots
 
 pub begins_itself : (front text : List ℕ) → begins_with front (front ++ text) ≡ true
 begins_itself [] text = refl
-begins_itself (b ∷ front) text = let e = eq-eqb b b refl in let f = begins_itself front text in rw (e, f) refl
+begins_itself (b ∷ front) text = grind (arith, begins_itself front text)
 
 by_front : (front line text : List ℕ) (what : What) (present : Bool) → line ≡ front ++ text
     → (if begins_with front line then element_reason what present (drop (length front) line) else Some reasons.Form) ≡ element_reason what present text
@@ -185,7 +186,7 @@ module _ (set : Set) (n : List ℤ) (short : AreShort n) (x : Element) (cell : C
   number_unsaid k false t c e = refl
 
   hidden : (b : Bool) → has_cell (byte b) at ≡ false → b ≡ false
-  hidden true h = cc (eq-eqb x.cell at here, (or_parts (x.cell == at) false h).0)
+  hidden true h = grind (arith, here, or_parts)
   hidden false h = refl
 
   number_said : (b t : Bool) → x.present ≡ b → AreFine (line t) → FitsCell cell cell.default
@@ -216,7 +217,7 @@ module _ (set : Set) (n : List ℤ) (short : AreShort n) (x : Element) (cell : C
     right = λ a m.
         let r = a.right 0 at (omega arith) (omega arith) in
         let fine = line_number x n cell what (short x.cell) ∙ fits_reason cell _ _
-        (record { fits = rw here r.fits; absent = λ e. rw here (r.absent (ap (λ (b : Bool). has_cell (byte b) at) (sym p ∙ e))) }) in
+        (record { fits = rw here r.fits; absent = λ e. rw here (r.absent (rw (sym p ∙ e))) }) in
         if_both (λ l. AreFine (of_numbers n l) × AreGood set (of_numbers n l)) t _ [] ((fine, tt), (refl, tt)) (tt, tt);
   }
 

@@ -1,12 +1,13 @@
 -- What is known of a state that agrees with what lines said, and what was said in two parts.
-use Rattle.vms_values_laws.proofs.Facade.{◌≡◌, ℕ, ◌≤◌, List, [], ◌∷◌, ◌++◌, get_or, map, slice_set, ℤ, pos, refl, sym, ◌∙◌, arith, append_assoc, true, false}
-use Rattle.vms_values_laws.proofs.Facade.{if◌then◌else◌, Some, None, same_Some, suc, get_or-set_other, Bool, ◌==◌, ◌||◌, length, map-append, all_both}
-use Rattle.vms_values_laws.proofs.Facade.{all_more, all_parts, length-append, eq-eqb, or_parts, or_assoc, AllByRecursion, ValuesReason, if_not, Standing}
-use Rattle.vms_values_laws.proofs.Facade.{Element, text_of, ranges, text_append, Said, said_line, Agrees, Meets, AreBelow, AreFrom, put_all, Entry, OfNumber}
-use Rattle.vms_values_laws.proofs.Facade.{is_of_cell, has_line, ints, IsShort, ◌<◌, drop, Option, negsuc, Ok, Err, codes, ◌+◌, get_or-set_same, length-set}
-use Rattle.vms_values_laws.proofs.Facade.{signed_decimal, Read, BadLine, CellLine, put_number, put_line, ◌>>=◌, Number, number_reason, spelled_reason}
-use Rattle.vms_values_laws.proofs.Facade.{line_reason, wanted_reason, Kind, U8, same_number, exceeds, in_range, Cell, first_line, begins_with, number_spelled}
-use Rattle.vms_values_laws.proofs.Facade.{spelled_holds, line_splits, begun, ForNumber, Moved, Taken, lines_of, reason_for}
+use Rattle.vms_values_laws.proofs.Facade.{◌≡◌, ℕ, ◌≤◌, List, [], ◌∷◌, ◌++◌, get_or, map, slice_set, ℤ, pos, refl, sym, ◌∙◌}
+use Rattle.vms_values_laws.proofs.Facade.{arith, append_assoc, true, false, if◌then◌else◌, Some, None, same_Some, suc, get_or-set_other, Bool, ◌==◌}
+use Rattle.vms_values_laws.proofs.Facade.{◌||◌, length, map-append, all_both, all_more, all_parts, length-append, eq-eqb, or_parts, or_assoc}
+use Rattle.vms_values_laws.proofs.Facade.{AllByRecursion, ValuesReason, if_not, Standing, Element, text_of, ranges, text_append, Said, said_line, Agrees, Meets}
+use Rattle.vms_values_laws.proofs.Facade.{AreBelow, AreFrom, put_all, Entry, OfNumber, is_of_cell, has_line, ints, IsShort, ◌<◌, drop, Option, negsuc, Ok}
+use Rattle.vms_values_laws.proofs.Facade.{Err, codes, ◌+◌, get_or-set_same, length-set, signed_decimal, Read, BadLine, CellLine, put_number, put_line}
+use Rattle.vms_values_laws.proofs.Facade.{◌>>=◌, Number, number_reason, spelled_reason, line_reason, wanted_reason, Kind, U8, same_number, exceeds}
+use Rattle.vms_values_laws.proofs.Facade.{in_range, Cell, first_line, begins_with, number_spelled, spelled_holds, line_splits, begun, ForNumber, Moved, Taken}
+use Rattle.vms_values_laws.proofs.Facade.{lines_of, reason_for}
 use Rattle.vms_spec.specs.declared.ValuesReason.TheVariants as reasons
 
 pub some_if : {A : Type 0} (b : Bool) (x y : A) → (if b then Some x else None) ≡ Some y → (b ≡ true) × (x ≡ y)
@@ -108,11 +109,11 @@ has_said (s ∷ said) c = (s.element.cell == c) || has_said said c
 
 pub said_both : (said more : List Said) (c : ℕ) → has_said (said ++ more) c ≡ (has_said said c || has_said more c)
 said_both [] more c = refl
-said_both (s ∷ said) more c = rw (said_both said more c) (sym (or_assoc (s.element.cell == c) (has_said said c) (has_said more c)))
+said_both (s ∷ said) more c = grind (arith, or_assoc, said_both said more c)
 
 pub lines_both : (es fs : List Entry) (c : ℕ) → has_line (es ++ fs) c ≡ (has_line es c || has_line fs c)
 lines_both [] fs c = refl
-lines_both (e ∷ es) fs c = rw (lines_both es fs c) (sym (or_assoc (is_of_cell c e) (has_line es c) (has_line fs c)))
+lines_both (e ∷ es) fs c = grind (arith, or_assoc, lines_both es fs c)
 
 -- the elements of what was said have lines of these cells
 pub lines_said : (n : List ℤ) (said : List Said) (c : ℕ) → has_line (map (λ x. OfNumber x n) (map (λ (s : Said). s.element) said)) c ≡ has_said said c

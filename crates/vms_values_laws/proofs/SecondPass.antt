@@ -1,20 +1,19 @@
 -- The second pass over a text judges the entries of sections and subsections, in order.
-use Rattle.vms_values_laws.proofs.Facade.{◌≡◌, ℕ, suc, ◌+◌, ◌≤◌, Bool, true, false, not, ◌&&◌, List, ◌∷◌, ◌++◌, length, map, drop, Option, Some, None, ℤ, pos}
-use Rattle.vms_values_laws.proofs.Facade.{refl, sym, ap, ◌∙◌, arith, if◌then◌else◌, ◌||◌, [], drop-cons, length-append, flat_map, ValuesReason, or_else, Desc}
-use Rattle.vms_values_laws.proofs.Facade.{Sub, Device, Set, desc_cells, struct_cells, device_cells, desc_slots, meanings, Image, own_cells, rules_are_true}
-use Rattle.vms_values_laws.proofs.Facade.{is_needed, BadLine, ReadDevice, or_bad, if_bad, are_defaults, sub_fails, is_said_well, judge_subs, judge_device}
-use Rattle.vms_values_laws.proofs.Facade.{judge_devices, Number, Rule, Element, What, is_number, cells_with, cells_of, slots_of, numbers_in, CountsUp}
-use Rattle.vms_values_laws.proofs.Facade.{elements_in, slot_of, printed, Entry, OfSub, OfNumber, subs_entries, device_entries, devices_entries, if_not}
-use Rattle.vms_values_laws.proofs.Facade.{rules_hold, has_default, have_defaults, sub_holds, came_well, part_reason, rule_holds, AreShaped, walks}
-use Rattle.vms_values_laws.proofs.Facade.{elements_slots, ◌<◌, same_Some, append_cancel_left, map-id, get_or, Ok, Err, append-nil, codes, length-map}
-use Rattle.vms_values_laws.proofs.Facade.{signed_decimal, ⊎_elim, cases_lt, get_or-eq_default, OfMachine, wanted_reason, number_entries, demand_of}
-use Rattle.vms_values_laws.proofs.Facade.{reason_for, Taken, Follows, Along, Moved, ForNumber, Begins, first_line, number_spelled, Standing, Read, readers}
-use Rattle.vms_values_laws.proofs.Facade.{read_desc, IsSound, AreSound, IsShort, number_holds, shapes, desc_elements, Said, Agrees, Meets, AreBelow, has_line}
+use Rattle.vms_values_laws.proofs.{Facade.Meets, Facade.AreBelow, Facade.has_line, SaidLaws.lines_said, SaidLaws.AreShortSaid, Walk.wrapped, Walk.part_comes}
+use Rattle.vms_values_laws.proofs.Facade.{◌≡◌, ℕ, suc, ◌+◌, ◌≤◌, Bool, true, false, not, ◌&&◌, List, ◌∷◌, ◌++◌, length, map}
+use Rattle.vms_values_laws.proofs.Facade.{drop, Option, Some, None, ℤ, pos, refl, sym, ap, ◌∙◌, arith, if◌then◌else◌, ◌||◌, [], drop-cons}
+use Rattle.vms_values_laws.proofs.Facade.{length-append, flat_map, ValuesReason, or_else, Desc, Sub, Device, Set, desc_cells, struct_cells, device_cells}
+use Rattle.vms_values_laws.proofs.Facade.{desc_slots, meanings, Image, own_cells, rules_are_true, is_needed, BadLine, ReadDevice, or_bad, if_bad, are_defaults}
+use Rattle.vms_values_laws.proofs.Facade.{sub_fails, is_said_well, judge_subs, judge_device, judge_devices, Number, Rule, Element, What, is_number, cells_with}
+use Rattle.vms_values_laws.proofs.Facade.{cells_of, slots_of, numbers_in, CountsUp, elements_in, slot_of, printed, Entry, OfSub, OfNumber, subs_entries}
+use Rattle.vms_values_laws.proofs.Facade.{device_entries, devices_entries, if_not, rules_hold, has_default, have_defaults, sub_holds, came_well, part_reason}
+use Rattle.vms_values_laws.proofs.Facade.{rule_holds, AreShaped, walks, elements_slots, ◌<◌, same_Some, append_cancel_left, map-id, get_or, Ok, Err}
+use Rattle.vms_values_laws.proofs.Facade.{append-nil, codes, length-map, signed_decimal, ⊎_elim, cases_lt, get_or-eq_default, OfMachine, wanted_reason}
+use Rattle.vms_values_laws.proofs.Facade.{number_entries, demand_of, reason_for, Taken, Follows, Along, Moved, ForNumber, Begins, first_line, number_spelled}
+use Rattle.vms_values_laws.proofs.Facade.{Standing, Read, readers, read_desc, IsSound, AreSound, IsShort, number_holds, shapes, desc_elements, Said, Agrees}
+use Rattle.vms_values_laws.proofs.SaidLaws.{all_taken, moved_none, ComesTo, At, meets_all, taken_of, Told, told_none, has_said, said_both, lines_both}
 use Rattle.vms_spec.specs.declared.ValuesReason.TheVariants as reasons
 use Rattle.vms_spec.specs.ValuesReading as reading
-use Rattle.vms_values_laws.proofs.SaidLaws.{all_taken, moved_none, ComesTo, At, meets_all, taken_of, Told, told_none, has_said, said_both, lines_both}
-use Rattle.vms_values_laws.proofs.SaidLaws.{lines_said, AreShortSaid}
-use Rattle.vms_values_laws.proofs.Walk.{wrapped, part_comes}
 
 abbrev pub as_bad : ℕ → Option ValuesReason → Option BadLine
 as_bad line None = None
@@ -34,12 +33,12 @@ sub_numbers line (_ ∷ es) = sub_numbers (suc line) es
 pub subs_past : (line : ℕ) (n : List ℤ) (xs : List Element) (es : List Entry)
     → sub_numbers line (map (λ x. OfNumber x n) xs ++ es) ≡ sub_numbers (line + length xs) es
 subs_past line n [] es = ap (λ l. sub_numbers l es) (omega arith)
-subs_past line n (x ∷ xs) es = subs_past (suc line) n xs es ∙ ap (λ l. sub_numbers l es) (omega arith)
+subs_past line n (x ∷ xs) es = grind (arith, subs_past (suc line) n xs es)
 
 parts_past : (set : Set) (line : ℕ) (n : List ℤ) (xs : List Element) (es : List Entry)
     → parts_from set line (map (λ x. OfNumber x n) xs ++ es) ≡ parts_from set (line + length xs) es
 parts_past set line n [] es = ap (λ l. parts_from set l es) (omega arith)
-parts_past set line n (x ∷ xs) es = parts_past set (suc line) n xs es ∙ ap (λ l. parts_from set l es) (omega arith)
+parts_past set line n (x ∷ xs) es = grind (arith, parts_past set (suc line) n xs es)
 
 pub or_bad_assoc : (a b c : Option BadLine) → or_bad (or_bad a b) c ≡ or_bad a (or_bad b c)
 or_bad_assoc (Some a) b c = refl
@@ -48,9 +47,7 @@ or_bad_assoc None b c = refl
 pub parts_both : (set : Set) (line : ℕ) (es fs : List Entry)
     → parts_from set line (es ++ fs) ≡ or_bad (parts_from set line es) (parts_from set (line + length es) fs)
 parts_both set line [] fs = ap (λ l. parts_from set l fs) (omega arith)
-parts_both set line (e ∷ es) fs =
-    let further : line + suc (length es) ≡ suc line + length es = omega arith in
-    rw (parts_both set (suc line) es fs, further) (sym (or_bad_assoc (as_bad line (part_reason set e)) _ _))
+parts_both set line (e ∷ es) fs = grind (arith, or_bad_assoc, parts_both set (suc line) es fs)
 
 pub rules_same : (xs : List Element) → rules_hold xs ≡ rules_are_true (slots_of xs)
 rules_same [] = refl
@@ -249,8 +246,7 @@ pub record NumbersStop (set : Set) (d : Desc) (at : ℕ) (p : Standing) (e : Bad
 module _ {set : Set} {d : Desc} {at : ℕ} {p q : Standing} (n : NumbersRead set d at p q) where
   pub heard_on : (numbers : List ℤ) (es : List Entry) (said : List Said) (c : ℕ) → Agrees n.said numbers → has_line es c ≡ has_said said c
       → has_line (number_entries set d numbers at ++ es) c ≡ has_said (n.said ++ said) c
-  heard_on numbers es said c agrees h =
-      rw (lines_both (number_entries set d numbers at), n.heard numbers agrees, lines_said numbers n.said c, said_both n.said said c, h) refl
+  heard_on numbers es said c agrees h = grind (arith, lines_both, lines_said, said_both)
 
   -- the lines of subsections after them
   pub lines_on : (numbers : List ℤ) (es : List Entry) → Agrees n.said numbers

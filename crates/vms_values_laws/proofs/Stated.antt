@@ -1,18 +1,18 @@
 -- The laws of values texts, as they are stated.
-use Rattle.vms_values_laws.proofs.{Meeting.clean_named, SecondPass.parts_from, AllCome.images_of, AllCome.good_devices}
+use Rattle.vms_values_laws.proofs.{Meeting.clean_devices, SecondPass.parts_from, AllCome.images_of, AllCome.good_devices}
 use Rattle.vms_values_laws.proofs.Accepted.{Match, inside_of, matched, devices_same, answer_by, none_answers, none_says, none_good, says_ready, named_machine}
 use Rattle.vms_values_laws.proofs.BadLines.{FirstPass, NoneBad, first_pass, TakenOf}
-use Rattle.vms_values_laws.proofs.Facade.{if_both, ◌≡◌, inl, inr, ℕ, List, ◌++◌, Option, Some, None, sym, ap, ◌∙◌, subst, arith, ◌∷◌, map, refl, codes}
-use Rattle.vms_values_laws.proofs.Facade.{append-nil, [], ◌+◌, length, suc, ◌≤◌, sum_by, ℤ, length-append, length-map, sum_by-cons, ValuesReason, Set, Device}
-use Rattle.vms_values_laws.proofs.Facade.{Desc, Sub, ValuesRead, Bad, machine_named, BadLine, Values, values_read, Entry, entries, devices_entries}
-use Rattle.vms_values_laws.proofs.Facade.{entry_line, OfNumber, number_entries, subs_entries, device_entries, IsBadLine, IsMachineOf, Says, IsText, Refused}
-use Rattle.vms_values_laws.proofs.Facade.{Reads, Taken, Image, own_cells, first_line, IsConfiguration, IsTrailer, optional, configuration, trailer, written}
-use Rattle.vms_values_laws.proofs.Facade.{AreReady, WellFormed, text_of, section_line, printed, values_text, IsFit, well_good, entry_law, text_is, ReadLaw}
-use Rattle.vms_values_laws.proofs.Facade.{OnlyLaw, AcceptedLaw, PrintedLaw, device_lines, most_lines, LineLaw, machine_short, few_devices, Takes}
-use Rattle.vms_values_laws.proofs.Facade.{one_stream_holds, written_holds, FitsText, WrittenLaw, PackedLaw, ShownLaw, desc_cells, struct_cells, Element}
-use Rattle.vms_values_laws.proofs.Facade.{cells_of, elements_in, walks, AreShaped, AreFine, is_number, cells_with, Number, What, and-true, and-false}
-use Rattle.vms_values_laws.proofs.Facade.{if◌then◌else◌, ◌&&◌}
-use Rattle.vms_values_laws.proofs.Meeting.{AreClean, Ends, Same, meet, NoFeed, line_first, section_feed, AreCleanDevices, clean_entries, clean_devices}
+use Rattle.vms_values_laws.proofs.Facade.{if_both, ◌≡◌, inl, inr, ℕ, List, ◌++◌, Option, Some, None, sym, ap, ◌∙◌, subst, arith, ◌∷◌}
+use Rattle.vms_values_laws.proofs.Facade.{map, refl, codes, append-nil, [], ◌+◌, length, suc, ◌≤◌, sum_by, ℤ, length-append, length-map}
+use Rattle.vms_values_laws.proofs.Facade.{sum_by-cons, ValuesReason, Set, Device, Desc, Sub, ValuesRead, Bad, machine_named, BadLine, Values, values_read}
+use Rattle.vms_values_laws.proofs.Facade.{Entry, entries, devices_entries, entry_line, OfNumber, number_entries, subs_entries, device_entries, IsBadLine}
+use Rattle.vms_values_laws.proofs.Facade.{IsMachineOf, Says, IsText, Refused, Reads, Taken, Image, own_cells, first_line, IsConfiguration, IsTrailer, optional}
+use Rattle.vms_values_laws.proofs.Facade.{configuration, trailer, written, AreReady, WellFormed, text_of, section_line, printed, values_text, IsFit, well_good}
+use Rattle.vms_values_laws.proofs.Facade.{entry_law, text_is, ReadLaw, OnlyLaw, AcceptedLaw, PrintedLaw, device_lines, most_lines, LineLaw, machine_short}
+use Rattle.vms_values_laws.proofs.Facade.{few_devices, Takes, one_stream_holds, written_holds, FitsText, WrittenLaw, PackedLaw, ShownLaw, desc_cells}
+use Rattle.vms_values_laws.proofs.Facade.{struct_cells, Element, cells_of, elements_in, walks, AreShaped, AreFine, is_number, cells_with, Number, What}
+use Rattle.vms_values_laws.proofs.Facade.{and-true, and-false, if◌then◌else◌, ◌&&◌}
+use Rattle.vms_values_laws.proofs.Meeting.{clean_named, AreClean, Ends, Same, meet, NoFeed, line_first, section_feed, AreCleanDevices, clean_entries}
 use Rattle.vms_values_laws.proofs.ReadyParts.{sub_cells, first_part, bad_part_found, good_none, text_says}
 
 -- ---- the machine that a text names
@@ -23,9 +23,7 @@ first_is text line lines clean e = cc (line_first line (text_of lines) clean)
 
 by_devices : (set : Set) (text : List ℕ) (devices : List Device) (images : List Image) → AreCleanDevices devices
     → text ≡ text_of (map entry_line (devices_entries set devices images)) → machine_named set.machines (first_line text) ≡ None
-by_devices set text (d ∷ devices) (image ∷ images) clean e =
-    let lines = map entry_line (inside_of set d image ++ devices_entries set devices images) in
-    ap (machine_named set.machines) (first_is text (section_line d image.version) lines (section_feed d.desc.name d.instance image.version clean.0.0) e)
+by_devices set text (d ∷ devices) (image ∷ images) clean e = grind (arith, machine_named, first_is)
 by_devices set text _ _ clean e = rw e
 
 named_by : (set : Set) → WellFormed set → (text : List ℕ) (machine : Option (List ℕ)) (images : List Image) → IsMachineOf set machine
@@ -80,7 +78,7 @@ module _ (set : Set) (well : WellFormed set) (text : List ℕ) (machine : Option
 
   module _ (v : ValuesRead) (n : NoneBad set text v) where
     same_machine : n.machine ≡ machine
-    same_machine = cc (named_by set well text machine images says.named says.printed)
+    same_machine = grind (arith, named_by)
 
     same_images : images_of n.all.devices ≡ images
     same_images =
@@ -202,8 +200,7 @@ few_printed [] = omega arith
 few_printed (x ∷ xs) = by_what x.what (few_printed xs) where
   by_what : (w : What) → length (printed xs) ≤ length (cells_of xs)
       → length (if x.counted && is_number w then x ∷ printed xs else printed xs) ≤ length (cells_with w (cells_of xs))
-  by_what (Number cell) h =
-      rw (and-true x.counted) (if_both (λ l. length l ≤ suc (length (cells_of xs))) x.counted (x ∷ printed xs) (printed xs) (omega arith) (omega arith))
+  by_what (Number cell) h = grind (arith, and-true)
   by_what _ h = rw (and-false x.counted) h
 
 few_numbers : (set : Set) (d : Desc) (n : List ℤ) (at : ℕ) → length (number_entries set d n at) ≤ length (desc_cells (struct_cells set) d)

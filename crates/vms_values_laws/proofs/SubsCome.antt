@@ -1,14 +1,14 @@
 -- The subsections of a device, read as entries.
-use Rattle.vms_values_laws.proofs.Facade.{all_parts, ◌≡◌, ℕ, suc, ◌+◌, ◌≤◌, List, ◌∷◌, ◌++◌, length, map, Bool, true, false, if◌then◌else◌, Option, Some}
-use Rattle.vms_values_laws.proofs.Facade.{None, ℤ, Ok, Err, AllByRecursion, Result, refl, sym, ap, ◌∙◌, arith, append_assoc, [], length-append, length-map}
-use Rattle.vms_values_laws.proofs.Facade.{flat_map, bytes_eq, bytes_eq-Decides, Sub, Device, Set, desc_cells, struct_cells, Image, first_line, Standing, Read}
-use Rattle.vms_values_laws.proofs.Facade.{BadLine, ReadSubs, read_subs, read_sub, sub_said, also, then_subs, next_line, rest_of, IsSound, AreSound}
-use Rattle.vms_values_laws.proofs.Facade.{line_splits, sub_line, Entry, OfSub, number_entries, subs_entries, has_line, IsAtVersion, AreAtVersions, Said}
-use Rattle.vms_values_laws.proofs.Facade.{Agrees, Demand, ForSub, ForNumber, reason_for, Taken, Follows, Along, Begins, Moved, Desc}
-use Rattle.vms_spec.specs.declared.ValuesReason.TheVariants as reasons
-use Rattle.vms_values_laws.proofs.SecondPass.{AreShort, NumbersRead, NumbersStop, NumbersCome, numbers_come}
-use Rattle.vms_values_laws.proofs.SecondPass.{heard_on, lines_on, sub_numbers, follows_then, along_then}
+use Rattle.vms_values_laws.proofs.{Facade.Desc, SecondPass.along_then}
+use Rattle.vms_values_laws.proofs.Facade.{all_parts, ◌≡◌, ℕ, suc, ◌+◌, ◌≤◌, List, ◌∷◌, ◌++◌, length, map, Bool, true, false}
+use Rattle.vms_values_laws.proofs.Facade.{if◌then◌else◌, Option, Some, None, ℤ, Ok, Err, AllByRecursion, Result, refl, sym, ap, ◌∙◌, arith}
+use Rattle.vms_values_laws.proofs.Facade.{append_assoc, [], length-append, length-map, flat_map, bytes_eq, bytes_eq-Decides, Sub, Device, Set, desc_cells}
+use Rattle.vms_values_laws.proofs.Facade.{struct_cells, Image, first_line, Standing, Read, BadLine, ReadSubs, read_subs, read_sub, sub_said, also, then_subs}
+use Rattle.vms_values_laws.proofs.Facade.{next_line, rest_of, IsSound, AreSound, line_splits, sub_line, Entry, OfSub, number_entries, subs_entries, has_line}
+use Rattle.vms_values_laws.proofs.Facade.{IsAtVersion, AreAtVersions, Said, Agrees, Demand, ForSub, ForNumber, reason_for, Taken, Follows, Along, Begins, Moved}
 use Rattle.vms_values_laws.proofs.SaidLaws.{all_taken, moved_none, moved_one, moved_then, Told, told_none, told_both, has_said}
+use Rattle.vms_values_laws.proofs.SecondPass.{AreShort, NumbersRead, NumbersStop, NumbersCome, numbers_come, heard_on, lines_on, sub_numbers, follows_then}
+use Rattle.vms_spec.specs.declared.ValuesReason.TheVariants as reasons
 
 pub line_taken : (text line rest : List ℕ) → first_line text ≡ Some (line, rest) → text ≡ line ++ 10 ∷ rest_of (first_line text)
 line_taken text line rest e = line_splits text line rest e ∙ rw e refl

@@ -1,16 +1,17 @@
 -- Reading the fields of a description, beside its elements.
-use Rattle.vms_values_laws.proofs.Facade.{◌≡◌, ℕ, List, ◌∷◌, ◌++◌, map, refl, sym, ap, ◌∙◌, Bool, true, false, ◌&&◌, if◌then◌else◌, append_assoc, codes, []}
-use Rattle.vms_values_laws.proofs.Facade.{◌<◌, zero, suc, ◌+◌, ◌*◌, ◌≤◌, length, get_or, drop, ℤ, arith, append-nil, map-append, length-append, and_assoc}
-use Rattle.vms_values_laws.proofs.Facade.{and-true, decimal, le-ltb, lt-ltb, ⊎_elim, cases_lt, Element, dotted, behind, Shape, no_shape, shape, shapes}
-use Rattle.vms_values_laws.proofs.Facade.{cells_in, single, Rule, item_elements, Stand, stand_of, array_elements, field_elements, elements_from, desc_elements}
-use Rattle.vms_values_laws.proofs.Facade.{index_text, is_number, printed, printed_append, Item, Num, Struct, Count, One, Fixed, Counted, Field, Desc, Set, Cell}
-use Rattle.vms_values_laws.proofs.Facade.{no_desc, no_field, first, counted, capacity_of, elements_of, item_size, field_cells, cells_from, desc_cells}
-use Rattle.vms_values_laws.proofs.Facade.{struct_cells, numbers_of, place_of, all_hold, Standing, Read, Reader, no_reader, reader, readers, read_item}
-use Rattle.vms_values_laws.proofs.Facade.{read_elements, read_array, read_field, read_fields, read_desc, elements_fit, field_size, IsNumber, IsOne, IsEarlier}
-use Rattle.vms_values_laws.proofs.Facade.{IsSoundField, AreSoundFields, IsSound, AreSound, there_same, elements_same, place_next, drop_next, zero_plus}
-use Rattle.vms_values_laws.proofs.Facade.{place_first, first_long, readers_cells, two_more, shapes_cells, Said, Agrees}
-use Rattle.vms_spec.specs.ValuesReading.{cells_of}
+use Rattle.vms_values_laws.proofs.Facade.{◌≡◌, ℕ, List, ◌∷◌, ◌++◌, map, refl, sym, ap, ◌∙◌, Bool, true, false, ◌&&◌}
+use Rattle.vms_values_laws.proofs.Facade.{if◌then◌else◌, append_assoc, codes, [], ◌<◌, zero, suc, ◌+◌, ◌*◌, ◌≤◌, length, get_or, drop}
+use Rattle.vms_values_laws.proofs.Facade.{ℤ, arith, append-nil, map-append, length-append, and_assoc, and-true, decimal, le-ltb, lt-ltb, ⊎_elim, cases_lt}
+use Rattle.vms_values_laws.proofs.Facade.{Element, dotted, behind, Shape, no_shape, shape, shapes, cells_in, single, Rule, item_elements, Stand, stand_of}
+use Rattle.vms_values_laws.proofs.Facade.{array_elements, field_elements, elements_from, desc_elements, index_text, is_number, printed, printed_append, Item}
+use Rattle.vms_values_laws.proofs.Facade.{Num, Struct, Count, One, Fixed, Counted, Field, Desc, Set, Cell, no_desc, no_field, first, counted, capacity_of}
+use Rattle.vms_values_laws.proofs.Facade.{elements_of, item_size, field_cells, cells_from, desc_cells, struct_cells, numbers_of, place_of, all_hold, Standing}
+use Rattle.vms_values_laws.proofs.Facade.{Read, Reader, no_reader, reader, readers, read_item, read_elements, read_array, read_field, read_fields, read_desc}
+use Rattle.vms_values_laws.proofs.Facade.{elements_fit, field_size, IsNumber, IsOne, IsEarlier, IsSoundField, AreSoundFields, IsSound, AreSound, there_same}
+use Rattle.vms_values_laws.proofs.Facade.{elements_same, place_next, drop_next, zero_plus, place_first, first_long, readers_cells, two_more, shapes_cells, Said}
+use Rattle.vms_values_laws.proofs.Facade.{Agrees}
 use Rattle.vms_values_laws.proofs.SaidLaws.{Knows, AllKnown, At, Comes, at_left, stay, then_comes, one_line, by_read}
+use Rattle.vms_spec.specs.ValuesReading.{cells_of}
 
 -- ---- The printed elements under a path.
 
@@ -60,14 +61,13 @@ module _ (steps : List (ℕ × ℕ)) (path : List ℕ) (present : Bool) (f : Fie
   -- elements past the count are not printed
   past_count : (e k at : ℕ) → stand.count ≤ e → wrapped steps path present (array_elements f stand part step e k at) ≡ []
   past_count e zero at le = refl
-  past_count e (suc k) at le =
-      rw (wrapped_append steps path _, le-ltb e stand.count le, wrapped_none steps path _, past_count (suc e) k (at + step) (omega arith)) refl
+  past_count e (suc k) at le = grind (arith, wrapped_append, wrapped_none, past_count (suc e) k (at + step) (omega arith))
 
   -- the first element of an array that has some, and those after it
   first_counted : (e k m at : ℕ) → stand.count ≡ e + suc m → wrapped steps path present (array_elements f stand part step e (suc k) at)
       ≡ wrapped (steps ++ (stand.number, e) ∷ []) (path ++ (f.name ++ index_text f.count e)) (present && stand.there) (part at)
       ++ wrapped steps path present (array_elements f stand part step (suc e) k (at + step))
-  first_counted e k m at c = rw (wrapped_append steps path _, lt-ltb e stand.count (omega arith), and-true stand.there, wrapped_behind steps path _) refl
+  first_counted e k m at c = grind (arith, wrapped_append, and-true, wrapped_behind)
 
 dropped : (fields : List Field) (i : ℕ) (f : Field) (fs : List Field) → drop i fields ≡ f ∷ fs → get_or fields i no_field ≡ f
 dropped (g ∷ fields) (suc i) f fs e = dropped fields i f fs e
@@ -177,7 +177,7 @@ module _ (total : List ℤ → List Element) (start : Standing) (low : ℕ) wher
           (at_left total start low (λ n g. ap (λ l. l ++ left n)
           (first_counted steps path present f stand (part n) size 0 0 0 at (omega arith)
           ∙ append-nil _ ∙ ap (λ l. wrapped (steps ++ (stand.number, 0) ∷ []) (path ++ l) b (part n at))
-          (ap (λ l. f.name ++ l) (one 0) ∙ append-nil f.name))) a)
+          (rw (one 0) (append-nil f.name)))) a)
 
       -- all elements of such a field
       array_comes : (own : ℕ → ℕ) (count : Count) → f.count ≡ count → stand.count ≡ elements_of count own → (at end : ℕ) (p : Standing) (said : List Said)

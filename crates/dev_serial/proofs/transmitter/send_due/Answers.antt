@@ -4,17 +4,7 @@ use Rattle.dev_serial.proofs.transmitter.send_due.Goals as goal
 
 pub returns-then-shift-to : goal.returns-then-shift-to
 unfolding run_until
-returns-then-shift-to c =
-    let h = c.if-shift-to.true in
-    record {
-      left = stays-left c.args.mode _ _ h _ _ c.bytes.invariant.left;
-      line = stays-line c.args.mode _ _ h _ _ _ c.bytes.invariant.line;
-      looped = stays-looped c.args.mode _ _ h _ _ _ c.bytes.invariant.looped;
-      few_sent = omega arith;
-      none_due = h;
-      fewer = c.bytes.invariant.few;
-      still_few = c.bytes.invariant.few_held;
-    }
+returns-then-shift-to c = search (arith, stays-left, stays-line, stays-looped)
 
 pub returns-then-is_empty : goal.returns-then-is_empty
 unfolding run_until

@@ -1,8 +1,5 @@
-use Rattle.dev_serial.proofs.Facade.{arith, refl, byte_of, firsts_more}
+use Rattle.dev_serial.proofs.Facade.{arith, firsts_more}
 use Rattle.dev_serial.proofs.stored.Counted.list.Goals as goal
 
 pub loop-i-preserved : goal.loop-i-preserved
-loop-i-preserved c = record {
-  items = firsts_more (byte_of c.args.self.now.bytes) c.loop-i.i _ _ _ c.loop-i.invariant.items refl c.push.ensures.items;
-  count = omega arith;
-}
+loop-i-preserved c = search (arith, firsts_more)
