@@ -83,6 +83,7 @@ impl Machine for Devices {
         self.device_cells(set, device)
     }
 
+    #[inline(always)]
     fn of_images(number: u8, images: &[Image]) -> Result<Devices, Misfit> {
         Devices::of_cells(number, &BoardImages::new(images))
     }

@@ -75,6 +75,7 @@ fn take<M: Machine, S: Source>(
 }
 
 // Returns the devices in the images that `loader` has, or the refusal of the stream.
+#[inline(always)]
 fn devices_of<M: Machine>(number: u8, loader: &LeanLoader) -> Result<M, RestoreFault>
     requires { CanRestore M.are_told M.family loader.now number }
     ensures restored { let lists = lists_in (has loader.now) in

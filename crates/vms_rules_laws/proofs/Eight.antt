@@ -3,7 +3,7 @@ use Rattle.vms_rules_laws.proofs.{Tests.split, Facade.sub_clean, Facade.At, Faca
 use Rattle.vms_rules_laws.proofs.Facade.{IsSub, EightLaw, ◌≡◌, ℕ, zero, suc, ◌+◌, ◌<◌, ◌≤◌, Bool, true, false, not, nat_le, List, []}
 use Rattle.vms_rules_laws.proofs.Facade.{◌∷◌, length, get_or, take, Option, None, le_decides, set_clean, inl, inr, refl, arith, Decides, list_any}
 use Rattle.vms_rules_laws.proofs.Facade.{leb-true, le-leb, or_left, or_right, Decides-and, Decides-eqb, Decides-like, Decides-not, slice_get_within}
-use Rattle.vms_rules_laws.proofs.Facade.{bytes_eq-Decides, Part, Place, first_answer, field_rules, validation_rules, Desc, Sub, Device, Set, desc_fault}
+use Rattle.vms_rules_laws.proofs.Facade.{bytes_eq-Decides, Part, Place, first_answer, Desc, Sub, Device, Set, desc_fault}
 use Rattle.vms_rules_laws.proofs.Facade.{device_fault, device_rules, failing, first_fault, has_few, here, in_field, is_same_device, set_rules, size_rules}
 use Rattle.vms_rules_laws.proofs.Facade.{struct_depths, struct_fault, struct_rules, sub_fault, sub_rules, AllTrue, both_none, Clean, device_parts, struct_clean}
 use Rattle.vms_rules_laws.proofs.Fields.{distinct_decides, name_decides, sub_name_decides, all_eight, field_decides, validation_decides}
