@@ -4,12 +4,12 @@ use Rattle.vms_walk.proofs.Facade.{◌≡◌, ℕ, zero, suc, ◌+◌, ◌*◌, 
 use Rattle.vms_walk.proofs.Facade.{◌∙◌, arith, append_assoc, append-nil, ◌≤◌, drop, refl, Bool, true, false, if◌then◌else◌, Option, Some}
 use Rattle.vms_walk.proofs.Facade.{None, drop_more, Field, Slot, Meaning, times, field_slots, slots_from, field_cells, place_of, no_field, item_slots}
 use Rattle.vms_walk.proofs.Facade.{item_size, elements_of, capacity_of, counted, no_parent, cells_in, steps_of, present_of, capacities_of, Item, Num, is_there}
-use Rattle.vms_walk.proofs.Facade.{field_size, elements_fit, room_for_less, least_of, WalkStep, IsErrAnd, Result, Ok, Err, IfErr, subst, length-set, slice_set}
+use Rattle.vms_walk.proofs.Facade.{field_size, elements_fit, room_for_less, least_of, WalkStep, IsErrAnd, Result, Ok, Err, subst, length-set, slice_set}
 use Rattle.vms_walk.proofs.Facade.{pos, ◌==◌, ◌||◌, get_or-set_other, eq-eqb, or_parts, Kind, Number, has_step, Keeps, table, slice_get-get_or, Part}
 use Rattle.vms_walk.proofs.Facade.{Desc, Set, has_cell, numbers_of, IsSound, IsSoundField, AreSoundFields, IsEarlier, IsGood, SameBelow, same_less, place_next}
 use Rattle.vms_walk.proofs.Facade.{own_same, there_same, elements_same, IsAbove, SameIn, MeanSettled, item_settled, field_settled, meanings_settled, device_at}
 use Rattle.vms_walk.proofs.Facade.{HasPart, desc_at, sub_at}
-use Rattle.vms_walk.specs.{Calls.Takes, Inside.is_for}
+use Rattle.vms_walk.specs.Inside.{is_for}
 use Rattle.std.proofs.lemmas.List.Folds.{list_any-append}
 use Rattle.vms_walk.specs.declared.step.WalkStep.TheVariants as steps
 use Rattle.vms_spec.specs.Layout as slots
@@ -148,17 +148,12 @@ room_at turn count size first cell most lt e h =
     let one : (turn + 1) * size ≡ turn * size + size = grind arith in
     omega (arith, room_for_less (turn + 1) count size first most (omega arith) h)
 
--- ---- what steps keep of the numbers, one after the other
+-- ---- results
 
-pub err_is : {T E : Type 0} (Q : E → Type 0) (r : Result T E) (e : E) → IsErrAnd r (λ x. x ≡ e) → Q e → IfErr r Q
-err_is Q (Ok x) e h q = tt
-err_is Q (Err x) e h q = subst Q (sym h) q
-
--- it stopped within these steps
-pub err_takes : {S F : Type 0} (goes : List WalkStep → S → S → Type 0) (stops : List WalkStep → S → F → S → Type 0) (steps : List WalkStep)
-    (r : Result (Unit {0}) F) (e : F) (a b : S) → IsErrAnd r (λ x. x ≡ e) → stops steps a e b → Takes goes stops steps r a b
-err_takes goes stops steps (Ok x) e a b h q = absurd h
-err_takes goes stops steps (Err x) e a b h q = record { ok = tt; err = subst (λ f. stops steps a f b) (sym h) q }
+-- the error that `?` returns
+pub as_err : {T E : Type 0} (P : Result T E → Type 0) (r : Result T E) (e : E) → IsErrAnd r (λ x. x ≡ e) → P (Err e) → P r
+as_err P (Ok x) e h p = absurd h
+as_err P (Err x) e h p = subst (λ y. P (Err y)) (sym h) p
 
 -- ---- What steps keep of the numbers, one after the other.
 
