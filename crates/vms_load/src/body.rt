@@ -82,12 +82,12 @@ impl<S: Source> Walker for Reader<'_, S> {
     ghost laws = { record {
       none = λ a. (refl, refl, refl, fills_none _ (S.counted a.source.now), λ e. e);
       more = λ xs ys a b c result h k. (
-            k.0 ∙ h.0,
-            k.1 ∙ h.1,
-            k.2 ∙ h.2,
-            fills_more xs ys _ _ _ result h.3 k.3,
-            λ e. k.4 (h.4 e),
-          );
+        k.0 ∙ h.0,
+        k.1 ∙ h.1,
+        k.2 ∙ h.2,
+        fills_more xs ys _ _ _ result h.3 k.3,
+        λ e. k.4 (h.4 e),
+      );
       before = λ xs ys a b fault h. (h.0, h.1, h.2, fills_before xs ys _ _ fault h.3, λ e. tt);
       keeps = λ xs a b result h. h.3.keeps;
     } };
