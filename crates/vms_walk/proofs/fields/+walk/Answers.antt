@@ -2,10 +2,9 @@ use Rattle.vms_walk.proofs.Facade.{HasSpot, MayCome, rules, arith, refl, sym, ap
 use Rattle.vms_walk.proofs.Facade.{◌∷◌, ◌++◌, length, ltb-true, Ok, Struct, item_slots, SameBelow, IsAbove, items_above}
 use Rattle.vms_walk.proofs.Facade.{meanings_above, field_at, described, desc_at, found_field, here_fields, good_of, steps_of, table, cell_of}
 use Rattle.vms_walk.proofs.Facade.{spot_slots, slots_at, size_in, capacities_of, elements_slots, present_of, spot_numbers}
-use Rattle.vms_walk.proofs.Going.{fields_stop, fields_may, rule_done, rule_may, same_rule, Walked, Past, items_next, items_stop, items_may}
-use Rattle.vms_walk.proofs.Going.{field_slots_are, fields_next}
+use Rattle.vms_walk.proofs.Going.{Walked, Past, element_among, field_among, field_slots_are, rule_done, rule_may, same_rule}
 use Rattle.vms_walk.proofs.Spots.{run_steps, steps_at, one_slots, Next, next_field, field_needs, size_code, start_code, struct_spot, struct_size, holds_is}
-use Rattle.vms_walk.proofs.Walking.{as_err, room_at, least_again, keeps_below, keeps_first}
+use Rattle.vms_walk.proofs.Walking.{went_on, stopped_at, may_come, room_at, least_again, keeps_below, keeps_first}
 use Rattle.vms_walk.proofs.fields.{+walk.Given.Over, +walk.Goals.walk_field-After-walk_row-arg-1, +walk.Goals.walk_struct-After-walk-arg-1}
 use Rattle.vms_walk.proofs.fields.+walk.Goals.{walk_items-After-walk_item-arg-1, walk-After-rules-arg-1, walk-After-walk_field-arg-1}
 use Rattle.vms_parts.specs.Views.{field_of}
@@ -33,23 +32,17 @@ walk_items-loop-turn-preserved g t c =
     let size : size_in set item ≡ c.item_cells-size.result = sym (size_code set item c.item_cells-size.result c.item_cells-size.ensures c.requires.small) in
     let one : (i + 1) * size_in set item ≡ i * size_in set item + size_in set item = grind arith in
     record {
-      way = items_next laws
-          (walked g t (goal.at.walk_items-loop-turn-preserved g t c).After-walk_item-arg-1) c.walk_item.new.walker c.in_ok-walk_item.ensures;
+      way = went_on laws (element_among (walked g t (goal.at.walk_items-loop-turn-preserved g t c).After-walk_item-arg-1) c.args.row.count (omega arith))
+          c.walk_item.new.walker (Ok tt) c.in_ok-walk_item.ensures;
       long = (laws.keeps _ b c.walk_item.new.walker (Ok tt) c.in_ok-walk_item.ensures).long ∙ inv.long;
       here = omega arith;
     }
 
 pub walk_items-returns-in_err-walk_item : goal.walk_items-returns-in_err-walk_item
 walk_items-returns-in_err-walk_item g t c =
-    let N = g.W.Cells.numbers in
-    let set = described c.args.set.now in
-    let row = c.args.row in
-    let d = c.walk_item.new.walker in
-    let fault = c.in_err-walk_item.field-0.0 in
-    let slots = elements_slots set row.item.now row.most (N d) row.count row.first in
-    as_err (λ r. g.W.Walker.does (steps_of slots) c.args.walker.now r d) c.from_residual.result fault c.from_residual.ensures.1
-    (items_stop g.met.W.Walker.laws (walked g t (goal.at.walk_items-returns-in_err-walk_item g t c).After-walk_item-arg-1) c.args.row.count
-    (omega arith) d fault c.in_err-walk_item.ensures)
+    let here = (goal.at.walk_items-returns-in_err-walk_item g t c).After-walk_item-arg-1 in
+    stopped_at g.met.W.Walker.laws (element_among (walked g t here) c.args.row.count (omega arith)) c.walk_item.new.walker
+    c.in_err-walk_item.field-0.0 c.from_residual.result c.from_residual.ensures.1 c.in_err-walk_item.ensures
 
 pub walk_items-walk_item-requires : goal.walk_items-walk_item-requires
 walk_items-walk_item-requires g t c =
@@ -58,7 +51,7 @@ walk_items-walk_item-requires g t c =
     let cell = c.loop-turn.cell in
     let inv = c.loop-turn.invariant in
     let room = room_at c.loop-turn._turn c.args.row.count (size_in set item) c.args.row.first cell _ (omega arith) inv.here c.requires.room in
-    let may = items_may g.met.W.Walker.laws (walked g t c) g.W.Walker.may c.args.row.count (omega arith) c.requires.may in
+    let may = may_come g.met.W.Walker.laws (element_among (walked g t c) c.args.row.count (omega arith)) g.W.Walker.may c.requires.may in
     λ κs h. (search rules, (search rules, (search rules, record { reaches = c.requires.reaches; may = may; room = rw inv.long room; few = rw inv.long c.requires.few })))
 
 pub walk_items-overflow_add-cell : goal.walk_items-overflow_add-cell
@@ -228,20 +221,15 @@ walk-loop-field-preserved g t c =
     let s = turn g t (goal.at.walk-loop-field-preserved g t c).After-walk_field-arg-1 in
     let d = c.walk_field.new.walker in
     record {
-      way = fields_next g.met.W.Walker.laws s.past s.inside d c.in_ok-walk_field.ensures;
+      way = went_on g.met.W.Walker.laws (field_among s.past s.inside) d (Ok tt) c.in_ok-walk_field.ensures;
       long = (g.met.W.Walker.laws.keeps _ c.loop-field.walker d (Ok tt) c.in_ok-walk_field.ensures).long ∙ c.loop-field.invariant.long;
     }
 
 pub walk-returns-in_err-walk_field : goal.walk-returns-in_err-walk_field
 walk-returns-in_err-walk_field g t c =
-    let set = described c.args.set.now in
-    let a = c.args.walker.now in
     let s = turn g t (goal.at.walk-returns-in_err-walk_field g t c).After-walk_field-arg-1 in
-    let d = c.walk_field.new.walker in
-    let fault = c.in_err-walk_field.field-0.0 in
-    let slots = spot_slots set c.args.spot (g.W.Cells.numbers d) in
-    as_err (λ r. g.W.Walker.does (steps_of slots) a r d) c.from_residual.result fault c.from_residual.ensures.1
-    (fields_stop g.met.W.Walker.laws s.past s.inside d fault c.in_err-walk_field.ensures)
+    stopped_at g.met.W.Walker.laws (field_among s.past s.inside) c.walk_field.new.walker
+    c.in_err-walk_field.field-0.0 c.from_residual.result c.from_residual.ensures.1 c.in_err-walk_field.ensures
 
 pub walk-start_in-cell-requires-clause-few : goal.walk-start_in-cell-requires-clause-few
 walk-start_in-cell-requires-clause-few g t c = omega (arith, c.requires.spot.room, c.requires.spot.few)
@@ -249,7 +237,7 @@ walk-start_in-cell-requires-clause-few g t c = omega (arith, c.requires.spot.roo
 pub walk-walk_field-requires : goal.walk-walk_field-requires
 walk-walk_field-requires g t c =
     let s = turn g t c in
-    let may = fields_may g.met.W.Walker.laws s.past g.W.Walker.may s.inside c.requires.may in
+    let may = may_come g.met.W.Walker.laws (field_among s.past s.inside) g.W.Walker.may c.requires.may in
     λ κs h. (search rules, (search rules, (search rules, record { spot = s.has; fields = c.fields_of-fields.ensures; field = s.inside; here = s.past.here; may = may; room = s.next.room })))
 
 -- after the last field
@@ -272,7 +260,7 @@ done g t c =
 pub walk-rules-requires-clause-may : goal.walk-rules-requires-clause-may
 walk-rules-requires-clause-may g t c =
     let b = c.loop-field.walker in
-    rw (holds_is (described c.args.set.now) c.args.spot (g.W.Cells.numbers b)) (rule_may g.met.W.Walker.laws (done g t c) (end_of g t c) g.W.Walker.may c.requires.may)
+    rw (holds_is (described c.args.set.now) c.args.spot (g.W.Cells.numbers b)) (rule_may (done g t c) (end_of g t c) g.W.Walker.may c.requires.may)
 
 pub walk-returns : goal.walk-returns
 walk-returns g t c =
@@ -281,7 +269,7 @@ walk-returns g t c =
     let b = c.loop-field.walker in
     let at = (goal.at.walk-returns g t c).After-rules-arg-1 in
     let e = c.rules.new.self in
-    rule_done laws (done g t at) (end_of g t at) e c.rules.result (same_rule _ (N b) (N e) (laws.keeps _ b e c.rules.result c.rules.ensures))
+    rule_done (done g t at) (end_of g t at) laws e c.rules.result (same_rule _ (N b) (N e) (laws.keeps _ b e c.rules.result c.rules.ensures))
     (rw (holds_is (described c.args.set.now) c.args.spot (N b)) at c.rules.ensures)
 
 -- ---- one element

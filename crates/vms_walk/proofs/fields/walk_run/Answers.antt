@@ -1,5 +1,5 @@
-use Rattle.vms_walk.proofs.{Walking.as_err, Spots.run_next, Spots.run_stop, Spots.run_may}
-use Rattle.vms_walk.proofs.Facade.{rules, ◌≡◌, ◌+◌, ◌-◌, ◌≤◌, refl, ◌∙◌, arith, zero, Ok, run_of}
+use Rattle.vms_walk.proofs.{Walking.went_on, Walking.stopped_at, Walking.may_come, Spots.run_among}
+use Rattle.vms_walk.proofs.Facade.{rules, ◌≡◌, ◌+◌, ◌-◌, ◌≤◌, refl, ◌∙◌, arith, zero, Ok}
 use Rattle.vms_walk.proofs.fields.walk_run.Goals as goal
 
 pub loop-cell-init : goal.loop-cell-init
@@ -10,22 +10,24 @@ loop-cell-init g c =
 pub loop-cell-preserved : goal.loop-cell-preserved
 loop-cell-preserved g c =
     let laws = g.met.W.Walker.laws in
-    let inv = c.loop-cell.invariant in
-    let b = c.loop-cell.walker in
+    let l = c.loop-cell in
     let d = c.run.new.self in
-    let le : c.loop-cell.cell + c.min-some.result ≤ c.args.first + c.args.count = search rules in
+    let le : l.cell + c.min-some.result ≤ c.args.first + c.args.count = search rules in
     record {
-      way = run_next laws c.args.first c.loop-cell.cell c.args.kind c.args.walker.now b inv.from inv.way c.min-some.result d c.in_ok-run.ensures;
-      long = (laws.keeps _ b d (Ok tt) c.in_ok-run.ensures).long ∙ inv.long;
+      way = went_on laws
+          (run_among c.args.first l.cell c.args.count c.args.kind c.args.walker.now l.walker l.invariant.from l.invariant.way c.min-some.result le)
+          d (Ok tt) c.in_ok-run.ensures;
+      long = (laws.keeps _ l.walker d (Ok tt) c.in_ok-run.ensures).long ∙ l.invariant.long;
       from = omega arith;
       within = le;
     }
 
 pub run-requires-clause-may : goal.run-requires-clause-may
 run-requires-clause-may g c =
-    let inv = c.loop-cell.invariant in
-    let le : c.loop-cell.cell + c.min-some.result ≤ c.args.first + c.args.count = search rules in
-    run_may g.met.W.Walker.laws c.args.first c.loop-cell.cell c.args.kind c.args.walker.now c.loop-cell.walker inv.from inv.way c.min-some.result c.args.count le
+    let l = c.loop-cell in
+    let le : l.cell + c.min-some.result ≤ c.args.first + c.args.count = search rules in
+    may_come g.met.W.Walker.laws
+    (run_among c.args.first l.cell c.args.count c.args.kind c.args.walker.now l.walker l.invariant.from l.invariant.way c.min-some.result le)
     g.W.Walker.may c.requires.may
 
 pub returns : goal.returns
@@ -35,11 +37,8 @@ returns g c =
 
 pub returns-in_err-run : goal.returns-in_err-run
 returns-in_err-run g c =
-    let inv = c.loop-cell.invariant in
-    let a = c.args.walker.now in
-    let d = c.run.new.self in
-    let fault = c.in_err-run.field-0.0 in
-    let le : c.loop-cell.cell + c.min-some.result ≤ c.args.first + c.args.count = search rules in
-    as_err (λ r. g.W.Walker.does (run_of c.args.first c.args.count c.args.kind) a r d) c.from_residual.result fault c.from_residual.ensures.1
-    (run_stop g.met.W.Walker.laws c.args.first c.loop-cell.cell c.args.kind a c.loop-cell.walker inv.from inv.way c.min-some.result c.args.count le d fault
-    c.in_err-run.ensures)
+    let l = c.loop-cell in
+    let le : l.cell + c.min-some.result ≤ c.args.first + c.args.count = search rules in
+    stopped_at g.met.W.Walker.laws
+    (run_among c.args.first l.cell c.args.count c.args.kind c.args.walker.now l.walker l.invariant.from l.invariant.way c.min-some.result le)
+    c.run.new.self c.in_err-run.field-0.0 c.from_residual.result c.from_residual.ensures.1 c.in_err-run.ensures

@@ -1,5 +1,5 @@
-use Rattle.vms_walk.proofs.{Walking.as_err, Spots.run_next, Spots.run_stop, Spots.run_may}
-use Rattle.vms_walk.proofs.Facade.{[], ◌≡◌, ◌-◌, refl, ◌∙◌, arith, zero, Ok, run_of}
+use Rattle.vms_walk.proofs.{Walking.went_on, Walking.stopped_at, Walking.may_come, Spots.run_among}
+use Rattle.vms_walk.proofs.Facade.{[], ◌≡◌, ◌-◌, refl, ◌∙◌, arith, zero, Ok}
 use Rattle.vms_walk.proofs.step.Walker.run.Goals as goal
 
 pub loop-cell-init : goal.loop-cell-init
@@ -10,12 +10,12 @@ loop-cell-init g c =
 pub loop-cell-preserved : goal.loop-cell-preserved
 loop-cell-preserved g c =
     let laws = g.met.Self.Walker.laws in
-    let inv = c.loop-cell.invariant in
-    let b = c.loop-cell.self in
+    let l = c.loop-cell in
     let d = c.step.new.self in
     record {
-      way = run_next laws c.args.first c.loop-cell.cell c.args.kind c.args.self.now b c.loop-cell.auto.cell inv.way 1 d c.in_ok-step.ensures;
-      long = (laws.keeps _ b d (Ok tt) c.in_ok-step.ensures).long ∙ inv.long;
+      way = went_on laws (run_among c.args.first l.cell c.args.count c.args.kind c.args.self.now l.self l.auto.cell l.invariant.way 1 (omega arith))
+          d (Ok tt) c.in_ok-step.ensures;
+      long = (laws.keeps _ l.self d (Ok tt) c.in_ok-step.ensures).long ∙ l.invariant.long;
       within = omega arith;
     }
 
@@ -25,8 +25,9 @@ step-requires-clause-inside g c = omega arith
 pub step-requires-clause-may : goal.step-requires-clause-may
 step-requires-clause-may g c =
     let laws = g.met.Self.Walker.laws in
-    run_may laws c.args.first c.loop-cell.cell c.args.kind c.args.self.now c.loop-cell.self c.loop-cell.auto.cell c.loop-cell.invariant.way 1 c.args.count
-    (omega arith) g.Self.Walker.may c.requires.may [] [] [] _ c.loop-cell.self (laws.none c.loop-cell.self) refl
+    let l = c.loop-cell in
+    may_come laws (run_among c.args.first l.cell c.args.count c.args.kind c.args.self.now l.self l.auto.cell l.invariant.way 1 (omega arith))
+    g.Self.Walker.may c.requires.may [] [] [] _ l.self (laws.none l.self) refl
 
 pub returns : goal.returns
 returns g c =
@@ -35,9 +36,7 @@ returns g c =
 
 pub returns-in_err-step : goal.returns-in_err-step
 returns-in_err-step g c =
-    let a = c.args.self.now in
-    let d = c.step.new.self in
-    let fault = c.in_err-step.field-0.0 in
-    as_err (λ r. g.Self.Walker.does (run_of c.args.first c.args.count c.args.kind) a r d) c.from_residual.result fault c.from_residual.ensures.1
-    (run_stop g.met.Self.Walker.laws c.args.first c.loop-cell.cell c.args.kind a c.loop-cell.self c.loop-cell.auto.cell c.loop-cell.invariant.way 1 c.args.count
-    (omega arith) d fault c.in_err-step.ensures)
+    let l = c.loop-cell in
+    stopped_at g.met.Self.Walker.laws
+    (run_among c.args.first l.cell c.args.count c.args.kind c.args.self.now l.self l.auto.cell l.invariant.way 1 (omega arith))
+    c.step.new.self c.in_err-step.field-0.0 c.from_residual.result c.from_residual.ensures.1 c.in_err-step.ensures
