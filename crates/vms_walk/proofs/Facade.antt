@@ -23,6 +23,6 @@ pub use Rattle.vms_desc.proofs.Clean.{good_of, field_clean, reach, struct_clean,
 pub use Rattle.vms_desc.specs.{Described.described, Described.device_at, Formed.is_well_formed, Parts.HasPart, Parts.desc_at, Parts.sub_at}
 pub use Rattle.vms_desc.specs.Asks.{field_at, field_start, own_numbers}
 pub use Rattle.vms_parts.specs.{Capacities.least_from, Capacities.least_of, Capacities.lesser, Sizes.in_u32}
-pub use Rattle.vms_walk.specs.{Inside.Keeps, Inside.has_step, Laws.Does, Laws.IsWalk, Runs.MayRun, Runs.run_of, Steps.size_in, Steps.slots_at, Steps.spot_numbers}
+pub use Rattle.vms_walk.specs.{Inside.Keeps, Inside.has_step, Laws.Does, Laws.IsWalk, Runs.run_of, Steps.size_in, Steps.slots_at, Steps.spot_numbers}
 pub use Rattle.vms_walk.specs.{declared.fields.PartAt.PartAt, declared.step.WalkStep.WalkStep, declared.step.WalkStep.TheVariants.Number}
 pub use Rattle.vms_walk.specs.Steps.{spot_slots, steps_of, table, HasSpot, MayCome, capacities_of, cell_of, cells_in, elements_slots, holds_at, present_of}
