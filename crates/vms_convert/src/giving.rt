@@ -76,8 +76,8 @@ impl Walker for Giver<'_> {
           let partners = ap (λ p. p.now) h.2 in
           let numbers = ap (λ image. image.now.numbers) h.1 in
           let steps = same_gifts a.partners.now b.partners.now _ _ partners numbers in
-          let target = changes_more _ _ xs ys a.target.now b.target.now c.target.now steps h.3 k.3 in
-          (k.0 ∙ h.0, k.1 ∙ h.1, k.2 ∙ h.2, target, k.4);
+          let target = changes_more _ _ xs ys a.target.now b.target.now c.target.now steps in
+          (k.0 ∙ h.0, k.1 ∙ h.1, k.2 ∙ h.2, target h.3 k.3, k.4);
       before = λ xs ys a b never h. absurd h.4;
       keeps = λ xs a b result h. keeps_same xs _ _ (ap (λ image. image.now.numbers) h.1);
     } };
