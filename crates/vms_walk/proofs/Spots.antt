@@ -201,19 +201,18 @@ run_parts first n m count kind le =
 
 module _ {S F : Type 0} {N : S → List ℤ} {does : Does S F} (first cell count : ℕ) (kind : Kind) (a b : S) (from : first ≤ cell)
     (way : does (run_of first (cell - first) kind) a (Ok tt) b) (some : ℕ) (le : cell + some ≤ first + count) where
-  there : first + (cell - first) ≡ cell
-  there = omega arith
-
   pub run_among : Among N does (λ n. run_of first count kind) (λ n. run_of first ((cell + some) - first) kind) (λ n. run_of first (cell - first) kind)
       (λ n. run_of cell some kind) a b
   run_among = record {
     way = λ n ys zs e k. way;
     more = λ n.
         let front = cell - first in
+        let there : first + front ≡ cell = omega arith in
         let sum : (cell + some) - first ≡ front + some = omega arith in
         ap (λ (k : ℕ). run_of first k kind) sum ∙ run_both first front some kind ∙ ap (λ (k : ℕ). run_of first front kind ++ run_of k some kind) there;
     split = λ n.
         let front = cell - first in
+        let there : first + front ≡ cell = omega arith in
         let behind = run_of (first + (front + some)) (count - (front + some)) kind in
         (behind, run_parts first front some count kind (omega arith) ∙ ap (λ k. run_of first front kind ++ (run_of k some kind ++ behind)) there);
   }

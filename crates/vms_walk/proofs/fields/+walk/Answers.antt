@@ -1,4 +1,4 @@
-use Rattle.vms_walk.proofs.Facade.{HasSpot, MayCome, rules, arith, refl, sym, ap, ◌∙◌, ◌≡◌, ℕ, ℤ, ◌+◌, ◌*◌, ◌<◌, List, []}
+use Rattle.vms_walk.proofs.Facade.{HasSpot, MayCome, rules, arith, refl, sym, ap, subst, ◌∙◌, ◌≡◌, ℕ, ℤ, ◌+◌, ◌*◌, ◌<◌, List, []}
 use Rattle.vms_walk.proofs.Facade.{◌∷◌, ◌++◌, length, ltb-true, Ok, Struct, item_slots, SameBelow, IsAbove, items_above}
 use Rattle.vms_walk.proofs.Facade.{meanings_above, field_at, described, desc_at, found_field, here_fields, good_of, steps_of, table, cell_of}
 use Rattle.vms_walk.proofs.Facade.{spot_slots, slots_at, size_in, capacities_of, elements_slots, present_of, spot_numbers}
@@ -80,8 +80,9 @@ pub walk_items-returns-in-Some : goal.walk_items-returns-in-Some
 walk_items-returns-in-Some g t c =
     let row = c.args.row in
     let free = c.in-Some.ensures in
-    rw (run_steps (described c.args.set.now) row.item.now row.most c.in-Some.kind free.number free.free
-    (g.W.Cells.numbers c.walk_run.new.walker) row.first row.count) c.walk_run.ensures
+    let is = run_steps (described c.args.set.now) row.item.now row.most c.in-Some.kind free.number free.free
+    (g.W.Cells.numbers c.walk_run.new.walker) row.first row.count in
+    subst (λ l. g.W.Walker.does l c.args.walker.now c.walk_run.result c.walk_run.new.walker) (sym is) c.walk_run.ensures
 
 -- ---- a row
 
@@ -101,8 +102,8 @@ walk_row-walk_item-requires g t c =
 pub walk_row-returns : goal.walk_row-returns
 walk_row-returns g t c =
     let row = c.args.row in
-    rw (one_slots (described c.args.set.now) row.item.now row.most (g.W.Cells.numbers c.walk_item.new.walker) row.count row.first (omega arith))
-    c.walk_item.ensures
+    let is = one_slots (described c.args.set.now) row.item.now row.most (g.W.Cells.numbers c.walk_item.new.walker) row.count row.first (omega arith) in
+    subst (λ l. g.W.Walker.does l c.args.walker.now c.walk_item.result c.walk_item.new.walker) (sym is) c.walk_item.ensures
 
 -- ---- one field
 
@@ -179,7 +180,8 @@ walk_field-returns g t c =
     let at = (goal.at.walk_field-returns g t c).After-walk_row-arg-1 in
     let slots = elements_slots set c.index-as_slice-field.result.item c.most_in-most.result (N b) c.present-count.result c.args.cell in
     let kept = g.met.W.Walker.laws.keeps (steps_of slots) a b c.walk_row.result c.walk_row.ensures in
-    rw (steps_are g t at (N b) kept.long (keeps_below c.args.cell slots (N a) (N b) (above g t at (N b)) kept)) c.walk_row.ensures
+    let is = steps_are g t at (N b) kept.long (keeps_below c.args.cell slots (N a) (N b) (above g t at (N b)) kept) in
+    subst (λ l. g.W.Walker.does l a c.walk_row.result b) (sym is) c.walk_row.ensures
 
 -- ---- the fields of a description
 
@@ -304,8 +306,9 @@ walk_item-walk_element-requires g t c =
 
 pub walk_item-returns-in-Struct : goal.walk_item-returns-in-Struct
 walk_item-returns-in-Struct g t c =
-    let slots = λ (m : List ℤ). ap (λ x. item_slots (table (described c.args.set.now)) x (capacities_of c.args.most) m c.args.cell) c.in-Struct.is in
-    rw (slots (g.W.Cells.numbers c.walk_element.new.walker)) c.walk_element.ensures
+    let b = c.walk_element.new.walker in
+    let is = ap (steps_at (described c.args.set.now) c.args.most (g.W.Cells.numbers b) c.args.cell) c.in-Struct.is in
+    subst (λ l. g.W.Walker.does l c.args.walker.now c.walk_element.result b) (sym is) c.walk_element.ensures
 
 -- ---- an element of a structure
 
@@ -334,4 +337,4 @@ walk_struct-walk-requires g t c =
 pub walk_struct-returns : goal.walk_struct-returns
 walk_struct-returns g t c =
     let slots = slots_are g t (goal.at.walk_struct-returns g t c).After-walk-arg-1 (g.W.Cells.numbers c.walk.new.walker) in
-    rw slots c.walk.ensures
+    subst (λ l. g.W.Walker.does (steps_of l) c.args.walker.now c.walk.result c.walk.new.walker) (sym slots) c.walk.ensures
