@@ -12,9 +12,9 @@ bytes_append n [] ys = refl
 bytes_append n (x ∷ xs) ys = append_assoc (step_bytes n x) (bytes_of n xs) (bytes_of n ys) ∙ ap (λ (l : List ℕ). step_bytes n x ++ l) (bytes_append n xs ys)
 
 -- `n` and `m` are the same numbers.
-pub wrote_then : {T E : Type 0} {a b c : Outlet} (n m : List ℤ) (xs ys : List WalkStep) (r : Result T E) → m ≡ n → Puts a b (bytes_of n xs) → Wrote b c (bytes_of m ys) r
+pub wrote_then : {T E : Type 0} {a b : Outlet} (c : Outlet) (n m : List ℤ) (xs ys : List WalkStep) (r : Result T E) → m ≡ n → Puts a b (bytes_of n xs) → Wrote b c (bytes_of m ys) r
     → Wrote a c (bytes_of n (xs ++ ys)) r
-wrote_then {a = a} {b = b} {c = c} n m xs ys r e h k =
+wrote_then {a = a} {b = b} c n m xs ys r e h k =
     wrote_as r a c (bytes_append n xs ys) (wrote_behind r c (bytes_of n ys) h (wrote_as r b c (ap (λ (l : List ℤ). bytes_of l ys) e) k))
 
 pub stops_before : {a b : Outlet} (n : List ℤ) (xs ys : List WalkStep) → Stops a b (bytes_of n xs) → Stops a b (bytes_of n (xs ++ ys))

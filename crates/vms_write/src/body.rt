@@ -69,7 +69,7 @@ impl<K: Sink> Walker for Writer<'_, K> {
       none = λ a. (refl, refl, puts_none _);
       more = λ xs ys a b c result h k.
           let same = ap (λ image. image.now.numbers) h.1 in
-          (k.0 ∙ h.0, k.1 ∙ h.1, wrote_then _ _ xs ys result same h.2 k.2);
+          (k.0 ∙ h.0, k.1 ∙ h.1, wrote_then _ _ _ xs ys result same h.2 k.2);
       before = λ xs ys a b fault h. (h.0, h.1, stops_before _ xs ys h.2);
       keeps = λ xs a b result h. keeps_same xs _ _ (ap (λ image. image.now.numbers) h.1);
     } };
