@@ -18,7 +18,7 @@ pub use Rattle.vms_spec.specs.Layout.{slots_from, struct_cells, times, Meaning, 
 pub use Rattle.vms_spec.specs.Layout.{elements_of, field_cells, field_slots, item_size, item_slots, meaning, meanings, no_desc, no_field, no_meaning, no_parent}
 pub use Rattle.vms_spec.specs.Sound.{AreSoundFields, IsEarlier, IsSound, IsSoundField}
 unfoldable pub use Rattle.vms_spec.specs.Layout.{first}
-pub use Rattle.vms_desc.proofs.{AskLaws.found_field, AskLaws.here_fields, EvalLaws.place_after, EvalLaws.place_within}
+pub use Rattle.vms_desc.proofs.{AskLaws.found_field, EvalLaws.place_after, EvalLaws.place_within}
 pub use Rattle.vms_desc.proofs.Clean.{good_of, field_clean, reach, struct_clean, item_rank, part_rank, rank_below, reach_whole, uses_more}
 pub use Rattle.vms_desc.specs.{Described.described, Described.device_at, Formed.is_well_formed, Parts.HasPart, Parts.desc_at, Parts.sub_at}
 pub use Rattle.vms_desc.specs.Asks.{field_at, field_start, own_numbers}

@@ -1,6 +1,6 @@
 use Rattle.vms_walk.proofs.Facade.{HasSpot, MayCome, rules, arith, refl, sym, ap, subst, ◌∙◌, ◌≡◌, ℕ, ℤ, ◌+◌, ◌*◌, ◌<◌, List, []}
 use Rattle.vms_walk.proofs.Facade.{◌∷◌, ◌++◌, length, ltb-true, Ok, Struct, item_slots, SameBelow, IsAbove, items_above}
-use Rattle.vms_walk.proofs.Facade.{meanings_above, field_at, described, desc_at, found_field, here_fields, good_of, steps_of, table, cell_of}
+use Rattle.vms_walk.proofs.Facade.{meanings_above, field_at, described, desc_at, found_field, good_of, steps_of, table, cell_of}
 use Rattle.vms_walk.proofs.Facade.{spot_slots, slots_at, size_in, capacities_of, elements_slots, present_of, spot_numbers}
 use Rattle.vms_walk.proofs.Going.{Walked, Past, element_among, field_among, field_slots_are, rule_done, rule_may, same_rule}
 use Rattle.vms_walk.proofs.Spots.{run_steps, steps_at, one_slots, Next, next_field, field_needs, size_code, start_code, struct_spot, struct_size, holds_is}
