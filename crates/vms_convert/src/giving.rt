@@ -55,7 +55,7 @@ impl Cells for Giver<'_> {
 }
 
 impl Walker for Giver<'_> {
-    ghost use Rattle.std.specs.Prelude.{◌≡◌, refl};
+    ghost use Rattle.std.specs.Prelude.{◌≡◌, IfErr, refl};
     ghost use Rattle.std.proofs.Common.{ap, ◌∙◌};
     ghost use Rattle.vms_walk.proofs.Walking.{keeps_same};
     ghost use Rattle.vms_convert.specs.Changes.{Changes, changes_more};
@@ -63,30 +63,24 @@ impl Walker for Giver<'_> {
 
     type Fault = Infallible;
 
-    ghost goes = { λ xs a b. (b.target.ghost_name ≡ a.target.ghost_name)
+    ghost does = { λ xs a result b. (b.target.ghost_name ≡ a.target.ghost_name)
         × (b.image ≡ a.image) × (b.partners ≡ a.partners)
-        × Changes (give_step a.partners.now a.image.now.numbers) xs a.target.now b.target.now };
-
-    ghost stops = { λ xs a fault b. ⊥ };
+        × Changes (give_step a.partners.now a.image.now.numbers) xs a.target.now b.target.now
+        × IfErr result (λ never. ⊥) };
 
     ghost may = { λ a step. MayGive a.image.now a.partners.now a.target.now };
 
-    ghost keeps = { λ xs a b h. keeps_same xs _ _ (ap (λ image. image.now.numbers) h.1) };
-
-    ghost keeps_stopped = { λ xs a b fault h. absurd h };
-
-    ghost none = { λ a. (refl, refl, refl, refl) };
-
-    ghost more = { λ xs ys a b c h k.
-        let partners = ap (λ p. p.now) h.2 in
-        let numbers = ap (λ image. image.now.numbers) h.1 in
-        let steps = same_gifts a.partners.now b.partners.now _ _ partners numbers in
-        let target = changes_more _ _ xs ys a.target.now b.target.now c.target.now steps h.3 k.3 in
-        (k.0 ∙ h.0, k.1 ∙ h.1, k.2 ∙ h.2, target) };
-
-    ghost stops_after = { λ xs ys a b c fault h k. k };
-
-    ghost stops_before = { λ xs ys a b fault h. h };
+    ghost laws = { record {
+      none = λ a. (refl, refl, refl, refl, tt);
+      more = λ xs ys a b c result h k.
+          let partners = ap (λ p. p.now) h.2 in
+          let numbers = ap (λ image. image.now.numbers) h.1 in
+          let steps = same_gifts a.partners.now b.partners.now _ _ partners numbers in
+          let target = changes_more _ _ xs ys a.target.now b.target.now c.target.now steps in
+          (k.0 ∙ h.0, k.1 ∙ h.1, k.2 ∙ h.2, target h.3 k.3, k.4);
+      before = λ xs ys a b never h. absurd h.4;
+      keeps = λ xs a b result h. keeps_same xs _ _ (ap (λ image. image.now.numbers) h.1);
+    } };
 
     fn step(&mut self, step: WalkStep) -> Result<(), Infallible> {
         give_step(step, self.image, self.target, self.partners);

@@ -56,7 +56,7 @@ impl Cells for Taker<'_> {
 }
 
 impl Walker for Taker<'_> {
-    ghost use Rattle.std.specs.Prelude.{◌≡◌, refl};
+    ghost use Rattle.std.specs.Prelude.{◌≡◌, IfErr, refl};
     ghost use Rattle.std.proofs.Common.{ap, ◌∙◌};
     ghost use Rattle.vms_convert.specs.Changes.{Changes, changes_more};
     ghost use Rattle.vms_convert.specs.Putting.{MayTake, put_step};
@@ -64,31 +64,25 @@ impl Walker for Taker<'_> {
 
     type Fault = Infallible;
 
-    ghost goes = { λ xs a b. (b.image.ghost_name ≡ a.image.ghost_name)
+    ghost does = { λ xs a result b. (b.image.ghost_name ≡ a.image.ghost_name)
         × (b.source ≡ a.source) × (b.partners ≡ a.partners)
-        × Changes (put_step a.partners.now a.source.now.numbers) xs a.image.now b.image.now };
-
-    ghost stops = { λ xs a fault b. ⊥ };
+        × Changes (put_step a.partners.now a.source.now.numbers) xs a.image.now b.image.now
+        × IfErr result (λ never. ⊥) };
 
     ghost may = { λ a step. MayTake a.image.now a.source.now a.partners.now };
 
-    ghost keeps = { λ xs a b h.
-        takes_keeps a.partners.now a.source.now.numbers xs a.image.now b.image.now h.3 };
-
-    ghost keeps_stopped = { λ xs a b fault h. absurd h };
-
-    ghost none = { λ a. (refl, refl, refl, refl) };
-
-    ghost more = { λ xs ys a b c h k.
-        let partners = ap (λ p. p.now) h.2 in
-        let source = ap (λ s. s.now.numbers) h.1 in
-        let steps = same_steps a.partners.now b.partners.now _ _ partners source in
-        let image = changes_more _ _ xs ys a.image.now b.image.now c.image.now steps h.3 k.3 in
-        (k.0 ∙ h.0, k.1 ∙ h.1, k.2 ∙ h.2, image) };
-
-    ghost stops_after = { λ xs ys a b c fault h k. k };
-
-    ghost stops_before = { λ xs ys a b fault h. h };
+    ghost laws = { record {
+      none = λ a. (refl, refl, refl, refl, tt);
+      more = λ xs ys a b c result h k.
+          let partners = ap (λ p. p.now) h.2 in
+          let source = ap (λ s. s.now.numbers) h.1 in
+          let steps = same_steps a.partners.now b.partners.now _ _ partners source in
+          let image = changes_more _ _ xs ys a.image.now b.image.now c.image.now steps h.3 k.3 in
+          (k.0 ∙ h.0, k.1 ∙ h.1, k.2 ∙ h.2, image, k.4);
+      before = λ xs ys a b never h. absurd h.4;
+      keeps = λ xs a b result h.
+          takes_keeps a.partners.now a.source.now.numbers xs a.image.now b.image.now h.3;
+    } };
 
     fn step(&mut self, step: WalkStep) -> Result<(), Infallible> {
         take_step(step, self.image, self.source, self.partners);

@@ -4,7 +4,7 @@ use Rattle.vms_load.proofs.Facade.{sym, ap, ◌∙◌, subst, arith, Bool, true,
 use Rattle.vms_load.proofs.Facade.{same_number, exceeds, is_truth, is_above, Slot, Rule, Taken, Progress, take_slot, Piece, raw, Seen, Good, Bad, Short, seen}
 use Rattle.vms_load.proofs.Facade.{nothing_known, put, taken_by, IsUnit, by_tests, tested, slot_seen, AnswersSeen, Fails, ReadsNumber, ReadsFiller, FrameFault}
 use Rattle.vms_load.proofs.Facade.{TakesAs, ReadsCapped, ReadsConstant, TakesOn, progress, same_number_is, Intake, takes_none, reads_as, reads_last, ReadsAs}
-use Rattle.vms_load.proofs.{Facade.Told, Facade.Took, Facade.Failed, Facade.keeps_same, Facade.◌∷◌, RunReads.step_ok, RunReads.step_err}
+use Rattle.vms_load.proofs.{Facade.OnErr, Facade.Told, Facade.Fills, Facade.keeps_same, Facade.◌∷◌, RunReads.step_fills}
 use Rattle.vms_walk.specs.declared.step.WalkStep.TheVariants as steps
 use Rattle.vms_spec.specs.Layout.{Number as NumberSlot, Constant as ConstantSlot, Filler as FillerSlot}
 use Rattle.vms_spec.specs.Units.{Number, Constant, Filler}
@@ -211,12 +211,9 @@ module _ (a : Told) {found holds : Bool} (is : found ≡ holds) (r : Result (Uni
   reads : TakesOn a.source a.source 0 a.place a.place (λ rest. take_slot (Rule found) (progress a.image.numbers a.place rest)) a.image.numbers r
   reads = reads_rule a.source found a.image.numbers a.place r counted ok err
 
-  pub rule_ok : OnOk r (Took (steps.Rule holds ∷ []) a a)
-  rule_ok = rw (← is) (step_ok (steps.Rule found) a a r reads refl (keeps_same _ a.image.numbers a.image.numbers refl))
-
-  pub rule_err : IfErr r (λ fault. Failed (steps.Rule holds ∷ []) a fault a)
-  rule_err = rw (← is) (step_err (steps.Rule found) a a r reads refl (keeps_same _ a.image.numbers a.image.numbers refl) (stays r))
+  pub rule_fills : Fills (steps.Rule holds ∷ []) a r a
+  rule_fills = rw (← is) (step_fills (steps.Rule found) a a r reads refl (keeps_same _ a.image.numbers a.image.numbers refl) (stays r))
     where
-      stays : (s : Result (Unit {0}) FrameFault) → IfErr s (λ e. a.image ≡ a.image)
+      stays : (s : Result (Unit {0}) FrameFault) → OnErr s (a.image ≡ a.image)
       stays (Ok x) = tt
       stays (Err e) = refl

@@ -1,6 +1,6 @@
 -- The names of other crates, and of this crate's `specs`, that the proofs use.
-pub use Rattle.std.proofs.{Common.◌||◌, Common.◌∙◌, lemmas.Int.to_z-of_z, lemmas.Result.IfErr-weaker, lemmas.Result.err_from_is_err_and, lemmas.Result.on_ok_weaker}
-pub use Rattle.std.proofs.Common.{◌∷◌, ◌≡◌, ◌≤◌, Bool, Err, IfErr, IfSome, List, None, Ok, OnOk, Option, Result, SFits, Some, [], ap, append-nil, append_assoc}
+pub use Rattle.std.proofs.{Common.◌||◌, Common.◌∙◌, lemmas.Int.to_z-of_z, lemmas.Result.err_from_is_err_and}
+pub use Rattle.std.proofs.Common.{◌∷◌, ◌≡◌, ◌≤◌, Bool, Err, IfErr, IfSome, List, None, Ok, OnErr, OnOk, Option, Result, SFits, Some, [], ap, append-nil, append_assoc}
 pub use Rattle.std.proofs.Common.{arith, drop, false, get_or, if◌then◌else◌, inl, inr, length, length-append, length-drop, map, nat_le, nat_lt, not, of_z, refl}
 pub use Rattle.std.proofs.Common.{replicate, rules, slice_set, subst, suc, sym, take, true, zero, ℕ, ℤ, ⊎_elim, ◌&&◌, ◌*◌, ◌++◌, ◌+◌, ◌-◌, ◌/◌, ◌<◌, ◌==◌, ◌^◌}
 pub use Rattle.std.proofs.Math.Nat.{div-le_of_le-mul, div-lt_iff_lt-mul, div-mul-le_self, lt-div-mul-add, mul-le-mul_right}
@@ -66,8 +66,8 @@ pub use Rattle.vms_load.specs.Going.{GoesBehind, GoesOn, GoesSoFar, GoesThrough,
 pub use Rattle.vms_load.specs.Heads.{sub_opened_at, unfit, Unfit, device_opened, opened_at, opened_unless, reason_against, reason_against_sub, section_opened}
 pub use Rattle.vms_load.specs.Parts.{HoldsNone, IsIn, IsMoved, IsOpen, IsSame, OpensNext, after_fields, after_part, all_passed, bytes_of, bytes_of_part}
 pub use Rattle.vms_load.specs.Parts.{in_fields, part_base, part_desc, part_due, part_of, spot_in, state_in, subs_due}
-pub use Rattle.vms_load.specs.Reading.{Failed, IsStopped, IsTaken, Told, Took, from, last_numbers, last_taken, long_append, numbers_then, slot_of, step_long}
-pub use Rattle.vms_load.specs.Reading.{steps_long, take_append, take_steps, told, took_none}
+pub use Rattle.vms_load.specs.Reading.{Fills, IsFilled, Told, from, last_numbers, last_taken, long_append, numbers_then, slot_of, step_long}
+pub use Rattle.vms_load.specs.Reading.{steps_long, take_append, take_steps, told, fills_none}
 pub use Rattle.vms_load.specs.Reads.{IsBehind, IsRefused, LeadsOn, Onward, Reads, ReadsBehind, ReadsOn, Refuses, Settles, behind, concerning, reach}
 pub use Rattle.vms_load.specs.Staging.{AreShaped, HoldsAt, IsOf, ReadsAll, accepted_of, begun_at, devices_most, image_at, is_configured, is_first, most_given}
 pub use Rattle.vms_load.specs.Staging.{due_at, name_of, no_image, read_from, section_bytes, sections_due, spot_at, spot_of, state_of, stream_due, subs_bytes}

@@ -6,7 +6,7 @@ use Rattle.vms_load.proofs.Facade.{Device, has_cell, Image, Slot, Number, meanin
 use Rattle.vms_load.proofs.Facade.{take_desc, refuse, on, if_whole, take_slot, IsSound, AreSound, IsAbove, desc_above, meanings_above, SameBelow, same_refl}
 use Rattle.vms_load.proofs.Facade.{same_trans, Keeps, Keeping, Gives, ComesTo, IsFrom, slot_keeps, set_desc_comes, FrameFault, WalkStep, step_of, steps_of}
 use Rattle.vms_load.proofs.Facade.{steps_append, exceeds_least, TakesAs, slot_of, take_steps, last_numbers, numbers_then, take_append, last_taken, Told, from}
-use Rattle.vms_load.proofs.Facade.{IsTaken, IsStopped, Reading, Refused, part_slots, State, Inside, by_state, judge, reading_on}
+use Rattle.vms_load.proofs.Facade.{IsFilled, Reading, Refused, part_slots, State, Inside, by_state, judge, reading_on}
 use Rattle.vms_load.proofs.Facade.{body_read, after_read, Stand, ahead, tail_of, IsGood, Leaves, desc_leaves, device_at, sub_at, Reads, ReadsOn, concerning}
 use Rattle.vms_load.proofs.Facade.{IsIn, IsOpen, part_desc, part_base, state_in, in_fields, after_fields, Section}
 use Rattle.vms_spec.specs.Taking.{Refusal}
@@ -106,15 +106,13 @@ module _ (set : Set) (structs : AreSound set.structs) (d : Desc) (sound : IsSoun
   ends_ok xs p numbers place left (Ok q) e h = cc (ok_numbers xs p q e)
   ends_ok xs p numbers place left (Err r) e h = absurd h
 
-  pub part_took : (a b : Told) (rest left : List ℕ) → IsTaken (steps_of (slots b.image.numbers)) a b (Ok tt) rest left → TakesAs (part_taken (from a rest)) b.image.numbers b.place (Some left) (Ok tt)
-  part_took a b rest left h =
+  pub part_read : (a b : Told) (r : Result (Unit {0}) FrameFault) (rest left : List ℕ) → IsFilled (steps_of (slots b.image.numbers)) a r b rest left → TakesAs (part_taken (from a rest)) b.image.numbers b.place (Some left) r
+  part_read a b (Ok x) rest left h =
       let n = b.image.numbers in
-      let ends = ends_ok (steps_of (slots n)) (from a rest) n b.place (Some left) (take_steps (steps_of (slots n)) (from a rest)) refl h in
-      rw (steps_taken n (from a rest) ends) at h
-
-  pub part_failed : (a b : Told) (fault : FrameFault) (rest left : List ℕ) → IsStopped (steps_of (slots b.image.numbers)) a fault b rest left → TakesAs (part_taken (from a rest)) b.image.numbers b.place (Some left) (Err fault)
-  part_failed a b (faults.Refused at reason) rest left h = rw (steps_taken b.image.numbers (from a rest) h.1) at h.0
-  part_failed a b faults.ReadFault rest left h = always (part_taken (from a rest))
+      let ends = ends_ok (steps_of (slots n)) (from a rest) n b.place (Some left) (take_steps (steps_of (slots n)) (from a rest)) refl h.0 in
+      rw (steps_taken n (from a rest) ends) at h.0
+  part_read a b (Err (faults.Refused at reason)) rest left h = rw (steps_taken b.image.numbers (from a rest) h.1) at h.0
+  part_read a b (Err faults.ReadFault) rest left h = always (part_taken (from a rest))
     where
       always : (t : Taken) → TakesAs t b.image.numbers b.place (Some left) (Err faults.ReadFault)
       always _ = tt

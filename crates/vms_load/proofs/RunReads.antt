@@ -1,10 +1,10 @@
 -- Steps that are taken or refused, and runs of numbers of one kind.
-use Rattle.vms_load.proofs.Facade.{◌≡◌, ℕ, List, [], ◌∷◌, Option, Some, Result, Ok, Err, OnOk, IfErr, ℤ, ap, arith, zero, suc, ◌+◌, ◌*◌, ◌<◌, ◌≤◌, ◌++◌, length}
+use Rattle.vms_load.proofs.Facade.{◌≡◌, ℕ, List, [], ◌∷◌, Option, Some, Result, Ok, Err, OnErr, OnOk, ℤ, ap, arith, zero, suc, ◌+◌, ◌*◌, ◌<◌, ◌≤◌, ◌++◌, length}
 use Rattle.vms_load.proofs.Facade.{take, drop, slice_set, None, refl, ◌∙◌, length-append, length-drop, false, ◌/◌, sym, subst, le-ltb, lt-ltb, take-append-le}
 use Rattle.vms_load.proofs.Facade.{drop-append-le, drop_all, length-take-le, take-append-drop, take-take, IsAtEnd, div-le_of_le-mul, div-lt_iff_lt-mul}
 use Rattle.vms_load.proofs.Facade.{lt-div-mul-add, div-mul-le_self, Typed, Taken, ◌>>=◌, take_slot, Progress, refuse, on, reads_as, nothing_follows, FrameFault}
-use Rattle.vms_load.proofs.Facade.{WalkStep, TakesAs, TakesOn, progress, slot_of, take_steps, last_numbers, numbers_then, step_long, Told, from, Took, Failed}
-use Rattle.vms_load.proofs.Facade.{IsTaken, IsStopped, steps_long, take_append, last_taken, told, Kind, width, value_of, is_bad_bool, values_of, put_from}
+use Rattle.vms_load.proofs.Facade.{WalkStep, TakesAs, TakesOn, progress, slot_of, take_steps, last_numbers, numbers_then, step_long, Told, from, Fills}
+use Rattle.vms_load.proofs.Facade.{IsFilled, steps_long, take_append, last_taken, told, Kind, width, value_of, is_bad_bool, values_of, put_from}
 use Rattle.vms_load.proofs.Facade.{run_of, keeps_same, keeps_more, keeps_put, run_split, Intake, Breaks, width_positive}
 use Rattle.vms_walk.specs.{Inside.Keeps, declared.step.WalkStep.TheVariants.Number}
 use Rattle.std.proofs.lemmas.List.{append-nil}
@@ -13,9 +13,10 @@ use Rattle.vms_io.specs.Reading.{Takes}
 use Rattle.vms_frames.specs.declared.fault.FrameFault.TheVariants as faults
 use Rattle.vms_spec.specs.declared.Reason.TheVariants as reasons
 
-pub on_ok : {X E P Q R : Type 0} (r : Result X E) → (P → Q → R) → OnOk r P → OnOk r Q → OnOk r R
-on_ok (Ok x) f p q = f p q
-on_ok (Err e) f p q = tt
+-- what holds anyhow
+pub on_any : {X E P : Type 0} (r : Result X E) → P → OnOk r P
+on_any (Ok x) p = p
+on_any (Err e) p = tt
 
 module _ (x : WalkStep) where
   alone : (t : Taken) (n : List ℤ) (place : ℕ) (left : Option (List ℕ)) (r : Result (Unit {0}) FrameFault) → TakesAs t n place left r → TakesAs (t >>= take_steps []) n place left r
@@ -30,27 +31,18 @@ module _ (x : WalkStep) where
     abbrev OneReads : Result (Unit {0}) FrameFault → Type 0
     OneReads r = TakesOn a.source b.source (step_long x) a.place b.place (λ rest. take_slot (slot_of x) (from a rest)) b.image.numbers r
 
-    one_taken : (r : Result (Unit {0}) FrameFault) (rest left : List ℕ) → TakesAs (take_slot (slot_of x) (from a rest)) b.image.numbers b.place (Some left) r → IsTaken (x ∷ []) a b r rest left
-    one_taken r rest left h = alone (take_slot (slot_of x) (from a rest)) b.image.numbers b.place (Some left) r h
+    one_filled : (r : Result (Unit {0}) FrameFault) (rest left : List ℕ) → OnErr r (b.image ≡ a.image) → TakesAs (take_slot (slot_of x) (from a rest)) b.image.numbers b.place (Some left) r → IsFilled (x ∷ []) a r b rest left
+    one_filled (Ok y) rest left same h = (alone (take_slot (slot_of x) (from a rest)) b.image.numbers b.place (Some left) (Ok y) h, tt)
+    one_filled (Err (faults.Refused at reason)) rest left same h = (
+      alone (take_slot (slot_of x) (from a rest)) b.image.numbers b.place (Some left) (Err (faults.Refused at reason)) h,
+      same_then (take_slot (slot_of x) (from a rest)) a.image.numbers b.image.numbers b.place at reason (Some left) h (ap (λ image. image.numbers) same),
+    )
+    one_filled (Err faults.ReadFault) rest left same h = (alone (take_slot (slot_of x) (from a rest)) b.image.numbers b.place (Some left) (Err faults.ReadFault) h, tt)
 
-    one_stopped : (fault : FrameFault) (rest left : List ℕ) → b.image.numbers ≡ a.image.numbers → TakesAs (take_slot (slot_of x) (from a rest)) b.image.numbers b.place (Some left) (Err fault) → IsStopped (x ∷ []) a fault b rest left
-    one_stopped (faults.Refused at reason) rest left e h =
-        (one_taken (Err (faults.Refused at reason)) rest left h, same_then (take_slot (slot_of x) (from a rest)) a.image.numbers b.image.numbers b.place at reason (Some left) h e)
-    one_stopped faults.ReadFault rest left e h = (one_taken (Err faults.ReadFault) rest left h, tt)
-
-    pub step_ok : (r : Result (Unit {0}) FrameFault) → OneReads r → b.image ≡ record a.image { numbers = b.image.numbers } → Keeps (x ∷ []) a.image.numbers b.image.numbers → OnOk r (Took (x ∷ []) a b)
-    step_ok (Ok y) reads kept keeps = record {
-      reads = reads_as (λ n p. (omega arith, p.1)) (λ rest left h. one_taken (Ok tt) rest left h) reads;
-      kept = kept;
-      keeps = keeps;
-    }
-    step_ok (Err e) reads kept keeps = tt
-
-    pub step_err : (r : Result (Unit {0}) FrameFault) → OneReads r → b.image ≡ record a.image { numbers = b.image.numbers } → Keeps (x ∷ []) a.image.numbers b.image.numbers → IfErr r (λ e. b.image ≡ a.image)
-        → IfErr r (λ e. Failed (x ∷ []) a e b)
-    step_err (Ok y) reads kept keeps same = tt
-    step_err (Err e) reads kept keeps same = record {
-      reads = reads_as (λ n p. (omega arith, tt)) (λ rest left h. one_stopped e rest left (rw same) h) reads;
+    pub step_fills : (r : Result (Unit {0}) FrameFault) → OneReads r → b.image ≡ record a.image { numbers = b.image.numbers } → Keeps (x ∷ []) a.image.numbers b.image.numbers → OnErr r (b.image ≡ a.image)
+        → Fills (x ∷ []) a r b
+    step_fills r reads kept keeps same = record {
+      reads = reads_as (λ n p. (omega (arith, p.0), p.1)) (λ rest left h. one_filled r rest left same h) reads;
       kept = kept;
       keeps = keeps;
     }
@@ -157,7 +149,7 @@ filled image first kind count bytes = record image { numbers = put_from image.nu
 module _ (old new : Intake) (image : Typed) (first count place : ℕ) (kind : Kind) (any : kind ≡ Bool → ⊥) where
   pub took_run : (after : Typed) (to : ℕ) (bytes : List ℕ) → after ≡ filled image first kind count bytes → to ≡ place + count * width kind
       → Takes old new bytes → length bytes ≡ count * width kind
-      → Took (run_of first count kind) (told image place old) (told after to new)
+      → Fills (run_of first count kind) (told image place old) (Ok tt) (told after to new)
   took_run after to bytes is there takes long = rw (is, there) (record {
     reads = record {
       bytes = bytes;
@@ -165,14 +157,14 @@ module _ (old new : Intake) (image : Typed) (first count place : ℕ) (kind : Ki
       long = (omega (arith, run_long kind first count), omega arith);
       says = λ more f.
           let put = put_from image.numbers first (values_of kind count bytes) in
-          rw (run_taken kind any count first place image.numbers bytes more long) (refl, refl, refl);
+          (rw (run_taken kind any count first place image.numbers bytes more long) (refl, refl, refl), tt);
       cause = tt;
     };
     kept = refl;
     keeps = run_keeps kind count first image.numbers (values_of kind count bytes) (omega (arith, values_long kind count bytes));
   })
 
-  pub failed_run : (n to : ℕ) → Breaks old new n → n ≤ count * width kind → Failed (run_of first count kind) (told image place old) faults.ReadFault (told image to new)
+  pub failed_run : (n to : ℕ) → Breaks old new n → n ≤ count * width kind → Fills (run_of first count kind) (told image place old) (Err faults.ReadFault) (told image to new)
   failed_run n to breaks le = record {
     reads = record {
       bytes = breaks.bytes;
@@ -190,19 +182,19 @@ module _ (old new : Intake) (image : Typed) (first count place : ℕ) (kind : Ki
     abbrev stand : Told
     stand = told (filled image first kind whole bytes) (place + whole * width kind) new
 
-    stopped : (more : List ℕ) → more ≡ [] → IsStopped (run_of first count kind) (told image place old) (faults.Refused (place + whole * width kind) reasons.Truncated) stand ((bytes ++ last) ++ more) more
+    stopped : (more : List ℕ) → more ≡ [] → IsFilled (run_of first count kind) (told image place old) (Err (faults.Refused (place + whole * width kind) reasons.Truncated)) stand ((bytes ++ last) ++ more) more
     stopped more none =
         let all : bytes ++ last ≡ (bytes ++ last) ++ more = sym (ap (λ l. (bytes ++ last) ++ l) none ∙ append-nil (bytes ++ last)) in
         let fault = faults.Refused (place + whole * width kind) reasons.Truncated in
         let behind = progress (put_from image.numbers first (values_of kind whole bytes)) (place + whole * width kind) last in
         let is = run_cut kind any count whole first place image.numbers bytes last long cut lt in
-        subst (λ l. IsStopped (run_of first count kind) (told image place old) fault stand l more) all (
+        subst (λ l. IsFilled (run_of first count kind) (told image place old) (Err fault) stand l more) all (
           rw is (refl, refl, ap Some (cc (drop_all (length last) last (omega arith)))),
           sym (cut_numbers kind any count whole first place image.numbers bytes last long cut lt),
         )
 
     pub cut_run : (after : Typed) (to at : ℕ) → after ≡ filled image first kind whole bytes → to ≡ place + whole * width kind → at ≡ place + whole * width kind
-        → Failed (run_of first count kind) (told image place old) (faults.Refused at reasons.Truncated) (told after to new)
+        → Fills (run_of first count kind) (told image place old) (Err (faults.Refused at reasons.Truncated)) (told after to new)
     cut_run after to at is there cause = rw (is, there, cause) (record {
       reads = record {
         bytes = bytes ++ last;

@@ -39,7 +39,7 @@ use Rattle.vms_load.specs.Bodies.{AreOfKinds, FitsStep, ReadsCapped, ReadsConsta
 use Rattle.vms_load.specs.Going.{GoesBehind, GoesOn, GoesThrough, Moves}
 use Rattle.vms_load.specs.Heads.{in_section, opened_at, section_opened, sub_opened}
 use Rattle.vms_load.specs.Parts.{HasNewNumbers, IsNextPart, IsOfDevice, IsOpen, IsSame, after_fields, after_part, bytes_of, bytes_of_part, in_fields, part_due, subs_due}
-use Rattle.vms_load.specs.Reading.{Failed, Told, Took, slot_of, step_long, told}
+use Rattle.vms_load.specs.Reading.{Fills, Told, slot_of, step_long, told}
 use Rattle.vms_load.specs.Reads.{IsRefused, MayTake, Settles}
 use Rattle.vms_load.specs.Staging.{AreShaped, CanConfigure, IsMachine, IsOf, IsPassed, accepted_of, due_at, no_image, read_from, sections_due, spot_at, spot_of, state_of}
 use Rattle.vms_load.specs.declared.fault.LoadFault.{LoadFault}
@@ -96,10 +96,8 @@ module _ (set : DescSet) (at : PartAt) where
 
   -- The part's steps are taken into the image, or some of them, and then a fault came.
   pub record ReadsPart (old new : Typed) (from to : Input) (result : Result (Unit {0}) FrameFault) : Type 0 where
-    pub ok : OnOk result (Took (steps_of (spot_slots (described set) at new.numbers)) (told old from.cursor.at from.source) (told new to.cursor.at to.source))
+    pub fills : Fills (steps_of (spot_slots (described set) at new.numbers)) (told old from.cursor.at from.source) result (told new to.cursor.at to.source)
     pub held : OnOk result (to.cursor.held ≡ None)
-    pub err : IfErr result (λ fault.
-        Failed (steps_of (spot_slots (described set) at new.numbers)) (told old from.cursor.at from.source) fault (told new to.cursor.at to.source))
 
 -- ---- heads
 

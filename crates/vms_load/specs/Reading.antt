@@ -1,14 +1,15 @@
 -- What the steps of a part take from a source.
 use Rattle.std.specs.Prelude.{◌≡◌, ℕ, ◌+◌, ◌^◌, ◌<◌, List, [], ◌∷◌, ◌++◌, Option, ℤ, Result, Ok, Err}
 use Rattle.std.proofs.Common.{refl, sym, ap, ◌∙◌, subst, arith, Some}
+use Rattle.std.proofs.lemmas.Result.{on_ok_weaker}
 use Rattle.vms_kinds.specs.Codes.{width}
 use Rattle.vms_image.specs.Typed.{Typed}
 use Rattle.vms_spec.specs.Layout.{Slot, Number, Constant, Filler, Rule}
 use Rattle.vms_spec.specs.Taking.{Taken, Progress, Refusal, ◌>>=◌, take_slot}
 use Rattle.vms_io.specs.Told.{Intake}
-use Rattle.vms_io.specs.Reading.{On, Reads}
+use Rattle.vms_io.specs.Reading.{Reads}
 use Rattle.vms_io.proofs.ReadingLemmas.{takes_none, reads_as, reads_both}
-use Rattle.vms_frames.specs.Reads.{fault_course}
+use Rattle.vms_frames.specs.Reads.{course}
 use Rattle.vms_frames.specs.declared.fault.FrameFault.{FrameFault}
 use Rattle.vms_frames.specs.declared.fault.FrameFault.TheVariants as faults
 use Rattle.vms_walk.specs.declared.step.WalkStep.{WalkStep}
@@ -66,29 +67,22 @@ told image place source = record { image = image; place = place; source = source
 abbrev pub from : Told → List ℕ → Progress
 from t rest = progress t.image.numbers t.place rest
 
--- `IsTaken xs old new result rest left`: of the bytes `rest` these steps take what was taken, or are refused
--- so.
-abbrev pub IsTaken : List WalkStep → Told → Told → Result (Unit {0}) FrameFault → List ℕ → List ℕ → Type 0
-IsTaken xs old new result rest left = TakesAs (take_steps xs (from old rest)) new.image.numbers new.place (Some left) result
+-- `IfRefused result P`: P, if the input is invalid.
+abbrev pub IfRefused : Result (Unit {0}) FrameFault → Type 0 → Type 0
+IfRefused (Ok x) P = Unit {0}
+IfRefused (Err (faults.Refused at reason)) P = P
+IfRefused (Err faults.ReadFault) P = Unit {0}
 
--- These steps were taken.
-pub record Took (xs : List WalkStep) (old new : Told) : Type 0 where
-  pub reads : Reads On old.source new.source (HasMoved (steps_long xs) old.place new.place (Ok tt)) (IsTaken xs old new (Ok tt))
-  pub kept : new.image ≡ record old.image { numbers = new.image.numbers }
-  pub keeps : Keeps xs old.image.numbers new.image.numbers
+-- `IsFilled xs old result new rest left`: of the bytes `rest` these steps take what was taken, or are refused
+-- so. If the input is invalid, the numbers are those before the refused step.
+abbrev pub IsFilled : List WalkStep → Told → Result (Unit {0}) FrameFault → Told → List ℕ → List ℕ → Type 0
+IsFilled xs old result new rest left =
+    TakesAs (take_steps xs (from old rest)) new.image.numbers new.place (Some left) result
+    × IfRefused result (new.image.numbers ≡ last_numbers xs (from old rest))
 
--- `IfRefused fault P`: P, if the input is invalid.
-abbrev pub IfRefused : FrameFault → Type 0 → Type 0
-IfRefused (faults.Refused at reason) P = P
-IfRefused faults.ReadFault P = Unit {0}
-
--- The steps stop so. If the input is invalid, the numbers are those before the refused step.
-abbrev pub IsStopped : List WalkStep → Told → FrameFault → Told → List ℕ → List ℕ → Type 0
-IsStopped xs old fault new rest left = IsTaken xs old new (Err fault) rest left × IfRefused fault (new.image.numbers ≡ last_numbers xs (from old rest))
-
--- Some of the first steps were taken, and then a fault came.
-pub record Failed (xs : List WalkStep) (old : Told) (fault : FrameFault) (new : Told) : Type 0 where
-  pub reads : Reads (fault_course fault) old.source new.source (HasMoved (steps_long xs) old.place new.place (Err fault)) (IsStopped xs old fault new)
+-- These steps were taken, or some of the first, and then a fault came.
+pub record Fills (xs : List WalkStep) (old : Told) (result : Result (Unit {0}) FrameFault) (new : Told) : Type 0 where
+  pub reads : Reads (course result) old.source new.source (HasMoved (steps_long xs) old.place new.place result) (IsFilled xs old result new)
   pub kept : new.image ≡ record old.image { numbers = new.image.numbers }
   pub keeps : Keeps xs old.image.numbers new.image.numbers
 
@@ -155,69 +149,61 @@ stop_early (Err e) ys fault n place left h = h
 kept_on : (a b c : Typed) → b ≡ record a { numbers = b.numbers } → c ≡ record b { numbers = c.numbers } → c ≡ record a { numbers = c.numbers }
 kept_on a b c e f = f ∙ ap (λ (image : Typed). record image { numbers = c.numbers }) e
 
-pub took_none : (a : Told) → a.source.given < 2 ^ 64 → Took [] a a
-took_none a few = record {
+pub fills_none : (a : Told) → a.source.given < 2 ^ 64 → Fills [] a (Ok tt) a
+fills_none a few = record {
   reads = record {
     bytes = [];
     takes = takes_none a.source few;
     long = (omega arith, omega arith);
-    says = λ more f. (refl, refl, refl);
+    says = λ more f. ((refl, refl, refl), tt);
     cause = tt;
   };
   kept = refl;
   keeps = keeps_same [] a.image.numbers a.image.numbers refl;
 }
 
-taken_more : (xs ys : List WalkStep) (a b c : Told) (r : Result (Unit {0}) FrameFault) (all rest left : List ℕ) → IsTaken xs a b (Ok tt) all rest → IsTaken ys b c r rest left → IsTaken (xs ++ ys) a c r all left
-taken_more xs ys a b c r all rest left h k =
-    let P : Taken → Type 0 = λ t. TakesAs t c.image.numbers c.place (Some left) r in
-    subst P (sym (take_append xs ys (from a all) ∙ ap (λ (t : Taken). t >>= take_steps ys) (leads (take_steps xs (from a all)) b rest h))) k
+if_refused : {P Q : Type 0} (r : Result (Unit {0}) FrameFault) → (P → Q) → IfRefused r P → IfRefused r Q
+if_refused (Ok x) f h = tt
+if_refused (Err (faults.Refused at reason)) f h = f h
+if_refused (Err faults.ReadFault) f h = tt
 
-pub took_more : (xs ys : List WalkStep) (a b c : Told) → Took xs a b → Took ys b c → Took (xs ++ ys) a c
-took_more xs ys a b c h k = record {
-  reads = reads_both (λ n m p q. (omega (arith, p.0, q.0, long_append xs ys), omega (arith, p.1, q.1)))
-      (λ all rest left p q. taken_more xs ys a b c (Ok tt) all rest left p q) h.reads k.reads;
+filled_more : (xs ys : List WalkStep) (a b c : Told) (r : Result (Unit {0}) FrameFault) (all rest left : List ℕ) → IsFilled xs a (Ok tt) b all rest → IsFilled ys b r c rest left
+    → IsFilled (xs ++ ys) a r c all left
+filled_more xs ys a b c r all rest left h k =
+    let led = leads (take_steps xs (from a all)) b rest h.0 in
+    let P : Taken → Type 0 = λ t. TakesAs t c.image.numbers c.place (Some left) r in (
+      subst P (sym (take_append xs ys (from a all) ∙ ap (λ (t : Taken). t >>= take_steps ys) led)) k.0,
+      if_refused r (λ (e : c.image.numbers ≡ last_numbers ys (from b rest)). e ∙ sym (last_taken xs ys (from a all) (from b rest) led)) k.1,
+    )
+
+pub fills_more : (xs ys : List WalkStep) (a b c : Told) (r : Result (Unit {0}) FrameFault) → Fills xs a (Ok tt) b → Fills ys b r c → Fills (xs ++ ys) a r c
+fills_more xs ys a b c r h k = record {
+  reads = reads_both (λ n m p q. (omega (arith, p.0, q.0, long_append xs ys), on_ok_weaker r (λ (e : c.place ≡ b.place + m). omega (arith, p.1, e)) q.1))
+      (λ all rest left p q. filled_more xs ys a b c r all rest left p q) h.reads k.reads;
   kept = kept_on a.image b.image c.image h.kept k.kept;
   keeps = keeps_more xs ys a.image.numbers b.image.numbers c.image.numbers h.keeps k.keeps;
 }
 
-if_refused : {P Q : Type 0} (fault : FrameFault) → (P → Q) → IfRefused fault P → IfRefused fault Q
-if_refused (faults.Refused at reason) f h = f h
-if_refused faults.ReadFault f h = tt
-
-stopped_more : (xs ys : List WalkStep) (a b c : Told) (fault : FrameFault) (all rest left : List ℕ) → IsTaken xs a b (Ok tt) all rest → IsStopped ys b fault c rest left → IsStopped (xs ++ ys) a fault c all left
-stopped_more xs ys a b c fault all rest left h k = (
-  taken_more xs ys a b c (Err fault) all rest left h k.0,
-  if_refused fault (λ (e : c.image.numbers ≡ last_numbers ys (from b rest)). e ∙ sym (last_taken xs ys (from a all) (from b rest) (leads (take_steps xs (from a all)) b rest h))) k.1,
-)
-
-pub failed_after : (xs ys : List WalkStep) (a b c : Told) (fault : FrameFault) → Took xs a b → Failed ys b fault c → Failed (xs ++ ys) a fault c
-failed_after xs ys a b c fault h k = record {
-  reads = reads_both (λ n m p q. (omega (arith, p.0, q.0, long_append xs ys), tt)) (λ all rest left p q. stopped_more xs ys a b c fault all rest left p q) h.reads k.reads;
-  kept = kept_on a.image b.image c.image h.kept k.kept;
-  keeps = keeps_more xs ys a.image.numbers b.image.numbers c.image.numbers h.keeps k.keeps;
-}
-
-refused_is : (t : Taken) (n : List ℤ) (place : ℕ) (left : Option (List ℕ)) (fault : FrameFault) {P : Type 0} → TakesAs t n place left (Err fault) → ((e : Refusal) → t ≡ Err e → P) → IfRefused fault P
+refused_is : (t : Taken) (n : List ℤ) (place : ℕ) (left : Option (List ℕ)) (fault : FrameFault) {P : Type 0} → TakesAs t n place left (Err fault) → ((e : Refusal) → t ≡ Err e → P) → IfRefused (Err fault) P
 refused_is (Ok p) n place left (faults.Refused at reason) h f = absurd h
 refused_is (Err e) n place left (faults.Refused at reason) h f = f e refl
 refused_is t n place left faults.ReadFault h f = tt
 
-both_refused : {P Q R : Type 0} (fault : FrameFault) → (P → Q → R) → IfRefused fault P → IfRefused fault Q → IfRefused fault R
+both_refused : {P Q R : Type 0} (fault : FrameFault) → (P → Q → R) → IfRefused (Err fault) P → IfRefused (Err fault) Q → IfRefused (Err fault) R
 both_refused (faults.Refused at reason) f h k = f h k
 both_refused faults.ReadFault f h k = tt
 
-stopped_before : (xs ys : List WalkStep) (a b : Told) (fault : FrameFault) (all left : List ℕ) → IsStopped xs a fault b all left → IsStopped (xs ++ ys) a fault b all left
-stopped_before xs ys a b fault all left h =
+filled_before : (xs ys : List WalkStep) (a b : Told) (fault : FrameFault) (all left : List ℕ) → IsFilled xs a (Err fault) b all left → IsFilled (xs ++ ys) a (Err fault) b all left
+filled_before xs ys a b fault all left h =
     let P : Taken → Type 0 = λ t. TakesAs t b.image.numbers b.place (Some left) (Err fault) in (
       subst P (sym (take_append xs ys (from a all))) (stop_early (take_steps xs (from a all)) ys fault b.image.numbers b.place (Some left) h.0),
       both_refused fault (λ (e : last_numbers (xs ++ ys) (from a all) ≡ last_numbers xs (from a all)) f. f ∙ sym e)
           (refused_is (take_steps xs (from a all)) b.image.numbers b.place (Some left) fault h.0 (λ r e. last_refused xs ys (from a all) r e)) h.1,
     )
 
-pub failed_before : (xs ys : List WalkStep) (a b : Told) (fault : FrameFault) → Failed xs a fault b → Failed (xs ++ ys) a fault b
-failed_before xs ys a b fault h = record {
-  reads = reads_as (λ n p. (omega (arith, p.0, long_append xs ys), tt)) (λ rest left p. stopped_before xs ys a b fault rest left p) h.reads;
+pub fills_before : (xs ys : List WalkStep) (a b : Told) (fault : FrameFault) → Fills xs a (Err fault) b → Fills (xs ++ ys) a (Err fault) b
+fills_before xs ys a b fault h = record {
+  reads = reads_as (λ n p. (omega (arith, p.0, long_append xs ys), tt)) (λ rest left p. filled_before xs ys a b fault rest left p) h.reads;
   kept = h.kept;
   keeps = keeps_front xs ys a.image.numbers b.image.numbers h.keeps;
 }

@@ -60,47 +60,37 @@ impl<S: Source> Cells for Reader<'_, S> {
 }
 
 impl<S: Source> Walker for Reader<'_, S> {
-    ghost use Rattle.std.specs.Prelude.{◌≡◌, ◌≤◌, ◌^◌, None, refl};
+    ghost use Rattle.std.specs.Prelude.{◌≡◌, ◌≤◌, ◌^◌, None, OnOk, refl};
     ghost use Rattle.std.proofs.Common.{◌∙◌};
     ghost use Rattle.vms_io.specs.Told.{intake};
     ghost use Rattle.vms_load.specs.Bodies.{IsOfKind};
-    ghost use Rattle.vms_load.specs.Reading.{told, Took, Failed};
-    ghost use Rattle.vms_load.specs.Reading.{took_none, took_more, failed_after, failed_before};
+    ghost use Rattle.vms_load.specs.Reading.{told, Fills, fills_none, fills_more, fills_before};
 
     type Fault = FrameFault;
 
-    ghost goes = { λ xs a b. (b.image.ghost_name ≡ a.image.ghost_name)
+    ghost does = { λ xs a result b. (b.image.ghost_name ≡ a.image.ghost_name)
         × (b.cursor.ghost_name ≡ a.cursor.ghost_name)
         × (b.source.ghost_name ≡ a.source.ghost_name)
-        × Took xs
+        × Fills xs
         (told a.image.now a.cursor.now.at (intake S.Source a.source.now))
-        (told b.image.now b.cursor.now.at (intake S.Source b.source.now))
-        × (a.cursor.now.held ≡ None → b.cursor.now.held ≡ None) };
-
-    ghost stops = { λ xs a fault b. (b.image.ghost_name ≡ a.image.ghost_name)
-        × (b.cursor.ghost_name ≡ a.cursor.ghost_name)
-        × (b.source.ghost_name ≡ a.source.ghost_name)
-        × Failed xs
-        (told a.image.now a.cursor.now.at (intake S.Source a.source.now))
-        fault (told b.image.now b.cursor.now.at (intake S.Source b.source.now)) };
+        result (told b.image.now b.cursor.now.at (intake S.Source b.source.now))
+        × (a.cursor.now.held ≡ None → OnOk result (b.cursor.now.held ≡ None)) };
 
     ghost may = { λ a step. (a.cursor.now.at ≤ 2 ^ 63) × (a.cursor.now.held ≡ None)
         × IsOfKind a.image.now.kinds step };
 
-    ghost keeps = { λ xs a b h. h.3.keeps };
-
-    ghost keeps_stopped = { λ xs a b fault h. h.3.keeps };
-
-    ghost none = { λ a. (refl, refl, refl, took_none _ (S.counted a.source.now), λ e. e) };
-
-    ghost more = { λ xs ys a b c h k.
-        (k.0 ∙ h.0, k.1 ∙ h.1, k.2 ∙ h.2, took_more xs ys _ _ _ h.3 k.3, λ e. k.4 (h.4 e)) };
-
-    ghost stops_after = { λ xs ys a b c fault h k.
-        (k.0 ∙ h.0, k.1 ∙ h.1, k.2 ∙ h.2, failed_after xs ys _ _ _ fault h.3 k.3) };
-
-    ghost stops_before = { λ xs ys a b fault h.
-        (h.0, h.1, h.2, failed_before xs ys _ _ fault h.3) };
+    ghost laws = { record {
+      none = λ a. (refl, refl, refl, fills_none _ (S.counted a.source.now), λ e. e);
+      more = λ xs ys a b c result h k. (
+        k.0 ∙ h.0,
+        k.1 ∙ h.1,
+        k.2 ∙ h.2,
+        fills_more xs ys _ _ _ result h.3 k.3,
+        λ e. k.4 (h.4 e),
+      );
+      before = λ xs ys a b fault h. (h.0, h.1, h.2, fills_before xs ys _ _ fault h.3, λ e. tt);
+      keeps = λ xs a b result h. h.3.keeps;
+    } };
 
     #[inline(always)]
     fn step(&mut self, step: WalkStep) -> Result<(), FrameFault> {

@@ -147,31 +147,23 @@ impl Cells for Rules<'_> {
 }
 
 impl Walker for Rules<'_> {
-    ghost use Rattle.std.specs.Prelude.{◌≡◌, true, false, refl};
+    ghost use Rattle.std.specs.Prelude.{◌≡◌, is_ok, refl};
     ghost use Rattle.std.proofs.Common.{ap, ◌∙◌};
     ghost use Rattle.vms_walk.proofs.Walking.{keeps_same};
     ghost use Rattle.vms_values.specs.Judging.{steps_hold, hold_then, fail_before};
 
     type Fault = Broken;
 
-    ghost goes = { λ xs a b. (b.image ≡ a.image) × (steps_hold xs ≡ true) };
-
-    ghost stops = { λ xs a fault b. (b.image ≡ a.image) × (steps_hold xs ≡ false) };
+    ghost does = { λ xs a result b. (b.image ≡ a.image) × (steps_hold xs ≡ is_ok result) };
 
     ghost may = { λ a step. Unit {0} };
 
-    ghost keeps = { λ xs a b h. keeps_same xs _ _ (ap (λ image. image.now.numbers) h.0) };
-
-    ghost keeps_stopped = { λ xs a b fault h.
-        keeps_same xs _ _ (ap (λ image. image.now.numbers) h.0) };
-
-    ghost none = { λ a. (refl, refl) };
-
-    ghost more = { λ xs ys a b c h k. (k.0 ∙ h.0, hold_then xs ys true h.1 k.1) };
-
-    ghost stops_after = { λ xs ys a b c fault h k. (k.0 ∙ h.0, hold_then xs ys false h.1 k.1) };
-
-    ghost stops_before = { λ xs ys a b fault h. (h.0, fail_before xs ys h.1) };
+    ghost laws = { record {
+      none = λ a. (refl, refl);
+      more = λ xs ys a b c result h k. (k.0 ∙ h.0, hold_then xs ys (is_ok result) h.1 k.1);
+      before = λ xs ys a b fault h. (h.0, fail_before xs ys h.1);
+      keeps = λ xs a b result h. keeps_same xs _ _ (ap (λ image. image.now.numbers) h.0);
+    } };
 
     fn step(&mut self, step: WalkStep) -> Result<(), Broken> {
         match step {

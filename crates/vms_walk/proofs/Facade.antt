@@ -3,8 +3,8 @@ pub use Rattle.vms_bodies.proofs.Places.{if_there, cells_first, IsAbove, field_a
 pub use Rattle.vms_bodies.proofs.Places.{own_same, place_next, same_less, there_same}
 pub use Rattle.vms_bodies.proofs.SettledLaws.{MeanSettled, SameIn, field_settled, item_settled, meanings_settled}
 pub use Rattle.std.proofs.{Math.Bool.or-false, Math.Bool.or_assoc, Math.ListN.get_or-map, lemmas.List.drop_more, lemmas.List.get_or-set_other}
-pub use Rattle.std.proofs.{lemmas.List.take_all, lemmas.Option.slice_get-get_or, lemmas.Result.IfErr-weaker, lemmas.Result.on_ok_weaker}
-pub use Rattle.std.proofs.Common.{Bool, Err, IfErr, List, None, Ok, Option, Result, Some, [], ap, append-nil, append_assoc, arith, drop, false, get_or}
+pub use Rattle.std.proofs.{lemmas.List.take_all, lemmas.Option.slice_get-get_or}
+pub use Rattle.std.proofs.Common.{Bool, Err, List, None, Ok, Option, Result, Some, [], ap, append-nil, append_assoc, arith, drop, false, get_or}
 pub use Rattle.std.proofs.Common.{if◌then◌else◌, length, length-append, length-set, min, nat_lt, negsuc, pos, refl, rules, slice_set, subst, suc, sym, take}
 pub use Rattle.std.proofs.Common.{true, zero, ℕ, ℤ, ◌*◌, ◌++◌, ◌+◌, ◌-◌, ◌<◌, ◌==◌, ◌||◌, ◌∙◌, ◌∷◌, ◌≡◌, ◌≤◌}
 pub use Rattle.std.proofs.lemmas.Bool.{eq-eqb, lt-ltb, ltb-false, ltb-true, ne_eqb, or_parts}
@@ -18,11 +18,11 @@ pub use Rattle.vms_spec.specs.Layout.{slots_from, struct_cells, times, Meaning, 
 pub use Rattle.vms_spec.specs.Layout.{elements_of, field_cells, field_slots, item_size, item_slots, meaning, meanings, no_desc, no_field, no_meaning, no_parent}
 pub use Rattle.vms_spec.specs.Sound.{AreSoundFields, IsEarlier, IsSound, IsSoundField}
 unfoldable pub use Rattle.vms_spec.specs.Layout.{first}
-pub use Rattle.vms_desc.proofs.{AskLaws.found_field, AskLaws.here_fields, EvalLaws.place_after, EvalLaws.place_within}
+pub use Rattle.vms_desc.proofs.{AskLaws.found_field, EvalLaws.place_after, EvalLaws.place_within}
 pub use Rattle.vms_desc.proofs.Clean.{good_of, field_clean, reach, struct_clean, item_rank, part_rank, rank_below, reach_whole, uses_more}
 pub use Rattle.vms_desc.specs.{Described.described, Described.device_at, Formed.is_well_formed, Parts.HasPart, Parts.desc_at, Parts.sub_at}
 pub use Rattle.vms_desc.specs.Asks.{field_at, field_start, own_numbers}
 pub use Rattle.vms_parts.specs.{Capacities.least_from, Capacities.least_of, Capacities.lesser, Sizes.in_u32}
-pub use Rattle.vms_walk.specs.{Inside.Keeps, Inside.has_step, Runs.MayRun, Runs.run_of, Steps.size_in, Steps.slots_at, Steps.spot_numbers}
+pub use Rattle.vms_walk.specs.{Inside.Keeps, Inside.has_step, Laws.Does, Laws.IsWalk, Runs.run_of, Steps.size_in, Steps.slots_at, Steps.spot_numbers}
 pub use Rattle.vms_walk.specs.{declared.fields.PartAt.PartAt, declared.step.WalkStep.WalkStep, declared.step.WalkStep.TheVariants.Number}
 pub use Rattle.vms_walk.specs.Steps.{spot_slots, steps_of, table, HasSpot, MayCome, capacities_of, cell_of, cells_in, elements_slots, holds_at, present_of}

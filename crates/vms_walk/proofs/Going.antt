@@ -1,21 +1,13 @@
 -- A walk over parts: what is done at each of them is done at the whole.
 use Rattle.vms_walk.proofs.{Walking.fields_local, Walking.present_local, Walking.part_sound, Walking.set_settled, Spots.field_needs}
-use Rattle.vms_walk.proofs.Facade.{◌≡◌, ℕ, ◌+◌, ◌*◌, ◌<◌, ◌≤◌, List, [], ◌∷◌, ◌++◌, length, take, ℤ, refl, sym, ap}
-use Rattle.vms_walk.proofs.Facade.{◌∙◌, arith, append_assoc, append-nil, pos, Option, Bool, true, take_all, Item, Field, Set, Slot, Rule, item_slots}
-use Rattle.vms_walk.proofs.Facade.{slots_from, field_slots, all_hold, capacity_of, counted, IsGood, SameBelow, IsAbove, item_above, field_above, meanings_above}
+use Rattle.vms_walk.proofs.Facade.{◌≡◌, ℕ, ◌+◌, ◌*◌, ◌<◌, ◌≤◌, List, [], ◌∷◌, ◌++◌, length, take, ℤ, refl, sym, ap, subst}
+use Rattle.vms_walk.proofs.Facade.{◌∙◌, arith, append_assoc, pos, Option, Bool, true, take_all, Item, Field, Set, Slot, Rule, item_slots}
+use Rattle.vms_walk.proofs.Facade.{slots_from, field_slots, all_hold, capacity_of, counted, IsGood, SameBelow, item_above, field_above, meanings_above}
 use Rattle.vms_walk.proofs.Facade.{least_of, field_at, is_well_formed, HasPart, desc_at, WalkStep, PartAt, Keeps, steps_of, table, spot_numbers, spot_slots}
-use Rattle.vms_walk.proofs.Facade.{slots_at, size_in, capacities_of, elements_slots, present_of, cell_of, HasSpot, MayCome}
-use Rattle.vms_walk.proofs.Walking.{steps_append, part_left, times_more, times_split, fields_split, fields_more, keeps_below, keeps_first, items_local}
+use Rattle.vms_walk.proofs.Facade.{slots_at, size_in, capacities_of, elements_slots, present_of, cell_of, HasSpot, MayCome, Result, Ok, Does, IsWalk}
+use Rattle.vms_walk.proofs.Walking.{Among, steps_append, steps_parts, times_more, times_split, fields_split, fields_more, keeps_first, items_local}
 use Rattle.vms_walk.specs.declared.step.WalkStep.TheVariants as steps
 use Rattle.std.proofs.lemmas.List.{ext_get_or}
-
--- the laws of a walker
-pub record Laws {S F : Type 0} (N : S → List ℤ) (goes : List WalkStep → S → S → Type 0) (stops : List WalkStep → S → F → S → Type 0) : Type 0 where
-  pub more : (xs ys : List WalkStep) (a b c : S) → goes xs a b → goes ys b c → goes (xs ++ ys) a c
-  pub after : (xs ys : List WalkStep) (a b c : S) (f : F) → goes xs a b → stops ys b f c → stops (xs ++ ys) a f c
-  pub before : (xs ys : List WalkStep) (a b : S) (f : F) → stops xs a f b → stops (xs ++ ys) a f b
-  pub keeps : (xs : List WalkStep) (a b : S) → goes xs a b → Keeps xs (N a) (N b)
-  pub stopped : (xs : List WalkStep) (a b : S) (f : F) → stops xs a f b → Keeps xs (N a) (N b)
 
 -- ---- what a part has
 
@@ -36,58 +28,33 @@ module _ (set : Set) (spot : PartAt) where
   abbrev sound : List ℤ → Bool
   sound n = all_hold (desc_at set spot.part).validate spot.version (spot_numbers set spot n)
 
--- ---- what is done at each
-
-module _ {S F : Type 0} {N : S → List ℤ} {goes : List WalkStep → S → S → Type 0} {stops : List WalkStep → S → F → S → Type 0} (laws : Laws N goes stops) where
-  go_on : (xs ys whole : List Slot) (a b c : S) → whole ≡ xs ++ ys → goes (steps_of xs) a b → goes (steps_of ys) b c → goes (steps_of whole) a c
-  go_on xs ys whole a b c e h k = rw (e, steps_append xs ys) (laws.more (steps_of xs) (steps_of ys) a b c h k)
-
-  stop_at : (xs ys rest whole : List Slot) (a b c : S) (f : F) → whole ≡ xs ++ (ys ++ rest) → goes (steps_of xs) a b → stops (steps_of ys) b f c
-      → stops (steps_of whole) a f c
-  stop_at xs ys rest whole a b c f e h k =
-      rw (e, steps_append xs (ys ++ rest), steps_append ys rest)
-      (laws.after (steps_of xs) (steps_of ys ++ steps_of rest) a b c f h (laws.before (steps_of ys) (steps_of rest) b c f k))
-
 -- ---- elements
 
 -- the first `i` elements are done, from `a` to `b`, and the next one's cells begin at `cell`
-pub record Walked {S : Type 0} (N : S → List ℤ) (goes : List WalkStep → S → S → Type 0) (set : Set) (item : Item) (most : Option ℕ) (first i cell : ℕ)
-    (a b : S) : Type 0 where
+pub record Walked {S F : Type 0} (N : S → List ℤ) (does : Does S F) (set : Set) (item : Item) (most : Option ℕ) (first i cell : ℕ) (a b : S) : Type 0 where
   pub good : IsGood set
   pub here : cell ≡ first + i * size_in set item
-  pub way : goes (steps_of (elements_slots set item most (N b) i first)) a b
+  pub way : does (steps_of (elements_slots set item most (N b) i first)) a (Ok tt) b
 
-module _ {S F : Type 0} {N : S → List ℤ} {goes : List WalkStep → S → S → Type 0} {stops : List WalkStep → S → F → S → Type 0} (laws : Laws N goes stops)
-    {set : Set} {item : Item} {most : Option ℕ} {first i cell : ℕ} {a b : S} (done : Walked N goes set item most first i cell a b) where
-  above : (n : List ℤ) → IsAbove cell (element set item most n cell)
-  above n = item_above (table set) (meanings_above set.structs (length set.structs)) item (capacities_of most) n cell
-
-  way_at : (n : List ℤ) → SameBelow cell (N b) n → goes (steps_of (elements_slots set item most n i first)) a b
-  way_at n s = rw (items_local (table set) (set_settled set done.good) item (capacities_of most) i first (N b) n (rw done.here at s)) done.way
-
-  pub items_next : (c : S) → goes (steps_of (element set item most (N c) cell)) b c → goes (steps_of (elements_slots set item most (N c) (i + 1) first)) a c
-  items_next c h =
-      let s = keeps_below cell (element set item most (N c) cell) (N b) (N c) (above (N c)) (laws.keeps _ b c h) in
-      go_on laws (elements_slots set item most (N c) i first) (element set item most (N c) cell) (elements_slots set item most (N c) (i + 1) first) a b c
-      (rw done.here (times_more i (element set item most (N c)) first (size_in set item))) (way_at (N c) s) h
-
-  pub items_stop : (count : ℕ) → i < count → (c : S) (f : F) → stops (steps_of (element set item most (N c) cell)) b f c
-      → stops (steps_of (elements_slots set item most (N c) count first)) a f c
-  items_stop count lt c f h =
-      let s = keeps_below cell (element set item most (N c) cell) (N b) (N c) (above (N c)) (laws.stopped _ b c f h) in
-      let parts = times_split count i (element set item most (N c)) first (size_in set item) lt in
-      stop_at laws (elements_slots set item most (N c) i first) (element set item most (N c) cell) parts.0
-      (elements_slots set item most (N c) count first) a b c f (rw done.here parts.1) (way_at (N c) s) h
-
-  pub items_may : (may : S → WalkStep → Type 0) (count : ℕ) → i < count → MayCome goes N may (λ n. elements_slots set item most n count first) a
-      → MayCome goes N may (λ n. element set item most n cell) b
-  items_may may count lt all ys ws zs x d h e =
-      let s = keeps_first cell (element set item most (N d) cell) ys (ws ++ (x ∷ zs)) (N b) (N d) e (above (N d)) (laws.keeps ys b d h) in
-      let parts = times_split count i (element set item most (N d)) first (size_in set item) lt in
-      all (steps_of (elements_slots set item most (N d) i first) ++ ys) ws (zs ++ steps_of parts.0) x d (laws.more _ ys a b d (way_at (N d) s) h)
-      (part_left (elements_slots set item most (N d) i first) (element set item most (N d) cell) parts.0
-      (elements_slots set item most (N d) count first) ys ws zs x
-      (rw done.here parts.1) e)
+module _ {S F : Type 0} {N : S → List ℤ} {does : Does S F} {set : Set} {item : Item} {most : Option ℕ} {first i cell : ℕ} {a b : S}
+    (done : Walked N does set item most first i cell a b) (count : ℕ) (lt : i < count) where
+  pub element_among : Among N does (λ n. steps_of (elements_slots set item most n count first)) (λ n. steps_of (elements_slots set item most n (i + 1) first))
+      (λ n. steps_of (elements_slots set item most n i first)) (λ n. steps_of (element set item most n cell)) a b
+  element_among = record {
+    way = λ n ys zs e k.
+        let above = item_above (table set) (meanings_above set.structs (length set.structs)) item (capacities_of most) n cell in
+        let s = keeps_first cell (element set item most n cell) ys zs (N b) n e above k in
+        rw (items_local (table set) (set_settled set done.good) item (capacities_of most) i first (N b) n (rw done.here at s)) done.way;
+    more = λ n. rw done.here
+        (ap steps_of (times_more i (element set item most n) first (size_in set item))
+        ∙ steps_append (elements_slots set item most n i first) (element set item most n (first + i * size_in set item)));
+    split = λ n.
+        let parts = times_split count i (element set item most n) first (size_in set item) lt in (
+          steps_of parts.0,
+          steps_parts (elements_slots set item most n i first) (element set item most n cell) parts.0
+              (elements_slots set item most n count first) (rw done.here parts.1),
+        );
+  }
 
 -- ---- fields
 
@@ -106,37 +73,14 @@ field_slots_are set good well spot i cell n m here long h count item most lt is 
     (field_needs set well spot m few i cell count item most lt is (there ∙ sym same) least (rw long room)).steps
 
 -- the first `i` fields of a part are done, from `a` to `b`, and the next one's cells begin at `cell`
-pub record Past {S : Type 0} (N : S → List ℤ) (goes : List WalkStep → S → S → Type 0) (set : Set) (spot : PartAt) (i cell : ℕ) (a b : S) : Type 0 where
+pub record Past {S F : Type 0} (N : S → List ℤ) (does : Does S F) (set : Set) (spot : PartAt) (i cell : ℕ) (a b : S) : Type 0 where
   pub good : IsGood set
   pub has : HasPart set spot.part
   pub le : i ≤ length (fields set spot)
   pub here : cell ≡ cell_of set spot i
-  pub way : goes (steps_of (firsts set spot i (N b))) a b
+  pub way : does (steps_of (firsts set spot i (N b))) a (Ok tt) b
 
-module _ {S F : Type 0} {N : S → List ℤ} {goes : List WalkStep → S → S → Type 0} {stops : List WalkStep → S → F → S → Type 0} (laws : Laws N goes stops)
-    {set : Set} {spot : PartAt} {i cell : ℕ} {a b : S} (past : Past N goes set spot i cell a b) where
-  field_up : (n : List ℤ) → IsAbove cell (slots_at set spot n i cell)
-  field_up n =
-      field_above (table set) (meanings_above set.structs (length set.structs)) (fields set spot) spot.version (spot_numbers set spot n) n i cell
-      (field_at set spot.part i)
-
-  fields_way : (n : List ℤ) → SameBelow cell (N b) n → goes (steps_of (firsts set spot i n)) a b
-  fields_way n s =
-      rw (fields_local (table set) (set_settled set past.good) (desc_at set spot.part) (part_sound set past.good spot.part past.has) spot.version spot.base i
-      (N b) n past.le (rw past.here at s))
-      past.way
-
-  below : (n : List ℤ) (xs : Keeps (steps_of (slots_at set spot n i cell)) (N b) n) → SameBelow cell (N b) n
-  below n k = keeps_below cell (slots_at set spot n i cell) (N b) n (field_up n) k
-
-  pub fields_next : i < length (fields set spot) → (c : S) → goes (steps_of (slots_at set spot (N c) i cell)) b c
-      → goes (steps_of (firsts set spot (i + 1) (N c))) a c
-  fields_next lt c h =
-      let own = spot_numbers set spot (N c) in
-      go_on laws (firsts set spot i (N c)) (slots_at set spot (N c) i cell) (firsts set spot (i + 1) (N c)) a b c
-      (rw past.here (fields_more (table set) (fields set spot) spot.version own (N c) (fields set spot) 0 spot.base i i (omega arith) lt))
-      (fields_way (N c) (below (N c) (laws.keeps _ b c h))) h
-
+module _ {S F : Type 0} {N : S → List ℤ} {does : Does S F} {set : Set} {spot : PartAt} {i cell : ℕ} {a b : S} (past : Past N does set spot i cell a b) where
   -- the field among all slots of the part
   whole_split : i < length (fields set spot) → (n : List ℤ) → (rest : List Slot)
       × (spot_slots set spot n ≡ firsts set spot i n ++ (slots_at set spot n i cell ++ rest))
@@ -150,40 +94,43 @@ module _ {S F : Type 0} {N : S → List ℤ} {goes : List WalkStep → S → S �
         rw (parts.1 ∙ ap (λ x. firsts set spot i n ++ (at x ++ parts.0)) (sym past.here)) (rw (append_assoc (firsts set spot i n), append_assoc (at cell))),
       )
 
-  pub fields_stop : i < length (fields set spot) → (c : S) (f : F) → stops (steps_of (slots_at set spot (N c) i cell)) b f c
-      → stops (steps_of (spot_slots set spot (N c))) a f c
-  fields_stop lt c f h =
-      let parts = whole_split lt (N c) in
-      stop_at laws (firsts set spot i (N c)) (slots_at set spot (N c) i cell) parts.0 (spot_slots set spot (N c)) a b c f parts.1
-      (fields_way (N c) (below (N c) (laws.stopped _ b c f h))) h
-
-  pub fields_may : (may : S → WalkStep → Type 0) → i < length (fields set spot) → MayCome goes N may (spot_slots set spot) a
-      → MayCome goes N may (λ n. slots_at set spot n i cell) b
-  fields_may may lt all ys ws zs x d h e =
-      let s = keeps_first cell (slots_at set spot (N d) i cell) ys (ws ++ (x ∷ zs)) (N b) (N d) e (field_up (N d)) (laws.keeps ys b d h) in
-      let parts = whole_split lt (N d) in
-      let front = firsts set spot i (N d) in
-      all (steps_of front ++ ys) ws (zs ++ steps_of parts.0) x d (laws.more _ ys a b d (fields_way (N d) s) h)
-      (part_left front (slots_at set spot (N d) i cell) parts.0 (spot_slots set spot (N d)) ys ws zs x parts.1 e)
+  pub field_among : i < length (fields set spot)
+      → Among N does (λ n. steps_of (spot_slots set spot n)) (λ n. steps_of (firsts set spot (i + 1) n)) (λ n. steps_of (firsts set spot i n))
+      (λ n. steps_of (slots_at set spot n i cell)) a b
+  field_among lt = record {
+    way = λ n ys zs e k.
+        let own = spot_numbers set spot n in
+        let f = field_at set spot.part i in
+        let up = field_above (table set) (meanings_above set.structs (length set.structs)) (fields set spot) spot.version own n i cell f in
+        let s = keeps_first cell (slots_at set spot n i cell) ys zs (N b) n e up k in
+        rw (fields_local (table set) (set_settled set past.good) (desc_at set spot.part) (part_sound set past.good spot.part past.has) spot.version spot.base
+        i (N b) n past.le (rw past.here at s))
+        past.way;
+    more = λ n.
+        let own = spot_numbers set spot n in rw past.here
+        (ap steps_of (fields_more (table set) (fields set spot) spot.version own n (fields set spot) 0 spot.base i i (omega arith) lt)
+        ∙ steps_append (firsts set spot i n) (slots_at set spot n i (cell_of set spot i)));
+    split = λ n.
+        let parts = whole_split lt n in
+        (steps_of parts.0, steps_parts (firsts set spot i n) (slots_at set spot n i cell) parts.0 (spot_slots set spot n) parts.1);
+  }
 
   module _ (end : i ≡ length (fields set spot)) where
     -- the end of the part, when all its fields are done
     whole_past : (n : List ℤ) → spot_slots set spot n ≡ firsts set spot i n ++ (Rule (sound set spot n) ∷ [])
     whole_past n = rw (end, take_all (length (fields set spot)) (fields set spot) (omega arith))
 
-    pub rule_next : (c : S) → N c ≡ N b → goes (steps.Rule (sound set spot (N b)) ∷ []) b c → goes (steps_of (spot_slots set spot (N c))) a c
-    rule_next c same h = rw same (go_on laws _ (Rule (sound set spot (N b)) ∷ []) (spot_slots set spot (N b)) a b c (whole_past (N b)) past.way h)
+    end_steps : steps_of (spot_slots set spot (N b)) ≡ steps_of (firsts set spot i (N b)) ++ (steps.Rule (sound set spot (N b)) ∷ [])
+    end_steps = ap steps_of (whole_past (N b)) ∙ steps_append (firsts set spot i (N b)) (Rule (sound set spot (N b)) ∷ [])
 
-    pub rule_stop : (c : S) (f : F) → N c ≡ N b → stops (steps.Rule (sound set spot (N b)) ∷ []) b f c → stops (steps_of (spot_slots set spot (N c))) a f c
-    rule_stop c f same h =
-        let rule = Rule (sound set spot (N b)) ∷ [] in
-        let front = firsts set spot i (N b) in
-        rw same (stop_at laws front rule [] (spot_slots set spot (N b)) a b c f (whole_past (N b) ∙ ap (λ l. front ++ l) (sym (append-nil rule))) past.way h)
+    pub rule_done : IsWalk N does → (c : S) (r : Result (Unit {0}) F) → N c ≡ N b → does (steps.Rule (sound set spot (N b)) ∷ []) b r c
+        → does (steps_of (spot_slots set spot (N c))) a r c
+    rule_done laws c r same h =
+        let way = laws.more (steps_of (firsts set spot i (N b))) (steps.Rule (sound set spot (N b)) ∷ []) a b c r past.way h in
+        rw same (subst (λ l. does l a r c) (sym end_steps) way)
 
-    pub rule_may : (may : S → WalkStep → Type 0) → MayCome goes N may (spot_slots set spot) a → may b (steps.Rule (sound set spot (N b)))
-    rule_may may all =
-        let front = firsts set spot i (N b) in
-        all (steps_of front) [] [] _ b past.way (ap steps_of (whole_past (N b)) ∙ steps_append front (Rule (sound set spot (N b)) ∷ []))
+    pub rule_may : (may : S → WalkStep → Type 0) → MayCome does N may (spot_slots set spot) a → may b (steps.Rule (sound set spot (N b)))
+    rule_may may all = all (steps_of (firsts set spot i (N b))) [] [] _ b past.way end_steps
 
 -- a rule changes no number
 pub same_rule : (b : Bool) (n m : List ℤ) → Keeps (steps.Rule b ∷ []) n m → m ≡ n

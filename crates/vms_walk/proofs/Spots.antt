@@ -6,11 +6,11 @@ use Rattle.vms_walk.proofs.Facade.{counted, times, FieldsBelow, all_below, struc
 use Rattle.vms_walk.proofs.Facade.{field_at, own_numbers, is_well_formed, desc_at, reach, field_clean, struct_clean, PartAt, table, cells_in, HasSpot}
 use Rattle.vms_walk.proofs.Facade.{spot_numbers, spot_slots, slots_at, present_of, size_in, elements_slots, steps_of, item_rank, part_rank, reach_whole}
 use Rattle.vms_walk.proofs.Facade.{uses_more, rank_below, place_of, place_after, place_within, field_start, cell_of, all_hold, holds_at, zero, suc, ◌-◌, []}
-use Rattle.vms_walk.proofs.Facade.{◌∷◌, None, append_assoc, append-nil, Kind, Num, WalkStep, Number, run_of, MayRun, capacities_of, length-append}
+use Rattle.vms_walk.proofs.Facade.{◌∷◌, None, append_assoc, append-nil, Kind, Num, WalkStep, Number, run_of, capacities_of, length-append}
 use Rattle.vms_walk.proofs.Facade.{if_there, false, ne_eqb, get_or-map, Desc, has_cell, Slot, Meaning, no_meaning, field_slots, cells_from, field_cells}
 use Rattle.vms_walk.proofs.Facade.{numbers_of, first, meanings, field_size, elements_fit, one_more, meaning, Rule, min, Some, pos, negsuc, nat_lt, ◌||◌}
-use Rattle.vms_walk.proofs.Facade.{ltb-true, ltb-false, lt-ltb, or-false, or_assoc, exceeds, is_above, same_tests, lesser, least_from}
-use Rattle.vms_walk.proofs.Walking.{slots_next, fields_at, present_slots, present_fits, steps_bare, times_split, left_within}
+use Rattle.vms_walk.proofs.Facade.{ltb-true, ltb-false, lt-ltb, or-false, or_assoc, exceeds, is_above, same_tests, lesser, least_from, Ok, Does}
+use Rattle.vms_walk.proofs.Walking.{slots_next, fields_at, present_slots, present_fits, steps_bare, times_split, Among}
 use Rattle.vms_spec.specs.declared.Part.TheVariants as parts
 use Rattle.vms_spec.specs.Layout as slots
 
@@ -199,36 +199,23 @@ run_parts first n m count kind le =
 
 -- ---- some of them after those before them
 
-module _ {S : Type 0} (goes : List WalkStep → S → S → Type 0) (more : (xs ys : List WalkStep) (a b c : S) → goes xs a b → goes ys b c → goes (xs ++ ys) a c)
-    (first cell : ℕ) (kind : Kind) (a b : S) (from : first ≤ cell) (way : goes (run_of first (cell - first) kind) a b) (some : ℕ) where
-  here : first + (cell - first) ≡ cell
-  here = omega arith
-
-  pub run_next : (c : S) → goes (run_of cell some kind) b c → goes (run_of first ((cell + some) - first) kind) a c
-  run_next c h =
-      let n = cell - first in
-      let sum : (cell + some) - first ≡ n + some = omega arith in
-      rw (ap (λ (k : ℕ). run_of first k kind) sum ∙ run_both first n some kind ∙ ap (λ (k : ℕ). run_of first n kind ++ run_of k some kind) here)
-      (more (run_of first n kind) (run_of cell some kind) a b c way h)
-
-  module _ (count : ℕ) (le : cell + some ≤ first + count) where
-    abbrev behind : List WalkStep
-    behind = run_of (first + ((cell - first) + some)) (count - ((cell - first) + some)) kind
-
-    pieces : run_of first count kind ≡ run_of first (cell - first) kind ++ (run_of cell some kind ++ behind)
-    pieces = run_parts first (cell - first) some count kind (omega arith) ∙ ap (λ k. run_of first (cell - first) kind ++ (run_of k some kind ++ behind)) here
-
-    pub run_stop : {F : Type 0} (stops : List WalkStep → S → F → S → Type 0)
-        → ((xs ys : List WalkStep) (a b c : S) (f : F) → goes xs a b → stops ys b f c → stops (xs ++ ys) a f c)
-        → ((xs ys : List WalkStep) (a b : S) (f : F) → stops xs a f b → stops (xs ++ ys) a f b)
-        → (c : S) (f : F) → stops (run_of cell some kind) b f c → stops (run_of first count kind) a f c
-    run_stop stops after before c f h =
-        rw pieces (after (run_of first (cell - first) kind) (run_of cell some kind ++ behind) a b c f way (before (run_of cell some kind) behind b c f h))
-
-    pub run_may : (may : S → WalkStep → Type 0) → MayRun goes may (run_of first count kind) a → MayRun goes may (run_of cell some kind) b
-    run_may may all = λ ys ws zs x d h e.
-        all (run_of first (cell - first) kind ++ ys) ws (zs ++ behind) x d (more (run_of first (cell - first) kind) ys a b d way h)
-        (left_within (run_of first (cell - first) kind) (run_of cell some kind) behind (run_of first count kind) ys ws zs x pieces e)
+module _ {S F : Type 0} {N : S → List ℤ} {does : Does S F} (first cell count : ℕ) (kind : Kind) (a b : S) (from : first ≤ cell)
+    (way : does (run_of first (cell - first) kind) a (Ok tt) b) (some : ℕ) (le : cell + some ≤ first + count) where
+  pub run_among : Among N does (λ n. run_of first count kind) (λ n. run_of first ((cell + some) - first) kind) (λ n. run_of first (cell - first) kind)
+      (λ n. run_of cell some kind) a b
+  run_among = record {
+    way = λ n ys zs e k. way;
+    more = λ n.
+        let front = cell - first in
+        let there : first + front ≡ cell = omega arith in
+        let sum : (cell + some) - first ≡ front + some = omega arith in
+        ap (λ (k : ℕ). run_of first k kind) sum ∙ run_both first front some kind ∙ ap (λ (k : ℕ). run_of first front kind ++ run_of k some kind) there;
+    split = λ n.
+        let front = cell - first in
+        let there : first + front ≡ cell = omega arith in
+        let behind = run_of (first + (front + some)) (count - (front + some)) kind in
+        (behind, run_parts first front some count kind (omega arith) ∙ ap (λ k. run_of first front kind ++ (run_of k some kind ++ behind)) there);
+  }
 
 -- ---- the slots of a description have their cells in ascending order, between its first cell and its end
 

@@ -4,12 +4,12 @@ use Rattle.vms_walk.proofs.Facade.{◌≡◌, ℕ, zero, suc, ◌+◌, ◌*◌, 
 use Rattle.vms_walk.proofs.Facade.{◌∙◌, arith, append_assoc, append-nil, ◌≤◌, drop, refl, Bool, true, false, if◌then◌else◌, Option, Some}
 use Rattle.vms_walk.proofs.Facade.{None, drop_more, Field, Slot, Meaning, times, field_slots, slots_from, field_cells, place_of, no_field, item_slots}
 use Rattle.vms_walk.proofs.Facade.{item_size, elements_of, capacity_of, counted, no_parent, cells_in, steps_of, present_of, capacities_of, Item, Num, is_there}
-use Rattle.vms_walk.proofs.Facade.{field_size, elements_fit, room_for_less, least_of, WalkStep, IsErrAnd, Result, Ok, Err, IfErr, subst, length-set, slice_set}
+use Rattle.vms_walk.proofs.Facade.{field_size, elements_fit, room_for_less, least_of, WalkStep, IsErrAnd, Result, Ok, Err, Does, IsWalk, subst, length-set, slice_set}
 use Rattle.vms_walk.proofs.Facade.{pos, ◌==◌, ◌||◌, get_or-set_other, eq-eqb, or_parts, Kind, Number, has_step, Keeps, table, slice_get-get_or, Part}
 use Rattle.vms_walk.proofs.Facade.{Desc, Set, has_cell, numbers_of, IsSound, IsSoundField, AreSoundFields, IsEarlier, IsGood, SameBelow, same_less, place_next}
 use Rattle.vms_walk.proofs.Facade.{own_same, there_same, elements_same, IsAbove, SameIn, MeanSettled, item_settled, field_settled, meanings_settled, device_at}
 use Rattle.vms_walk.proofs.Facade.{HasPart, desc_at, sub_at}
-use Rattle.vms_walk.specs.{Calls.Takes, Inside.is_for}
+use Rattle.vms_walk.specs.Inside.{is_for}
 use Rattle.std.proofs.lemmas.List.Folds.{list_any-append}
 use Rattle.vms_walk.specs.declared.step.WalkStep.TheVariants as steps
 use Rattle.vms_spec.specs.Layout as slots
@@ -91,12 +91,10 @@ left_within before here rest whole ys ws zs x e f =
     let behind = append_assoc ys (ws ++ (x ∷ zs)) rest ∙ ap (λ l. ys ++ l) (append_assoc ws (x ∷ zs) rest) in
     e ∙ ap (λ l. before ++ l) (rw f (behind)) ∙ sym (append_assoc before ys (ws ++ (x ∷ (zs ++ rest))))
 
--- a step of a part that is left is one of the whole
-pub part_left : (before here rest whole : List Slot) (ys ws zs : List WalkStep) (x : WalkStep) → whole ≡ before ++ (here ++ rest)
-    → steps_of here ≡ ys ++ (ws ++ (x ∷ zs)) → steps_of whole ≡ (steps_of before ++ ys) ++ (ws ++ (x ∷ (zs ++ steps_of rest)))
-part_left before here rest whole ys ws zs x e f =
-    left_within (steps_of before) (steps_of here) (steps_of rest) (steps_of whole) ys ws zs x
-    (ap steps_of e ∙ steps_append before (here ++ rest) ∙ ap (λ l. steps_of before ++ l) (steps_append here rest)) f
+-- a part among others
+pub steps_parts : (before here rest whole : List Slot) → whole ≡ before ++ (here ++ rest) → steps_of whole ≡ steps_of before ++ (steps_of here ++ steps_of rest)
+steps_parts before here rest whole e =
+    ap steps_of e ∙ steps_append before (here ++ rest) ∙ ap (λ l. steps_of before ++ l) (steps_append here rest)
 
 -- ---- the least of the capacities that a number counts is enough
 
@@ -147,18 +145,6 @@ pub room_at : (turn count size first cell most : ℕ) → turn < count → cell 
 room_at turn count size first cell most lt e h =
     let one : (turn + 1) * size ≡ turn * size + size = grind arith in
     omega (arith, room_for_less (turn + 1) count size first most (omega arith) h)
-
--- ---- what steps keep of the numbers, one after the other
-
-pub err_is : {T E : Type 0} (Q : E → Type 0) (r : Result T E) (e : E) → IsErrAnd r (λ x. x ≡ e) → Q e → IfErr r Q
-err_is Q (Ok x) e h q = tt
-err_is Q (Err x) e h q = subst Q (sym h) q
-
--- it stopped within these steps
-pub err_takes : {S F : Type 0} (goes : List WalkStep → S → S → Type 0) (stops : List WalkStep → S → F → S → Type 0) (steps : List WalkStep)
-    (r : Result (Unit {0}) F) (e : F) (a b : S) → IsErrAnd r (λ x. x ≡ e) → stops steps a e b → Takes goes stops steps r a b
-err_takes goes stops steps (Ok x) e a b h q = absurd h
-err_takes goes stops steps (Err x) e a b h q = record { ok = tt; err = subst (λ f. stops steps a f b) (sym h) q }
 
 -- ---- What steps keep of the numbers, one after the other.
 
@@ -213,6 +199,47 @@ keeps_first cell xs ys zs n m e above k = record {
   same = λ c lt. k.same c
       (or_parts (has_step ys c) (has_step zs c) (sym (has_append ys zs c) ∙ ap (λ l. has_step l c) (sym e) ∙ has_step_of xs c ∙ above.below c lt)).0;
 }
+
+-- ---- What is done at steps, piece by piece.
+
+-- the error that `?` returns
+as_err : {T E : Type 0} (P : Result T E → Type 0) (r : Result T E) (e : E) → IsErrAnd r (λ x. x ≡ e) → P (Err e) → P r
+as_err P (Ok x) e h p = absurd h
+as_err P (Err x) e h p = subst (λ y. P (Err y)) (sym h) p
+
+-- Wherever the walker is among these steps, each remaining one may come.
+abbrev pub MayStep : {S F : Type 0} → Does S F → (S → List ℤ) → (S → WalkStep → Type 0) → (List ℤ → List WalkStep) → S → Type 0
+MayStep {S} {F} does N lets all a = (xs ys rest : List WalkStep) (x : WalkStep) (b : S) → does xs a (Ok tt) b → all (N b) ≡ xs ++ (ys ++ (x ∷ rest)) → lets b x
+
+-- the steps in front are done, from `a` to `b`, and the next ones are `here`; up to their end they are `upto`, and all of them are `whole`;
+-- each by the numbers at its end
+pub record Among {S F : Type 0} (N : S → List ℤ) (does : Does S F) (whole upto front here : List ℤ → List WalkStep) (a b : S) : Type 0 where
+  pub way : (n : List ℤ) (ys zs : List WalkStep) → here n ≡ ys ++ zs → Keeps ys (N b) n → does (front n) a (Ok tt) b
+  pub more : (n : List ℤ) → upto n ≡ front n ++ here n
+  pub split : (n : List ℤ) → (rest : List WalkStep) × (whole n ≡ front n ++ (here n ++ rest))
+
+module _ {S F : Type 0} {N : S → List ℤ} {does : Does S F} (laws : IsWalk N does) {whole upto front here : List ℤ → List WalkStep} {a b : S}
+    (at : Among N does whole upto front here a b) where
+  reached : (c : S) (r : Result (Unit {0}) F) → does (here (N c)) b r c → does (front (N c)) a (Ok tt) b
+  reached c r h = at.way (N c) (here (N c)) [] (sym (append-nil (here (N c)))) (laws.keeps (here (N c)) b c r h)
+
+  pub went_on : (c : S) (r : Result (Unit {0}) F) → does (here (N c)) b r c → does (upto (N c)) a r c
+  went_on c r h = rw (at.more (N c)) (laws.more (front (N c)) (here (N c)) a b c r (reached c r h) h)
+
+  pub stopped_at : (c : S) (f : F) (r : Result (Unit {0}) F) → IsErrAnd r (λ x. x ≡ f) → does (here (N c)) b (Err f) c → does (whole (N c)) a r c
+  stopped_at c f r e h =
+      let parts = at.split (N c) in
+      as_err (λ q. does (whole (N c)) a q c) r f e
+      (rw parts.1 (laws.more (front (N c)) (here (N c) ++ parts.0) a b c (Err f) (reached c (Err f) h) (laws.before (here (N c)) parts.0 b c f h)))
+
+  pub may_come : (lets : S → WalkStep → Type 0) → MayStep does N lets whole a → MayStep does N lets here b
+  may_come lets all ys ws zs x d h e =
+      let parts = at.split (N d) in
+      let way = at.way (N d) ys (ws ++ (x ∷ zs)) e (laws.keeps ys b d (Ok tt) h) in
+      all (front (N d) ++ ys) ws (zs ++ parts.0) x d (laws.more (front (N d)) ys a b d (Ok tt) way h)
+      (left_within (front (N d)) (here (N d)) parts.0 (whole (N d)) ys ws zs x parts.1 e)
+
+-- ---- the slots up to a place, by the numbers below it
 
 pub in_below : (cell : ℕ) (n m : List ℤ) → SameBelow cell n m → SameIn 0 cell n m
 in_below cell n m s = record { same = λ c up lt. s.same c lt }

@@ -1,5 +1,5 @@
 -- What the calls of a walk need, and what they do, by the set that they borrow.
-use Rattle.std.specs.Prelude.{◌≡◌, ℕ, ◌+◌, ◌*◌, ◌<◌, ◌≤◌, true, Bool, List, length, ℤ, Option, None, Result, OnOk, IfErr}
+use Rattle.std.specs.Prelude.{◌≡◌, ℕ, ◌+◌, ◌*◌, ◌<◌, ◌≤◌, true, Bool, List, length, ℤ, Option, None, Result}
 use Rattle.vms_kinds.specs.declared.Item.{Item}
 use Rattle.vms_kinds.specs.declared.Item.TheVariants.{Num}
 use Rattle.vms_kinds.specs.declared.Kind.{Kind}
@@ -13,6 +13,7 @@ use Rattle.vms_desc.specs.Asks.{field_at}
 use Rattle.vms_desc.specs.Described.{described}
 use Rattle.vms_desc.specs.Parts.{desc_at}
 use Rattle.vms_desc.specs.declared.set.DescSet.{DescSet}
+use Rattle.vms_walk.specs.Laws.{Does}
 use Rattle.vms_walk.specs.Runs.{MayRun, run_of}
 use Rattle.vms_walk.specs.Steps.{HasSpot, MayCome, cell_of, elements_by, field_by, holds_at, item_by, present_of, size_in, spot_numbers, spot_slots, steps_of}
 use Rattle.vms_walk.specs.declared.fields.Elements.{Elements}
@@ -65,18 +66,18 @@ pub record AreFree (row : Elements) (kind : Kind) : Type 0 where
 
 -- ---- what a walker may be called for
 
-module _ {S : Type 0} (goes : List WalkStep → S → S → Type 0) (numbers_of : S → List ℤ) (lets : S → WalkStep → Type 0) where
+module _ {S F : Type 0} (does : Does S F) (numbers_of : S → List ℤ) (lets : S → WalkStep → Type 0) where
   -- one element, whose cells begin at `cell`
   pub record CanWalkItem (set : DescSet) (item : Item) (most : Option ℕ) (cell : ℕ) (walker : S) : Type 0 where
     pub reaches : uses_below (length (described set).structs) item ≡ true
-    pub may : MayCome goes numbers_of lets (item_in set item most cell) walker
+    pub may : MayCome does numbers_of lets (item_in set item most cell) walker
     pub room : cell + size_in (described set) item ≤ length (numbers_of walker)
     pub few : length (numbers_of walker) ≤ MOST_ITEMS
 
   -- the elements of a row
   pub record CanWalkRow (set : DescSet) (row : Elements) (walker : S) : Type 0 where
     pub reaches : uses_below (length (described set).structs) row.item.now ≡ true
-    pub may : MayCome goes numbers_of lets (row_in set row) walker
+    pub may : MayCome does numbers_of lets (row_in set row) walker
     pub small : size_in (described set) row.item.now ≤ MOST_ITEMS
     pub room : row.first + row.count * size_in (described set) row.item.now ≤ length (numbers_of walker)
     pub few : length (numbers_of walker) ≤ MOST_ITEMS
@@ -86,7 +87,7 @@ module _ {S : Type 0} (goes : List WalkStep → S → S → Type 0) (numbers_of 
     pub number : kind ≡ kinds.Bool → ⊥
     pub room : first + count ≤ length (numbers_of walker)
     pub few : length (numbers_of walker) ≤ MOST_ITEMS
-    pub may : MayRun goes lets (run_of first count kind) walker
+    pub may : MayRun does lets (run_of first count kind) walker
 
   -- field k of a spot, whose cells begin at `cell`
   pub record CanWalkField (set : DescSet) (h : Here) (k cell : ℕ) (walker : S) : Type 0 where
@@ -94,19 +95,12 @@ module _ {S : Type 0} (goes : List WalkStep → S → S → Type 0) (numbers_of 
     pub fields : AreFieldsOf set h.spot.part h.fields
     pub field : k < length (desc_at (described set) h.spot.part).fields
     pub here : cell ≡ cell_of (described set) h.spot k
-    pub may : MayCome goes numbers_of lets (field_in set h.spot k cell) walker
+    pub may : MayCome does numbers_of lets (field_in set h.spot k cell) walker
     pub room : cell + capacity_of (field_at (described set) h.spot.part k).count * size_in (described set) (field_at (described set) h.spot.part k).item
         ≤ length (numbers_of walker)
 
 -- ---- what a walker did
 
--- it took these steps, or stopped within them
-pub record Takes {S F : Type 0} (goes : List WalkStep → S → S → Type 0) (stops : List WalkStep → S → F → S → Type 0) (steps : List WalkStep)
-    (result : Result (Unit {0}) F) (old new : S) : Type 0 where
-  pub ok : OnOk result (goes steps old new)
-  pub err : IfErr result (λ fault. stops steps old fault new)
-
--- the same of the steps of slots, by the numbers that it has at the end
-abbrev pub Walks : {S F : Type 0} → (List WalkStep → S → S → Type 0) → (List WalkStep → S → F → S → Type 0) → (S → List ℤ) → (List ℤ → List Slot)
-    → Result (Unit {0}) F → S → S → Type 0
-Walks {S} {F} goes stops numbers_of slots_by result old new = Takes goes stops (steps_of (slots_by (numbers_of new))) result old new
+-- it took the steps of these slots, by the numbers that it has at the end, or stopped within them
+abbrev pub Walks : {S F : Type 0} → Does S F → (S → List ℤ) → (List ℤ → List Slot) → Result (Unit {0}) F → S → S → Type 0
+Walks {S} {F} does numbers_of slots_by result old new = does (steps_of (slots_by (numbers_of new))) old result new

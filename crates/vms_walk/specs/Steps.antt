@@ -1,5 +1,5 @@
 -- The steps of a part, and what the walk requires.
-use Rattle.std.specs.Prelude.{◌≡◌, ℕ, ◌≤◌, Bool, List, [], ◌∷◌, ◌++◌, length, map, ℤ, Option, Some, None, if◌then◌else◌}
+use Rattle.std.specs.Prelude.{◌≡◌, ℕ, ◌≤◌, Bool, List, [], ◌∷◌, ◌++◌, length, map, ℤ, Option, Some, None, Ok, if◌then◌else◌}
 use Rattle.vms_kinds.specs.declared.Item.{Item}
 use Rattle.vms_parts.specs.Capacities.{least_of}
 use Rattle.vms_spec.specs.declared.TheConstants.{MOST_ITEMS}
@@ -9,6 +9,7 @@ use Rattle.vms_spec.specs.Layout.{Cell, Meaning, meanings, Slot, numbers_of, no_
 use Rattle.vms_spec.specs.Layout as slots
 use Rattle.vms_desc.specs.Asks.{field_at, own_numbers, HasCells}
 use Rattle.vms_desc.specs.Parts.{HasPart, desc_at}
+use Rattle.vms_walk.specs.Laws.{Does}
 use Rattle.vms_walk.specs.declared.step.WalkStep.{WalkStep}
 use Rattle.vms_walk.specs.declared.step.WalkStep.TheVariants as steps
 use Rattle.vms_walk.specs.declared.fields.PartAt.{PartAt}
@@ -89,5 +90,6 @@ abbrev pub cell_of : Set → PartAt → ℕ → ℕ
 cell_of set spot k = place_of (cells_in (table set)) (desc_at set spot.part).fields 0 spot.base (desc_at set spot.part).fields k
 
 -- Wherever the walker is among the steps of these slots, each remaining one may come.
-abbrev pub MayCome : {S : Type 0} → (List WalkStep → S → S → Type 0) → (S → List ℤ) → (S → WalkStep → Type 0) → (List ℤ → List Slot) → S → Type 0
-MayCome {S} goes numbers may slots_by a = (xs ys rest : List WalkStep) (x : WalkStep) (b : S) → goes xs a b → steps_of (slots_by (numbers b)) ≡ xs ++ (ys ++ (x ∷ rest)) → may b x
+abbrev pub MayCome : {S F : Type 0} → Does S F → (S → List ℤ) → (S → WalkStep → Type 0) → (List ℤ → List Slot) → S → Type 0
+MayCome {S} {F} does numbers may slots_by a =
+    (xs ys rest : List WalkStep) (x : WalkStep) (b : S) → does xs a (Ok tt) b → steps_of (slots_by (numbers b)) ≡ xs ++ (ys ++ (x ∷ rest)) → may b x

@@ -2,7 +2,7 @@
 ghost use Rattle.std.specs.Prelude.{◌≡◌, None, IfSome};
 ghost use Rattle.vms_kinds.specs.declared.Item.TheVariants as items;
 ghost use Rattle.vms_parts.specs.Views.{field_of};
-ghost use Rattle.vms_walk.specs.Calls.{AreFree, CanWalkField, CanWalkItem, CanWalkRow, CanWalkRun, HasField, IsSpotOf, Takes, Walks};
+ghost use Rattle.vms_walk.specs.Calls.{AreFree, CanWalkField, CanWalkItem, CanWalkRow, CanWalkRun, HasField, IsSpotOf, Walks};
 ghost use Rattle.vms_walk.specs.Calls.{field_in, item_in, present_in, row_in, spot_in};
 ghost use Rattle.vms_walk.specs.Runs.{run_of};
 ghost use Rattle.vms_walk.specs.Steps.{MayCome};
@@ -67,9 +67,9 @@ fn walk_item<W: Walker>(
     cell: u32,
     walker: &mut W,
 ) -> Result<(), W::Fault>
-    requires { CanWalkItem W.goes W.numbers W.may set.now item.now most cell walker.old }
+    requires { CanWalkItem W.does W.numbers W.may set.now item.now most cell walker.old }
     ensures { let slots = item_in set.now item.now most cell in
-        Walks W.goes W.stops W.numbers slots result walker.old walker.new }
+        Walks W.does W.numbers slots result walker.old walker.new }
 {
     match item {
         Item::Num(kind) => walker.step(WalkStep::Number {
@@ -97,9 +97,9 @@ fn walk_element<W: Walker>(
     walker: &mut W,
 ) -> Result<(), W::Fault>
     requires { let item = items.Struct number in
-        CanWalkItem W.goes W.numbers W.may set.now item None cell walker.old }
+        CanWalkItem W.does W.numbers W.may set.now item None cell walker.old }
     ensures { let slots = item_in set.now (items.Struct number) None cell in
-        Walks W.goes W.stops W.numbers slots result walker.old walker.new }
+        Walks W.does W.numbers slots result walker.old walker.new }
 {
     walk_struct(set, number, cell, walker)
 }
@@ -114,9 +114,9 @@ fn walk_struct<W: Walker>(
     walker: &mut W,
 ) -> Result<(), W::Fault>
     requires { let item = items.Struct number in
-        CanWalkItem W.goes W.numbers W.may set.now item None cell walker.old }
+        CanWalkItem W.does W.numbers W.may set.now item None cell walker.old }
     ensures { let slots = item_in set.now (items.Struct number) None cell in
-        Walks W.goes W.stops W.numbers slots result walker.old walker.new }
+        Walks W.does W.numbers slots result walker.old walker.new }
 {
     let part = Part::Struct(number);
     let spot = PartAt {
@@ -131,9 +131,9 @@ fn walk_struct<W: Walker>(
 #[cycle(walk)]
 #[inline(always)]
 fn walk_row<W: Walker>(set: &DescSet, row: Elements<'_>, walker: &mut W) -> Result<(), W::Fault>
-    requires { CanWalkRow W.goes W.numbers W.may set.now row walker.old }
+    requires { CanWalkRow W.does W.numbers W.may set.now row walker.old }
     ensures { let slots = row_in set.now row.entry in
-        Walks W.goes W.stops W.numbers slots result walker.old walker.new }
+        Walks W.does W.numbers slots result walker.old walker.new }
 {
     if row.count != 1 {
         return walk_items(set, row, walker);
@@ -145,9 +145,9 @@ fn walk_row<W: Walker>(set: &DescSet, row: Elements<'_>, walker: &mut W) -> Resu
 #[cycle(walk)]
 #[inline(always)]
 fn walk_items<W: Walker>(set: &DescSet, row: Elements<'_>, walker: &mut W) -> Result<(), W::Fault>
-    requires { CanWalkRow W.goes W.numbers W.may set.now row walker.old }
+    requires { CanWalkRow W.does W.numbers W.may set.now row walker.old }
     ensures { let slots = row_in set.now row.entry in
-        Walks W.goes W.stops W.numbers slots result walker.old walker.new }
+        Walks W.does W.numbers slots result walker.old walker.new }
 {
     if let Some(kind) = run_kind(row) {
         return walk_run(row.first, row.count, kind, walker);
@@ -179,8 +179,8 @@ fn run_kind(row: Elements<'_>) -> Option<Kind>
 // Walks `count` numbers of one kind that count nothing, in consecutive cells from `first` on.
 #[inline(always)]
 fn walk_run<W: Walker>(first: u32, count: u32, kind: Kind, walker: &mut W) -> Result<(), W::Fault>
-    requires { CanWalkRun W.goes W.numbers W.may first count kind walker.old }
-    ensures { Takes W.goes W.stops (run_of first count kind) result walker.old walker.new }
+    requires { CanWalkRun W.does W.numbers W.may first count kind walker.old }
+    ensures { W.does (run_of first count kind) walker.old result walker.new }
 {
     let end = first + count;
     let mut cell = first;
@@ -202,9 +202,9 @@ fn walk_field<W: Walker>(
     cell: u32,
     walker: &mut W,
 ) -> Result<(), W::Fault>
-    requires { CanWalkField W.goes W.numbers W.may set.now here field cell walker.old }
+    requires { CanWalkField W.does W.numbers W.may set.now here field cell walker.old }
     ensures { let slots = field_in set.now here.entry.spot field cell in
-        Walks W.goes W.stops W.numbers slots result walker.old walker.new }
+        Walks W.does W.numbers slots result walker.old walker.new }
 {
     let described = &here.fields.as_slice()[field as usize];
     let count = present(set, here.spot, described, walker);
@@ -235,9 +235,9 @@ fn walk_field<W: Walker>(
 #[inline(always)]
 pub fn walk<W: Walker>(set: &DescSet, spot: PartAt, walker: &mut W) -> Result<(), W::Fault>
     requires spot { IsSpotOf set.now spot (W.numbers walker.old) }
-    requires may { MayCome W.goes W.numbers W.may (spot_in set.now spot) walker.old }
+    requires may { MayCome W.does W.numbers W.may (spot_in set.now spot) walker.old }
     ensures { let slots = spot_in set.now spot in
-        Walks W.goes W.stops W.numbers slots result walker.old walker.new }
+        Walks W.does W.numbers slots result walker.old walker.new }
 {
     let fields = set.fields_of(spot.part);
     let here = Here { spot, fields };

@@ -1,5 +1,5 @@
 // The steps of a walk, and what is done at each.
-ghost use Rattle.std.specs.Prelude.{◌≡◌, OnOk, IfErr};
+ghost use Rattle.std.specs.Prelude.{◌≡◌};
 ghost use Rattle.vms_spec.specs.Numbers.{exceeds};
 ghost use Rattle.vms_walk.specs.Steps.{capacities_of};
 
@@ -51,23 +51,22 @@ pub const LONGEST_RUN: u32 = 128;
 ///
 /// A walker may change numbers, but only those of the cells at which it is called.
 pub trait Walker: Cells {
-    ghost use Rattle.std.specs.Prelude.{List, [], ◌∷◌, ◌++◌, ◌+◌, ◌<◌, ◌≤◌, ◌≡◌, length};
+    ghost use Rattle.std.specs.Prelude.{List, [], ◌∷◌, ◌+◌, ◌<◌, ◌≤◌, ◌≡◌, length, Result};
     ghost use Rattle.vms_spec.specs.declared.TheConstants.{MOST_ITEMS};
     ghost use Rattle.vms_walk.specs.Runs.{run_of, MayRun};
     ghost use Rattle.vms_walk.specs.declared.step.TheConstants.{LONGEST_RUN};
     ghost use Rattle.vms_walk.specs.declared.step.WalkStep.{WalkStep as OneStep};
     ghost use Rattle.vms_walk.specs.declared.step.WalkStep.TheVariants.{Rule};
-    ghost use Rattle.vms_walk.specs.Inside.{IsInside, Keeps};
+    ghost use Rattle.vms_walk.specs.Inside.{IsInside};
+    ghost use Rattle.vms_walk.specs.Laws.{IsWalk};
     ghost use Rattle.vms_walk.specs.Calls.{IsSpotOf, holds_in};
 
     /// Why the walker stops.
     type Fault: Drop;
 
-    /// These steps lead from one state to another.
-    ghost goes: { List OneStep → Self → Self → Type 0 };
-
-    /// The walker stops within these steps.
-    ghost stops: { List OneStep → Self → Self.Fault → Self → Type 0 };
+    /// These steps lead from one state to another if the result is `Ok`. If it is a fault, the
+    /// walker stops within them.
+    ghost does: { List OneStep → Self → Result (Unit {0}) Self.Fault → Self → Type 0 };
 
     /// A step may come in this state.
     ghost may: { Self → OneStep → Type 0 };
@@ -84,8 +83,7 @@ pub trait Walker: Cells {
     fn step(&mut self, step: WalkStep) -> Result<(), Self::Fault>
         requires inside { IsInside (Self.numbers self.old) step }
         requires may { may self.old step }
-        ensures ok { OnOk result (goes (step ∷ []) self.old self.new) }
-        ensures err { IfErr result (λ fault. stops (step ∷ []) self.old fault self.new) };
+        ensures { does (step ∷ []) self.old result self.new };
 
     /// Takes the step at the end of a part or of one structure element, which says whether its
     /// validations hold.
@@ -104,10 +102,8 @@ pub trait Walker: Cells {
     fn rules(&mut self, set: &DescSet, spot: PartAt) -> Result<(), Self::Fault>
         requires spot { IsSpotOf set.now spot (Self.numbers self.old) }
         requires may { may self.old (Rule (holds_in set.now spot (Self.numbers self.old))) }
-        ensures ok { let holds = holds_in set.now spot (Self.numbers self.old) in
-            OnOk result (goes (Rule holds ∷ []) self.old self.new) }
-        ensures err { let holds = holds_in set.now spot (Self.numbers self.old) in
-            IfErr result (λ fault. stops (Rule holds ∷ []) self.old fault self.new) }
+        ensures { let holds = holds_in set.now spot (Self.numbers self.old) in
+            does (Rule holds ∷ []) self.old result self.new }
     {
         let holds = set.holds_rules(spot.part, spot.base, spot.version, self);
         self.step(WalkStep::Rule { holds })
@@ -132,10 +128,8 @@ pub trait Walker: Cells {
         requires number { kind ≡ Kind.Bool → ⊥ }
         requires room { first + count ≤ length (Self.numbers self.old) }
         requires few { length (Self.numbers self.old) ≤ MOST_ITEMS }
-        requires may { MayRun goes may (run_of first count kind) self.old }
-        ensures ok { OnOk result (goes (run_of first count kind) self.old self.new) }
-        ensures err { IfErr result (λ fault.
-            stops (run_of first count kind) self.old fault self.new) }
+        requires may { MayRun does may (run_of first count kind) self.old }
+        ensures { does (run_of first count kind) self.old result self.new }
     {
         for cell in first..first + count {
             self.step(WalkStep::Number {
@@ -147,26 +141,6 @@ pub trait Walker: Cells {
         Ok(())
     }
 
-    /// Only the cells of the steps change.
-    ghost keeps: { (xs : List OneStep) (a b : Self)
-        → goes xs a b → Keeps xs (Self.numbers a) (Self.numbers b) };
-
-    /// The same if the walker stops.
-    ghost keeps_stopped: { (xs : List OneStep) (a b : Self) (fault : Self.Fault)
-        → stops xs a fault b → Keeps xs (Self.numbers a) (Self.numbers b) };
-
-    /// Taking no steps leaves the walker unchanged.
-    ghost none: { (a : Self) → goes [] a a };
-
-    /// Steps from `a` to `b` and further steps from `b` to `c` lead from `a` to `c`.
-    ghost more: { (xs ys : List OneStep) (a b c : Self)
-        → goes xs a b → goes ys b c → goes (xs ++ ys) a c };
-
-    /// If the walker stops after other steps, it stops within all of them.
-    ghost stops_after: { (xs ys : List OneStep) (a b c : Self) (fault : Self.Fault)
-        → goes xs a b → stops ys b fault c → stops (xs ++ ys) a fault c };
-
-    /// If the walker stops, further steps change nothing.
-    ghost stops_before: { (xs ys : List OneStep) (a b : Self) (fault : Self.Fault)
-        → stops xs a fault b → stops (xs ++ ys) a fault b };
+    /// What is done at steps makes up what is done at all of them, and only their cells change.
+    ghost laws: { IsWalk Self.numbers does };
 }

@@ -1,12 +1,12 @@
 -- The names of other crates, and of this crate's `specs`, that the proofs use.
 pub use Rattle.std.proofs.{Math.Bool.and-true, Math.Bool.and_assoc, lemmas.List.Sums.AllPass-from_list_all, lemmas.Result.err_from_is_err_and}
-pub use Rattle.std.proofs.Common.{Bool, Err, IfErr, List, None, Ok, OnOk, Option, Some, [], ap, append_assoc, arith, drop, false, get_or, length, length-append}
+pub use Rattle.std.proofs.Common.{Bool, List, None, Option, Some, [], ap, append_assoc, arith, drop, false, get_or, length, length-append}
 pub use Rattle.std.proofs.Common.{length-drop, map, not, pos, refl, replicate, rules, subst, suc, sym, take, true, zero, ℕ, ℤ, ⊎_elim, ◌&&◌, ◌++◌, ◌+◌}
 pub use Rattle.std.proofs.Common.{◌-◌, ◌<◌, ◌==◌, ◌||◌, ◌∙◌, ◌∷◌, ◌≡◌, ◌≤◌}
 pub use Rattle.std.proofs.lemmas.Bool.{OnFalse_at, OnFalse_from, OnTrue_at, OnTrue_from, and_from, and_parts, cases_lt, eq-eqb, eqb-true, leb-true, ne_eqb}
 pub use Rattle.std.proofs.lemmas.List.{drop_more, get_or-map, length-map, length-replicate, replicate-append-replicate, take-replicate}
 pub use Rattle.std.proofs.lemmas.Option.{get_or_from_slice_get, slice_get-get_or, slice_get_within}
-pub use Rattle.std.specs.{Bool.OnFalse, Bool.OnTrue, List.flat_map, List.slice_get, Option.option_copied, Prelude.Result}
+pub use Rattle.std.specs.{Bool.OnFalse, Bool.OnTrue, List.flat_map, List.slice_get, Option.option_copied}
 pub use Rattle.vms_kinds.specs.declared.Kind.{Kind, TheVariants.U8}
 pub use Rattle.vms_spec.proofs.ListsAndNumbers.{and_swap, both_below, or_second, versions_long, same_number_is}
 pub use Rattle.vms_spec.proofs.WellFormedLaws.{ranges, within}
@@ -31,7 +31,7 @@ pub use Rattle.vms_image.proofs.States.{at_state, image_at, state_at, states_lon
 pub use Rattle.vms_image.specs.Typed.{AreImagesOf, IsImageOf, IsOfDevice, Typed, state_of}
 pub use Rattle.vms_io.proofs.WritingLemmas.{Leaves, leaves_all, leaves_none, leaves_rest, leaves_stop, puts_as, puts_both, puts_none, stops_as, stops_behind}
 pub use Rattle.vms_io.proofs.WritingLemmas.{stops_front, wrote_as, wrote_behind, wrote_fault}
-pub use Rattle.vms_io.specs.{Told.Outlet, Told.outlet, Writing.Puts, Writing.Stops, Writing.Wrote}
+pub use Rattle.vms_io.specs.Told.{outlet}
 pub use Rattle.vms_parts.specs.{Capacities.least_from, Capacities.least_of, Capacities.lesser, Views.device_of, Views.form_of, declared.types.CellForm.CellForm}
 pub use Rattle.vms_spots.specs.Spots.{Held, codes_of}
 pub use Rattle.vms_walk.proofs.Spots.{Ascends, below_from, desc_ascends, from_end, meanings_ascend, run_each}

@@ -7,8 +7,8 @@ use Rattle.vms_write.proofs.Facade.{no_form, formed_of, formed, forms_of, cases_
 use Rattle.vms_write.proofs.Facade.{get_or_from_slice_get, slice_get, U8, MOST_ITEMS, Device, Slot, Number, Constant, no_cell, no_desc, Image, own_cells}
 use Rattle.vms_write.proofs.Facade.{own_slots, sub_place, sub_slots, IsReady, AreReady, AreCells, FitsHeads, own_constants, part_constants, sub_are, fit_slots}
 use Rattle.vms_write.proofs.Facade.{own_are, FitSlots, versions_long, kinds_at, few_cells, good_of, CanWrite, Typed, IsImageOf, AreImagesOf, Rule, ◌++◌}
-use Rattle.vms_write.proofs.Facade.{take, Ok, Err, OnOk, IfErr, Option, None, ◌&&◌, drop_more, Result, desc_cells, struct_cells, zeroed, steps_of, WalkStep}
-use Rattle.vms_write.proofs.Facade.{CanSteps, CanStep, bytes_of, Outlet, Wrote, Puts, Stops, codes_of, run_of, Sub, AtLeast, written_subs, written_section}
+use Rattle.vms_write.proofs.Facade.{take, Option, None, ◌&&◌, drop_more, desc_cells, struct_cells, zeroed, steps_of, WalkStep}
+use Rattle.vms_write.proofs.Facade.{CanSteps, CanStep, bytes_of, codes_of, run_of, Sub, AtLeast, written_subs, written_section}
 use Rattle.vms_write.proofs.Facade.{written_sections, first_cell, sub_next, CellForm, sub_fine, subs_fine, written_sub}
 use Rattle.vms_spec.proofs.WellFormedLaws.{name_short, set_clean}
 use Rattle.vms_parts.specs.Devices.{device_at as device_in}
@@ -166,15 +166,6 @@ pub run_bytes : (numbers : List ℤ) (kind : Kind) (first count : ℕ) → first
 run_bytes numbers kind first zero room = refl
 run_bytes numbers kind first (suc count) room =
     rw (drop_more numbers first (pos 0) (omega (arith, room)), run_bytes numbers kind (first + 1) count (omega (arith, room)))
-
--- the result of a call that writes
-pub wrote_ok : {T E P : Type 0} (a b : Outlet) (xs : List ℕ) (r : Result T E) → (Puts a b xs → P) → Wrote a b xs r → OnOk r P
-wrote_ok a b xs (Ok x) f h = f h
-wrote_ok a b xs (Err e) f h = tt
-
-pub wrote_err : {T E : Type 0} {P : E → Type 0} (a b : Outlet) (xs : List ℕ) (r : Result T E) → ((e : E) → Stops a b xs → P e) → Wrote a b xs r → IfErr r P
-wrote_err a b xs (Ok x) f h = tt
-wrote_err a b xs (Err e) f h = f e h
 
 -- ---- Subsections one after the other.
 

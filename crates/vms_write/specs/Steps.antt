@@ -37,9 +37,13 @@ are_steps_fine forms numbers at (x ∷ xs) = is_step_fine forms numbers at x && 
 
 -- ---- laws
 
-pub behind_append : (at : ℕ) (xs ys : List WalkStep) → behind at (xs ++ ys) ≡ behind (behind at xs) ys
+behind_append : (at : ℕ) (xs ys : List WalkStep) → behind at (xs ++ ys) ≡ behind (behind at xs) ys
 behind_append at [] ys = refl
 behind_append at (x ∷ xs) ys = behind_append (after at x) xs ys
+
+-- The first cell that hasn't been judged after steps and further ones.
+pub behind_then : (at next last : ℕ) (xs ys : List WalkStep) → next ≡ behind at xs → last ≡ behind next ys → last ≡ behind at (xs ++ ys)
+behind_then at next last xs ys here e = e ∙ ap (λ (k : ℕ). behind k ys) here ∙ sym (behind_append at xs ys)
 
 fine_append : (f : List CellForm) (n : List ℤ) (at : ℕ) (xs ys : List WalkStep) → are_steps_fine f n at (xs ++ ys) ≡ (are_steps_fine f n at xs && are_steps_fine f n (behind at xs) ys)
 fine_append f n at [] ys = refl

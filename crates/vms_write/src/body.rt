@@ -51,39 +51,28 @@ impl<K: Sink> Walker for Writer<'_, K> {
     ghost use Rattle.vms_walk.proofs.Walking.{keeps_same};
     ghost use Rattle.vms_write.specs.Bytes.{CanStep};
     ghost use Rattle.vms_io.specs.Told.{outlet};
-    ghost use Rattle.vms_io.specs.Writing.{Puts, Stops};
+    ghost use Rattle.vms_io.specs.Writing.{Wrote};
     ghost use Rattle.vms_io.proofs.WritingLemmas.{puts_none};
     ghost use Rattle.vms_write.specs.Bytes.{bytes_of};
-    ghost use Rattle.vms_write.specs.Wrote.{puts_then, stops_then, stops_before};
+    ghost use Rattle.vms_write.specs.Wrote.{wrote_then, stops_before};
 
     type Fault = WriteFault;
 
-    ghost goes = { λ xs a b. (b.sink.ghost_name ≡ a.sink.ghost_name) × (b.image ≡ a.image)
-        × Puts (outlet K.Sink a.sink.now) (outlet K.Sink b.sink.now)
-        (bytes_of a.image.now.numbers xs) };
-
-    ghost stops = { λ xs a fault b. (b.sink.ghost_name ≡ a.sink.ghost_name) × (b.image ≡ a.image)
-        × Stops (outlet K.Sink a.sink.now) (outlet K.Sink b.sink.now)
-        (bytes_of a.image.now.numbers xs) };
+    ghost does = { λ xs a result b.
+        (b.sink.ghost_name ≡ a.sink.ghost_name) × (b.image ≡ a.image)
+        × Wrote (outlet K.Sink a.sink.now) (outlet K.Sink b.sink.now)
+        (bytes_of a.image.now.numbers xs) result };
 
     ghost may = { λ a step. CanStep a.image.now.kinds step };
 
-    ghost keeps = { λ xs a b h. keeps_same xs _ _ (ap (λ image. image.now.numbers) h.1) };
-
-    ghost keeps_stopped = { λ xs a b fault h.
-        keeps_same xs _ _ (ap (λ image. image.now.numbers) h.1) };
-
-    ghost none = { λ a. (refl, refl, puts_none _) };
-
-    ghost more = { λ xs ys a b c h k.
-        let same = ap (λ image. image.now.numbers) h.1 in
-        (k.0 ∙ h.0, k.1 ∙ h.1, puts_then _ _ xs ys same h.2 k.2) };
-
-    ghost stops_after = { λ xs ys a b c fault h k.
-        let same = ap (λ image. image.now.numbers) h.1 in
-        (k.0 ∙ h.0, k.1 ∙ h.1, stops_then _ _ xs ys same h.2 k.2) };
-
-    ghost stops_before = { λ xs ys a b fault h. (h.0, h.1, stops_before _ xs ys h.2) };
+    ghost laws = { record {
+      none = λ a. (refl, refl, puts_none _);
+      more = λ xs ys a b c result h k.
+          let same = ap (λ image. image.now.numbers) h.1 in
+          (k.0 ∙ h.0, k.1 ∙ h.1, wrote_then _ _ _ xs ys result same h.2 k.2);
+      before = λ xs ys a b fault h. (h.0, h.1, stops_before _ xs ys h.2);
+      keeps = λ xs a b result h. keeps_same xs _ _ (ap (λ image. image.now.numbers) h.1);
+    } };
 
     #[inline(always)]
     fn step(&mut self, step: WalkStep) -> Result<(), WriteFault> {

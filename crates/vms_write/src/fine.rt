@@ -55,48 +55,36 @@ impl Cells for Judge<'_> {
 }
 
 impl Walker for Judge<'_> {
-    ghost use Rattle.std.specs.Prelude.{◌≡◌, ◌≤◌, true, false, refl, length};
-    ghost use Rattle.std.proofs.Common.{ap, sym, ◌∙◌};
+    ghost use Rattle.std.specs.Prelude.{◌≡◌, ◌≤◌, OnOk, is_ok, refl, length};
+    ghost use Rattle.std.proofs.Common.{ap, ◌∙◌};
+    ghost use Rattle.std.proofs.lemmas.Result.{on_ok_weaker};
     ghost use Rattle.vms_walk.proofs.Walking.{keeps_same};
     ghost use Rattle.vms_write.specs.Fine.{formed};
-    ghost use Rattle.vms_write.specs.Steps.{behind, behind_append};
+    ghost use Rattle.vms_write.specs.Steps.{behind, behind_then};
     ghost use Rattle.vms_write.specs.Steps.{are_steps_fine, fine_then, fine_before};
 
     type Fault = Unfit;
 
-    ghost goes = { λ xs a b. (b.image ≡ a.image) × (b.defaults ≡ a.defaults)
-        × (b.next ≡ behind a.next xs)
-        × (are_steps_fine (formed a.defaults.now) a.image.now.numbers a.next xs ≡ true) };
-
-    ghost stops = { λ xs a fault b. (b.image ≡ a.image)
-        × (are_steps_fine (formed a.defaults.now) a.image.now.numbers a.next xs ≡ false) };
+    ghost does = { λ xs a result b. (b.image ≡ a.image) × (b.defaults ≡ a.defaults)
+        × OnOk result (b.next ≡ behind a.next xs)
+        × (are_steps_fine (formed a.defaults.now) a.image.now.numbers a.next xs ≡ is_ok result) };
 
     ghost may = { λ a step. (length a.image.now.numbers ≤ MOST_ITEMS)
         × (length (formed a.defaults.now) ≡ length a.image.now.numbers) };
 
-    ghost keeps = { λ xs a b h. keeps_same xs _ _ (ap (λ image. image.now.numbers) h.0) };
-
-    ghost keeps_stopped = { λ xs a b fault h.
-        keeps_same xs _ _ (ap (λ image. image.now.numbers) h.0) };
-
-    ghost none = { λ a. (refl, refl, refl, refl) };
-
-    ghost more = { λ xs ys a b c h k.
-        let forms = ap (λ defaults. formed defaults.now) h.1 in
-        let numbers = ap (λ image. image.now.numbers) h.0 in
-        let next = k.2 ∙ ap (λ n. behind n ys) h.2 ∙ sym (behind_append a.next xs ys) in (
-          k.0 ∙ h.0,
-          k.1 ∙ h.1,
-          next,
-          fine_then _ _ _ _ a.next b.next xs ys true forms numbers h.2 h.3 k.3,
-        ) };
-
-    ghost stops_after = { λ xs ys a b c fault h k.
-        let forms = ap (λ defaults. formed defaults.now) h.1 in
-        let numbers = ap (λ image. image.now.numbers) h.0 in
-        (k.0 ∙ h.0, fine_then _ _ _ _ a.next b.next xs ys false forms numbers h.2 h.3 k.1) };
-
-    ghost stops_before = { λ xs ys a b fault h. (h.0, fine_before _ _ a.next xs ys h.1) };
+    ghost laws = { record {
+      none = λ a. (refl, refl, refl, refl);
+      more = λ xs ys a b c result h k.
+          let forms = ap (λ defaults. formed defaults.now) h.1 in
+          let numbers = ap (λ image. image.now.numbers) h.0 in (
+            k.0 ∙ h.0,
+            k.1 ∙ h.1,
+            on_ok_weaker result (behind_then a.next b.next c.next xs ys h.2) k.2,
+            fine_then _ _ _ _ a.next b.next xs ys (is_ok result) forms numbers h.2 h.3 k.3,
+          );
+      before = λ xs ys a b fault h. (h.0, h.1, tt, fine_before _ _ a.next xs ys h.3);
+      keeps = λ xs a b result h. keeps_same xs _ _ (ap (λ image. image.now.numbers) h.0);
+    } };
 
     fn step(&mut self, step: WalkStep) -> Result<(), Unfit> {
         match step {

@@ -1,7 +1,7 @@
 use Rattle.vms_load.proofs.{ReadLemmas.same_course, parts.read_fields.Given.Over}
 use Rattle.vms_load.proofs.Facade.{◌≡◌, Some, Ok, Err, ap, ◌∙◌, arith, described, desc_at, first_cell, good_of, IsGood, device_at, PartAt, HasSpot}
 use Rattle.vms_load.proofs.Facade.{part_sound, held_long, bytes_of, part_base, part_desc, Told, told, intake, reads_as}
-use Rattle.vms_load.proofs.PartReads.{open_in, fields_answer, part_took, part_failed}
+use Rattle.vms_load.proofs.PartReads.{open_in, fields_answer, part_read}
 use Rattle.vms_load.proofs.StreamLengths.{part_bound, part_kinds, desc_is, base_is, part_spot}
 use Rattle.vms_load.proofs.parts.read_fields.Goals.{Start, After-first_cell-base, After-read_part}
 use Rattle.vms_image.specs.Typed.{state_of as untyped}
@@ -53,7 +53,7 @@ returns-in-Ok g c =
     let at = goal.at.returns-in-Ok g c in
     let h = at.After-first_cell-base in
     let bound = part_bound set (spot_of g h) c.read_part.new.image.numbers in
-    let long = c.in-Ok.ensures.ok.reads.long in
+    let long = c.in-Ok.ensures.fills.reads.long in
     let before = ap held_long c.requires.cursor.held in
     let now = ap held_long c.in-Ok.ensures.held in
     record {
@@ -61,11 +61,11 @@ returns-in-Ok g c =
           reads_as (λ n l. omega (arith, now, before))
           (λ rest left took. fields_answer set (good g at.Start) c.args.section c.requires.image.device c.args.part.sub c.args.part.version names state (untyped c.args.image.now) (desc_at set c.part_of-number.result) c.first_cell-base.result (desc g h) (base g h)
           room c.requires.begun c.args.cursor.now c.read_part.new.image.numbers (untyped c.read_part.new.image) c.read_part.new.cursor
-          (Some rest) (Some left) (Ok c.in-Ok.field-0) (ap untyped c.in-Ok.ensures.ok.kept) c.requires.cursor.held c.in-Ok.ensures.held
-          (part_took set (good g at.Start).structs (desc_at set c.part_of-number.result) (part_sound set (good g at.Start) c.part_of-number.result (spot g h).part) c.args.part.version c.first_cell-base.result (old g at.Start) (new g at.After-read_part) rest left took)) c.in-Ok.ensures.ok.reads;
+          (Some rest) (Some left) (Ok c.in-Ok.field-0) (ap untyped c.in-Ok.ensures.fills.kept) c.requires.cursor.held c.in-Ok.ensures.held
+          (part_read set (good g at.Start).structs (desc_at set c.part_of-number.result) (part_sound set (good g at.Start) c.part_of-number.result (spot g h).part) c.args.part.version c.first_cell-base.result (old g at.Start) (new g at.After-read_part) (Ok c.in-Ok.field-0) rest left took)) c.in-Ok.ensures.fills.reads;
       held = c.in-Ok.ensures.held;
       moves = (omega (arith, long.1), omega (arith, long.1, before, now), omega (arith, ap (bytes_of set) (desc g h), bound, long.0, long.1, before, now));
-      image = record { kept = c.in-Ok.ensures.ok.kept; long = c.in-Ok.ensures.ok.keeps.long };
+      image = record { kept = c.in-Ok.ensures.fills.kept; long = c.in-Ok.ensures.fills.keeps.long };
     }
 
 pub returns-in-Err : goal.returns-in-Err
@@ -79,9 +79,9 @@ returns-in-Err g c =
           (reads_as (λ n l. omega (arith, part_bound set (spot_of g h) c.read_part.new.image.numbers, ap (bytes_of set) (desc g h)))
           (λ rest left took. fields_answer set (good g at.Start) c.args.section c.requires.image.device c.args.part.sub c.args.part.version names state (untyped c.args.image.now) (desc_at set c.part_of-number.result) c.first_cell-base.result (desc g h) (base g h)
           room c.requires.begun c.args.cursor.now c.read_part.new.image.numbers (untyped c.read_part.new.image) c.read_part.new.cursor
-          (Some rest) (Some left) (Err c.in-Err.fault) (ap untyped c.in-Err.ensures.err.kept) c.requires.cursor.held tt
-          (part_failed set (good g at.Start).structs (desc_at set c.part_of-number.result) (part_sound set (good g at.Start) c.part_of-number.result (spot g h).part) c.args.part.version c.first_cell-base.result (old g at.Start) (new g at.After-read_part) c.in-Err.fault rest left took)) c.in-Err.ensures.err.reads);
+          (Some rest) (Some left) (Err c.in-Err.fault) (ap untyped c.in-Err.ensures.fills.kept) c.requires.cursor.held tt
+          (part_read set (good g at.Start).structs (desc_at set c.part_of-number.result) (part_sound set (good g at.Start) c.part_of-number.result (spot g h).part) c.args.part.version c.first_cell-base.result (old g at.Start) (new g at.After-read_part) (Err c.in-Err.fault) rest left took)) c.in-Err.ensures.fills.reads);
       held = tt;
       moves = tt;
-      image = record { kept = c.in-Err.ensures.err.kept; long = c.in-Err.ensures.err.keeps.long };
+      image = record { kept = c.in-Err.ensures.fills.kept; long = c.in-Err.ensures.fills.keeps.long };
     }

@@ -1,11 +1,10 @@
-use Rattle.vms_walk.proofs.Facade.{HasSpot, Keeps, MayCome, rules, arith, refl, sym, ap, ◌∙◌, ◌≡◌, ℕ, ℤ, ◌+◌, ◌*◌, ◌<◌, List, []}
-use Rattle.vms_walk.proofs.Facade.{◌∷◌, ◌++◌, length, ltb-true, IfErr-weaker, on_ok_weaker, Struct, item_slots, SameBelow, IsAbove, items_above}
-use Rattle.vms_walk.proofs.Facade.{meanings_above, field_at, described, desc_at, found_field, here_fields, good_of, steps_of, table, holds_at, cell_of}
+use Rattle.vms_walk.proofs.Facade.{HasSpot, MayCome, rules, arith, refl, sym, ap, subst, ◌∙◌, ◌≡◌, ℕ, ℤ, ◌+◌, ◌*◌, ◌<◌, List, []}
+use Rattle.vms_walk.proofs.Facade.{◌∷◌, ◌++◌, length, ltb-true, Ok, Struct, item_slots, SameBelow, IsAbove, items_above}
+use Rattle.vms_walk.proofs.Facade.{meanings_above, field_at, described, desc_at, found_field, good_of, steps_of, table, cell_of}
 use Rattle.vms_walk.proofs.Facade.{spot_slots, slots_at, size_in, capacities_of, elements_slots, present_of, spot_numbers}
-use Rattle.vms_walk.proofs.Going.{fields_stop, fields_may, rule_next, rule_stop, rule_may, same_rule, Laws, Walked, Past, items_next, items_stop, items_may}
-use Rattle.vms_walk.proofs.Going.{field_slots_are, fields_next}
+use Rattle.vms_walk.proofs.Going.{Walked, Past, element_among, field_among, field_slots_are, rule_done, rule_may, same_rule}
 use Rattle.vms_walk.proofs.Spots.{run_steps, steps_at, one_slots, Next, next_field, field_needs, size_code, start_code, struct_spot, struct_size, holds_is}
-use Rattle.vms_walk.proofs.Walking.{err_takes, room_at, least_again, keeps_below, keeps_first}
+use Rattle.vms_walk.proofs.Walking.{went_on, stopped_at, may_come, room_at, least_again, keeps_below, keeps_first}
 use Rattle.vms_walk.proofs.fields.{+walk.Given.Over, +walk.Goals.walk_field-After-walk_row-arg-1, +walk.Goals.walk_struct-After-walk-arg-1}
 use Rattle.vms_walk.proofs.fields.+walk.Goals.{walk_items-After-walk_item-arg-1, walk-After-rules-arg-1, walk-After-walk_field-arg-1}
 use Rattle.vms_parts.specs.Views.{field_of}
@@ -14,27 +13,17 @@ use Rattle.vms_spec.specs.declared.Part.TheVariants as parts
 use Rattle.vms_walk.specs.declared.step.WalkStep.TheVariants as steps
 use Rattle.vms_walk.proofs.fields.+walk.Goals as goal
 
-laws_of : (g : Over) → Laws g.W.Cells.numbers g.W.Walker.goes g.W.Walker.stops
-laws_of g =
-    record {
-      more = g.met.W.Walker.more;
-      after = g.met.W.Walker.stops_after;
-      before = g.met.W.Walker.stops_before;
-      keeps = g.met.W.Walker.keeps;
-      stopped = g.met.W.Walker.keeps_stopped;
-    }
-
 -- ---- items
 
 -- the elements before this one are done
 walked : (g : Over) (t : ℕ) (c : goal.walk_items-After-walk_item-arg-1 g t)
-    → Walked g.W.Cells.numbers g.W.Walker.goes (described c.args.set.now) c.args.row.item.now c.args.row.most
+    → Walked g.W.Cells.numbers g.W.Walker.does (described c.args.set.now) c.args.row.item.now c.args.row.most
     c.args.row.first c.loop-turn._turn c.loop-turn.cell c.args.walker.now c.loop-turn.walker
 walked g t c = record { good = good_of _ c.args.set.now.well_formed c.args.set.now.heads; here = c.loop-turn.invariant.here; way = c.loop-turn.invariant.way }
 
 pub walk_items-loop-turn-preserved : goal.walk_items-loop-turn-preserved
 walk_items-loop-turn-preserved g t c =
-    let laws = laws_of g in
+    let laws = g.met.W.Walker.laws in
     let set = described c.args.set.now in
     let item = c.args.row.item.now in
     let i = c.loop-turn._turn in
@@ -43,23 +32,17 @@ walk_items-loop-turn-preserved g t c =
     let size : size_in set item ≡ c.item_cells-size.result = sym (size_code set item c.item_cells-size.result c.item_cells-size.ensures c.requires.small) in
     let one : (i + 1) * size_in set item ≡ i * size_in set item + size_in set item = grind arith in
     record {
-      way = items_next laws
-          (walked g t (goal.at.walk_items-loop-turn-preserved g t c).After-walk_item-arg-1) c.walk_item.new.walker c.in_ok-walk_item.ensures.ok;
-      long = (laws.keeps _ b c.walk_item.new.walker c.in_ok-walk_item.ensures.ok).long ∙ inv.long;
+      way = went_on laws (element_among (walked g t (goal.at.walk_items-loop-turn-preserved g t c).After-walk_item-arg-1) c.args.row.count (omega arith))
+          c.walk_item.new.walker (Ok tt) c.in_ok-walk_item.ensures;
+      long = (laws.keeps _ b c.walk_item.new.walker (Ok tt) c.in_ok-walk_item.ensures).long ∙ inv.long;
       here = omega arith;
     }
 
 pub walk_items-returns-in_err-walk_item : goal.walk_items-returns-in_err-walk_item
 walk_items-returns-in_err-walk_item g t c =
-    let N = g.W.Cells.numbers in
-    let set = described c.args.set.now in
-    let row = c.args.row in
-    let d = c.walk_item.new.walker in
-    let fault = c.in_err-walk_item.field-0.0 in
-    let slots = elements_slots set row.item.now row.most (N d) row.count row.first in
-    err_takes g.W.Walker.goes g.W.Walker.stops (steps_of slots) c.from_residual.result fault c.args.walker.now d c.from_residual.ensures.1
-    (items_stop (laws_of g) (walked g t (goal.at.walk_items-returns-in_err-walk_item g t c).After-walk_item-arg-1) c.args.row.count
-    (omega arith) d fault c.in_err-walk_item.ensures.err)
+    let here = (goal.at.walk_items-returns-in_err-walk_item g t c).After-walk_item-arg-1 in
+    stopped_at g.met.W.Walker.laws (element_among (walked g t here) c.args.row.count (omega arith)) c.walk_item.new.walker
+    c.in_err-walk_item.field-0.0 c.from_residual.result c.from_residual.ensures.1 c.in_err-walk_item.ensures
 
 pub walk_items-walk_item-requires : goal.walk_items-walk_item-requires
 walk_items-walk_item-requires g t c =
@@ -68,7 +51,7 @@ walk_items-walk_item-requires g t c =
     let cell = c.loop-turn.cell in
     let inv = c.loop-turn.invariant in
     let room = room_at c.loop-turn._turn c.args.row.count (size_in set item) c.args.row.first cell _ (omega arith) inv.here c.requires.room in
-    let may = items_may (laws_of g) (walked g t c) g.W.Walker.may c.args.row.count (omega arith) c.requires.may in
+    let may = may_come g.met.W.Walker.laws (element_among (walked g t c) c.args.row.count (omega arith)) g.W.Walker.may c.requires.may in
     λ κs h. (search rules, (search rules, (search rules, record { reaches = c.requires.reaches; may = may; room = rw inv.long room; few = rw inv.long c.requires.few })))
 
 pub walk_items-overflow_add-cell : goal.walk_items-overflow_add-cell
@@ -97,8 +80,9 @@ pub walk_items-returns-in-Some : goal.walk_items-returns-in-Some
 walk_items-returns-in-Some g t c =
     let row = c.args.row in
     let free = c.in-Some.ensures in
-    rw (run_steps (described c.args.set.now) row.item.now row.most c.in-Some.kind free.number free.free
-    (g.W.Cells.numbers c.walk_run.new.walker) row.first row.count) c.walk_run.ensures
+    let is = run_steps (described c.args.set.now) row.item.now row.most c.in-Some.kind free.number free.free
+    (g.W.Cells.numbers c.walk_run.new.walker) row.first row.count in
+    subst (λ l. g.W.Walker.does l c.args.walker.now c.walk_run.result c.walk_run.new.walker) (sym is) c.walk_run.ensures
 
 -- ---- a row
 
@@ -110,7 +94,7 @@ walk_row-walk_item-requires g t c =
     let item = row.item.now in
     let one : row.count ≡ 1 = omega arith in
     let slots = λ (m : List ℤ). item_slots (table set) item (capacities_of row.most) m row.first in
-    let come : MayCome g.W.Walker.goes N g.W.Walker.may slots c.args.walker.now = λ ys ws zs x d h e.
+    let come : MayCome g.W.Walker.does N g.W.Walker.may slots c.args.walker.now = λ ys ws zs x d h e.
     c.requires.may ys ws zs x d h (one_slots set item row.most (N d) row.count row.first one ∙ e) in
     let width : row.count * size_in set item ≡ 1 * size_in set item = rw one in
     λ κs h. (search rules, (search rules, (search rules, record { reaches = c.requires.reaches; may = come; room = omega arith; few = c.requires.few })))
@@ -118,8 +102,8 @@ walk_row-walk_item-requires g t c =
 pub walk_row-returns : goal.walk_row-returns
 walk_row-returns g t c =
     let row = c.args.row in
-    rw (one_slots (described c.args.set.now) row.item.now row.most (g.W.Cells.numbers c.walk_item.new.walker) row.count row.first (omega arith))
-    c.walk_item.ensures
+    let is = one_slots (described c.args.set.now) row.item.now row.most (g.W.Cells.numbers c.walk_item.new.walker) row.count row.first (omega arith) in
+    subst (λ l. g.W.Walker.does l c.args.walker.now c.walk_item.result c.walk_item.new.walker) (sym is) c.walk_item.ensures
 
 -- ---- one field
 
@@ -181,8 +165,8 @@ walk_field-walk_row-requires g t c =
     let needs =
     field_needs set c.args.set.now.well_formed c.args.here.spot (N a) c.requires.spot c.args.field cell _ _ c.most_in-most.result c.requires.field
     (item_is g t c) (count_is g t c) c.most_in-most.ensures c.requires.room in
-    let come : MayCome g.W.Walker.goes N g.W.Walker.may slots a = λ ys ws zs x d h e.
-    let kept = (laws_of g).keeps ys a d h in
+    let come : MayCome g.W.Walker.does N g.W.Walker.may slots a = λ ys ws zs x d h e.
+    let kept = g.met.W.Walker.laws.keeps ys a d (Ok tt) h in
     c.requires.may ys ws zs x d h
     (steps_are g t c (N d) kept.long (keeps_first cell (slots (N d)) ys (ws ++ (x ∷ zs)) (N a) (N d) e (above g t c (N d)) kept) ∙ e) in
     λ κs h. (search rules, (search rules, (search rules, record { reaches = needs.uses; may = come; small = needs.small; room = needs.room; few = c.requires.spot.few })))
@@ -195,26 +179,21 @@ walk_field-returns g t c =
     let b = c.walk_row.new.walker in
     let at = (goal.at.walk_field-returns g t c).After-walk_row-arg-1 in
     let slots = elements_slots set c.index-as_slice-field.result.item c.most_in-most.result (N b) c.present-count.result c.args.cell in
-    let same = λ (kept : Keeps (steps_of slots) (N a) (N b)).
-    steps_are g t at (N b) kept.long (keeps_below c.args.cell slots (N a) (N b) (above g t at (N b)) kept) in
-    record {
-      ok = on_ok_weaker c.walk_row.result (λ h. rw (same ((laws_of g).keeps _ a b h)) h) c.walk_row.ensures.ok;
-      err = IfErr-weaker c.walk_row.result (λ fault. g.W.Walker.stops (steps_of slots) a fault b)
-          (λ fault. g.W.Walker.stops (steps_of (slots_at set c.args.here.spot (N b) c.args.field c.args.cell)) a fault b)
-          (λ fault h. rw (same ((laws_of g).stopped _ a b fault h)) h) c.walk_row.ensures.err;
-    }
+    let kept = g.met.W.Walker.laws.keeps (steps_of slots) a b c.walk_row.result c.walk_row.ensures in
+    let is = steps_are g t at (N b) kept.long (keeps_below c.args.cell slots (N a) (N b) (above g t at (N b)) kept) in
+    subst (λ l. g.W.Walker.does l a c.walk_row.result b) (sym is) c.walk_row.ensures
 
 -- ---- the fields of a description
 
 pub walk-loop-field-init : goal.walk-loop-field-init
-walk-loop-field-init g t c = record { way = g.met.W.Walker.none c.args.walker.now; long = refl }
+walk-loop-field-init g t c = record { way = g.met.W.Walker.laws.none c.args.walker.now; long = refl }
 
 -- the next field, with the numbers so far
 record Turn (g : Over) (t : ℕ) (c : goal.walk-After-walk_field-arg-1 g t) : Type 0 where
   inside : c.loop-field.field < length (desc_at (described c.args.set.now) c.args.spot.part).fields
   has : HasSpot (described c.args.set.now) c.args.spot (g.W.Cells.numbers c.loop-field.walker)
   next : Next (described c.args.set.now) c.args.spot (g.W.Cells.numbers c.loop-field.walker) c.loop-field.field c.start_in-cell.result
-  past : Past g.W.Cells.numbers g.W.Walker.goes
+  past : Past g.W.Cells.numbers g.W.Walker.does
       (described c.args.set.now) c.args.spot c.loop-field.field c.start_in-cell.result c.args.walker.now c.loop-field.walker
 
 turn : (g : Over) (t : ℕ) (c : goal.walk-After-walk_field-arg-1 g t) → Turn g t c
@@ -244,20 +223,15 @@ walk-loop-field-preserved g t c =
     let s = turn g t (goal.at.walk-loop-field-preserved g t c).After-walk_field-arg-1 in
     let d = c.walk_field.new.walker in
     record {
-      way = fields_next (laws_of g) s.past s.inside d c.in_ok-walk_field.ensures.ok;
-      long = ((laws_of g).keeps _ c.loop-field.walker d c.in_ok-walk_field.ensures.ok).long ∙ c.loop-field.invariant.long;
+      way = went_on g.met.W.Walker.laws (field_among s.past s.inside) d (Ok tt) c.in_ok-walk_field.ensures;
+      long = (g.met.W.Walker.laws.keeps _ c.loop-field.walker d (Ok tt) c.in_ok-walk_field.ensures).long ∙ c.loop-field.invariant.long;
     }
 
 pub walk-returns-in_err-walk_field : goal.walk-returns-in_err-walk_field
 walk-returns-in_err-walk_field g t c =
-    let set = described c.args.set.now in
-    let a = c.args.walker.now in
     let s = turn g t (goal.at.walk-returns-in_err-walk_field g t c).After-walk_field-arg-1 in
-    let d = c.walk_field.new.walker in
-    let fault = c.in_err-walk_field.field-0.0 in
-    let slots = spot_slots set c.args.spot (g.W.Cells.numbers d) in
-    err_takes g.W.Walker.goes g.W.Walker.stops (steps_of slots) c.from_residual.result fault a d c.from_residual.ensures.1
-    (fields_stop (laws_of g) s.past s.inside d fault c.in_err-walk_field.ensures.err)
+    stopped_at g.met.W.Walker.laws (field_among s.past s.inside) c.walk_field.new.walker
+    c.in_err-walk_field.field-0.0 c.from_residual.result c.from_residual.ensures.1 c.in_err-walk_field.ensures
 
 pub walk-start_in-cell-requires-clause-few : goal.walk-start_in-cell-requires-clause-few
 walk-start_in-cell-requires-clause-few g t c = omega (arith, c.requires.spot.room, c.requires.spot.few)
@@ -265,7 +239,7 @@ walk-start_in-cell-requires-clause-few g t c = omega (arith, c.requires.spot.roo
 pub walk-walk_field-requires : goal.walk-walk_field-requires
 walk-walk_field-requires g t c =
     let s = turn g t c in
-    let may = fields_may (laws_of g) s.past g.W.Walker.may s.inside c.requires.may in
+    let may = may_come g.met.W.Walker.laws (field_among s.past s.inside) g.W.Walker.may c.requires.may in
     λ κs h. (search rules, (search rules, (search rules, record { spot = s.has; fields = c.fields_of-fields.ensures; field = s.inside; here = s.past.here; may = may; room = s.next.room })))
 
 -- after the last field
@@ -273,7 +247,7 @@ end_of : (g : Over) (t : ℕ) (c : goal.walk-After-rules-arg-1 g t) → c.loop-f
 end_of g t c = omega arith
 
 done : (g : Over) (t : ℕ) (c : goal.walk-After-rules-arg-1 g t)
-    → Past g.W.Cells.numbers g.W.Walker.goes (described c.args.set.now) c.args.spot c.loop-field.field
+    → Past g.W.Cells.numbers g.W.Walker.does (described c.args.set.now) c.args.spot c.loop-field.field
     (cell_of (described c.args.set.now) c.args.spot c.loop-field.field) c.args.walker.now c.loop-field.walker
 done g t c =
     let set = c.args.set.now in
@@ -288,45 +262,37 @@ done g t c =
 pub walk-rules-requires-clause-may : goal.walk-rules-requires-clause-may
 walk-rules-requires-clause-may g t c =
     let b = c.loop-field.walker in
-    rw (holds_is (described c.args.set.now) c.args.spot (g.W.Cells.numbers b)) (rule_may (laws_of g) (done g t c) (end_of g t c) g.W.Walker.may c.requires.may)
+    rw (holds_is (described c.args.set.now) c.args.spot (g.W.Cells.numbers b)) (rule_may (done g t c) (end_of g t c) g.W.Walker.may c.requires.may)
 
 pub walk-returns : goal.walk-returns
 walk-returns g t c =
+    let laws = g.met.W.Walker.laws in
     let N = g.W.Cells.numbers in
-    let set = described c.args.set.now in
-    let a = c.args.walker.now in
     let b = c.loop-field.walker in
     let at = (goal.at.walk-returns g t c).After-rules-arg-1 in
     let e = c.rules.new.self in
-    record {
-      ok = on_ok_weaker c.rules.result
-          (λ h. rule_next (laws_of g) (done g t at) (end_of g t at) e (same_rule _ (N b) (N e) ((laws_of g).keeps _ b e h))
-          (rw (holds_is set c.args.spot (N b)) at h)) c.rules.ensures.ok;
-      err = IfErr-weaker c.rules.result (λ fault. g.W.Walker.stops (steps.Rule (holds_at set c.args.spot (N b)) ∷ []) b fault e)
-          (λ fault. g.W.Walker.stops (steps_of (spot_slots set c.args.spot (N e))) a fault e)
-          (λ fault h. rule_stop (laws_of g) (done g t at) (end_of g t at) e fault (same_rule _ (N b) (N e) ((laws_of g).stopped _ b e fault h))
-          (rw (holds_is set c.args.spot (N b)) at h)) c.rules.ensures.err;
-    }
+    rule_done (done g t at) (end_of g t at) laws e c.rules.result (same_rule _ (N b) (N e) (laws.keeps _ b e c.rules.result c.rules.ensures))
+    (rw (holds_is (described c.args.set.now) c.args.spot (N b)) at c.rules.ensures)
 
 -- ---- one element
 
 pub walk_item-step-requires-clause-may : goal.walk_item-step-requires-clause-may
 walk_item-step-requires-clause-may g t c =
     let here = steps_at (described c.args.set.now) c.args.most (g.W.Cells.numbers c.args.walker.now) c.args.cell in
-    c.requires.may [] [] [] _ c.args.walker.now (g.met.W.Walker.none c.args.walker.now)
+    c.requires.may [] [] [] _ c.args.walker.now (g.met.W.Walker.laws.none c.args.walker.now)
     (ap here c.in-Num.is ∙ ap (λ o. steps.Number c.args.cell c.in-Num.kind o ∷ []) (least_again c.args.most))
 
 pub walk_item-step-requires-in-Equal-clause-may : goal.walk_item-step-requires-in-Equal-clause-may
 walk_item-step-requires-in-Equal-clause-may g t c =
     let here = steps_at (described c.args.set.now) c.args.most (g.W.Cells.numbers c.args.walker.now) c.args.cell in
     let may : g.W.Walker.may c.args.walker.now (steps.Constant c.in-Equal.kind c.in-Equal.value) =
-    c.requires.may [] [] [] _ c.args.walker.now (g.met.W.Walker.none c.args.walker.now) (ap here c.in-Equal.is) in
+    c.requires.may [] [] [] _ c.args.walker.now (g.met.W.Walker.laws.none c.args.walker.now) (ap here c.in-Equal.is) in
     search rules
 
 pub walk_item-step-requires-in-Unused-clause-may : goal.walk_item-step-requires-in-Unused-clause-may
 walk_item-step-requires-in-Unused-clause-may g t c =
     let here = steps_at (described c.args.set.now) c.args.most (g.W.Cells.numbers c.args.walker.now) c.args.cell in
-    c.requires.may [] [] [] _ c.args.walker.now (g.met.W.Walker.none c.args.walker.now) (ap here c.in-Unused.is)
+    c.requires.may [] [] [] _ c.args.walker.now (g.met.W.Walker.laws.none c.args.walker.now) (ap here c.in-Unused.is)
 
 pub walk_item-walk_element-requires : goal.walk_item-walk_element-requires
 walk_item-walk_element-requires g t c =
@@ -340,8 +306,9 @@ walk_item-walk_element-requires g t c =
 
 pub walk_item-returns-in-Struct : goal.walk_item-returns-in-Struct
 walk_item-returns-in-Struct g t c =
-    let slots = λ (m : List ℤ). ap (λ x. item_slots (table (described c.args.set.now)) x (capacities_of c.args.most) m c.args.cell) c.in-Struct.is in
-    rw (slots (g.W.Cells.numbers c.walk_element.new.walker)) c.walk_element.ensures
+    let b = c.walk_element.new.walker in
+    let is = ap (steps_at (described c.args.set.now) c.args.most (g.W.Cells.numbers b) c.args.cell) c.in-Struct.is in
+    subst (λ l. g.W.Walker.does l c.args.walker.now c.walk_element.result b) (sym is) c.walk_element.ensures
 
 -- ---- an element of a structure
 
@@ -370,4 +337,4 @@ walk_struct-walk-requires g t c =
 pub walk_struct-returns : goal.walk_struct-returns
 walk_struct-returns g t c =
     let slots = slots_are g t (goal.at.walk_struct-returns g t c).After-walk-arg-1 (g.W.Cells.numbers c.walk.new.walker) in
-    rw slots c.walk.ensures
+    subst (λ l. g.W.Walker.does (steps_of l) c.args.walker.now c.walk.result c.walk.new.walker) (sym slots) c.walk.ensures

@@ -1,4 +1,4 @@
-use Rattle.vms_walk.proofs.Facade.{◌≡◌, ◌+◌, ◌*◌, length, take, slots_from, described, desc_at, steps_of, table, spot_numbers, size_in, elements_slots}
+use Rattle.vms_walk.proofs.Facade.{◌≡◌, ◌+◌, ◌*◌, Ok, length, take, slots_from, described, desc_at, steps_of, table, spot_numbers, size_in, elements_slots}
 use Rattle.vms_walk.proofs.Facade.{item_rank, part_rank}
 use Rattle.vms_walk.proofs.fields.+walk.Given as goal
 
@@ -28,7 +28,7 @@ invariant-walk_items-loop-turn g l =
     let set = described l.set in
     let n = g.W.Cells.numbers l.walker in
     record {
-      way : g.W.Walker.goes (steps_of (elements_slots set l.row.item.now l.row.most n l._turn l.row.first)) l.initial.walker l.walker;
+      way : g.W.Walker.does (steps_of (elements_slots set l.row.item.now l.row.most n l._turn l.row.first)) l.initial.walker (Ok tt) l.walker;
       long : length n ≡ length (g.W.Cells.numbers l.initial.walker);
       here : l.cell ≡ l.row.first + l._turn * size_in set l.row.item.now;
     }
@@ -39,7 +39,7 @@ invariant-walk-loop-field g l =
     let n = g.W.Cells.numbers l.walker in
     let all = (desc_at set l.spot.part).fields in
     record {
-      way : g.W.Walker.goes
-          (steps_of (slots_from (table set) all l.spot.version (spot_numbers set l.spot n) n 0 l.spot.base (take l.field all))) l.initial.walker l.walker;
+      way : g.W.Walker.does
+          (steps_of (slots_from (table set) all l.spot.version (spot_numbers set l.spot n) n 0 l.spot.base (take l.field all))) l.initial.walker (Ok tt) l.walker;
       long : length n ≡ length (g.W.Cells.numbers l.initial.walker);
     }

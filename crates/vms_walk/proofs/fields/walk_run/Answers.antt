@@ -1,40 +1,44 @@
-use Rattle.vms_walk.proofs.{Walking.err_takes, Spots.run_next, Spots.run_stop, Spots.run_may}
-use Rattle.vms_walk.proofs.Facade.{rules, ◌≡◌, ◌+◌, ◌-◌, ◌≤◌, refl, ◌∙◌, arith, zero, run_of}
+use Rattle.vms_walk.proofs.{Walking.went_on, Walking.stopped_at, Walking.may_come, Spots.run_among}
+use Rattle.vms_walk.proofs.Facade.{rules, ◌≡◌, ◌+◌, ◌-◌, ◌≤◌, refl, ◌∙◌, arith, zero, Ok}
 use Rattle.vms_walk.proofs.fields.walk_run.Goals as goal
 
 pub loop-cell-init : goal.loop-cell-init
 loop-cell-init g c =
     let none : zero ≡ c.args.first - c.args.first = omega arith in
-    record { way = rw (← none) (g.met.W.Walker.none c.args.walker.now); long = refl; from = omega arith; within = omega arith }
+    record { way = rw (← none) (g.met.W.Walker.laws.none c.args.walker.now); long = refl; from = omega arith; within = omega arith }
 
 pub loop-cell-preserved : goal.loop-cell-preserved
 loop-cell-preserved g c =
-    let inv = c.loop-cell.invariant in
-    let b = c.loop-cell.walker in
+    let laws = g.met.W.Walker.laws in
+    let l = c.loop-cell in
     let d = c.run.new.self in
-    let le : c.loop-cell.cell + c.min-some.result ≤ c.args.first + c.args.count = search rules in
+    let le : l.cell + c.min-some.result ≤ c.args.first + c.args.count = search rules in
     record {
-      way = run_next g.W.Walker.goes g.met.W.Walker.more c.args.first c.loop-cell.cell c.args.kind c.args.walker.now b inv.from inv.way c.min-some.result d
-          c.in_ok-run.ensures.ok;
-      long = (g.met.W.Walker.keeps _ b d c.in_ok-run.ensures.ok).long ∙ inv.long;
+      way = went_on laws
+          (run_among c.args.first l.cell c.args.count c.args.kind c.args.walker.now l.walker l.invariant.from l.invariant.way c.min-some.result le)
+          d (Ok tt) c.in_ok-run.ensures;
+      long = (laws.keeps _ l.walker d (Ok tt) c.in_ok-run.ensures).long ∙ l.invariant.long;
       from = omega arith;
       within = le;
     }
 
 pub run-requires-clause-may : goal.run-requires-clause-may
 run-requires-clause-may g c =
-    let inv = c.loop-cell.invariant in
-    let le : c.loop-cell.cell + c.min-some.result ≤ c.args.first + c.args.count = search rules in
-    run_may g.W.Walker.goes g.met.W.Walker.more c.args.first c.loop-cell.cell c.args.kind c.args.walker.now c.loop-cell.walker inv.from inv.way
-    c.min-some.result c.args.count le g.W.Walker.may c.requires.may
+    let l = c.loop-cell in
+    let le : l.cell + c.min-some.result ≤ c.args.first + c.args.count = search rules in
+    may_come g.met.W.Walker.laws
+    (run_among c.args.first l.cell c.args.count c.args.kind c.args.walker.now l.walker l.invariant.from l.invariant.way c.min-some.result le)
+    g.W.Walker.may c.requires.may
+
+pub returns : goal.returns
+returns g c =
+    let all : c.loop-cell.cell - c.args.first ≡ c.args.count = omega arith in
+    rw all at c.loop-cell.invariant.way
 
 pub returns-in_err-run : goal.returns-in_err-run
 returns-in_err-run g c =
-    let inv = c.loop-cell.invariant in
-    let a = c.args.walker.now in
-    let d = c.run.new.self in
-    let fault = c.in_err-run.field-0.0 in
-    let le : c.loop-cell.cell + c.min-some.result ≤ c.args.first + c.args.count = search rules in
-    err_takes g.W.Walker.goes g.W.Walker.stops (run_of c.args.first c.args.count c.args.kind) c.from_residual.result fault a d c.from_residual.ensures.1
-    (run_stop g.W.Walker.goes g.met.W.Walker.more c.args.first c.loop-cell.cell c.args.kind a c.loop-cell.walker inv.from inv.way c.min-some.result c.args.count
-    le g.W.Walker.stops g.met.W.Walker.stops_after g.met.W.Walker.stops_before d fault c.in_err-run.ensures.err)
+    let l = c.loop-cell in
+    let le : l.cell + c.min-some.result ≤ c.args.first + c.args.count = search rules in
+    stopped_at g.met.W.Walker.laws
+    (run_among c.args.first l.cell c.args.count c.args.kind c.args.walker.now l.walker l.invariant.from l.invariant.way c.min-some.result le)
+    c.run.new.self c.in_err-run.field-0.0 c.from_residual.result c.from_residual.ensures.1 c.in_err-run.ensures

@@ -10,7 +10,7 @@ returns-in-Ok c =
     let n = c.args.image.now.numbers in
     let forms = formed c.args.defaults.now in
     let judge = c.walk.new.walker in
-    let went = c.in-Ok.ensures.ok in
+    let went = c.in-Ok.ensures in
     let steps = λ (m : List ℤ). steps_of (spot_slots set spot m) in
     let same : judge.image.now.numbers ≡ n = rw (went.0) in
     let fine : are_steps_fine forms n spot.base (steps n) ≡ true = ap (λ m. are_steps_fine forms n spot.base (steps m)) (sym same) ∙ went.3 in
@@ -23,6 +23,6 @@ pub returns-in-Err : goal.returns-in-Err
 returns-in-Err c =
     let set = described c.args.set.now in
     let n = c.args.image.now.numbers in
-    let stopped = c.in-Err.ensures.err in
+    let stopped = c.in-Err.ensures in
     let same : c.walk.new.walker.image.now.numbers ≡ n = ap (λ image. image.now.numbers) stopped.0 in
-    part_unfit set c.args.spot (formed c.args.defaults.now) n (ap (λ m. are_steps_fine (formed c.args.defaults.now) n c.args.spot.base (steps_of (spot_slots set c.args.spot m))) (sym same) ∙ stopped.1)
+    part_unfit set c.args.spot (formed c.args.defaults.now) n (ap (λ m. are_steps_fine (formed c.args.defaults.now) n c.args.spot.base (steps_of (spot_slots set c.args.spot m))) (sym same) ∙ stopped.3)

@@ -1,5 +1,5 @@
 use Rattle.vms_load.proofs.Facade.{rules, ◌≡◌, ◌*◌, ◌/◌, ◌<◌, ◌≤◌, [], take, drop, None, refl, sym, ap, ◌∙◌, arith, err_from_is_err_and}
-use Rattle.vms_load.proofs.Facade.{intake, takes_as, width, run_each, IsOfKind, took_none}
+use Rattle.vms_load.proofs.Facade.{intake, takes_as, width, run_each, IsOfKind, fills_none}
 use Rattle.vms_walk.specs.declared.step.WalkStep.TheVariants.{Number}
 use Rattle.vms_load.proofs.RunReads.{run_first, took_run, failed_run, cut_run, all_came, part_came}
 use Rattle.vms_load.proofs.body.ReaderWalker.run.Goals as goal
@@ -8,31 +8,31 @@ pub codes-requires-clause-place : goal.codes-requires-clause-place
 codes-requires-clause-place g c =
     let a = c.args.self.now in
     let start = run_first c.args.first c.args.count c.args.kind c.requires.some in
-    (c.requires.may [] [] start.0 (Number c.args.first c.args.kind None) a (refl, refl, refl, took_none _ (g.met.S.Source.counted a.source.now), λ e. e) start.1).0
+    (c.requires.may [] [] start.0 (Number c.args.first c.args.kind None) a (refl, refl, refl, fills_none _ (g.met.S.Source.counted a.source.now), λ e. e) start.1).0
 
 pub codes-requires-clause-held : goal.codes-requires-clause-held
 codes-requires-clause-held g c =
     let a = c.args.self.now in
     let start = run_first c.args.first c.args.count c.args.kind c.requires.some in
-    (c.requires.may [] [] start.0 (Number c.args.first c.args.kind None) a (refl, refl, refl, took_none _ (g.met.S.Source.counted a.source.now), λ e. e) start.1).1
+    (c.requires.may [] [] start.0 (Number c.args.first c.args.kind None) a (refl, refl, refl, fills_none _ (g.met.S.Source.counted a.source.now), λ e. e) start.1).1
 
 pub put_codes-requires-clause-one : goal.put_codes-requires-clause-one
 put_codes-requires-clause-one g c = λ k from below.
     let a = c.args.self.now in
     let most : c.in_ok-came.came / c.width-width.result ≤ c.args.count = search rules in
     run_each (IsOfKind a.image.now.kinds) c.args.first c.args.count c.args.kind
-    (λ ys rest x e. (c.requires.may [] ys rest x a (refl, refl, refl, took_none _ (g.met.S.Source.counted a.source.now), λ e. e) e).2) k from (omega arith)
+    (λ ys rest x e. (c.requires.may [] ys rest x a (refl, refl, refl, fills_none _ (g.met.S.Source.counted a.source.now), λ e. e) e).2) k from (omega arith)
 
-pub returns-in_err-came-clause-err : goal.returns-in_err-came-clause-err
-returns-in_err-came-clause-err g c =
+pub returns-in_err-came : goal.returns-in_err-came
+returns-in_err-came g c =
     let a = c.args.self.now in
     let p = err_from_is_err_and c.from_residual.result c.from_residual.ensures.1 in
     let wide : c.args.count * c.width-width.result ≡ c.args.count * width c.args.kind = rw (c.width-width.ensures) in
     rw (p.1, p.2, c.in_err-came.ensures.failed.0)
-    (refl, refl, refl, failed_run (intake g.S.Source a.source.now) (intake g.S.Source c.codes.new.source) a.image.now c.args.first c.args.count a.cursor.now.at c.args.kind c.requires.number _ _ c.in_err-came.ensures.failed.1 (search (rules, wide)))
+    (refl, refl, refl, failed_run (intake g.S.Source a.source.now) (intake g.S.Source c.codes.new.source) a.image.now c.args.first c.args.count a.cursor.now.at c.args.kind c.requires.number _ _ c.in_err-came.ensures.failed.1 (search (rules, wide)), λ e. tt)
 
-pub returns-clause-ok : goal.returns-clause-ok
-returns-clause-ok g c =
+pub returns : goal.returns
+returns g c =
     let a = c.args.self.now in
     let n = c.in_ok-came.came in
     let whole = ap (λ k. n / k) c.width-width.ensures in
@@ -47,8 +47,8 @@ returns-clause-ok g c =
       λ e. c.in_ok-came.ensures.held,
     )
 
-pub returns-then-whole-count-clause-err : goal.returns-then-whole-count-clause-err
-returns-then-whole-count-clause-err g c =
+pub returns-then-whole-count : goal.returns-then-whole-count
+returns-then-whole-count g c =
     let a = c.args.self.now in
     let n = c.in_ok-came.came in
     let buf = c.codes.new.buf in
@@ -64,4 +64,5 @@ returns-then-whole-count-clause-err g c =
           (drop long (take n buf))
           (takes_as (sym part.parts) c.in_ok-came.ensures.came) (c.in_ok-came.ensures.end (search (rules, part.short))) part.long part.cut lt part.fewer _ _ _
           (cc (c.put_codes.ensures)) c.in_ok-came.ensures.place (cc (c.at.ensures, c.in_ok-came.ensures.place)),
+      λ e. tt,
     )

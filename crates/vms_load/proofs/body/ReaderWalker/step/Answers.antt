@@ -1,5 +1,5 @@
-use Rattle.vms_load.proofs.Facade.{refl, arith, IfErr-weaker, intake, Told, told}
-use Rattle.vms_load.proofs.RunReads.{on_ok, step_ok, step_err}
+use Rattle.vms_load.proofs.Facade.{refl, arith, intake, Told, told}
+use Rattle.vms_load.proofs.RunReads.{step_fills}
 use Rattle.vms_load.proofs.body.ReaderWalker.step.Given.{Over}
 use Rattle.vms_load.proofs.body.ReaderWalker.step.Goals.{Start, After-read_step}
 use Rattle.vms_load.proofs.body.ReaderWalker.step.Goals as goal
@@ -17,14 +17,13 @@ read_step-requires g c = record {
   cursor = record { held = c.requires.may.1; place = omega (arith, c.requires.may.0) };
 }
 
-pub returns-clause-ok : goal.returns-clause-ok
-returns-clause-ok g c =
-    let at = goal.at.returns-clause-ok g c in
-    let e = c.read_step.ensures in
-    on_ok c.read_step.result (λ took held. (refl, refl, refl, took, λ free. held)) (step_ok c.args.step (old g at.Start) (new g at.After-read_step) c.read_step.result e.reads e.kept e.keeps) e.held
-
-pub returns-clause-err : goal.returns-clause-err
-returns-clause-err g c =
-    let at = goal.at.returns-clause-err g c in
-    let e = c.read_step.ensures in
-    IfErr-weaker c.read_step.result _ _ (λ fault failed. (refl, refl, refl, failed)) (step_err c.args.step (old g at.Start) (new g at.After-read_step) c.read_step.result e.reads e.kept e.keeps e.stopped)
+pub returns : goal.returns
+returns g c =
+    let at = goal.at.returns g c in
+    let e = c.read_step.ensures in (
+      refl,
+      refl,
+      refl,
+      step_fills c.args.step (old g at.Start) (new g at.After-read_step) c.read_step.result e.reads e.kept e.keeps e.stopped,
+      λ free. e.held,
+    )

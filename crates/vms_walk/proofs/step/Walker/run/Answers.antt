@@ -1,21 +1,21 @@
-use Rattle.vms_walk.proofs.{Walking.err_is, Spots.run_next, Spots.run_stop, Spots.run_may}
-use Rattle.vms_walk.proofs.Facade.{[], ◌≡◌, ◌-◌, refl, ◌∙◌, arith, zero, run_of}
+use Rattle.vms_walk.proofs.{Walking.went_on, Walking.stopped_at, Walking.may_come, Spots.run_among}
+use Rattle.vms_walk.proofs.Facade.{[], ◌≡◌, ◌-◌, refl, ◌∙◌, arith, zero, Ok}
 use Rattle.vms_walk.proofs.step.Walker.run.Goals as goal
 
 pub loop-cell-init : goal.loop-cell-init
 loop-cell-init g c =
     let none : zero ≡ c.args.first - c.args.first = omega arith in
-    record { way = rw (← none) (g.met.Self.Walker.none c.args.self.now); long = refl; within = omega arith }
+    record { way = rw (← none) (g.met.Self.Walker.laws.none c.args.self.now); long = refl; within = omega arith }
 
 pub loop-cell-preserved : goal.loop-cell-preserved
 loop-cell-preserved g c =
-    let inv = c.loop-cell.invariant in
-    let b = c.loop-cell.self in
+    let laws = g.met.Self.Walker.laws in
+    let l = c.loop-cell in
     let d = c.step.new.self in
     record {
-      way = run_next g.Self.Walker.goes g.met.Self.Walker.more c.args.first c.loop-cell.cell c.args.kind c.args.self.now b c.loop-cell.auto.cell inv.way 1 d
-          c.in_ok-step.ensures.ok;
-      long = (g.met.Self.Walker.keeps _ b d c.in_ok-step.ensures.ok).long ∙ inv.long;
+      way = went_on laws (run_among c.args.first l.cell c.args.count c.args.kind c.args.self.now l.self l.auto.cell l.invariant.way 1 (omega arith))
+          d (Ok tt) c.in_ok-step.ensures;
+      long = (laws.keeps _ l.self d (Ok tt) c.in_ok-step.ensures).long ∙ l.invariant.long;
       within = omega arith;
     }
 
@@ -24,19 +24,19 @@ step-requires-clause-inside g c = omega arith
 
 pub step-requires-clause-may : goal.step-requires-clause-may
 step-requires-clause-may g c =
-    run_may g.Self.Walker.goes g.met.Self.Walker.more c.args.first c.loop-cell.cell c.args.kind c.args.self.now c.loop-cell.self c.loop-cell.auto.cell
-    c.loop-cell.invariant.way 1 c.args.count (omega arith) g.Self.Walker.may c.requires.may [] [] [] _ c.loop-cell.self (g.met.Self.Walker.none c.loop-cell.self) refl
+    let laws = g.met.Self.Walker.laws in
+    let l = c.loop-cell in
+    may_come laws (run_among c.args.first l.cell c.args.count c.args.kind c.args.self.now l.self l.auto.cell l.invariant.way 1 (omega arith))
+    g.Self.Walker.may c.requires.may [] [] [] _ l.self (laws.none l.self) refl
 
-pub returns-clause-ok : goal.returns-clause-ok
-returns-clause-ok g c =
+pub returns : goal.returns
+returns g c =
     let all : c.loop-cell.cell - c.args.first ≡ c.args.count = omega arith in
     rw all at c.loop-cell.invariant.way
 
-pub returns-in_err-step-clause-err : goal.returns-in_err-step-clause-err
-returns-in_err-step-clause-err g c =
-    let a = c.args.self.now in
-    let d = c.step.new.self in
-    let fault = c.in_err-step.field-0.0 in
-    err_is (λ fault. g.Self.Walker.stops (run_of c.args.first c.args.count c.args.kind) a fault d) c.from_residual.result fault c.from_residual.ensures.1
-    (run_stop g.Self.Walker.goes g.met.Self.Walker.more c.args.first c.loop-cell.cell c.args.kind a c.loop-cell.self c.loop-cell.auto.cell
-    c.loop-cell.invariant.way 1 c.args.count (omega arith) g.Self.Walker.stops g.met.Self.Walker.stops_after g.met.Self.Walker.stops_before d fault c.in_err-step.ensures.err)
+pub returns-in_err-step : goal.returns-in_err-step
+returns-in_err-step g c =
+    let l = c.loop-cell in
+    stopped_at g.met.Self.Walker.laws
+    (run_among c.args.first l.cell c.args.count c.args.kind c.args.self.now l.self l.auto.cell l.invariant.way 1 (omega arith))
+    c.step.new.self c.in_err-step.field-0.0 c.from_residual.result c.from_residual.ensures.1 c.in_err-step.ensures
