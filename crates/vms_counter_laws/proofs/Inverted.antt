@@ -164,8 +164,7 @@ module _ (old new : Set) where
   sub_within : (i k j : ℕ) (s : Sub) (l : Option ℕ) (t : Option Sub) (m : Mismatch) → compare_sub old new i k j s l t ≡ Some m
       → (4 < m.rule) × (IsDevice m.in_old.part → ⊥)
   sub_within i k j s (Some l) (Some t) m h = grind (arith, else_some, failing_within, part_within)
-  sub_within i k j s None t m h = no_sub i j k m cc
-  sub_within i k j s (Some l) None m h = no_sub i j k m cc
+  sub_within i k j s _ _ m h = no_sub i j k m cc
 
   -- of two devices: the version, the device's own fields and validations, or a subsection
   pub data OfDevice (i k : ℕ) (d e : Device) (m : Mismatch) : Type 0 where
@@ -304,8 +303,7 @@ module _ (two : Two) (m : Mismatch) (twelve : m.rule ≡ 12) where
       let h8 = not_this 7 (same_count o n e.field.count f.field.count) _ p q m (other 7 (omega arith)) h in
       let h9 = not_this 8 (same_item e.field.item f.field.item) _ p q m (other 8 (omega arith)) h8.1 in
       let h10 = not_this 9 (same_rest o n e.rest f.rest) _ p q m (other 9 (omega arith)) h9.1 in
-      let h11 = not_this 10 (names_match e.field f.field) _ p q m (other 10 (omega arith)) h10.1 in
-      let h12 = not_this 11 room _ p q m (other 11 (omega arith)) h11.1 in
+      let h12 = not_this 11 room _ p q m (other 11 (omega arith)) (not_this 10 (names_match e.field f.field) _ p q m (other 10 (omega arith)) h10.1).1 in
       let last = one_rule 12 (same_constant e.field.item f.field.item) p q m h12.1 in
       record { item = h9.0; rest = h10.0; constant = last.0; place = last.2 }
 
