@@ -288,19 +288,11 @@ module _ (old new : Set) (good_old : WellFormed old) (good_new : WellFormed new)
     abbrev ks : List Comparer
     ks = comparers (struct_cells old) (struct_cells new) old.structs new.structs (length new.structs)
 
-    plain_is : (i' j' : ℕ) → m.in_old.part ≡ parts.Device i' → m.in_old.field ≡ Some j' → IsPlain old i' j' → m.in_old.part ≡ parts.Device i
-        → (j : ℕ) (f : Field) → m.in_old.field ≡ Some j → slice_get d.desc.fields j ≡ Some f → presence v f.test f.since ≡ Some None
-    plain_is i' j' part field plain here j f field' is =
-        cc (plain.always, fails.answers.stands)
-
     constant_fails : Meets → m.rule ≡ 12 → (i' j' : ℕ) → m.in_old.part ≡ parts.Device i' → m.in_old.field ≡ Some j' → IsPlain old i' j' → ⊥
     constant_fails w twelve i' j' part field plain = by (of_device old new i _ d _ m fails_here)
       where
         is_device : IsDevice m.in_old.part
         is_device = rw part tt
-
-        here_or : IsWithin (parts.Device i) m → m.in_old.part ≡ parts.Device i
-        here_or x = grind (arith, struct_no_device)
 
         fields : m.in_old.part ≡ parts.Device i → compare_fields ks d.desc p.device.desc v v (parts.Device i) (parts.Device p.number) (position_from 0 es)
             (position_from 0 fs) es fs ≡ Some m → ⊥
@@ -311,7 +303,7 @@ module _ (old new : Set) (good_old : WellFormed old) (good_new : WellFormed new)
             let clash = clashes (record { ks = ks; a = d.desc; b = p.device.desc; v = v; w = v; part = parts.Device i; part' = other; o = o; n = n }) m twelve
             (tables_within _ _ _ _ _) (λ s. struct_no_device _ s is_device)
             ((well_good old good_old heads_old).constants i d fails.answers.stands) ((well_good new good_new heads).constants p.number p.device p.stands)
-            (plain_is i' j' part field plain here) es fs (present_fields _ _ v 0 0 _ (from_zero (slice_get d.desc.fields)))
+            (λ j f field' is. cc (plain.always, fails.answers.stands)) es fs (present_fields _ _ v 0 0 _ (from_zero (slice_get d.desc.fields)))
             (present_fields _ _ v 0 0 _ (from_zero (slice_get p.device.desc.fields))) c in
             devices_clash old new good_old good_new i _ d _ fails.answers.stands p.stands v _ _ _
             _ clash own_fits w.body w.rest w.rest' w.own w.spelled
@@ -323,7 +315,7 @@ module _ (old new : Set) (good_old : WellFormed old) (good_new : WellFormed new)
             let o = position_from 0 es in
             let n = position_from 0 fs in
             elim (else_some _ _ m c) [
-              | inl f ↦ fields (here_or (part_within old new d.desc p.device.desc v (parts.Device i) (parts.Device p.number) m c)) f
+              | inl f ↦ fields (grind (arith, struct_no_device, part_within old new d.desc p.device.desc v (parts.Device i) (parts.Device p.number) m c)) f
               | inr f ↦
                   let kept =
                   list_all (λ t. is_kept ks d.desc p.device.desc v v (parts.Device i) (parts.Device p.number) o n (reduced v t)) p.device.desc.validate in
