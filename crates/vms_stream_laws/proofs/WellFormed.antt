@@ -142,9 +142,6 @@ struct_still ds i d e = grind (arith, desc_still, first_names, few_still, depths
 
 -- ---- devices
 
-sub_still : (k i : ℕ) (d : Device) (j : ℕ) (s : Sub) → sub_fault k i d j s ≡ None → sub_fault k i (unruled_device d) j (unruled_sub s) ≡ None
-sub_still k i d j s e = grind (arith, desc_still, first_names, few_still)
-
 module _ (set : Set) where
   count_same : length (map unruled_desc set.structs) ≡ length set.structs
   count_same = length-map set.structs unruled_desc
@@ -158,7 +155,7 @@ module _ (set : Set) where
       let same = ap not (any_map unruled_device (is_same_device d.desc.name d.instance) (take i set.devices)) in
       let few = few_still d.desc (nat_le (length (map unruled_sub d.subs)) 32) (rw (length-map d.subs unruled_sub) (r.1.1.1.1.1.1.0)) in
       (r.0, (rw (take-map unruled_device i set.devices) (same ∙ r.1.0), (r.1.1.0, (refl, (refl, (refl, (few, (refl, tt))))))))) a.0)
-      (none_after unruled_sub (sub_fault k i d) (sub_fault k i (unruled_device d)) (sub_still k i d) 0 d.subs a.1))
+      (none_after unruled_sub (sub_fault k i d) (sub_fault k i (unruled_device d)) (λ j s e. grind (arith, desc_still, first_names, few_still)) 0 d.subs a.1))
 
   subs_counted : (sizes : List ℕ) (subs : List Sub) → subs_items sizes (map unruled_sub subs) ≡ subs_items sizes subs
   subs_counted sizes [] = refl
