@@ -52,24 +52,12 @@ module _ (k : ℕ) (known : Known) where
         → ((z : ℤ) → first_row (alone (Field k slot) known (unit z)) ≡ two_rows known.section (is_truth kind && is_above z 1) (fails z) reason)
         → taken_by p (seen_in (Field k slot) known
         (needs (width kind) p.rest (unit (value_of (raw kind) (take (width kind) p.rest))))) ≡ take_value kind reason fails (λ z. put (unit z) p.numbers) p
-    value_seen slot kind unit reason fails rows =
-        let w = width kind in
-        let bytes = take w p.rest in
-        let z = value_of (raw kind) bytes in
-        let cut = nat_lt (length p.rest) w in
-        let of : ℤ → Bool → Taken =
-        λ z b. if_whole w p (if b then refuse p reasons.BadBool w else if fails z then refuse p reason w else on w (put (unit z) p.numbers) p) in
-        ap (taken_by p) (tested slot cut (is_truth kind && is_above z 1) (fails z) (unit z) w reason (rows z))
-        ∙ tests_taken p cut (is_truth kind && is_above z 1) (fails z) (unit z) w reason
-        ∙ ap (of z) (bad_same kind bytes) ∙ ap (λ z. of z (is_bad_bool kind bytes)) (raw_same kind bytes)
+    value_seen slot kind unit reason fails rows = grind (arith, width, on, put, tested, tests_taken, bad_same, raw_same)
 
     pub slot_seen : (slot : Slot) → IsUnit slot → taken_by p (seen (Field k slot) known p.rest) ≡ take_slot slot p
     slot_seen (NumberSlot c kind caps) u = value_seen (NumberSlot c kind caps) kind (Number c kind) reasons.CountTooLarge (exceeds caps) (λ z. refl)
     slot_seen (ConstantSlot kind y) u = value_seen (ConstantSlot kind y) kind (Constant kind) reasons.NotEqual (λ z. not (same_number z y)) (λ z. refl)
-    slot_seen (FillerSlot n) u =
-        let cut = nat_lt (length p.rest) n in
-        ap (taken_by p) (tested (FillerSlot n) cut false false (Filler (take n p.rest)) n reasons.Invalid refl) ∙ tests_taken p cut false false
-        (Filler (take n p.rest)) n reasons.Invalid
+    slot_seen (FillerSlot n) u = grind (arith, tested, tests_taken)
     slot_seen (RuleSlot b) u = absurd u
 
 module _ (set : Set) (names : List (List ℕ)) (state : State) (d : Device) (image : Image) (k id : ℕ) (part : Option ℕ) where
@@ -203,8 +191,7 @@ module _ (set : Set) (names : List (List ℕ)) (state : State) (d : Device) (ima
     judged_same i j p slots c = rw (by (unit_at (due_field state.tail (Some k) slots) p.rest))
       where
         by : (f : Found) → verdict i p (due_field state.tail (Some k) slots) f ≡ verdict j p (due_field state.tail (Some k) slots) f
-        by (Whole x n) =
-            ap (by_row g (first_of set names (due_field state.tail (Some k) slots) (known_at set (in_body p.numbers i)) x) n) (after_same p.numbers i j c x)
+        by (Whole x n) = grind (arith, first_of, after_same)
         by Cut = cut_same i j p slots
 
     skips : (i : ℕ) (p : Progress) (slot : Slot) (more : List Slot) → drop i (total p.numbers) ≡ slot ∷ more → skipped (slot ∷ more) ≡ suc (skipped more)

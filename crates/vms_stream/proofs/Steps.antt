@@ -100,8 +100,7 @@ module _ (set : Set) (names : List (List ℕ)) (d : Due) (so_far : Known) where
 
   pub head_passes : (id : ℕ) (name : List ℕ) (instance v k : ℕ) (device : Device) → device_named set name instance ≡ Some k
       → slice_get set.devices k ≡ Some device → slice_get so_far.came k ≡ Some false → IsVersionOf device.desc v → row_of (Head id name instance v) ≡ None
-  head_passes id name instance v k device named there new version =
-      rw (named, new, there, le-ltb device.desc.version v version.1, le-ltb v device.desc.minimum version.0)
+  head_passes id name instance v k device named there new version = grind arith
 
   -- a subsection head that no row takes: of a subsection that has not come, at a version of its description
   pub record SubIs (subs : List Sub) (came : List (Option ℕ)) (name : List ℕ) (v : ℕ) : Type 0 where
