@@ -32,20 +32,17 @@ by_tests cut bad other x n reason = if cut then Short else if bad then Bad n rea
 tests_taken : (p : Progress) (cut bad other : Bool) (x : Piece) (n : ℕ) (reason : Reason) → taken_by p (by_tests cut bad other x n reason)
     ≡ (if cut then refuse p reasons.Truncated (length p.rest) else if bad then refuse p reasons.BadBool n else if other then refuse p reason n else on n
     (put x p.numbers) p)
-tests_taken p false false false x n reason = refl
-tests_taken p _ _ _ x n reason = refl
+tests_taken p cut bad other x n reason = grind arith
 
 module _ (k : ℕ) (known : Known) where
   rows_tested : (section : Option ℕ) (bad other : Bool) (x : Piece) (n : ℕ) (reason : Reason)
       → seen_by (two_rows section bad other reason) x n ≡ by_tests false bad other x n reason
-  rows_tested section false false x n reason = refl
-  rows_tested section _ _ x n reason = refl
+  rows_tested section bad other x n reason = grind arith
 
   pub tested : (slot : Slot) (cut bad other : Bool) (x : Piece) (n : ℕ) (reason : Reason)
       → first_row (alone (Field k slot) known x) ≡ two_rows known.section bad other reason
       → seen_in (Field k slot) known (if cut then Cut else Whole x n) ≡ by_tests cut bad other x n reason
-  tested slot true bad other x n reason e = refl
-  tested slot false bad other x n reason e = rw e (rows_tested known.section bad other x n reason)
+  tested slot cut bad other x n reason e = grind (arith, rows_tested)
 
   module _ (p : Progress) where
     value_seen : (slot : Slot) (kind : Kind) (unit : ℤ → Piece) (reason : Reason) (fails : ℤ → Bool)
@@ -83,9 +80,6 @@ module _ (set : Set) (names : List (List ℕ)) (state : State) (d : Device) (ima
   abbrev reads : Progress → Verdict State → Option (Reading State)
   reads p v = reading_after (reading_on (judge g)) p.place p.rest v
 
-  one : (i : ℕ) (p : Progress) → goes_on i p ≡ reads p (judge g (in_body p.numbers i) p.rest)
-  one i p = one_unit (judge g) (advances g (λ s. solid set s s.spot)) (in_body p.numbers i) p.place p.rest
-
   module _ (e : slice_get set.devices k ≡ Some d) (lt : k < length state.images) where
     part_now : (numbers : List ℤ) (i : ℕ) → part_slots set (slice_get set.devices k) (image_at (in_body numbers i)) part ≡ total numbers
     part_now numbers i = rw (e, at_set state.images k (now numbers) lt)
@@ -109,7 +103,7 @@ module _ (set : Set) (names : List (List ℕ)) (state : State) (d : Device) (ima
     by_slots i p slots h = rw (same i p (unit_at (g.due (in_body p.numbers i)) p.rest)) (ap (judged i p) (ap (drop i) (part_now p.numbers i) ∙ h))
 
     so : (i : ℕ) (p : Progress) (slots : List Slot) → drop i (total p.numbers) ≡ slots → goes_on i p ≡ reads p (judged i p slots)
-    so i p slots h = cc (one i p, by_slots i p slots h)
+    so i p slots h = cc ((one_unit (judge g) (advances g (λ s. solid set s s.spot)) (in_body p.numbers i) p.place p.rest), by_slots i p slots h)
 
     -- if no slot is skipped, one more slot is passed with the next unit
     counted : (numbers : List ℤ) (i : ℕ) (slots : List Slot) → drop i (total numbers) ≡ slots → skipped slots ≡ 0
@@ -128,16 +122,14 @@ module _ (set : Set) (names : List (List ℕ)) (state : State) (d : Device) (ima
         → after set (in_body p.numbers i) x ≡ in_body (put x p.numbers) (suc i)
         → reads p (by_row g (two_rows (Some k) bad other why) n (after set (in_body p.numbers i) x)) ≡ goes i
         (taken_by p (seen_by (two_rows (Some k) bad other why) x n))
-    by_rows i p x n false false why e = rw e
-    by_rows i p x n _ _ why e = refl
+    by_rows i p x n bad other why e = grind arith
 
     -- as it is seen, so the judge goes on
     as_seen : (i : ℕ) (p : Progress) (slot : Slot) (cut : Bool) (x : Piece) (n : ℕ)
         → reads p (verdict i p (Field k slot) (Whole x n)) ≡ goes i (taken_by p (seen_in (Field k slot) (known_at set (in_body p.numbers i)) (Whole x n)))
         → reads p (verdict i p (Field k slot) (if cut then Cut else Whole x n)) ≡ goes i
         (taken_by p (seen_in (Field k slot) (known_at set (in_body p.numbers i)) (if cut then Cut else Whole x n)))
-    as_seen i p slot true x n e = refl
-    as_seen i p slot false x n e = e
+    as_seen i p slot cut x n e = grind arith
 
     put_on : (numbers : List ℤ) (i c : ℕ) (kind : Kind) (z : ℤ) → beyond i (part_at set (in_body numbers i) (Inside k id part i)) ≡ suc i
         → after set (in_body numbers i) (Number c kind z) ≡ in_body (slice_set numbers c z) (suc i)

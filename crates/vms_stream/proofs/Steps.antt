@@ -196,8 +196,7 @@ module _ {r : Run} {s : State} {place : ℕ} {rest : List ℕ} (ok : IsBytes res
 
   by_owes : (b : Bool) → owes (gr.due s) rest ≡ b
       → Then (if b then Faulty (cut_in (gr.due s) rest (gr.section s)) reasons.Truncated (length rest) else Over s) → Stops r s place rest
-  by_owes true e h = cc
-  by_owes false e h = record { over = e; place_is = cc; end_is = cc }
+  by_owes b e h = grind (arith, end_is)
 
   by_found : (f : Found) → Shows (gr.due s) rest f → Then (judge_found gr s rest f) → Steps r s place rest ⊎ Stops r s place rest
   by_found (Whole x m) w h = inl (by_row_of x m w (gr.reason s x) refl h)
@@ -205,8 +204,7 @@ module _ {r : Run} {s : State} {place : ℕ} {rest : List ℕ} (ok : IsBytes res
 
   by_holds : (b : Bool) → Then (if b then judge_found gr s rest (unit_at (gr.due s) rest) else Faulty (gr.section s) reasons.Invalid 0)
       → Steps r s place rest ⊎ Stops r s place rest
-  by_holds true h = by_found (unit_at (gr.due s) rest) (shows (gr.due s) rest ok) h
-  by_holds false h = cc
+  by_holds b h = grind (arith, by_found, unit_at, shows)
 
   pub next : Steps r s place rest ⊎ Stops r s place rest
   next = by_holds (gr.holds s) (sym (one_unit (judge gr) (forward r.set r.names) s place rest) ∙ h.is)
