@@ -81,7 +81,7 @@ by_machine : (names : List (List ℕ)) (machine : Option (List ℕ)) (name named
     → IsConfiguration names machine named
     → (named ≡ [] → get_or more 0 0 ≡ 0x07 → ⊥) → configuration name ++ more' ≡ named ++ more → ⊥
 by_machine names None name named more more' unknown short is no_mark h =
-    no_mark is (sym (ap (λ (l : List ℕ). get_or (l ++ more) 0 0) is) ∙ sym (ap (λ (l : List ℕ). get_or l 0 0) h))
+    no_mark is (sym (ap (λ l. get_or (l ++ more) 0 0) is) ∙ sym (ap (λ l. get_or l 0 0) h))
 by_machine names (Some other) name named more more' unknown short is no_mark h =
     let h' : configuration name ++ more' ≡ configuration other ++ more = rw is.2 at h in
     let bytes : be32 (length name) ≡ be32 (length other) = cc in
@@ -243,9 +243,8 @@ module _ (old new : Set) (good_old : WellFormed old) (good_new : WellFormed new)
         let own = zeroed image.numbers (own_slots old d d.desc.version image.numbers) in
         let more = written_subs old d image (own_cells old d) d.subs image.came ++ (foot i ++ c.rest) in
         let more' = s.tail ++ ((if b.footed then foot b.id else []) ++ b.after) in
-        let head_d = section_head i d.desc.name d.instance d.desc.version in
         let head_e = section_head b.id e.desc.name e.instance b.image.version in
-        let is : head_d ++ (own ++ more) ≡ head_e ++ (s.body ++ more') =
+        let is : (section_head i d.desc.name d.instance d.desc.version) ++ (own ++ more) ≡ head_e ++ (s.body ++ more') =
         simp append_assoc (simp append_assoc at (b.spelled ∙ ap (λ (l : List ℕ). l ++ b.after) s.whole)) in
         let fits = heads_old.instance i d fails.answers.stands in
         let fits' = heads.instance b.number e b.there in
@@ -289,19 +288,11 @@ module _ (old new : Set) (good_old : WellFormed old) (good_new : WellFormed new)
     abbrev ks : List Comparer
     ks = comparers (struct_cells old) (struct_cells new) old.structs new.structs (length new.structs)
 
-    plain_is : (i' j' : ℕ) → m.in_old.part ≡ parts.Device i' → m.in_old.field ≡ Some j' → IsPlain old i' j' → m.in_old.part ≡ parts.Device i
-        → (j : ℕ) (f : Field) → m.in_old.field ≡ Some j → slice_get d.desc.fields j ≡ Some f → presence v f.test f.since ≡ Some None
-    plain_is i' j' part field plain here j f field' is =
-        cc (plain.always, fails.answers.stands)
-
     constant_fails : Meets → m.rule ≡ 12 → (i' j' : ℕ) → m.in_old.part ≡ parts.Device i' → m.in_old.field ≡ Some j' → IsPlain old i' j' → ⊥
     constant_fails w twelve i' j' part field plain = by (of_device old new i _ d _ m fails_here)
       where
         is_device : IsDevice m.in_old.part
         is_device = rw part tt
-
-        here_or : IsWithin (parts.Device i) m → m.in_old.part ≡ parts.Device i
-        here_or x = grind (arith, struct_no_device)
 
         fields : m.in_old.part ≡ parts.Device i → compare_fields ks d.desc p.device.desc v v (parts.Device i) (parts.Device p.number) (position_from 0 es)
             (position_from 0 fs) es fs ≡ Some m → ⊥
@@ -312,7 +303,7 @@ module _ (old new : Set) (good_old : WellFormed old) (good_new : WellFormed new)
             let clash = clashes (record { ks = ks; a = d.desc; b = p.device.desc; v = v; w = v; part = parts.Device i; part' = other; o = o; n = n }) m twelve
             (tables_within _ _ _ _ _) (λ s. struct_no_device _ s is_device)
             ((well_good old good_old heads_old).constants i d fails.answers.stands) ((well_good new good_new heads).constants p.number p.device p.stands)
-            (plain_is i' j' part field plain here) es fs (present_fields _ _ v 0 0 _ (from_zero (slice_get d.desc.fields)))
+            (λ j f field' is. cc (plain.always, fails.answers.stands)) es fs (present_fields _ _ v 0 0 _ (from_zero (slice_get d.desc.fields)))
             (present_fields _ _ v 0 0 _ (from_zero (slice_get p.device.desc.fields))) c in
             devices_clash old new good_old good_new i _ d _ fails.answers.stands p.stands v _ _ _
             _ clash own_fits w.body w.rest w.rest' w.own w.spelled
@@ -321,11 +312,10 @@ module _ (old new : Set) (good_old : WellFormed old) (good_new : WellFormed new)
         by (OfItsVersion r f) = omega arith
         by (Below lt n) = n is_device
         by (Own lt c) =
-            let within = part_within old new d.desc p.device.desc v (parts.Device i) (parts.Device p.number) m c in
             let o = position_from 0 es in
             let n = position_from 0 fs in
             elim (else_some _ _ m c) [
-              | inl f ↦ fields (here_or within) f
+              | inl f ↦ fields (grind (arith, struct_no_device, part_within old new d.desc p.device.desc v (parts.Device i) (parts.Device p.number) m c)) f
               | inr f ↦
                   let kept =
                   list_all (λ t. is_kept ks d.desc p.device.desc v v (parts.Device i) (parts.Device p.number) o n (reduced v t)) p.device.desc.validate in
@@ -340,17 +330,16 @@ module _ (old new : Set) (good_old : WellFormed old) (good_new : WellFormed new)
   device_untaken m r rule other late h ok never n machine states t =
       let fails = device_fails old new m h (omega arith) in
       let stream : stream_of old new m images ≡ written old None images None = rw (rule, other) in
-      never fails
-      (meets m fails (arrives m fails (subst IsBytes stream ok) n _ states (subst (λ l. Takes new new.machines l n machine states) stream t)))
+      never fails (meets m fails (arrives m fails (subst IsBytes stream ok) n _ states (rw stream at t)))
 
   machine_shown : (m : Mismatch) → first_mismatch old new ≡ Some m → m.rule ≡ 1 → (n : ℕ) (machine : Option (List ℕ)) (states : List Image)
       → Takes new new.machines (stream_of old new m images) n machine states → ⊥
   machine_shown m h one n machine states t =
       let l = lacks new.machines old.machines (machine_fails old new m h one) in
-      let named : machine_for old new m ≡ Some l.name = ap (λ (k : ℕ). if k == 1 then lacking new.machines old.machines else None) one ∙ l.is in
+      let named : machine_for old new m ≡ Some l.name = ap (λ k. if k == 1 then lacking new.machines old.machines else None) one ∙ l.is in
       let is : written old (Some l.name) images None ≡ stream_head ++ (configuration l.name ++ behind) = simp append_assoc in
       machine_untaken new _ l.name _ l.unknown (omega (arith, machine_short old good_old l.name l.known)) n _ states
-      (subst (λ (x : List ℕ). Takes new new.machines x n machine states) (ap (λ (k : Option (List ℕ)). written old k images None) named ∙ is) t)
+      (subst (λ x. Takes new new.machines x n machine states) (ap (λ k. written old k images None) named ∙ is) t)
 
   pub shown : (m : Mismatch) → first_mismatch old new ≡ Some m → AlwaysShown old m → IsBytes (stream_of old new m images) → Shows old new m images
   shown m h (OfMachine one) ok = record { ready = ready; untaken = machine_shown m h one }

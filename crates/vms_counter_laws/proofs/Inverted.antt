@@ -51,8 +51,7 @@ first_some f i (x ∷ xs) m h =
 
 -- one rule, at one pair of places
 pub one_rule : (r : ℕ) (b : Bool) (p q : Place) (m : Mismatch) → failing_pair ((r, b) ∷ []) p q ≡ Some m → (b ≡ false) × (m.rule ≡ r) × (m.in_old ≡ p)
-one_rule r true p q m h = absurd (cc)
-one_rule r false p q m h = grind arith
+one_rule r b p q m h = grind arith
 
 -- ---- parts
 
@@ -124,9 +123,6 @@ desc_within structs x y a b v w part part' m within h =
       | inr k ↦ validations_within _ within a b v w part part' o n m k.1
     ]
 
-struct_is : (i : ℕ) (m : Mismatch) → IsWithin (parts.Struct i) m → (4 < m.rule) × IsStruct m.in_old.part
-struct_is i m r = grind arith
-
 -- the comparers of the structures answer within them
 pub tables_within : (x y : List (List Cell)) (olds news : List Desc) (k : ℕ) → StructsWithin (comparers x y olds news k)
 unfolding first
@@ -138,7 +134,7 @@ tables_within x y olds news (suc k) i j m h =
     one_more (λ (c : Comparer). (i : ℕ) (m : Mismatch) → c i ≡ Some m → (4 < m.rule) × IsStruct m.in_old.part) no_comparer (λ i m h. absurd (cc)) earlier
     (λ j i m h. within i j m h) (comparer_of earlier x y olds (length earlier) b)
     (λ i m h.
-    struct_is i m (desc_within _ x y (get_or olds i no_desc) b _ _ _ _ m within h)) j i m h
+    (grind (arith, desc_within _ x y (get_or olds i no_desc) b _ _ _ _ m within h))) j i m h
 
 -- ---- subsections and devices
 
@@ -151,21 +147,13 @@ struct_no_device (parts.Struct i) s d = d
 struct_no_device _ s d = s
 
 module _ (old new : Set) where
-  set_tables : StructsWithin (comparers (struct_cells old) (struct_cells new) old.structs new.structs (length new.structs))
-  set_tables = tables_within _ _ _ _ _
-
   pub part_within : (a b : Desc) (v : ℕ) (part part' : Part) (m : Mismatch) → comparing old new a b v part part' ≡ Some m → IsWithin part m
-  part_within a b v part part' m h = desc_within _ _ _ a b v v part part' m set_tables h
-
-  no_sub : (i j k : ℕ) (m : Mismatch) → record { rule = 13; in_old = here (parts.Sub i j); in_new = here (parts.Device k) } ≡ m
-      → (4 < m.rule) × (IsDevice m.in_old.part → ⊥)
-  no_sub i j k m e = grind (arith, within_of)
+  part_within a b v part part' m h = desc_within _ _ _ a b v v part part' m (tables_within _ _ _ _ _) h
 
   sub_within : (i k j : ℕ) (s : Sub) (l : Option ℕ) (t : Option Sub) (m : Mismatch) → compare_sub old new i k j s l t ≡ Some m
       → (4 < m.rule) × (IsDevice m.in_old.part → ⊥)
   sub_within i k j s (Some l) (Some t) m h = grind (arith, else_some, failing_within, part_within)
-  sub_within i k j s None t m h = no_sub i j k m cc
-  sub_within i k j s (Some l) None m h = no_sub i j k m cc
+  sub_within i k j s _ _ m h = grind (arith, within_of)
 
   -- of two devices: the version, the device's own fields and validations, or a subsection
   pub data OfDevice (i k : ℕ) (d e : Device) (m : Mismatch) : Type 0 where
@@ -269,8 +257,7 @@ differ _ _ fits fits' same h = absurd (cc)
 
 next_rule : (r : ℕ) (b : Bool) (rules : List (ℕ × Bool)) (p q : Place) (m : Mismatch) → failing_pair ((r, b) ∷ rules) p q ≡ Some m
     → ((m.rule ≡ r) × (b ≡ false) × (m.in_old ≡ p)) ⊎ ((b ≡ true) × (failing_pair rules p q ≡ Some m))
-next_rule r true rules p q m h = inr (refl, h)
-next_rule r false rules p q m h = grind arith
+next_rule r b rules p q m h = grind arith
 
 -- a rule of another number doesn't fail
 not_this : (r : ℕ) (b : Bool) (rules : List (ℕ × Bool)) (p q : Place) (m : Mismatch) → (m.rule ≡ r → ⊥) → failing_pair ((r, b) ∷ rules) p q ≡ Some m
@@ -304,8 +291,7 @@ module _ (two : Two) (m : Mismatch) (twelve : m.rule ≡ 12) where
       let h8 = not_this 7 (same_count o n e.field.count f.field.count) _ p q m (other 7 (omega arith)) h in
       let h9 = not_this 8 (same_item e.field.item f.field.item) _ p q m (other 8 (omega arith)) h8.1 in
       let h10 = not_this 9 (same_rest o n e.rest f.rest) _ p q m (other 9 (omega arith)) h9.1 in
-      let h11 = not_this 10 (names_match e.field f.field) _ p q m (other 10 (omega arith)) h10.1 in
-      let h12 = not_this 11 room _ p q m (other 11 (omega arith)) h11.1 in
+      let h12 = not_this 11 room _ p q m (other 11 (omega arith)) (not_this 10 (names_match e.field f.field) _ p q m (other 10 (omega arith)) h10.1).1 in
       let last = one_rule 12 (same_constant e.field.item f.field.item) p q m h12.1 in
       record { item = h9.0; rest = h10.0; constant = last.0; place = last.2 }
 

@@ -62,8 +62,7 @@ module _ (old new : Set) where
   one_refusal : (bytes : List ℕ) (r s : Refusal) (n k : ℕ) → IsBytes bytes → FaultOf bytes r n → FaultOf bytes s k → r ≡ s
   one_refusal bytes r s n k ok f g =
       let one = one_fault_holds new new.machines bytes ok r.place s.place r.section s.section r.reason s.reason n k f g in
-      ap (λ (p : ℕ). record r { place = p }) one.places ∙ ap (λ (o : Option ℕ). record r { place = s.place; section = o }) one.sections
-      ∙ ap (λ (x : Reason). record { place = s.place; section = s.section; reason = x }) one.reasons
+      rw (one.places, one.sections, one.reasons)
 
   both_found : (m : Mismatch) (a b : List Image) (r s : Refusal) (n k : ℕ) → IsBytes (stream_of old new m a) → IsFirst old new m a (candidates old new m)
       → IsFirst old new m b (candidates old new m) → FaultOf (stream_of old new m a) r n → FaultOf (stream_of old new m b) s k

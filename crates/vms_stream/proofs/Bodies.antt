@@ -32,44 +32,29 @@ by_tests cut bad other x n reason = if cut then Short else if bad then Bad n rea
 tests_taken : (p : Progress) (cut bad other : Bool) (x : Piece) (n : ℕ) (reason : Reason) → taken_by p (by_tests cut bad other x n reason)
     ≡ (if cut then refuse p reasons.Truncated (length p.rest) else if bad then refuse p reasons.BadBool n else if other then refuse p reason n else on n
     (put x p.numbers) p)
-tests_taken p false false false x n reason = refl
-tests_taken p _ _ _ x n reason = refl
+tests_taken p cut bad other x n reason = grind arith
 
 module _ (k : ℕ) (known : Known) where
   rows_tested : (section : Option ℕ) (bad other : Bool) (x : Piece) (n : ℕ) (reason : Reason)
       → seen_by (two_rows section bad other reason) x n ≡ by_tests false bad other x n reason
-  rows_tested section false false x n reason = refl
-  rows_tested section _ _ x n reason = refl
+  rows_tested section bad other x n reason = grind arith
 
   pub tested : (slot : Slot) (cut bad other : Bool) (x : Piece) (n : ℕ) (reason : Reason)
       → first_row (alone (Field k slot) known x) ≡ two_rows known.section bad other reason
       → seen_in (Field k slot) known (if cut then Cut else Whole x n) ≡ by_tests cut bad other x n reason
-  tested slot true bad other x n reason e = refl
-  tested slot false bad other x n reason e = rw e (rows_tested known.section bad other x n reason)
+  tested slot cut bad other x n reason e = grind (arith, rows_tested)
 
   module _ (p : Progress) where
     value_seen : (slot : Slot) (kind : Kind) (unit : ℤ → Piece) (reason : Reason) (fails : ℤ → Bool)
         → ((z : ℤ) → first_row (alone (Field k slot) known (unit z)) ≡ two_rows known.section (is_truth kind && is_above z 1) (fails z) reason)
         → taken_by p (seen_in (Field k slot) known
         (needs (width kind) p.rest (unit (value_of (raw kind) (take (width kind) p.rest))))) ≡ take_value kind reason fails (λ z. put (unit z) p.numbers) p
-    value_seen slot kind unit reason fails rows =
-        let w = width kind in
-        let bytes = take w p.rest in
-        let z = value_of (raw kind) bytes in
-        let cut = nat_lt (length p.rest) w in
-        let of : ℤ → Bool → Taken =
-        λ z b. if_whole w p (if b then refuse p reasons.BadBool w else if fails z then refuse p reason w else on w (put (unit z) p.numbers) p) in
-        ap (taken_by p) (tested slot cut (is_truth kind && is_above z 1) (fails z) (unit z) w reason (rows z))
-        ∙ tests_taken p cut (is_truth kind && is_above z 1) (fails z) (unit z) w reason
-        ∙ ap (of z) (bad_same kind bytes) ∙ ap (λ z. of z (is_bad_bool kind bytes)) (raw_same kind bytes)
+    value_seen slot kind unit reason fails rows = grind (arith, width, on, put, tested, tests_taken, bad_same, raw_same)
 
     pub slot_seen : (slot : Slot) → IsUnit slot → taken_by p (seen (Field k slot) known p.rest) ≡ take_slot slot p
     slot_seen (NumberSlot c kind caps) u = value_seen (NumberSlot c kind caps) kind (Number c kind) reasons.CountTooLarge (exceeds caps) (λ z. refl)
     slot_seen (ConstantSlot kind y) u = value_seen (ConstantSlot kind y) kind (Constant kind) reasons.NotEqual (λ z. not (same_number z y)) (λ z. refl)
-    slot_seen (FillerSlot n) u =
-        let cut = nat_lt (length p.rest) n in
-        ap (taken_by p) (tested (FillerSlot n) cut false false (Filler (take n p.rest)) n reasons.Invalid refl) ∙ tests_taken p cut false false
-        (Filler (take n p.rest)) n reasons.Invalid
+    slot_seen (FillerSlot n) u = grind (arith, tested, tests_taken)
     slot_seen (RuleSlot b) u = absurd u
 
 module _ (set : Set) (names : List (List ℕ)) (state : State) (d : Device) (image : Image) (k id : ℕ) (part : Option ℕ) where
@@ -95,9 +80,6 @@ module _ (set : Set) (names : List (List ℕ)) (state : State) (d : Device) (ima
   abbrev reads : Progress → Verdict State → Option (Reading State)
   reads p v = reading_after (reading_on (judge g)) p.place p.rest v
 
-  one : (i : ℕ) (p : Progress) → goes_on i p ≡ reads p (judge g (in_body p.numbers i) p.rest)
-  one i p = one_unit (judge g) (advances g (λ s. solid set s s.spot)) (in_body p.numbers i) p.place p.rest
-
   module _ (e : slice_get set.devices k ≡ Some d) (lt : k < length state.images) where
     part_now : (numbers : List ℤ) (i : ℕ) → part_slots set (slice_get set.devices k) (image_at (in_body numbers i)) part ≡ total numbers
     part_now numbers i = rw (e, at_set state.images k (now numbers) lt)
@@ -121,7 +103,7 @@ module _ (set : Set) (names : List (List ℕ)) (state : State) (d : Device) (ima
     by_slots i p slots h = rw (same i p (unit_at (g.due (in_body p.numbers i)) p.rest)) (ap (judged i p) (ap (drop i) (part_now p.numbers i) ∙ h))
 
     so : (i : ℕ) (p : Progress) (slots : List Slot) → drop i (total p.numbers) ≡ slots → goes_on i p ≡ reads p (judged i p slots)
-    so i p slots h = cc (one i p, by_slots i p slots h)
+    so i p slots h = cc ((one_unit (judge g) (advances g (λ s. solid set s s.spot)) (in_body p.numbers i) p.place p.rest), by_slots i p slots h)
 
     -- if no slot is skipped, one more slot is passed with the next unit
     counted : (numbers : List ℤ) (i : ℕ) (slots : List Slot) → drop i (total numbers) ≡ slots → skipped slots ≡ 0
@@ -140,16 +122,14 @@ module _ (set : Set) (names : List (List ℕ)) (state : State) (d : Device) (ima
         → after set (in_body p.numbers i) x ≡ in_body (put x p.numbers) (suc i)
         → reads p (by_row g (two_rows (Some k) bad other why) n (after set (in_body p.numbers i) x)) ≡ goes i
         (taken_by p (seen_by (two_rows (Some k) bad other why) x n))
-    by_rows i p x n false false why e = rw e
-    by_rows i p x n _ _ why e = refl
+    by_rows i p x n bad other why e = grind arith
 
     -- as it is seen, so the judge goes on
     as_seen : (i : ℕ) (p : Progress) (slot : Slot) (cut : Bool) (x : Piece) (n : ℕ)
         → reads p (verdict i p (Field k slot) (Whole x n)) ≡ goes i (taken_by p (seen_in (Field k slot) (known_at set (in_body p.numbers i)) (Whole x n)))
         → reads p (verdict i p (Field k slot) (if cut then Cut else Whole x n)) ≡ goes i
         (taken_by p (seen_in (Field k slot) (known_at set (in_body p.numbers i)) (if cut then Cut else Whole x n)))
-    as_seen i p slot true x n e = refl
-    as_seen i p slot false x n e = e
+    as_seen i p slot cut x n e = grind arith
 
     put_on : (numbers : List ℤ) (i c : ℕ) (kind : Kind) (z : ℤ) → beyond i (part_at set (in_body numbers i) (Inside k id part i)) ≡ suc i
         → after set (in_body numbers i) (Number c kind z) ≡ in_body (slice_set numbers c z) (suc i)
@@ -203,8 +183,7 @@ module _ (set : Set) (names : List (List ℕ)) (state : State) (d : Device) (ima
     judged_same i j p slots c = rw (by (unit_at (due_field state.tail (Some k) slots) p.rest))
       where
         by : (f : Found) → verdict i p (due_field state.tail (Some k) slots) f ≡ verdict j p (due_field state.tail (Some k) slots) f
-        by (Whole x n) =
-            ap (by_row g (first_of set names (due_field state.tail (Some k) slots) (known_at set (in_body p.numbers i)) x) n) (after_same p.numbers i j c x)
+        by (Whole x n) = grind (arith, first_of, after_same)
         by Cut = cut_same i j p slots
 
     skips : (i : ℕ) (p : Progress) (slot : Slot) (more : List Slot) → drop i (total p.numbers) ≡ slot ∷ more → skipped (slot ∷ more) ≡ suc (skipped more)

@@ -38,18 +38,11 @@ one b more = there 1 (Mark b) (Mark b) more refl refl
 text_there : (mark longest : ℕ) (unit : List ℕ → Piece) (name more : List ℕ) → longest < 4294967296 → length name ≤ longest
     → spell (unit name) ≡ mark ∷ be32 (length name) ++ name
     → text_at mark longest unit (spell (unit name) ++ more) (number_at 4 1 (spell (unit name) ++ more)) ≡ Whole (unit name) (length (spell (unit name)))
-text_there mark longest unit name more low le e =
-    let r = spell (unit name) ++ more in
-    let n : number_at 4 1 r ≡ length name = cc (be32_read (length name) (name ++ more) (omega arith)) in
-    let t : bytes_at (length name) 5 r ≡ name = front_take (length name) name more (drop 5 r) (rw e) refl in
-    ap (text_at mark longest unit r) n ∙ rw (le-ltb longest (length name) le)
-    (there (5 + length name) (unit name) (unit (bytes_at (length name) 5 r)) more (ap unit t) (omega (arith, ap length e)))
+text_there mark longest unit name more low le e = grind (arith, be32_read, front_take, text_at, there)
 
 long_there : (mark longest : ℕ) (unit : List ℕ → Piece) (n : ℕ) (more : List ℕ) → longest < n → n < 4294967296
     → text_at mark longest unit (spell (Long mark n) ++ more) (number_at 4 1 (spell (Long mark n) ++ more)) ≡ Whole (Long mark n) 5
-long_there mark longest unit n more lt f =
-    ap (text_at mark longest unit (spell (Long mark n) ++ more)) (be32_read n more (omega arith)) ∙ rw (lt-ltb longest n lt)
-    (there 5 (Long mark n) (Long mark n) more refl refl)
+long_there mark longest unit n more lt f = grind (arith, text_at, be32_read, there)
 
 -- a byte that begins a footer unit begins no subsection
 not_sub : (tail : Tail) (b : ℕ) (r : List ℕ) → is_foot tail b ≡ true

@@ -104,8 +104,7 @@ module _ {r : Run} (c : Section r.set) (image : Image) (part : Option ℕ) (n : 
       let h = sub_is_one r.set r.names d (knows c image part n) c.device.subs name v (subs_are c image part n)
       (subst (λ k. first_of r.set r.names d k (SubHead name v) ≡ None) (known_is c image part n) none) in
       let s = h.found in
-      let lt : h.j < length c.device.subs = slice_get_within c.device.subs h.j s.item s.there in
-      ASub h.j v s.item more (rw s.is e) s.there (none_from image.came h.j (omega arith) h.new) h.version
+      ASub h.j v s.item more (rw s.is e) s.there (none_from image.came h.j (omega (arith, slice_get_within c.device.subs h.j s.item s.there)) h.new) h.version
       (rw (s.is, ← sub_after c image part n h.j name v h.named) goes)
   by_unit {more = more} ok _ (AtFoot _ _ its f g) none e goes =
       let e2 = rw (foot_is r.set r.names (AfterFields c.k c.state.tail) (known_at r.set (stands c image part n)) its none) at e in

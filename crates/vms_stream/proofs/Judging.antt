@@ -96,8 +96,7 @@ module _ {S : Type 0} (set : Set) (names : List (List ℕ)) (g : Grammar S) (sol
 
     by_reason : (x : Piece) (more : List ℕ) (o : Option (Option ℕ × Reason)) → holds set u ≡ true → May (due set u) x → rest ≡ spell x ++ more
         → reason_of set names u x ≡ o → judge g s rest ≡ by_row g o (length (spell x)) (g.after s x)
-    by_reason x more o held may there e =
-        cc (verdict (Whole x (length (spell x))) held (ap (unit_at (due set u)) there ∙ only (due set u) x more may), m.reason_is u s x r may)
+    by_reason x more o held may there e = grind (arith, verdict, due, only)
 
     told : (section : Option ℕ) (reason : Reason) (size : ℕ) → IsBytes rest → Why set names u rest section reason size
         → judge g s rest ≡ Faulty section reason size

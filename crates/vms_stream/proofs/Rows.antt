@@ -220,15 +220,12 @@ in_headed : Front set_0 set_0.machines headed
 unfolding first
 in_headed = (in_start set_0, refl, head_may true false (codes "timer"), refl)
 
-in_64 : InRange U64 (pos 0)
-in_64 = (omega arith, omega arith)
-
 abbrev fielded : List Piece
 fielded = Number 0 U64 (pos 0) ∷ headed
 
 in_fielded : Front set_0 set_0.machines fielded
 unfolding first
-in_fielded = (in_headed, refl, AtNumber 0 0 U64 [] (pos 0) in_64, refl)
+in_fielded = (in_headed, refl, AtNumber 0 0 U64 [] (pos 0) ((omega arith, omega arith)), refl)
 
 abbrev ended : List Piece
 ended = End ∷ Foot 0 ∷ fielded

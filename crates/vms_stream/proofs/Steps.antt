@@ -100,8 +100,7 @@ module _ (set : Set) (names : List (List ℕ)) (d : Due) (so_far : Known) where
 
   pub head_passes : (id : ℕ) (name : List ℕ) (instance v k : ℕ) (device : Device) → device_named set name instance ≡ Some k
       → slice_get set.devices k ≡ Some device → slice_get so_far.came k ≡ Some false → IsVersionOf device.desc v → row_of (Head id name instance v) ≡ None
-  head_passes id name instance v k device named there new version =
-      rw (named, new, there, le-ltb device.desc.version v version.1, le-ltb v device.desc.minimum version.0)
+  head_passes id name instance v k device named there new version = grind arith
 
   -- a subsection head that no row takes: of a subsection that has not come, at a version of its description
   pub record SubIs (subs : List Sub) (came : List (Option ℕ)) (name : List ℕ) (v : ℕ) : Type 0 where
@@ -197,8 +196,7 @@ module _ {r : Run} {s : State} {place : ℕ} {rest : List ℕ} (ok : IsBytes res
 
   by_owes : (b : Bool) → owes (gr.due s) rest ≡ b
       → Then (if b then Faulty (cut_in (gr.due s) rest (gr.section s)) reasons.Truncated (length rest) else Over s) → Stops r s place rest
-  by_owes true e h = cc
-  by_owes false e h = record { over = e; place_is = cc; end_is = cc }
+  by_owes b e h = grind (arith, end_is)
 
   by_found : (f : Found) → Shows (gr.due s) rest f → Then (judge_found gr s rest f) → Steps r s place rest ⊎ Stops r s place rest
   by_found (Whole x m) w h = inl (by_row_of x m w (gr.reason s x) refl h)
@@ -206,8 +204,7 @@ module _ {r : Run} {s : State} {place : ℕ} {rest : List ℕ} (ok : IsBytes res
 
   by_holds : (b : Bool) → Then (if b then judge_found gr s rest (unit_at (gr.due s) rest) else Faulty (gr.section s) reasons.Invalid 0)
       → Steps r s place rest ⊎ Stops r s place rest
-  by_holds true h = by_found (unit_at (gr.due s) rest) (shows (gr.due s) rest ok) h
-  by_holds false h = cc
+  by_holds b h = grind (arith, by_found, unit_at, shows)
 
   pub next : Steps r s place rest ⊎ Stops r s place rest
   next = by_holds (gr.holds s) (sym (one_unit (judge gr) (forward r.set r.names) s place rest) ∙ h.is)

@@ -51,8 +51,7 @@ any Footed = (true, refl)
 any Bare = (false, refl)
 
 same_footed : (a b : Bool) → Agrees (tail_of a) b → b ≡ a
-same_footed true b e = e
-same_footed false b e = e
+same_footed a b e = grind arith
 
 module _ (r : Run) (good : IsGood r.set) where
   module _ (s : State) (place : ℕ) (k id v : ℕ) (d : Device) (more : List ℕ) (there : slice_get r.set.devices k ≡ Some d) (room : k < length s.images) where

@@ -193,8 +193,7 @@ section_here set k images footed front (Some d) (Some image) e f h = record { de
 section_here set k images footed front _ _ e f h = absurd h
 
 agrees_same : (footed : Bool) → Agrees (tail_of footed) footed
-agrees_same true = refl
-agrees_same false = refl
+agrees_same footed = grind arith
 
 module _ (set : Set) (names : List (List ℕ)) (good : IsGood set) where
   -- a section of a device, and what follows it
@@ -269,8 +268,7 @@ before : {machine : Option (List ℕ)} {images : List Image} {place : ℕ} {x y 
 before e r = rw e r
 
 named_fits : (name : List ℕ) (footed : Bool) → (footed ≡ false → Some name ≡ None) → footed ≡ true
-named_fits name true h = refl
-named_fits name false h = let e = h refl in cc
+named_fits name footed h = grind arith
 
 module _ (set : Set) (names : List (List ℕ)) where
   abbrev read_on : State → ℕ → List ℕ → Option (Reading State)

@@ -307,9 +307,7 @@ module _ (set : Set) where
   asking_same names k x = refl
 
   pub reason_same : (names : List (List ℕ)) (u : List Piece) (x : Piece) → reason_of bare names u x ≡ reason_of set names u x
-  reason_same names u x =
-      ap (λ d. first_of bare names d (known bare u) x) (due_same u) ∙ ap (λ k. first_of bare names (due set u) k x) (known_same u)
-      ∙ ap (λ rows. first_row (alone (due set u) (known set u) x ++ rows)) (asking_same names (known set u) x)
+  reason_same names u x = cc (due_same u, known_same u, asking_same names (known set u) x)
 
   -- ---- fronts
 

@@ -51,9 +51,8 @@ module _ (ms : List Meaning) (b : ℕ) (within : AreWithin b ms) where
     fields_within i at [] = omega arith
     fields_within i at (f ∷ fs) =
         let next = at + length (field_cells (cells_in ms) fields i f) in
-        let one = field_within i at f in
         let others = fields_within (suc i) next fs in
-        omega (arith, length-append (field_slots ms fields v own numbers i at f) (slots_from ms fields v own numbers (suc i) next fs))
+        omega (arith, field_within i at f, length-append (field_slots ms fields v own numbers i at f) (slots_from ms fields v own numbers (suc i) next fs))
 
   desc_within : (d : Desc) (v : ℕ) (numbers : List ℤ) (at : ℕ) → length (desc_slots ms d v numbers at) ≤ most_of d.fields + 1
   desc_within d v numbers at =
@@ -110,10 +109,7 @@ none_failing r (true ∷ rules) part h = none_failing (suc r) rules part h.1
 none_failing r (false ∷ rules) part h = absurd (let e = h.0 in cc)
 
 few_still : (d : Desc) (b : Bool) → (has_few d && b) ≡ true → (has_few (unruled_desc d) && b) ≡ true
-few_still d b e =
-    let both = and_parts (has_few d) b e in
-    let few = and_parts (nat_le (length d.fields) 256) (nat_le (length d.validate) 16) both.0 in
-    and_from (nat_le (length d.fields) 256 && true) b (and_from (nat_le (length d.fields) 256) true few.0 refl) both.1
+few_still d b e = grind (arith, and_from)
 
 -- a description whose own rules still hold
 desc_still : (k : ℕ) (d : Desc) (part : Part) (rules rules' : List Bool) → (AllTrue rules → AllTrue rules') → desc_fault k d part rules ≡ None
@@ -142,19 +138,9 @@ first_names {X = X} f name_of same i xs = ap (map name_of) (take-map f i xs) ∙
     each (y ∷ ys) = rw (same y, each ys)
 
 struct_still : (ds : List Desc) (i : ℕ) (d : Desc) → struct_fault ds i d ≡ None → struct_fault (map unruled_desc ds) i (unruled_desc d) ≡ None
-struct_still ds i d e =
-    desc_still i d (parts.Struct i) (struct_rules ds i d) (struct_rules (map unruled_desc ds) i (unruled_desc d)) (λ r.
-    let names = first_names unruled_desc (λ (d : Desc). d.name) (λ d. refl) i ds in
-    let few = few_still d (nat_le (get_or (struct_depths (map unruled_desc ds)) i 0) 4) (rw (depths_same ds) (r.1.1.1.1.1.1.0)) in
-    (r.0, (rw names (r.1.0), (r.1.1.0, (refl, (refl, (refl, (few, (r.1.1.1.1.1.1.1.0, tt))))))))) e
+struct_still ds i d e = grind (arith, desc_still, first_names, few_still, depths_same)
 
 -- ---- devices
-
-sub_still : (k i : ℕ) (d : Device) (j : ℕ) (s : Sub) → sub_fault k i d j s ≡ None → sub_fault k i (unruled_device d) j (unruled_sub s) ≡ None
-sub_still k i d j s e =
-    desc_still k s.desc (parts.Sub i j) (sub_rules d j s) (sub_rules (unruled_device d) j (unruled_sub s)) (λ r.
-    let names = first_names unruled_sub (λ (s : Sub). s.desc.name) (λ s. refl) j d.subs in
-    (r.0, (rw names (r.1.0), (r.1.1.0, (r.1.1.1.0, (refl, (refl, (few_still s.desc (is_small_test s.needed) r.1.1.1.1.1.1.0, (refl, tt))))))))) e
 
 module _ (set : Set) where
   count_same : length (map unruled_desc set.structs) ≡ length set.structs
@@ -169,7 +155,7 @@ module _ (set : Set) where
       let same = ap not (any_map unruled_device (is_same_device d.desc.name d.instance) (take i set.devices)) in
       let few = few_still d.desc (nat_le (length (map unruled_sub d.subs)) 32) (rw (length-map d.subs unruled_sub) (r.1.1.1.1.1.1.0)) in
       (r.0, (rw (take-map unruled_device i set.devices) (same ∙ r.1.0), (r.1.1.0, (refl, (refl, (refl, (few, (refl, tt))))))))) a.0)
-      (none_after unruled_sub (sub_fault k i d) (sub_fault k i (unruled_device d)) (sub_still k i d) 0 d.subs a.1))
+      (none_after unruled_sub (sub_fault k i d) (sub_fault k i (unruled_device d)) (λ j s e. grind (arith, desc_still, first_names, few_still)) 0 d.subs a.1))
 
   subs_counted : (sizes : List ℕ) (subs : List Sub) → subs_items sizes (map unruled_sub subs) ≡ subs_items sizes subs
   subs_counted sizes [] = refl
