@@ -184,21 +184,18 @@ fills_more xs ys a b c r h k = record {
   keeps = keeps_more xs ys a.image.numbers b.image.numbers c.image.numbers h.keeps k.keeps;
 }
 
-refused_is : (t : Taken) (n : List ℤ) (place : ℕ) (left : Option (List ℕ)) (fault : FrameFault) {P : Type 0} → TakesAs t n place left (Err fault) → ((e : Refusal) → t ≡ Err e → P) → IfRefused (Err fault) P
-refused_is (Ok p) n place left (faults.Refused at reason) h f = absurd h
-refused_is (Err e) n place left (faults.Refused at reason) h f = f e refl
-refused_is t n place left faults.ReadFault h f = tt
-
-both_refused : {P Q R : Type 0} (fault : FrameFault) → (P → Q → R) → IfRefused (Err fault) P → IfRefused (Err fault) Q → IfRefused (Err fault) R
-both_refused (faults.Refused at reason) f h k = f h k
-both_refused faults.ReadFault f h k = tt
+refused_then : (t : Taken) (n : List ℤ) (place : ℕ) (left : Option (List ℕ)) (fault : FrameFault) {P Q : Type 0} → TakesAs t n place left (Err fault) → ((e : Refusal) → t ≡ Err e → P → Q)
+    → IfRefused (Err fault) P → IfRefused (Err fault) Q
+refused_then (Ok q) n place left (faults.Refused at reason) h f p = absurd h
+refused_then (Err e) n place left (faults.Refused at reason) h f p = f e refl p
+refused_then t n place left faults.ReadFault h f p = tt
 
 filled_before : (xs ys : List WalkStep) (a b : Told) (fault : FrameFault) (all left : List ℕ) → IsFilled xs a (Err fault) b all left → IsFilled (xs ++ ys) a (Err fault) b all left
 filled_before xs ys a b fault all left h =
     let P : Taken → Type 0 = λ t. TakesAs t b.image.numbers b.place (Some left) (Err fault) in (
       subst P (sym (take_append xs ys (from a all))) (stop_early (take_steps xs (from a all)) ys fault b.image.numbers b.place (Some left) h.0),
-      both_refused fault (λ (e : last_numbers (xs ++ ys) (from a all) ≡ last_numbers xs (from a all)) f. f ∙ sym e)
-          (refused_is (take_steps xs (from a all)) b.image.numbers b.place (Some left) fault h.0 (λ r e. last_refused xs ys (from a all) r e)) h.1,
+      refused_then (take_steps xs (from a all)) b.image.numbers b.place (Some left) fault h.0
+          (λ r e (f : b.image.numbers ≡ last_numbers xs (from a all)). f ∙ sym (last_refused xs ys (from a all) r e)) h.1,
     )
 
 pub fills_before : (xs ys : List WalkStep) (a b : Told) (fault : FrameFault) → Fills xs a (Err fault) b → Fills (xs ++ ys) a (Err fault) b
