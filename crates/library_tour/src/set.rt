@@ -72,5 +72,5 @@ fn field(alloc: Global, name: &str, kind: Kind, since: u32) -> Result<Field, All
 fn text(alloc: Global, text: &str) -> Result<Text, AllocError>
     ensures { IfOk result (λ made. made ≡ text.now) }
 {
-    Ok(Text::new(String::from_str(alloc, text)?))
+    Ok(Text::copied(alloc, text)?)
 }

@@ -43,7 +43,7 @@ fn test(alloc: Global, asks: Asks) -> Result<Test, Fail> {
 }
 
 fn text(alloc: Global, name: &str) -> Result<Text, Fail> {
-    Ok(Text::new(String::from_str(alloc, name)?))
+    Ok(Text::copied(alloc, name)?)
 }
 
 /// Returns a field that is a byte, unless more is given.

@@ -77,7 +77,7 @@ impl Reads for TextOf {
 
     fn read(&self, alloc: Global, value: &Node) -> Result<Text, Fault> {
         match value.as_str() {
-            Some(text) => Ok(Text::new(String::from_str(alloc, text)?)),
+            Some(text) => Ok(Text::copied(alloc, text)?),
             None => Err(Fault::here(alloc)),
         }
     }

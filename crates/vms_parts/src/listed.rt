@@ -1,6 +1,8 @@
 // Lists and texts, as contracts see them.
-ghost use Rattle.std.specs.Prelude.{◌≡◌, string_bytes};
+ghost use Rattle.std.specs.Prelude.{◌≡◌, IfOk, IfSome, string_bytes};
 
+use arrayvec::ArrayString;
+use std::alloc::{AllocError, Global};
 use std::marker::Model;
 
 /// A `Vec` that contracts see as a list.
@@ -33,18 +35,33 @@ impl<T> Listed<T> {
     }
 }
 
-/// A `String` that contracts see as its bytes.
+/// A text that contracts see as its bytes.
+///
+/// One of at most 32 bytes, as a name of a well-formed set is, has no memory of its own.
 #[derive(Drop)]
 pub struct Text {
-    text: String,
+    held: Held,
 }
 
+// Where the bytes of a text are.
+#[derive(Drop)]
+pub(crate) enum Held {
+    // In the value itself.
+    Short(ArrayString<LONGEST_SHORT>),
+    // In memory of its own.
+    Long(String),
+}
+
+// The most bytes that a text without memory of its own has.
+const LONGEST_SHORT: usize = 32;
+
 impl Model for Text {
-    ghost use Rattle.std.specs.Prelude.{List, ℕ, string_bytes};
+    ghost use Rattle.std.specs.Prelude.{List, ℕ};
+    ghost use Rattle.vms_parts.specs.Texts.{bytes_of};
 
     ghost Value = { List ℕ };
 
-    ghost view = { λ a. string_bytes a.text };
+    ghost view = { λ a. bytes_of a.held };
 }
 
 impl Text {
@@ -52,20 +69,58 @@ impl Text {
     pub fn new(text: String) -> Self
         ensures { result ≡ string_bytes text }
     {
-        Text { text }
+        match short(text.as_str()) {
+            Some(short) => short,
+            None => Text {
+                held: Held::Long(text),
+            },
+        }
+    }
+
+    /// Returns a copy of `text`.
+    ///
+    /// # Errors
+    ///
+    /// - [`AllocError`]: out of memory, for a text of more than 32 bytes.
+    pub fn copied(alloc: Global, text: &str) -> Result<Self, AllocError>
+        ensures { IfOk result (λ copy. copy ≡ text.now) }
+    {
+        match short(text) {
+            Some(short) => Ok(short),
+            None => Ok(Text {
+                held: Held::Long(String::from_str(alloc, text)?),
+            }),
+        }
     }
 
     /// Returns the bytes of the text.
     pub fn as_bytes(&self) -> &[u8]
         ensures { result.now ≡ self.now }
     {
-        self.text.as_bytes()
+        self.as_str().as_bytes()
     }
 
     /// Returns the text.
     pub fn as_str(&self) -> &str
         ensures { result.now ≡ self.now }
     {
-        self.text.as_str()
+        match &self.held {
+            Held::Short(text) => text.as_str(),
+            Held::Long(text) => text.as_str(),
+        }
     }
+}
+
+// Returns a copy of `text` without memory of its own, or `None` if it is too long for that.
+fn short(text: &str) -> Option<Text>
+    ensures { IfSome result (λ copy. copy ≡ text.now) }
+{
+    if text.len() > LONGEST_SHORT {
+        return None;
+    }
+    let mut held = ArrayString::new();
+    held.push_str(text);
+    Some(Text {
+        held: Held::Short(held),
+    })
 }

@@ -15,7 +15,7 @@ use vms_parts::{Desc, Device, Field, Listed, Parts, Rel, Sub, Test, Text, Whose}
 fn text(alloc: Global, bytes: &str) -> Result<Text, NoMemory>
     ensures { IfOk result (λ t. t ≡ bytes.now) }
 {
-    Ok(Text::new(String::from_str(alloc, bytes)?))
+    Ok(Text::copied(alloc, bytes)?)
 }
 
 // Returns a text for each of the names.

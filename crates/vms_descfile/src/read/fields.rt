@@ -307,7 +307,7 @@ fn plain_field(alloc: Global, plain: Plain) -> Result<Field, Fault>
 {
     let former = read_former(alloc, plain.former)?;
     Ok(Field {
-        name: Text::new(String::from_str(alloc, plain.name)?),
+        name: Text::copied(alloc, plain.name)?,
         former,
         item: Item::Num(plain.kind),
         count: Count::One,
