@@ -3,7 +3,6 @@ ghost use Rattle.std.specs.Prelude.{◌≡◌, ◌+◌, ◌/◌, ◌<◌, ◌≤
 ghost use Rattle.dev_base.specs.Levels.{IsLevel, MayRestore};
 ghost use Rattle.dev_base.specs.declared.limits.TheConstants.{LAST_MOMENT as last_moment};
 ghost use Rattle.dev_pic.specs.Cells.{IsChipCells};
-ghost use Rattle.dev_base.specs.Bits.{same};
 ghost use Rattle.dev_board.specs.Saved.{AreBoardCells, moment_of as moment_in, timed as timed_of, pair_back, pit_back, serial_back, numbers_back};
 ghost use Rattle.vms_kinds.specs.declared.TheConstants.{MOST_CELLS};
 
@@ -161,17 +160,10 @@ impl Parts {
         ensures { result ≡ lines_agree self.now }
     {
         let lines = self.pair.lines();
-        is_same(is_high(lines, 0), self.pit.out(0, self.moment))
-            && is_same(is_high(lines, 2), self.pair.slave_int())
-            && is_same(is_high(lines, 4), self.serial.line(self.moment))
+        is_high(lines, 0) == self.pit.out(0, self.moment)
+            && is_high(lines, 2) == self.pair.slave_int()
+            && is_high(lines, 4) == self.serial.line(self.moment)
     }
-}
-
-// Tells whether both are true or both are false.
-fn is_same(first: bool, second: bool) -> bool
-    ensures { result ≡ same first second }
-{
-    first == second
 }
 
 // Returns the moment that the cells describe.

@@ -1,6 +1,5 @@
 // Saving and restoring a clock board's devices.
 ghost use Rattle.std.specs.Prelude.{◌≡◌, IfOk};
-ghost use Rattle.dev_base.specs.Bits.{same};
 ghost use Rattle.dev_base.specs.Cells.{AreOf};
 ghost use Rattle.dev_base.specs.Levels.{IsUpTo};
 ghost use Rattle.dev_pic.specs.Cells.{IsChipCells};
@@ -93,7 +92,7 @@ fn restore_clock(version: u8, moment: u64, line: bool, cells: &DevCells) -> Resu
     ensures { result ≡ clock_back version line cells.now.items }
 {
     match load_device::<Rtc>(version, NEWEST_CLOCK, moment, cells) {
-        Ok(clock) if is_same(line, clock.line()) => Ok(clock),
+        Ok(clock) if line == clock.line() => Ok(clock),
         Ok(_) => Err(unsound(LINE_RULE)),
         Err(fault) => Err(unsound(fault.rule)),
     }
@@ -107,13 +106,6 @@ fn unsound(rule: u8) -> Misfit
         device: CLOCK_DEVICE,
         rule,
     }
-}
-
-// Tells whether both are true or both are false.
-fn is_same(first: bool, second: bool) -> bool
-    ensures { result ≡ same first second }
-{
-    first == second
 }
 
 // Returns the board's fault, with its device one place later.
