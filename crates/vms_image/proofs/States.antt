@@ -17,5 +17,5 @@ at_state (x ∷ xs) (suc k) image e = at_state xs k image e
 -- the image at a number
 pub image_at : (images : List Typed) (k : ℕ) (image : Typed) → k < length images → image ≡ get_or images k image → slice_get images k ≡ Some image
 image_at [] k image lt is = absurd (omega arith)
-image_at (x ∷ xs) zero image lt is = ap (λ (y : Typed). Some y) (sym is)
+image_at (x ∷ xs) zero image lt is = cc
 image_at (x ∷ xs) (suc k) image lt is = image_at xs k image (omega arith) is
