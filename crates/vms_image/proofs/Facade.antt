@@ -1,7 +1,7 @@
 -- The names of other crates, and of this crate's `specs`, that the proofs use.
 pub use Rattle.std.proofs.{lemmas.Bool.and_parts, lemmas.Int.to_z-of_z, lemmas.Simd.map-map}
 pub use Rattle.std.proofs.Common.{Bool, IsTrue, List, None, Option, SFits, Some, [], ap, arith, get_or, length, map, refl, replicate, rules, subst, suc, sym}
-pub use Rattle.std.proofs.Common.{true, zero, ℕ, ℤ, ◌&&◌, ◌<◌, ◌↔◌, ◌∙◌, ◌∷◌, ◌≡◌, ◌≤◌}
+pub use Rattle.std.proofs.Common.{true, zero, ℕ, ◌<◌, ◌↔◌, ◌∙◌, ◌∷◌, ◌≡◌, ◌≤◌}
 pub use Rattle.std.proofs.lemmas.List.{ext_get_or, get_or-map, get_or-replicate, length-map, length-replicate}
 pub use Rattle.std.specs.{Int.w128, List.slice_get}
 pub use Rattle.vms_kinds.specs.{Codes.InRange, declared.Kind.Kind, declared.Kind.TheVariants.U8}

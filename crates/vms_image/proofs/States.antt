@@ -1,6 +1,6 @@
 -- The states of a list of images.
-use Rattle.vms_image.proofs.Facade.{◌≡◌, ℕ, zero, suc, ◌<◌, List, [], ◌∷◌, Some, length, get_or, map, sym, ap, ◌∙◌, arith, slice_get, length-map, get_or-map}
-use Rattle.vms_image.proofs.Facade.{Typed, state_of}
+use Rattle.vms_image.proofs.Facade.{◌≡◌, ℕ, zero, suc, ◌<◌, List, [], ◌∷◌, Some, length, get_or, map, sym, ap, ◌∙◌, arith, slice_get}
+use Rattle.vms_image.proofs.Facade.{length-map, get_or-map, Typed, state_of}
 
 pub states_long : (images : List Typed) → length (map state_of images) ≡ length images
 states_long images = length-map images state_of

@@ -1,7 +1,8 @@
 -- The bytes that a buffered reader still gives, as they are read and given.
-use Rattle.vms_io.proofs.{Facade.bytes_only, Facade.between, Filling.left_split, Gathering.part_is}
-use Rattle.vms_io.proofs.Facade.{◌≡◌, ℕ, ◌+◌, ◌-◌, ◌≤◌, Bool, true, false, ◌&&◌, List, [], ◌++◌, length, take, drop, Option, Some, None, if◌then◌else◌}
-use Rattle.vms_io.proofs.Facade.{refl, sym, ap, subst, ◌∙◌, arith, append_assoc, drop_all, length-take, length-take-le, take-take, list_all-append, Consumes, Keeps, ahead, are_bytes}
+use Rattle.vms_io.proofs.{Filling.left_split, Gathering.part_is}
+use Rattle.vms_io.proofs.Facade.{bytes_only, between, ◌≡◌, ℕ, ◌+◌, ◌-◌, ◌≤◌, Bool, true, false, ◌&&◌, List, [], ◌++◌, length}
+use Rattle.vms_io.proofs.Facade.{take, drop, Option, Some, None, if◌then◌else◌, refl, sym, ap, ◌∙◌, arith, append_assoc, drop_all, length-take}
+use Rattle.vms_io.proofs.Facade.{length-take-le, take-take, list_all-append, Consumes, Keeps, ahead, are_bytes}
 
 -- after the front of a list of bytes there are bytes
 only_after : (xs bs ys : List ℕ) → xs ≡ bs ++ ys → Consumes (bytes_only xs) (bytes_only ys) bs
@@ -16,7 +17,7 @@ only_after xs bs ys e = by (are_bytes xs) (are_bytes bs) (are_bytes ys) (ap are_
 -- the front of the waiting bytes is given
 gives : (x : Option (List ℕ)) (waiting bs rest : List ℕ) → waiting ≡ bs ++ rest → Consumes (ahead x waiting) (ahead x rest) bs
 gives None waiting bs rest e = tt
-gives (Some xs) waiting bs rest e = only_after (waiting ++ xs) bs (rest ++ xs) (ap (λ (l : List ℕ). l ++ xs) e ∙ append_assoc bs rest xs)
+gives (Some xs) waiting bs rest e = only_after (waiting ++ xs) bs (rest ++ xs) (rw (e, append_assoc))
 
 -- the first n waiting bytes, copied into the front of a buffer
 pub given_on : (x : Option (List ℕ)) (room copied buf : List ℕ) (b e n : ℕ) → copied ≡ take ((b + n) - b) (drop b room) → b + n ≤ e → e ≤ length room
@@ -24,7 +25,7 @@ pub given_on : (x : Option (List ℕ)) (room copied buf : List ℕ) (b e n : ℕ
 given_on x room copied buf b e n is fits within =
     let less : (b + n) - b ≤ e - b = omega arith in
     let le : b ≤ e = omega arith in
-    let front : copied ≡ take ((b + n) - b) (between room b e) = is ∙ sym (take-take ((b + n) - b) (e - b) (drop b room) less) ∙ ap (take ((b + n) - b)) (part_is room b e le) in
+    let front : copied ≡ take ((b + n) - b) (between room b e) = rw (is, ← take-take ((b + n) - b) (e - b) (drop b room) less, part_is room b e le) in
     gives x (between room b e) (take n (copied ++ buf)) (between room (b + n) e)
     (left_split (take e room) (take e room) copied buf b n refl front (omega (arith, length-take-le e room within)))
 
@@ -32,9 +33,7 @@ given_on x room copied buf b e n is fits within =
 pub still_ahead : (x y z : Option (List ℕ)) (room new : List ℕ) (b e d f : ℕ) → b ≡ e → d ≡ 0 → f ≡ 0 → x ≡ y
     → Keeps (ahead y (between new d f)) z → Keeps (ahead x (between room b e)) z
 still_ahead x y z room new b e d f given begun ended same k =
-    subst (λ (l : List ℕ). Keeps (ahead x l) z) (sym (none_waits room b e given))
-    (subst (λ (l : List ℕ). Keeps (ahead x l) z) (none_waits new d f (begun ∙ sym ended))
-    (subst (λ (r : Option (List ℕ)). Keeps (ahead r (between new d f)) z) (sym same) k))
+    rw (none_waits room b e given, same) (rw (none_waits new d f (begun ∙ sym ended)) at k)
   where
     none_waits : (room : List ℕ) (b e : ℕ) → b ≡ e → between room b e ≡ []
     none_waits room b e same = drop_all b (take e room) (omega (arith, same, length-take e room))

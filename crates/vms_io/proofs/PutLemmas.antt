@@ -1,6 +1,6 @@
 -- A shelf in memory after bytes were put under a name.
-use Rattle.vms_io.proofs.Facade.{◌≡◌, ◌≢◌, ℕ, Bool, true, false, cond, List, Option, Some, Result, Ok, Err, OnErr, ap, sym, ◌∙◌, refl, subst, bytes_eq-Decides}
-use Rattle.vms_io.proofs.Facade.{option_map, bytes_eq, update, IsBytes, Held, HoldsAll, HoldsBytes, PutsUnder, KeepsOthers}
+use Rattle.vms_io.proofs.Facade.{◌≡◌, ◌≢◌, ℕ, Bool, true, false, cond, List, Option, Some, Result, Ok, Err, OnErr, ap, sym, ◌∙◌, refl}
+use Rattle.vms_io.proofs.Facade.{bytes_eq-Decides, option_map, bytes_eq, update, IsBytes, Held, HoldsAll, HoldsBytes, PutsUnder, KeepsOthers}
 
 differ : (b : Bool) {X : Type 0} (x y : X) → (b ≡ true → ⊥) → cond b x y ≡ y
 differ true x y never = absurd (never refl)
@@ -11,7 +11,7 @@ pub update_puts : {X : Type 0} (f g : List ℕ → Option X) (v : X) (bytes_of :
     → ((cs : List ℕ) → g cs ≡ update bytes_eq f name (Some v) cs)
     → PutsUnder (λ cs. option_map bytes_of (f cs)) (λ cs. option_map bytes_of (g cs)) name (bytes_of v)
 update_puts f g v bytes_of name h = record {
-  there = ap (option_map bytes_of) (h name ∙ ap (λ b. cond b (Some v) (f name)) ((bytes_eq-Decides name name).1 refl));
+  there = rw (h name, (bytes_eq-Decides name name).1 refl);
   others = λ other differs. ap (option_map bytes_of) (h other ∙ differ (bytes_eq name other) (Some v) (f other) (λ same. differs (sym ((bytes_eq-Decides name other).0 same))));
 }
 
@@ -25,7 +25,7 @@ pub puts_bytes : (old new : Held) (name bytes : List ℕ) → PutsUnder old new 
 puts_bytes old new name bytes p ok holds = λ other. by other (bytes_eq other name) refl
   where
     by : (other : List ℕ) (t : Bool) → bytes_eq other name ≡ t → HoldsBytes (new other)
-    by other true e = subst HoldsBytes (sym (ap new ((bytes_eq-Decides other name).0 e) ∙ p.there)) ok
+    by other true e = rw ((bytes_eq-Decides other name).0 e, p.there) ok
     by other false e =
         let ne : other ≢ name = λ same. let f = (bytes_eq-Decides other name).1 same in cc (sym e ∙ f) in
-        subst HoldsBytes (sym (p.others other ne)) (holds other)
+        rw (p.others other ne) (holds other)

@@ -1,5 +1,5 @@
-use Rattle.vms_image.proofs.Facade.{w128, to_z-of_z, rules, SFits, ◌≡◌, ◌<◌, ◌↔◌, IsTrue, List, length, get_or, map, sym, ap, ◌∙◌, subst, arith, get_or-map}
-use Rattle.vms_image.proofs.Facade.{InRange, Kind, U8, Spot, kinds_of, no_spot, kinds_are, Typed}
+use Rattle.vms_image.proofs.Facade.{w128, to_z-of_z, rules, SFits, ◌≡◌, ◌<◌, ◌↔◌, IsTrue, List, length, get_or, map, sym, ap, ◌∙◌, subst}
+use Rattle.vms_image.proofs.Facade.{arith, get_or-map, InRange, Kind, U8, Spot, kinds_of, no_spot, kinds_are, Typed}
 use Rattle.vms_image.proofs.image.Image.fits.Goals as goal
 
 pub returns : goal.returns

@@ -1,7 +1,7 @@
-use Rattle.vms_image.proofs.Facade.{◌≡◌, ◌∙◌, ap, sym, rules, arith, length, true, length-map, sub_of, Device, device_cells, spots_of, kinds_of, kinds_are}
-use Rattle.vms_image.proofs.Facade.{spots_long, described, kinds_at, Typed, IsImageOf}
-use Rattle.vms_desc.specs.Described.{device_at}
+use Rattle.vms_image.proofs.Facade.{◌≡◌, ◌∙◌, ap, sym, rules, arith, length, true, length-map, sub_of, Device, device_cells, spots_of, kinds_of}
+use Rattle.vms_image.proofs.Facade.{kinds_are, spots_long, described, kinds_at, Typed, IsImageOf}
 use Rattle.vms_image.proofs.SameSpots.{same_lists, lists_equal}
+use Rattle.vms_desc.specs.Described.{device_at}
 use Rattle.vms_image.proofs.image.Image.is_of.Goals as goal
 
 same_spots : (c : goal.After-eq) → c.eq.result ≡ true → c.spots.result.now ≡ c.spots-then-len-as_slice.result.now

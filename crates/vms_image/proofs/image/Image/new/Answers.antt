@@ -1,5 +1,4 @@
-use Rattle.vms_image.proofs.Facade.{refl, described}
-use Rattle.vms_image.proofs.Made.{made}
+use Rattle.vms_image.proofs.{Facade.refl, Facade.described, Made.made}
 use Rattle.vms_image.proofs.image.Image.new.Goals as goal
 
 pub returns : goal.returns

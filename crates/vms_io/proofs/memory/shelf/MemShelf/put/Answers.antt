@@ -1,5 +1,4 @@
-use Rattle.vms_io.proofs.Facade.{btree_map_updates_text}
-use Rattle.vms_io.proofs.PutLemmas.{update_puts}
+use Rattle.vms_io.proofs.{Facade.btree_map_updates_text, PutLemmas.update_puts}
 use Rattle.vms_io.proofs.memory.shelf.MemShelf.put.Goals as goal
 
 pub returns-clause-ok : goal.returns-clause-ok
