@@ -1,6 +1,8 @@
 -- The bytes of a number and back, kind by kind.
-use Rattle.std.proofs.{Common.◌≤◌, Common.slice_set, lemmas.Nat.be_bytes_2, lemmas.Nat.be_bytes_4, lemmas.Nat.be_bytes_8, lemmas.Int.ints, lemmas.Int.to_z-of_z}
-use Rattle.std.proofs.Common.{◌≡◌, ℕ, ◌^◌, ◌<◌, List, [], ◌∷◌, length, ℤ, pos, negsuc, slice_index, arith, refl, ap, ◌∙◌, sym, subst, true, false, ◌++◌, drop}
+use Rattle.std.proofs.Common.{◌≤◌, slice_set, ◌≡◌, ℕ, ◌^◌, ◌<◌, List, [], ◌∷◌, length, ℤ, pos, negsuc, slice_index, arith, refl}
+use Rattle.std.proofs.Common.{ap, ◌∙◌, sym, true, false, ◌++◌, drop}
+use Rattle.std.proofs.lemmas.Int.{ints, to_z-of_z}
+use Rattle.std.proofs.lemmas.Nat.{be_bytes_2, be_bytes_4, be_bytes_8}
 use Rattle.std.specs.Int.{Width, w8, w16, w32, w64, w128, cast_unsigned}
 use Rattle.byteorder.specs.Endian.{big_bytes, big_number, twos_complement}
 use Rattle.vms_kinds.specs.{declared.Kind.Kind, Bytes.IsBytes}
@@ -123,7 +125,7 @@ as_i64 (negsuc n) h = (omega (arith, ints), omega (arith, ints))
 
 -- a cast from 128 bits to a width that the number fits
 cast_back : (w : Width) (z : ℤ) → SFits w128 z → SFits w z → to_z w (of_z w (to_z w128 (of_z w128 z))) ≡ z
-cast_back w z f g = ap (λ (v : ℤ). to_z w (of_z w v)) (to_z-of_z w128 z f) ∙ to_z-of_z w z g
+cast_back w z f g = rw (to_z-of_z w128 z f) (to_z-of_z w z g)
 
 -- one byte, put in front
 first_put : (old : List ℕ) (n : ℕ) → 1 ≤ length old → n < 256 → slice_set old 0 n ≡ big_bytes 1 n ++ drop 1 old
@@ -137,15 +139,14 @@ pub written_signed : (kind k : Kind) (w : Width) (z : ℤ) (old new : List ℕ) 
     → new ≡ code kind z ++ drop (width kind) old
 unfolding code
 written_signed kind k w z old new is h f fits e =
-    let g : SFits w z × (cast_unsigned w z ≡ residue (width k) z) = fits (subst (λ (x : Kind). InRange x z) is h) in
-    e ∙ ap (λ (v : ℕ). big_bytes (width k) v ++ drop (width k) old) (ap (cast_unsigned w) (cast_back w z f g.0) ∙ g.1)
-    ∙ ap (λ (x : Kind). code x z ++ drop (width x) old) (sym is)
+    let g : SFits w z × (cast_unsigned w z ≡ residue (width k) z) = fits (rw is at h) in
+    rw (e, cast_back w z f g.0, g.1, is)
 
 pub written_i8 : (kind : Kind) (z : ℤ) (old : List ℕ) (n : ℕ) → kind ≡ I8 → InRange kind z → SFits w128 z → 1 ≤ length old → n < 256
     → n ≡ cast_unsigned w8 (to_z w8 (of_z w8 (to_z w128 (of_z w128 z))))
     → slice_set old 0 n ≡ code kind z ++ drop (width kind) old
 written_i8 kind z old n is h f some small e =
-    written_signed kind I8 w8 z old _ is h f (as_i8 z) (first_put old n some small ∙ ap (λ (v : ℕ). big_bytes 1 v ++ drop 1 old) e)
+    written_signed kind I8 w8 z old _ is h f (as_i8 z) (rw (first_put old n some small, e))
 
 not_negative : (kind : Kind) (n : ℕ) → is_signed kind ≡ false → InRange kind (negsuc n) → ⊥
 not_negative U8 n s h = omega (arith, ints)
@@ -161,8 +162,7 @@ pub written_plain : (kind : Kind) (z : ℤ) (w : ℕ) (old new : List ℕ) → w
     → new ≡ big_bytes w (nat_abs (to_z w128 (of_z w128 z))) ++ drop w old
     → new ≡ code kind z ++ drop (width kind) old
 written_plain kind (pos n) w old new ew s h f e =
-    e ∙ ap (λ (v : ℤ). big_bytes w (nat_abs v) ++ drop w old) (to_z-of_z w128 (pos n) f) ∙ ap (λ (v : ℕ). big_bytes v n ++ drop v old) ew
-    ∙ ap (λ (v : List ℕ). v ++ drop (width kind) old) (plain_code kind n s h)
+    rw (e, to_z-of_z w128 (pos n) f, ew, plain_code kind n s h)
 written_plain kind (negsuc n) w old new ew s h f e = absurd (not_negative kind n s h)
 
 -- the bytes after one byte was written
@@ -173,7 +173,7 @@ written_byte kind z old ew s h f some small = written_plain kind z 1 old _ ew s 
 
 -- a reading, for an equal number
 pub taken : (kind : Kind) (bs : List ℕ) (y z : ℤ) → z ≡ y → InRange kind y × (bs ≡ code kind y) → InRange kind z × (bs ≡ code kind z)
-taken kind bs y z e h = let P : ℤ → Type 0 = λ v. InRange kind v × (bs ≡ code kind v) in subst P (sym e) h
+taken kind bs y z e h = rw e h
 
 -- a reading of bytes
 pub value_taken : (kind : Kind) (bs : List ℕ) → length bs ≡ width kind → IsBytes bs → (IsBadBool kind bs → ⊥)

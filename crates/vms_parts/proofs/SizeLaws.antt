@@ -1,10 +1,10 @@
 -- Sums that are cut at 2 ^ 32 - 1.
-use Rattle.vms_parts.proofs.Facade.{◌≡◌, ℕ, zero, suc, ◌+◌, ◌*◌, ◌^◌, ◌<◌, ◌≤◌, List, [], ◌∷◌, ◌++◌, length, get_or, drop, map, refl, sym, ap, ◌∙◌, arith}
-use Rattle.vms_parts.proofs.Facade.{add-one, drop_all, map-append, Item, Num, Equal, Unused, Struct, capacity_of, first, no_desc, Measure, in_u32, size_of}
-use Rattle.vms_parts.proofs.Facade.{fields_size, subs_size, sizes_to, field_of, desc_of}
-use Rattle.vms_spec.specs.Sets as sets
-use Rattle.vms_parts.specs.declared.types.Desc.{Desc}
+use Rattle.vms_parts.proofs.Facade.{◌≡◌, ℕ, zero, suc, ◌+◌, ◌*◌, ◌^◌, ◌<◌, ◌≤◌, List, [], ◌∷◌, ◌++◌, length, get_or}
+use Rattle.vms_parts.proofs.Facade.{drop, map, refl, sym, ap, ◌∙◌, arith, add-one, drop_all, map-append, Item, Struct, capacity_of, first, no_desc}
+use Rattle.vms_parts.proofs.Facade.{Measure, in_u32, size_of, fields_size, subs_size, sizes_to, field_of, desc_of}
 use Rattle.vms_parts.proofs.Items.{drop_is, get_map_at}
+use Rattle.vms_parts.specs.declared.types.Desc.{Desc}
+use Rattle.vms_spec.specs.Sets as sets
 
 -- sums over lists that a loop walks: `whole` is the sum of the sizes `one` of all elements
 module _ {T : Type 0} (whole : List T → ℕ) (one : T → ℕ) (nothing : whole [] ≡ 0) (adds : (x : T) (xs : List T) → whole (x ∷ xs) ≡ one x + whole xs) where
@@ -16,8 +16,8 @@ module _ {T : Type 0} (whole : List T → ℕ) (one : T → ℕ) (nothing : whol
 
   pub sum_ends : (xs : List T) (i sum all : ℕ) → length xs ≤ i → sum < 2 ^ 32 → in_u32 (sum + whole (drop i xs)) ≡ all → sum ≡ all
   sum_ends xs i sum all over small e =
-      let s : sum ≡ in_u32 (sum + 0) = omega arith in
-      s ∙ ap (λ (n : ℕ). in_u32 (sum + n)) (sym nothing) ∙ ap (λ (l : List T). in_u32 (sum + whole l)) (sym (drop_all i xs over)) ∙ e
+      let all_added = rw (drop_all i xs over, nothing) at e in
+      omega arith
 
 -- a size of a structure that is cut at 2 ^ 32 - 1 gives the same cut product
 pub capped_product : (c s : ℕ) → in_u32 (c * in_u32 s) ≡ in_u32 (c * s)
@@ -34,10 +34,8 @@ capped_at (s ∷ sizes) zero = refl
 capped_at (s ∷ sizes) (suc j) = capped_at sizes j
 
 capped_item : (m : Measure) (sizes : List ℕ) (c : ℕ) (item : Item) → in_u32 (c * size_of m (map in_u32 sizes) item) ≡ in_u32 (c * size_of m sizes item)
-capped_item m sizes c (Num kind) = refl
-capped_item m sizes c (Equal kind z) = refl
-capped_item m sizes c (Unused n) = refl
-capped_item m sizes c (Struct j) = ap (λ (s : ℕ). in_u32 (c * s)) (capped_at sizes j) ∙ capped_product c (get_or sizes j 0)
+capped_item m sizes c (Struct j) = rw (capped_at sizes j) (capped_product c (get_or sizes j 0))
+capped_item m sizes c _ = refl
 
 pub capped_fields : (m : Measure) (sizes : List ℕ) (fs : List sets.Field) → in_u32 (fields_size m (map in_u32 sizes) fs) ≡ in_u32 (fields_size m sizes fs)
 capped_fields m sizes [] = refl
@@ -58,9 +56,5 @@ unfolding first
 sizes_more m structs sizes i d size is lt e s =
     let ds = map desc_of structs in
     let here : get_or ds i no_desc ≡ desc_of d = get_map_at desc_of structs i d no_desc lt is in
-    let more : sizes_to m ds (i + 1) ≡ sizes_to m ds i ++ fields_size m (sizes_to m ds i) (get_or ds i no_desc).fields ∷ [] = ap (λ (k : ℕ). sizes_to m ds k) (add-one i) in
-    let one : size ≡ in_u32 (fields_size m (sizes_to m ds i) (get_or ds i no_desc).fields) =
-    s ∙ ap (λ (l : List ℕ). in_u32 (fields_size m l (map field_of d.fields))) e ∙ capped_fields m (sizes_to m ds i) (map field_of d.fields)
-    ∙ ap (λ (x : sets.Desc). in_u32 (fields_size m (sizes_to m ds i) x.fields)) (sym here) in
-    ap (λ (l : List ℕ). l ++ size ∷ []) e ∙ ap (λ (n : ℕ). map in_u32 (sizes_to m ds i) ++ n ∷ []) one
-    ∙ sym (map-append in_u32 (sizes_to m ds i) (fields_size m (sizes_to m ds i) (get_or ds i no_desc).fields ∷ [])) ∙ ap (map in_u32) (sym more)
+    let one : size ≡ in_u32 (fields_size m (sizes_to m ds i) (get_or ds i no_desc).fields) = rw (s, e, here) (capped_fields m (sizes_to m ds i) (map field_of d.fields)) in
+    rw (e, one, add-one) (sym (map-append in_u32 (sizes_to m ds i) (fields_size m (sizes_to m ds i) (get_or ds i no_desc).fields ∷ [])))

@@ -1,5 +1,5 @@
-use Rattle.vms_parts.proofs.{Facade.counted_in, CapacityLaws.least_more, CapacityLaws.counted_long, CapacityLaws.written_back}
-use Rattle.vms_parts.proofs.Facade.{◌≡◌, ◌+◌, List, ℕ, Option, None, length, get_or, drop, take, ◌++◌, map, ap, ◌∙◌, arith, counted, field_of, least_from}
+use Rattle.vms_parts.proofs.CapacityLaws.{least_more, counted_long, written_back}
+use Rattle.vms_parts.proofs.Facade.{counted_in, ◌≡◌, List, ℕ, Option, length, drop, take, ◌++◌, ap, ◌∙◌, arith}
 use Rattle.vms_parts.proofs.capacities.least_capacities.Goals as goal
 
 pub loop-field-preserved : goal.loop-field-preserved
@@ -13,6 +13,5 @@ loop-field-preserved c =
     record {
       long = ap length whole ∙ counted_long count items ∙ c.loop-field.invariant.long;
       least = λ i lt.
-          ap (λ (t : List (Option ℕ)). least_from (get_or t i None) (counted i (map field_of (drop (c.loop-field.field-index + 1) c.args.fields.now)))) whole
-          ∙ least_more c.args.fields.now c.loop-field.field-index c.field-item.result items i _ c.loop-field-test.true c.field-item.is (omega (arith, c.loop-field.invariant.long, lt)) (c.loop-field.invariant.least i lt);
+          rw whole (least_more c.args.fields.now c.loop-field.field-index c.field-item.result items i _ c.loop-field-test.true c.field-item.is (omega (arith, c.loop-field.invariant.long, lt)) (c.loop-field.invariant.least i lt));
     }

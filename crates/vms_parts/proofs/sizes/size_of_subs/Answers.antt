@@ -1,5 +1,5 @@
-use Rattle.vms_parts.proofs.Facade.{◌≡◌, ◌+◌, List, ℕ, map, refl, ap, ◌∙◌, arith, Field, Sub, in_u32, fields_size, subs_size, field_of, sub_of}
-use Rattle.vms_parts.proofs.SizeLaws.{sum_ends, sum_goes}
+use Rattle.vms_parts.proofs.{Facade.sub_of, SizeLaws.sum_ends, SizeLaws.sum_goes}
+use Rattle.vms_parts.proofs.Facade.{◌≡◌, ◌+◌, List, ℕ, map, refl, ap, ◌∙◌, arith, Field, Sub, in_u32, fields_size, subs_size, field_of}
 use Rattle.vms_parts.proofs.sizes.size_of_subs.Goals as goal
 
 pub loop-sub-preserved : goal.loop-sub-preserved
