@@ -1,8 +1,7 @@
 -- Heads, a configuration and a footer can be read back from their bytes.
-use Rattle.std.proofs.{lemmas.List.drop-drop, Math.Seq.drop-append_seam, Math.Seq.take-append_seam}
-use Rattle.std.proofs.Common.{◌≡◌, ℕ, ◌+◌, ◌<◌, ◌≤◌, ◌^◌, List, ◌∷◌, ◌++◌, length, drop, refl, sym, ap, ◌∙◌, arith, append_assoc}
-use Rattle.byteorder.specs.Endian.{big_number}
-use Rattle.vms_spec.proofs.ListsAndNumbers.{be32_read}
+use Rattle.std.proofs.{lemmas.List.drop-drop, Math.Seq.drop-append_seam, Math.Seq.take-append_seam, Common.append_assoc}
+use Rattle.std.proofs.Common.{◌≡◌, ℕ, ◌+◌, ◌<◌, ◌≤◌, ◌^◌, List, ◌∷◌, ◌++◌, length, drop, refl, sym, ap, ◌∙◌, arith}
+use Rattle.vms_spec.proofs.{ListsAndNumbers.be32_read}
 use Rattle.vms_spec.specs.{declared.TheConstants.LONGEST_NAME, Streams.be32, Lookup.number_at, Lookup.bytes_at}
 use Rattle.vms_marks.specs.{declared.sub_head.SubHead.SubHead, declared.configuration.Configuration.Configuration, declared.foot.Foot.Foot}
 use Rattle.vms_marks.specs.{declared.head.Head.Head, Laws.HeadLaw, Laws.SubHeadLaw, Laws.ConfigurationLaw, Laws.FootLaw}
@@ -15,8 +14,7 @@ tail head rest = be32 head.instance ++ (be32 head.version ++ rest)
 -- the bytes of a head, part by part
 parts : (head : Head) (rest : List ℕ) → head_bytes head ++ rest ≡ 0x04 ∷ (be32 head.id ++ (length head.name.items ∷ (head.name.items ++ tail head rest)))
 parts head rest =
-    ap (λ (l : List ℕ). 0x04 ∷ (be32 head.id ++ (length head.name.items ∷ l)))
-    (append_assoc (head.name.items ++ be32 head.instance) (be32 head.version) rest ∙ append_assoc head.name.items (be32 head.instance) (be32 head.version ++ rest))
+    rw (append_assoc (head.name.items ++ be32 head.instance) (be32 head.version) rest, append_assoc head.name.items (be32 head.instance) (be32 head.version ++ rest))
 
 abbrev make : ℕ → List ℕ → ℕ → ℕ → Head
 make id name instance version = record { id = id; name = record { items = name }; instance = instance; version = version }
@@ -30,15 +28,12 @@ said id name more instance version rest i j v is =
     let r = 0x04 ∷ (be32 id ++ (n ∷ (name ++ more))) in
     let six : drop (6 + n) r ≡ more = sym (drop-drop n 6 r) ∙ drop-append_seam name more in
     let plus : 10 + n ≡ (6 + n) + 4 = omega arith in
-    let ten : drop (10 + n) r ≡ drop 4 more = ap (λ (k : ℕ). drop k r) plus ∙ sym (drop-drop 4 (6 + n) r) ∙ ap (drop 4) six in
+    let ten : drop (10 + n) r ≡ drop 4 more = rw (plus, ← drop-drop 4 (6 + n) r, six) in
     let first : number_at 4 1 r ≡ id = be32_read id (n ∷ (name ++ more)) i in
     let named : bytes_at n 6 r ≡ name = take-append_seam name more in
-    let second : number_at 4 (6 + n) r ≡ instance = ap (big_number 4) (six ∙ is) ∙ be32_read instance (be32 version ++ rest) j in
-    let third : number_at 4 (10 + n) r ≡ version = ap (big_number 4) (ten ∙ ap (drop 4) is) ∙ be32_read version rest v in
-    ap (λ (k : ℕ). make k (bytes_at n 6 r) (number_at 4 (6 + n) r) (number_at 4 (10 + n) r)) first
-    ∙ ap (λ (l : List ℕ). make id l (number_at 4 (6 + n) r) (number_at 4 (10 + n) r)) named
-    ∙ ap (λ (k : ℕ). make id name k (number_at 4 (10 + n) r)) second
-    ∙ ap (make id name instance) third
+    let second : number_at 4 (6 + n) r ≡ instance = rw (six, is) (be32_read instance (be32 version ++ rest) j) in
+    let third : number_at 4 (10 + n) r ≡ version = rw (ten, is) (be32_read version rest v) in
+    rw (first, named, second, third)
 
 pub head_holds : HeadLaw
 head_holds head h rest =
@@ -57,13 +52,12 @@ said_sub name version rest v =
     let r = 0x05 ∷ (n ∷ (name ++ more)) in
     let two : drop (2 + n) r ≡ more = sym (drop-drop n 2 r) ∙ drop-append_seam name more in
     let named : bytes_at n 2 r ≡ name = take-append_seam name more in
-    let numbered : number_at 4 (2 + n) r ≡ version = ap (big_number 4) two ∙ be32_read version rest v in
-    ap (λ (l : List ℕ). sub_of l (number_at 4 (2 + n) r)) named ∙ ap (sub_of name) numbered
+    let numbered : number_at 4 (2 + n) r ≡ version = rw two (be32_read version rest v) in
+    rw (named, numbered)
 
 pub sub_head_holds : SubHeadLaw
 unfolding sub_of
-sub_head_holds head v rest =
-    ap (λ (l : List ℕ). sub_head_in (0x05 ∷ (length head.name.items ∷ l))) (append_assoc head.name.items (be32 head.version) rest) ∙ said_sub head.name.items head.version rest v
+sub_head_holds head v rest = rw (append_assoc head.name.items (be32 head.version) rest) (said_sub head.name.items head.version rest v)
 
 -- ---- configurations and footers
 
@@ -76,12 +70,11 @@ said_name name rest few =
     let n = length name in
     let r = 0x07 ∷ (be32 n ++ (name ++ rest)) in
     let long : number_at 4 1 r ≡ n = be32_read n (name ++ rest) (omega arith) in
-    ap (λ (k : ℕ). configured (bytes_at k 5 r)) long ∙ ap configured (take-append_seam name rest)
+    rw (long, take-append_seam name rest)
 
 pub configuration_holds : ConfigurationLaw
 unfolding configured
-configuration_holds c few rest =
-    ap (λ (l : List ℕ). configuration_in (0x07 ∷ l)) (append_assoc (be32 (length c.machine.items)) c.machine.items rest) ∙ said_name c.machine.items rest few
+configuration_holds c few rest = said_name c.machine.items rest few
 
 foot_of : ℕ → Foot
 foot_of id = record { id = id }

@@ -1,6 +1,6 @@
 -- The bytes of the head that is read are those that were read.
-use Rattle.std.proofs.Common.{◌≡◌, ℕ, zero, suc, ◌+◌, ◌<◌, List, ◌∷◌, ◌++◌, length, get_or, take, drop, refl, sym, ap, subst, ◌∙◌, arith, length-drop}
-use Rattle.std.proofs.Common.{take-append-drop, append_assoc, []}
+use Rattle.std.proofs.Common.{◌≡◌, ℕ, zero, suc, ◌+◌, ◌<◌, List, ◌∷◌, ◌++◌, length, get_or, take, drop, refl, sym, arith, length-drop}
+use Rattle.std.proofs.Common.{take-append-drop, append_assoc, [], ap, ◌∙◌}
 use Rattle.std.proofs.lemmas.List.{drop-drop, length-take-le, get_or-drop}
 use Rattle.byteorder.specs.Endian.{big_number}
 use Rattle.vms_kinds.proofs.{CodeLemmas.again}
@@ -22,9 +22,7 @@ four a b c d bytes ha hb hc hd = again U32 (a ∷ b ∷ c ∷ d ∷ []) refl bel
 -- eight bytes are those of their two numbers
 eight : (front bytes : List ℕ) → length bytes ≡ 8 → IsBytes bytes → (front ++ be32 (big_number 4 bytes)) ++ be32 (big_number 4 (drop 4 bytes)) ≡ front ++ bytes
 eight front (a ∷ b ∷ c ∷ d ∷ e ∷ f ∷ g ∷ h ∷ []) long ok =
-    ap (λ (l : List ℕ). (front ++ l) ++ be32 (big_number 4 (e ∷ f ∷ g ∷ h ∷ []))) (four a b c d (e ∷ f ∷ g ∷ h ∷ []) (ok 0) (ok 1) (ok 2) (ok 3))
-    ∙ ap (λ (l : List ℕ). (front ++ a ∷ b ∷ c ∷ d ∷ []) ++ l) (four e f g h [] (ok 4) (ok 5) (ok 6) (ok 7))
-    ∙ append_assoc front (a ∷ b ∷ c ∷ d ∷ []) (e ∷ f ∷ g ∷ h ∷ [])
+    rw (four a b c d (e ∷ f ∷ g ∷ h ∷ []) (ok 0) (ok 1) (ok 2) (ok 3), four e f g h [] (ok 4) (ok 5) (ok 6) (ok 7), append_assoc)
 eight front _ long ok = absurd (omega arith)
 
 -- bytes of the right mark and length are those of the head that is read from them
@@ -33,15 +31,11 @@ spells (m ∷ a ∷ b ∷ c ∷ d ∷ n ∷ more) ok mark long =
     let r = m ∷ a ∷ b ∷ c ∷ d ∷ n ∷ more in
     let six : drop (6 + n) r ≡ drop n more = sym (drop-drop n 6 r) in
     let plus : 10 + n ≡ (6 + n) + 4 = omega arith in
-    let ten : drop (10 + n) r ≡ drop 4 (drop n more) = ap (λ (k : ℕ). drop k r) plus ∙ sym (drop-drop 4 (6 + n) r) ∙ ap (drop 4) six in
+    let ten : drop (10 + n) r ≡ drop 4 (drop n more) = rw (plus, ← drop-drop 4 (6 + n) r, six) in
     let named : length (take n more) ≡ n = length-take-le n more (omega arith) in
     let last : length (drop n more) ≡ 8 = simp length-drop (omega arith) in
-    let bytes : IsBytes (drop n more) = λ i. subst (λ (k : ℕ). k < 256) (sym (get_or-drop n more i 0 ∙ get_or-drop 6 r (n + i) 0)) (ok (6 + (n + i))) in
-    ap (λ (l : List ℕ). 4 ∷ (((l ++ (length (take n more) ∷ take n more)) ++ be32 (number_at 4 (6 + n) r)) ++ be32 (number_at 4 (10 + n) r))) (four a b c d (n ∷ more) (ok 1) (ok 2) (ok 3) (ok 4))
-    ∙ ap (λ (k : ℕ). 4 ∷ a ∷ b ∷ c ∷ d ∷ k ∷ ((take n more ++ be32 (number_at 4 (6 + n) r)) ++ be32 (number_at 4 (10 + n) r))) named
-    ∙ ap (λ (l : List ℕ). 4 ∷ a ∷ b ∷ c ∷ d ∷ n ∷ ((take n more ++ be32 (big_number 4 l)) ++ be32 (number_at 4 (10 + n) r))) six
-    ∙ ap (λ (l : List ℕ). 4 ∷ a ∷ b ∷ c ∷ d ∷ n ∷ ((take n more ++ be32 (big_number 4 (drop n more))) ++ be32 (big_number 4 l))) ten
-    ∙ ap (λ (l : List ℕ). 4 ∷ a ∷ b ∷ c ∷ d ∷ n ∷ l) (eight (take n more) (drop n more) last bytes)
-    ∙ ap (λ (l : List ℕ). 4 ∷ a ∷ b ∷ c ∷ d ∷ n ∷ l) (take-append-drop n more)
-    ∙ ap (λ (k : ℕ). k ∷ a ∷ b ∷ c ∷ d ∷ n ∷ more) (sym mark)
+    let bytes : IsBytes (drop n more) = λ i. rw (get_or-drop n more i 0, get_or-drop 6 r (n + i) 0) (ok (6 + (n + i))) in
+    ap (λ (l : List ℕ). 4 ∷ (((l ++ (length (take n more) ∷ take n more)) ++ be32 (number_at 4 (6 + n) r)) ++ be32 (number_at 4 (10 + n) r)))
+    (four a b c d (n ∷ more) (ok 1) (ok 2) (ok 3) (ok 4))
+    ∙ rw (named, six, ten, eight (take n more) (drop n more) last bytes, take-append-drop, mark)
 spells _ ok mark long = absurd (omega arith)
