@@ -2,7 +2,7 @@
 pub use Rattle.std.proofs.{lemmas.Bool.Decides.nat_tests, lemmas.Cmp.eq_by_cmp_equiv, lemmas.Map.Text.is_eq-slice_cmp, lemmas.Result.err_from_is_err_and}
 pub use Rattle.std.proofs.{lemmas.Slice.Eq.bytes_eq-Decides}
 pub use Rattle.std.proofs.Common.{Bool, Equal, List, None, Option, Ordering, Result, Some, [], add-one, ap, append-nil, append_assoc, arith, drop, false}
-pub use Rattle.std.proofs.Common.{get_or, length, length-append, length-drop, length-take, map, max, pos, refl, subst, suc, sym, take, true, zero, ℕ, ℤ, ◌++◌}
+pub use Rattle.std.proofs.Common.{get_or, length, length-append, length-drop, length-take, map, max, pos, refl, suc, sym, take, true, zero, ℕ, ℤ, ◌++◌}
 pub use Rattle.std.proofs.Common.{◌+◌, ◌-◌, ◌<◌, ◌^◌, ◌∙◌, ◌∷◌, ◌≡◌, ◌≤◌}
 pub use Rattle.std.proofs.Math.Bool.{and-false, and-true, and_assoc, or-false, or_assoc, or_comm}
 pub use Rattle.std.proofs.lemmas.List.{drop_all, drop_more, length-map, map-append, take-append-drop, take-map, take_all, take_more, Sorted.IsPermutation-sym}

@@ -1,6 +1,6 @@
 -- Names that are distinct, and the earlier fields that a field may name.
 use Rattle.vms_rules.proofs.Facade.{◌≡◌, ℕ, ◌+◌, ◌<◌, ◌≤◌, List, ◌∷◌, ◌++◌, length, length-take, length-append, get_or, drop}
-use Rattle.vms_rules.proofs.Facade.{take, map, Bool, true, false, Ordering, Equal, refl, sym, ap, subst, ◌∙◌, arith, [], ◌&&◌, not, nat_eq, ◌||◌}
+use Rattle.vms_rules.proofs.Facade.{take, map, Bool, true, false, Ordering, Equal, refl, sym, ◌∙◌, arith, [], ◌&&◌, not, nat_eq, ◌||◌}
 use Rattle.vms_rules.proofs.Facade.{BTreeSet, UpdatesBy, KeepsOthers, IsKeyTest, AreApart, IsTotalOrder, then_total, on_total, nat_cmp_total, unequal}
 use Rattle.vms_rules.proofs.Facade.{slice_cmp, nat_list_cmp_total, nat_cmp, is_eq, eq_by_cmp, ordering_then, list_any, bytes_eq, length-map, map-append}
 use Rattle.vms_rules.proofs.Facade.{take_more, is_eq-slice_cmp, bytes_eq-Decides, and-true, or-false, and_assoc, or_assoc, or_comm, Bor, is_name, is_sub_name}
@@ -45,14 +45,14 @@ pub name_added : (names after : BTreeSet (ℕ × Bor (List ℕ))) (name : List �
     → UpdatesBy (λ x y. by_key (seen x) (seen y)) (λ k. by_key (key name, name) (seen k)) names after true
     → (n : List ℕ) → has_name after n ≡ with_name (has_name names) name n
 name_added names after name h n =
-    or_is (bytes_eq name n) (has_name names n) (has_name after n) (λ y. subst (λ l. has_name after l ≡ true) ((bytes_eq-Decides name n).0 y) h.1)
+    or_is (bytes_eq name n) (has_name names n) (has_name after n) (λ y. rw (← (bytes_eq-Decides name n).0 y) h.1)
     (λ e. other_keys _ _ _ _ h.3 _ (λ x y. (equiv_by in_order).congr (key n, n) (seen x) (seen y)) (λ k. apart_in_order name n (seen k) e))
 
 -- ---- lists of names that are new to a set
 
 pub same_new : (had have : List ℕ → Bool) (names : List (List ℕ)) → ((n : List ℕ) → had n ≡ have n) → are_new_to had names ≡ are_new_to have names
 same_new had have [] same = refl
-same_new had have (n ∷ names) same = cc (same n, same_new (with_name had n) (with_name have n) names (λ m. ap (λ (b : Bool). bytes_eq n m || b) (same m)))
+same_new had have (n ∷ names) same = cc (same n, same_new (with_name had n) (with_name have n) names (λ m. rw (same m)))
 
 -- one more name in a list
 pub is_one_more : (names : List (List ℕ)) (x n : List ℕ) → is_one_of (names ++ x ∷ []) n ≡ (is_one_of names n || bytes_eq x n)
@@ -103,9 +103,7 @@ sub_name_parts device name lt =
 
 pub no_sub_name : (device name : List ℕ) → length name ≤ length device → is_sub_name device name ≡ false
 no_sub_name device name le =
-    ap (λ (b : Bool). b && is_name 64 (drop (length device + 1) name))
-    (unequal nat_eq (take (length device + 1) name) (device ++ 47 ∷ [])
-    (λ e. omega (arith, length-take (length device + 1) name, length-append device (47 ∷ []))))
+    rw (unequal nat_eq (take (length device + 1) name) (device ++ 47 ∷ []) (λ e. omega (arith, length-take (length device + 1) name, length-append device (47 ∷ []))))
 
 pub ruleset sub_name_laws = (sub_name_parts, no_sub_name)
 
@@ -124,8 +122,8 @@ pub earlier_is : (fields : List Field) (m k i : ℕ)
     → is_steady m (slice_get (map field_of (take k fields)) i) ≡ (nat_lt i k && is_steady m (slice_get (map field_of fields) i))
 earlier_is [] m zero i = sym (and-false (nat_lt i 0))
 earlier_is [] m (suc k) i = sym (and-false (nat_lt i (suc k)))
-earlier_is (f ∷ fields) m zero i = ap (λ (b : Bool). b && is_steady m (slice_get (map field_of (f ∷ fields)) i)) (sym (none_before i))
-earlier_is (f ∷ fields) m (suc k) zero = ap (λ (b : Bool). b && is_steady m (slice_get (map field_of (f ∷ fields)) 0)) (sym (first_before k))
+earlier_is (f ∷ fields) m zero i = rw (none_before i)
+earlier_is (f ∷ fields) m (suc k) zero = rw (first_before k)
 earlier_is (f ∷ fields) m (suc k) (suc i) = cc (earlier_is fields m k i, one_less i k)
 
 pub named_in : (own known parent : ℕ → Bool) (t : Formula) → ((i : ℕ) → own i ≡ known i) → names_well own parent t ≡ names_well known parent t
@@ -135,22 +133,30 @@ named_in own known parent t same = needed_names own known parent parent t same (
 
 pub new_is : (earlier names : List (List ℕ)) → are_new earlier names ≡ are_new_to (is_one_of earlier) names
 new_is earlier [] = refl
-new_is earlier (n ∷ names) = ap (λ (b : Bool). not (is_one_of earlier n) && b) (new_is (n ∷ earlier) names)
+new_is earlier (n ∷ names) = rw (new_is (n ∷ earlier) names)
 
 pub names_of_both : (fs gs : List sets.Field) → all_names (fs ++ gs) ≡ all_names fs ++ all_names gs
 names_of_both [] gs = refl
 names_of_both (f ∷ fs) gs = cc (names_of_both fs gs, append_assoc f.former (all_names fs) (all_names gs))
 
--- the names of one more field
+-- ---- the names of one more field
+
+module _ (fields : List Field) (i : ℕ) (f : Field) (lt : i < length fields) (is : f ≡ get_or fields i f) where
+  pub names_with : all_names (map field_of (take (i + 1) fields)) ≡ all_names (map field_of (take i fields)) ++ (f.name ∷ f.former)
+  names_with =
+      let more : map field_of (take (i + 1) fields) ≡ map field_of (take i fields) ++ field_of f ∷ [] = cc (take_more fields i f lt, map-append field_of (take i fields) (f ∷ [])) in
+      rw (more, names_of_both, append-nil)
+
+  pub keys_with : map key (all_names (map field_of (take (i + 1) fields)))
+      ≡ (map key (all_names (map field_of (take i fields))) ++ key f.name ∷ []) ++ map key f.former
+  keys_with =
+      rw (names_with, map-append, append_assoc)
+
 pub names_more : (fields : List Field) (i : ℕ) (f : Field) (had have : List ℕ → Bool) → i < length fields → f ≡ get_or fields i f
     → ((n : List ℕ) → had n ≡ is_one_of (all_names (map field_of (take i fields))) n) → ((n : List ℕ) → have n ≡ (is_one_of (f.name ∷ f.former) n || had n))
     → (n : List ℕ) → have n ≡ is_one_of (all_names (map field_of (take (i + 1) fields))) n
 names_more fields i f had have lt is before now n =
-    let fs = map field_of (take i fields) in
-    now n ∙ ap (λ (b : Bool). is_one_of (f.name ∷ f.former) n || b) (before n) ∙ or_comm (is_one_of (f.name ∷ f.former) n) (is_one_of (all_names fs) n)
-    ∙ ap (λ (b : Bool). is_one_of (all_names fs) n || (bytes_eq f.name n || b)) (sym (one_of_both f.former [] n ∙ or-false (is_one_of f.former n)))
-    ∙ sym (one_of_both (all_names fs) (all_names (field_of f ∷ [])) n) ∙ ap (λ (l : List (List ℕ)). is_one_of l n) (sym (names_of_both fs (field_of f ∷ [])))
-    ∙ ap (λ (l : List sets.Field). is_one_of (all_names l) n) (sym (cc (take_more fields i f lt, map-append field_of (take i fields) (f ∷ []))))
+    rw (now n, before n, names_with fields i f lt is, one_of_both) (or_comm (is_one_of (f.name ∷ f.former) n) (is_one_of (all_names (map field_of (take i fields))) n))
 
 -- the names of a field are new to the set of the earlier ones
 pub names_new : (fields : List Field) (i : ℕ) (names : List (List ℕ)) (had : List ℕ → Bool) (is_new : Bool)
@@ -170,20 +176,6 @@ pub distinct_before : (before rising : List ℕ) → IsPermutation before rising
 distinct_before before rising moved up =
     IsDistinct-IsPermutation same (eq_by_cmp_equiv nat_cmp_total).symm rising before (IsPermutation-sym before rising moved)
     (IsDistinct-from_sorted nat_cmp rising (sorted_from_strictly_increasing rising up))
-
--- ---- the names of one more field
-
-module _ (fields : List Field) (i : ℕ) (f : Field) (lt : i < length fields) (is : f ≡ get_or fields i f) where
-  pub names_with : all_names (map field_of (take (i + 1) fields)) ≡ all_names (map field_of (take i fields)) ++ (f.name ∷ f.former)
-  names_with =
-      ap all_names (cc (take_more fields i f lt, map-append field_of (take i fields) (f ∷ []))) ∙ names_of_both (map field_of (take i fields)) (field_of f ∷ [])
-      ∙ ap (λ (l : List (List ℕ)). all_names (map field_of (take i fields)) ++ f.name ∷ l) (append-nil f.former)
-
-  pub keys_with : map key (all_names (map field_of (take (i + 1) fields)))
-      ≡ (map key (all_names (map field_of (take i fields))) ++ key f.name ∷ []) ++ map key f.former
-  keys_with =
-      let before = all_names (map field_of (take i fields)) in
-      ap (map key) names_with ∙ map-append key before (f.name ∷ f.former) ∙ sym (append_assoc (map key before) (key f.name ∷ []) (map key f.former))
 
 -- ---- names with distinct keys
 
@@ -214,9 +206,8 @@ unfolding IsDistinct
 apart_from [] names h n e = cc
 apart_from (x ∷ earlier) names h n e =
     either_of (bytes_eq x n) (is_one_of earlier n) e
-    (λ y. subst (λ m. KeysApart m names) (is_same x n y)
-    (all_right (λ e. same (key x) e ≡ false) (map key earlier) (map key names)
-    (subst (AllByRecursion (λ e. same (key x) e ≡ false)) (map-append key earlier names) h.0))) (λ y. apart_from earlier names h.1 n y)
+    (λ y. rw (← is_same x n y) (all_right (λ e. same (key x) e ≡ false) (map key earlier) (map key names) (rw (map-append key earlier names) at h.0)))
+    (λ y. apart_from earlier names h.1 n y)
 
 is_itself : (n : ℕ) → same n n ≡ false → ⊥
 is_itself n e = let r : same n n ≡ true = (eq_by_cmp_equiv nat_cmp_total).refl n in cc
@@ -229,7 +220,7 @@ new_to : (had : List ℕ → Bool) (names : List (List ℕ)) → ((n : List ℕ)
 unfolding IsDistinct
 new_to had [] h d = refl
 new_to had (y ∷ names) h d =
-    cc (false_of (had y) (λ e. is_itself (key y) (h y e).0), new_to (with_name had y) names (λ n e. either_of (bytes_eq y n) (had n) e (λ z. subst (λ m. KeysApart m names) (is_same y n z) d.0) (λ z. (h n z).1)) d.1)
+    cc (false_of (had y) (λ e. is_itself (key y) (h y e).0), new_to (with_name had y) names (λ n e. either_of (bytes_eq y n) (had n) e (λ z. rw (← is_same y n z) d.0) (λ z. (h n z).1)) d.1)
 
 -- the names of a field are new if the keys of all fields' names are distinct
 pub new_names : (fields : List Field) (i : ℕ) (f : Field) → i < length fields → f ≡ get_or fields i f
@@ -242,10 +233,9 @@ new_names fields i f lt is d =
     cc (take-append-drop i fields, drop_is fields i f lt is, map-append field_of (take i fields) (f ∷ drop (i + 1) fields), names_of_both (map field_of (take i fields)) (map field_of (f ∷ drop (i + 1) fields))) in
     let split : map key (all_names (map field_of fields)) ≡ map key (before ++ names) ++ map key rest =
     cc (append_assoc before names rest, map-append key (before ++ names) rest) in
-    let both : IsDistinct same (map key (before ++ names)) = distinct_left (map key (before ++ names)) (map key rest) (subst (IsDistinct same) split d) in
-    let own : IsDistinct same (map key names) = distinct_right (map key before) (map key names) (subst (IsDistinct same) (map-append key before names) both) in
-    ap (λ (l : List sets.Field). are_new (all_names l) names) (take-map field_of i fields) ∙ new_is before names
-    ∙ new_to (is_one_of before) names (apart_from before names both) own
+    let both : IsDistinct same (map key (before ++ names)) = distinct_left (map key (before ++ names)) (map key rest) (rw split at d) in
+    let own : IsDistinct same (map key names) = distinct_right (map key before) (map key names) (rw (map-append key before names) at both) in
+    rw take-map (new_is before names ∙ new_to (is_one_of before) names (apart_from before names both) own)
 
 -- whether they are new: the keys of all differ, or they are looked up
 pub names_known : (fields : List Field) (i : ℕ) (f : Field) (had : List ℕ → Bool) (differ is_new : Bool) → i < length fields → f ≡ get_or fields i f

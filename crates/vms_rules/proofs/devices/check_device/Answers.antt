@@ -1,6 +1,6 @@
-use Rattle.vms_rules.proofs.{WalkLaws.inside_stops, WalkLaws.subs_left, WalkLaws.stops_by, WalkLaws.first_stops, Facade.subs_from}
-use Rattle.vms_rules.proofs.Facade.{◌≡◌, ℕ, Option, [], None, length, sym, ap, ◌∙◌, length-map, no_desc, or_else, SetFault, failing, here}
+use Rattle.vms_rules.proofs.Facade.{subs_from, ◌≡◌, ℕ, Option, [], None, length, ◌∙◌, length-map, no_desc, or_else, SetFault, failing, here}
 use Rattle.vms_rules.proofs.Facade.{fields_fault, validations_fault, device_rules, device_fault, device_at, desc_of, device_of, set_of, get_map_at, IsFirst}
+use Rattle.vms_rules.proofs.WalkLaws.{inside_stops, subs_left, stops_by, first_stops}
 use Rattle.vms_rules.proofs.devices.check_device.Goals.{After-as_slice, After-index-as_slice-number, In_ok-lowest}
 use Rattle.vms_spec.specs.declared.Part.TheVariants as parts
 use Rattle.vms_spec.specs.Sets as sets
@@ -55,9 +55,7 @@ returns c =
     let same = device_is (goal.at.returns c).After-index-as_slice-number in
     let structs = structs_are (goal.at.returns c).After-as_slice in
     let good = own_good (goal.at.returns c).In_ok-lowest in
-    let none : inside (length set.structs) (device_at set i) i ≡ None =
-    ap (λ (d : sets.Device). inside (length set.structs) d i) same ∙ ap (λ (k : ℕ). inside k (device_of x) i) (sym structs) ∙ c.in_ok-check_inside.ensures in
+    let none : inside (length set.structs) (device_at set i) i ≡ None = rw (same, ← structs) c.in_ok-check_inside.ensures in
     let left : device_fault set i (device_at set i) ≡ subs_from (length c.as_slice.result.now) i (device_of x) 0 (device_of x).subs =
-    subs_left set i (device_at set i) good none ∙ ap (λ (d : sets.Device). subs_from (length set.structs) i d 0 d.subs) same
-    ∙ ap (λ (k : ℕ). subs_from k i (device_of x) 0 (device_of x).subs) (sym structs) in
+    subs_left set i (device_at set i) good none ∙ rw (same, structs) in
     rw left c.check_subs.ensures

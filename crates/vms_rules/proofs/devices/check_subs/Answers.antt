@@ -1,5 +1,5 @@
-use Rattle.vms_rules.proofs.{NameLaws.names_so_far, devices.check_subs.Goals.After-sub-item, Facade.sub_at, Facade.Within}
-use Rattle.vms_rules.proofs.Facade.{◌≡◌, ◌<◌, ℕ, None, length, get_or, ap, arith, no_desc, AtLeast, sub_fault, Sub, sub_of, device_of, get_map_at, has_name}
+use Rattle.vms_rules.proofs.{NameLaws.names_so_far, devices.check_subs.Goals.After-sub-item, Facade.device_of, Facade.get_map_at, Facade.has_name}
+use Rattle.vms_rules.proofs.Facade.{sub_at, Within, ◌≡◌, ◌<◌, ℕ, None, length, get_or, ap, arith, no_desc, AtLeast, sub_fault, Sub, sub_of}
 use Rattle.vms_rules.proofs.WalkLaws.{stops_by, place_good, place_stops}
 use Rattle.vms_rules.proofs.devices.check_subs.Goals as goal
 

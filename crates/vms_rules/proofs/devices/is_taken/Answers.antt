@@ -1,6 +1,5 @@
-use Rattle.vms_rules.proofs.Facade.{◌≡◌, [], take, map, sym, ap, ◌∙◌, list_any, no_desc, is_same_device, device_of, get_map_at, numbered}
+use Rattle.vms_rules.proofs.Facade.{◌≡◌, [], map, sym, ◌∙◌, no_desc, device_of, get_map_at, numbered}
 use Rattle.vms_rules.proofs.WalkLaws.{same_device}
-use Rattle.vms_spec.specs.Sets as sets
 use Rattle.vms_rules.proofs.devices.is_taken.Goals as goal
 
 pub returns : goal.returns
@@ -10,5 +9,4 @@ returns c =
     let x = c.index-devices-number.result in
     let at : numbered ds i ≡ device_of x =
     get_map_at device_of c.args.devices.now i x (record { instance = 0; desc = no_desc; subs = [] }) c.requires c.index-devices-number.is in
-    c.is_among.ensures ∙ sym (same_device x.desc.name x.instance i c.args.devices.now)
-    ∙ ap (λ (d : sets.Device). list_any (is_same_device d.desc.name d.instance) (take i ds)) (sym at)
+    c.is_among.ensures ∙ sym (same_device x.desc.name x.instance i c.args.devices.now) ∙ rw at

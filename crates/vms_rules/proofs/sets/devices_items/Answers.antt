@@ -1,5 +1,5 @@
-use Rattle.vms_rules.proofs.{Facade.devices_items, Facade.Device, Facade.in_u32, Facade.field_of, Facade.sub_of, Facade.device_of, WalkLaws.subs_are}
-use Rattle.vms_rules.proofs.Facade.{items_are, sum_ends, sum_goes, ◌≡◌, ◌+◌, List, ◌∷◌, ℕ, map, refl, arith, items_in, subs_items}
+use Rattle.vms_rules.proofs.Facade.{devices_items, Device, in_u32, field_of, sub_of, device_of, sum_ends, sum_goes, ◌≡◌, ◌+◌, List, ◌∷◌, ℕ}
+use Rattle.vms_rules.proofs.Facade.{map, refl, arith, items_in, subs_items}
 use Rattle.vms_rules.proofs.sets.devices_items.Goals as goal
 
 abbrev whole : List ℕ → List Device → ℕ
@@ -16,9 +16,9 @@ loop-device-preserved c =
     let sizes = c.args.sizes.now in
     let d = c.device-item.result in
     let own : c.size_of_fields-own.result ≡ in_u32 (items_in sizes (map field_of d.desc.fields)) =
-    cc (c.size_of_fields-own.ensures, c.as_slice.ensures, items_are sizes (map field_of d.desc.fields)) in
+    cc (c.size_of_fields-own.ensures, c.as_slice.ensures) in
     let subs : c.size_of_subs-subs.result ≡ in_u32 (subs_items sizes (map sub_of d.subs)) =
-    cc (c.size_of_subs-subs.ensures, c.as_slice-in-loop-device.ensures, subs_are sizes (map sub_of d.subs)) in
+    cc (c.size_of_subs-subs.ensures, c.as_slice-in-loop-device.ensures) in
     let has : c.saturating_add-sum.result ≡ in_u32 (c.loop-device.sum + one sizes d) =
     let first = c.saturating_add.ensures in omega arith in
     record {

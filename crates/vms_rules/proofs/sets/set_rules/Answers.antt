@@ -1,4 +1,4 @@
-use Rattle.vms_rules.proofs.Facade.{◌≡◌, ◌∷◌, [], Bool, true, ap, ◌∙◌, list_all, is_name, are_distinct, has_name}
+use Rattle.vms_rules.proofs.Facade.{◌≡◌, list_all, is_name, are_distinct, has_name}
 use Rattle.vms_rules.proofs.WalkLaws.{distinct_is, empty_has_none}
 use Rattle.vms_rules.proofs.sets.set_rules.Goals as goal
 
@@ -8,6 +8,4 @@ returns c =
     let names : c.are_names.result ≡ list_all (is_name 64) machines = cc (c.are_names.ensures, c.as_slice-machines.ensures) in
     let new : c.in_ok-are_new.are_new ≡ are_distinct machines =
     cc (c.in_ok-are_new.ensures.new, c.as_slice-machines.ensures, distinct_is (has_name c.new-names.result) machines (empty_has_none c.new-names.result c.new-names.ensures.empty)) in
-    ap (λ (b : Bool). b ∷ c.in_ok-are_new.are_new ∷ true ∷ true ∷ true ∷ true ∷ c.has_few_parts.result ∷ true ∷ []) names
-    ∙ ap (λ (b : Bool). list_all (is_name 64) machines ∷ b ∷ true ∷ true ∷ true ∷ true ∷ c.has_few_parts.result ∷ true ∷ []) new
-    ∙ ap (λ (b : Bool). list_all (is_name 64) machines ∷ are_distinct machines ∷ true ∷ true ∷ true ∷ true ∷ b ∷ true ∷ []) c.has_few_parts.ensures
+    rw (names, new, c.has_few_parts.ensures)
