@@ -37,7 +37,7 @@ impl<T> Listed<T> {
 
 /// A text that contracts see as its bytes.
 ///
-/// One of at most 32 bytes, as a name of a well-formed set is, has no memory of its own.
+/// One of at most 32 bytes, as a field's name in a well-formed set is, has no memory of its own.
 #[derive(Drop)]
 pub struct Text {
     held: Held,
