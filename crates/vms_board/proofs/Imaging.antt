@@ -1,7 +1,7 @@
 -- The images of a board of any family, and those of a clock board.
-use Rattle.vms_board.proofs.Facade.{map, Some, subst, ◌≡◌, ℕ, zero, suc, ◌+◌, ◌<◌, ◌≤◌, List, [], ◌∷◌, length, get_or, None, ℤ}
+use Rattle.vms_board.proofs.Facade.{map, Some, ◌≡◌, ℕ, zero, suc, ◌+◌, ◌<◌, ◌≤◌, List, [], ◌∷◌, length, get_or, None, ℤ}
 use Rattle.vms_board.proofs.Facade.{pos, refl, sym, ap, ◌∙◌, arith, ◌-◌, Result, Err, slice_get, ext_get_or, length-map, get_or-map, slice_get-get_or}
-use Rattle.vms_board.proofs.Facade.{same_at, kinds_at, InRange, Kind, U8, device_at, same_image, Typed, state_of, IsImageOf, AreImagesOf, Image, FitCells}
+use Rattle.vms_board.proofs.Facade.{same_at, kinds_at, U8, device_at, same_image, Typed, state_of, IsImageOf, AreImagesOf, Image, FitCells}
 use Rattle.vms_board.proofs.Facade.{no_desc, no_cell, device_cells, AtLeast, Sub, Device, Set, bare, image_of, images_of, needed_from, AreReady, written}
 use Rattle.vms_board.proofs.Facade.{FitDevice, typed_of, needed_at, version_needed, stops_as, Outlet, Stops, described_text, Family, MaySaveIn, Stands}
 use Rattle.vms_board.proofs.Facade.{images_saved, saved_stream, stream_with, Saves, SaveFault, take, drop, leb-true, take_rest, MOST_CELLS, NEWEST, shipped_set}
@@ -43,13 +43,13 @@ needed-get : (set : Set) (d : Device) (image : Image) (i : ℕ) (subs : List Sub
     → get_or (needed_from set d image i subs) k None ≡ version_needed set d image (get_or subs k no_sub) (i + k)
 unfolding no_sub
 needed-get set d image i [] k lt = absurd (omega arith)
-needed-get set d image i (s ∷ subs) zero lt = let e : i ≡ i + zero = omega arith in ap (λ (n : ℕ). version_needed set d image s n) e
+needed-get set d image i (s ∷ subs) zero lt = let e : i + zero ≡ i = omega arith in rw e
 needed-get set d image i (s ∷ subs) (suc k) lt =
-    needed-get set d image (suc i) subs k (omega arith) ∙ ap (λ (n : ℕ). version_needed set d image (get_or subs k no_sub) n) (omega arith)
+    let e : suc i + k ≡ i + suc k = omega arith in needed-get set d image (suc i) subs k (omega arith) ∙ rw e
 
 from-zero : (set : Set) (d : Device) (image : Image) (k : ℕ) → version_needed set d image (get_or d.subs k no_sub) (0 + k) ≡ needed_at set d image k
 unfolding no_sub
-from-zero set d image k = let e : 0 + k ≡ k = omega arith in ap (λ (n : ℕ). version_needed set d image (get_or d.subs k no_sub) n) e
+from-zero set d image k = let e : 0 + k ≡ k = omega arith in rw e
 
 pub marked_all : (set : Set) (d : Device) (image old : Typed) (sub : ℕ) → Marked set d image old sub → length d.subs ≤ sub
     → image ≡ record old { came = needed_from set d (state_of old) 0 d.subs }
@@ -73,7 +73,7 @@ abbrev pub no_typed : Typed
 no_typed = record { version = 0; came = []; numbers = []; kinds = [] }
 
 -- if there is an image of each device, there are numbers for each
-lists-long : (set : Set) (devices : List Device) (lists : List (List ℤ)) → length (images_of set devices lists) ≡ length devices → length devices ≤ length lists
+pub lists-long : (set : Set) (devices : List Device) (lists : List (List ℤ)) → length (images_of set devices lists) ≡ length devices → length devices ≤ length lists
 lists-long set [] lists l = omega arith
 lists-long set (d ∷ devices) [] l = absurd (omega arith)
 lists-long set (d ∷ devices) (n ∷ lists) l = let rest = lists-long set devices lists (omega arith) in omega arith
@@ -101,7 +101,7 @@ fit-device set k numbers f =
         long = cc;
         fits = λ c lt.
             let within : c < length cells = omega arith in
-            subst (λ (kind : Kind). InRange kind (get_or numbers c (pos 0))) (sym (get_or-map (λ x. x.kind) cells c no_cell U8 within)) (f.fits c within).0;
+            rw (get_or-map (λ x. x.kind) cells c no_cell U8 within) (f.fits c within).0;
       };
     }
 
@@ -139,7 +139,7 @@ is-of set k numbers f =
 module _ (set : Set) (lists : List (List ℤ)) (images : List Typed) (device : ℕ) (r : AreReady set (images_of set set.devices lists))
     (m : Made set lists images device) (e : device ≡ length set.devices) where
   -- they have these states
-  made_states : map state_of images ≡ images_of set set.devices lists
+  pub made_states : map state_of images ≡ images_of set set.devices lists
   made_states =
       let one = r.one_each in
       let long = m.long in
@@ -150,14 +150,14 @@ module _ (set : Set) (lists : List (List ℤ)) (images : List Typed) (device : �
       ∙ sym (image-get set lists one k (omega arith)))
 
   -- each is one of its device
-  made_of : AreImagesOf set images
+  pub made_of : AreImagesOf set images
   made_of = record {
     one_each = cc;
     each = λ k image here.
         let below = at_below images k image here in
         let is : image ≡ typed_of set k (get_or lists k []) =
         same_at images k _ _ here (slice_get-get_or images k no_typed below) ∙ m.each k (omega (arith, below, m.long)) in
-        subst (λ (i : Typed). IsImageOf set k i) (sym is) (is-of set k (get_or lists k []) (fit_each set lists r k (omega arith)));
+        rw is (is-of set k (get_or lists k []) (fit_each set lists r k (omega arith)));
   }
 
 -- the images below an index are filled again
@@ -180,37 +180,18 @@ still_of set lists images old k image r of lt is =
     let below : k < length old = omega (arith, lt, r.long) in
     of.each k image (slice_get-get_or old k no_typed below ∙ ap Some (sym (is ∙ same ∙ r.after k (omega arith))))
 
--- ---- the images of a board, under a set
-
-pub listed : (set own : Set) (lists : List (List ℤ)) (k : ℕ) → AreReady own (images_of own own.devices lists) → set ≡ own → k < length set.devices
-    → k < length lists
-listed set own lists k r e lt = omega (arith, ap (λ (x : Set). length x.devices) e, lists-long own own.devices lists r.one_each)
-
-pub fits_of : (set own : Set) (lists : List (List ℤ)) (k : ℕ) (numbers : List ℤ) → AreReady own (images_of own own.devices lists) → set ≡ own
-    → numbers ≡ get_or lists k [] → k < length set.devices → FitDevice set k numbers
-fits_of set own lists k numbers r e f lt =
-    subst (λ (n : List ℤ). FitDevice set k n) (sym f) (fit_each set lists (subst (λ (x : Set). AreReady x (images_of x x.devices lists)) (sym e) r) k lt)
-
-pub all_made : (set own : Set) (lists : List (List ℤ)) (images : List Typed) (device : ℕ) → AreReady own (images_of own own.devices lists) → set ≡ own
-    → Made set lists images device → device ≡ length set.devices
-    → (map state_of images ≡ images_of own own.devices lists) × AreImagesOf set images
-all_made set own lists images device r e m d =
-    let ready = subst (λ (x : Set). AreReady x (images_of x x.devices lists)) (sym e) r in
-    (made_states set lists images device ready m d ∙ ap (λ (x : Set). images_of x x.devices lists) e, made_of set lists images device ready m d)
-
 -- ---- The bytes that a save writes.
 
 module _ {S : Type 0} (f : Family S) {IsSound : S → Type 0} {AreTold : List (List ℤ) → Type 0} (stands : Stands f IsSound AreTold) where
   -- a sound board's machine has its index in a set under which the board may be saved
   pub machine_named : (d m : S) (s : ℕ) → IsSound d → d ≡ m → MaySaveIn f m s → slice_get (f.set s).machines (f.number m - 1) ≡ Some (f.machine (f.number m))
   machine_named d m s sound e may =
-      stands.named (f.number m) s (subst (λ (x : S). 1 ≤ f.number x) e (stands.numbered d sound).first) may.level_le_set may.set_le_newest
+      stands.named (f.number m) s (rw (← e) (stands.numbered d sound).first) may.level_le_set may.set_le_newest
 
   pub machine_below : (d m : S) (s : ℕ) (set : Set) (machine : ℕ) → IsSound d → d ≡ m → MaySaveIn f m s → machine ≡ f.number d - 1 → set ≡ f.set s
       → machine < length set.machines
   machine_below d m s set machine sound e may is own =
-      let same : length set.machines ≡ length (f.set s).machines = ap (λ (x : Set). length x.machines) own in
-      omega (arith, ap f.number e, at_below (f.set s).machines (f.number m - 1) (f.machine (f.number m)) (machine_named d m s sound e may))
+      rw own (omega (arith, ap f.number e, at_below (f.set s).machines (f.number m - 1) (f.machine (f.number m)) (machine_named d m s sound e may)))
 
 module _ {S : Type 0} (f : Family S) where
   -- the bytes written for the images that were made are the board's stream
@@ -231,7 +212,7 @@ module _ {S : Type 0} (f : Family S) where
 
 pub saves_some : {bytes found : List ℕ} {old new : Outlet} (r : Result (Unit {0}) SaveFault) → found ≡ bytes → r ≡ Err faults.WriteFault
     → Stops old new found → Saves bytes old new r
-saves_some {bytes} {found} {old} {new} r e f h = subst (λ (x : Result (Unit {0}) SaveFault). Saves bytes old new x) (sym f) (stops_as e h)
+saves_some r e f h = rw f (stops_as e h)
 
 -- ---- images of the newest clock set, and the room for the numbers of the boards without a clock chip
 
@@ -285,7 +266,7 @@ behind-first [] are = absurd (omega arith)
 behind-first (image ∷ images) are = record { one_each = omega arith; each = λ k i here. inner k i (are.each (suc k) i here) }
 
 pub behind : (images : List Typed) → AreImagesOf (clock_set NEWEST_CLOCK) images → AreImagesOf (shipped_set NEWEST) (rest images)
-behind images are = subst (λ (i : List Typed). AreImagesOf (shipped_set NEWEST) i) (sym (take_rest images 1)) (behind-first images are)
+behind images are = rw (take_rest images 1) (behind-first images are)
 
 -- ---- their cells
 
@@ -298,5 +279,4 @@ pub cells-behind : (images : List Typed) (image : Typed) (clock : ArrayVec ℤ) 
     → record { clock = clock; board = board } ≡ cells_in (map state_of images)
 cells-behind [] image clock board are is c b = absurd (omega arith)
 cells-behind (first ∷ images) image clock board are is c b =
-    ap (λ (numbers : List ℤ). both numbers board) (c ∙ ap (λ (i : Typed). i.numbers) is)
-    ∙ ap (λ (x : BoardCells). both first.numbers x) (b ∙ ap (λ (i : List Typed). board_cells_in (map state_of i)) (take_rest (first ∷ images) 1))
+    ap (λ (numbers : List ℤ). both numbers board) (c ∙ rw is) ∙ ap (both first.numbers) (b ∙ rw (take_rest (first ∷ images) 1))

@@ -1,5 +1,5 @@
-use Rattle.vms_board.proofs.{save.write_kept.Given.Over, save.write_kept.Goals.After-deref-2}
-use Rattle.vms_board.proofs.Facade.{◌≡◌, map, ◌∙◌, Some, Err, ap, refl, err_from_is_err_and, slice_get, described, state_of, puts_as, written, saved_stream}
+use Rattle.vms_board.proofs.{save.write_kept.Given.Over, save.write_kept.Goals.After-deref-2, Facade.saved_stream}
+use Rattle.vms_board.proofs.Facade.{◌≡◌, map, ◌∙◌, Some, Err, ap, refl, err_from_is_err_and, slice_get, described, state_of, puts_as, written}
 use Rattle.vms_board.proofs.Imaging.{machine_named, machine_below, saved_bytes, saves_some}
 use Rattle.vms_board.proofs.save.write_kept.Goals as goal
 
