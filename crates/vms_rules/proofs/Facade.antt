@@ -23,7 +23,7 @@ pub use Rattle.vms_spec.specs.Names.{all_names, are_new, is_name, is_sub_name}
 pub use Rattle.vms_spec.specs.Rules.{counts_well, int_le, is_steady, names_well}
 pub use Rattle.vms_spec.specs.Sets.{And, AtLeast, Cell, Formula, Not, Or}
 pub use Rattle.vms_spec.specs.WellFormed.{SetFault, are_distinct, deepest, device_fault, device_rules, devices_items, failing, fields_fault, here}
-pub use Rattle.vms_spec.specs.WellFormed.{is_same_device, item_depth, items_in, set_rules, size_rules, struct_depths, struct_fault, struct_items, struct_rules}
+pub use Rattle.vms_spec.specs.WellFormed.{is_same_device, item_depth, items_in, set_rules, struct_depths, struct_fault, struct_items, struct_rules}
 pub use Rattle.vms_spec.specs.WellFormed.{sub_fault, sub_rules, subs_items, validations_fault}
 unfoldable pub use Rattle.vms_spec.specs.{Layout.first, WellFormed.first_fault}
 pub use Rattle.vms_parts.proofs.{ItemLaws.items_are, ItemLaws.items_to, Items.drop_is, Items.get_map_at}

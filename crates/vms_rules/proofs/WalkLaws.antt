@@ -3,15 +3,13 @@ use Rattle.vms_rules.proofs.Facade.{arith, ◌≡◌, ℕ, ◌<◌, List, ◌∷
 use Rattle.vms_rules.proofs.Facade.{◌&&◌, and_assoc, counted, int_le, counts_well, both_below, lesser, least_from, AreLeast, fits, ◌+◌, ◌≤◌, drop}
 use Rattle.vms_rules.proofs.Facade.{false, ap, ◌∙◌, add-one, drop_all, drop_more, Place, failing, map, nat_le, nat_tests, MOST_ITEMS, items_in}
 use Rattle.vms_rules.proofs.Facade.{struct_items, subs_items, devices_items, Items, in_u32, subs_size, sizes_to, capped_fields, capped_subs, items_are}
-use Rattle.vms_rules.proofs.Facade.{items_to, Result, sym, IsErrAnd, err_from_is_err_and, or_else, first_answer, SetFault, drop_is, DescFault, IllFormed}
-use Rattle.vms_rules.proofs.Facade.{NoMemory, IsFirst, Judges, take, ◌==◌, list_any, bytes_eq, take-map, Own, Parent, names_well, Formula, Cell, Not, And}
-use Rattle.vms_rules.proofs.Facade.{Or, is_same_device, here, device_rules, device_fault, sub_fault, fields_fault, validations_fault, Device, device_of, zero}
-use Rattle.vms_rules.proofs.Facade.{suc, ◌++◌, length-map, Item, Struct, first, no_desc, item_depth, deepest, struct_depths, Desc, field_of, desc_of}
-use Rattle.vms_rules.proofs.Facade.{get_map_at, first_long, are_new_to, not, ◌||◌, is_at, BTreeSet, nat_list_eq_equiv, Bor, is_one_of, are_distinct}
-use Rattle.vms_rules.proofs.Facade.{set_rules, size_rules, first_fault, and_swap, structs_from, devices_from, key, by_key, has_name, with_name}
+use Rattle.vms_rules.proofs.Facade.{items_to, Result, sym, IsErrAnd, err_from_is_err_and, or_else, first_answer, SetFault, DescFault, IllFormed, NoMemory}
+use Rattle.vms_rules.proofs.Facade.{IsFirst, Judges, take, ◌==◌, list_any, bytes_eq, take-map, Own, Parent, names_well, Formula, Cell, Not, And, Or}
+use Rattle.vms_rules.proofs.Facade.{is_same_device, Device, device_of, zero, suc, ◌++◌, length-map, Item, Struct, first, no_desc, item_depth, deepest}
+use Rattle.vms_rules.proofs.Facade.{struct_depths, Desc, field_of, desc_of, get_map_at, first_long, are_new_to, not, ◌||◌, is_at, BTreeSet}
+use Rattle.vms_rules.proofs.Facade.{nat_list_eq_equiv, Bor, is_one_of, are_distinct, and_swap, key, by_key, has_name, with_name}
 use Rattle.vms_spec.specs.Sets.{Field}
 use Rattle.vms_spec.specs.Sets as sets
-use Rattle.vms_spec.specs.declared.Part.TheVariants as parts
 
 -- ---- the least capacity decides for all capacities that a number counts
 
@@ -111,32 +109,11 @@ module _ {Y : Type 0} (f : ℕ → Y → Option SetFault) (i : ℕ) (y : Y) (ys 
   first_is : or_else (f i y) (first_answer f (i + 1) rest) ≡ whole
   first_is = rw add-one (sym (ap (first_answer f i) is) ∙ is_whole)
 
-  goes_on : f i y ≡ None → first_answer f (i + 1) rest ≡ whole
+  pub goes_on : f i y ≡ None → first_answer f (i + 1) rest ≡ whole
   goes_on none = sym (first_good (f i y) _ none) ∙ first_is
 
-  stops_here : (e : DescFault) → IsFirst (f i y) e → IsFirst whole e
+  pub stops_here : (e : DescFault) → IsFirst (f i y) e → IsFirst whole e
   stops_here e h = rw first_is at (first_stops (f i y) (first_answer f (i + 1) rest) e h)
-
-pub place_good : {X Y : Type 0} (f : ℕ → Y → Option SetFault) (g : X → Y) (xs : List X) (i : ℕ) (x : X) (whole : Option SetFault) → i < length xs
-    → x ≡ get_or xs i x → f i (g x) ≡ None
-    → first_answer f i (map g (drop i xs)) ≡ whole → first_answer f (i + 1) (map g (drop (i + 1) xs)) ≡ whole
-place_good f g xs i x whole lt is none e = goes_on f i (g x) _ _ whole (ap (map g) (drop_is xs i x lt is)) e none
-
-pub place_stops : {X Y : Type 0} (f : ℕ → Y → Option SetFault) (g : X → Y) (xs : List X) (i : ℕ) (x : X) (whole : Option SetFault) (e : DescFault)
-    → i < length xs → x ≡ get_or xs i x
-    → IsFirst (f i (g x)) e → first_answer f i (map g (drop i xs)) ≡ whole → IsFirst whole e
-place_stops f g xs i x whole e lt is h is_whole = stops_here f i (g x) _ _ whole (ap (map g) (drop_is xs i x lt is)) is_whole e h
-
--- ---- the same over a list without a view
-
-pub spot_good : {Y : Type 0} (f : ℕ → Y → Option SetFault) (ys : List Y) (i : ℕ) (d : Y) (whole : Option SetFault) → i < length ys → f i (get_or ys i d) ≡ None
-    → first_answer f i (drop i ys) ≡ whole → first_answer f (i + 1) (drop (i + 1) ys) ≡ whole
-spot_good f ys i d whole lt none e = goes_on f i (get_or ys i d) _ _ whole (drop_more ys i d lt) e none
-
-pub spot_stops : {Y : Type 0} (f : ℕ → Y → Option SetFault) (ys : List Y) (i : ℕ) (d : Y) (whole : Option SetFault) (e : DescFault) → i < length ys
-    → IsFirst (f i (get_or ys i d)) e
-    → first_answer f i (drop i ys) ≡ whole → IsFirst whole e
-spot_stops f ys i d whole e lt h is_whole = stops_here f i (get_or ys i d) _ _ whole (drop_more ys i d lt) is_whole e h
 
 pub spots_good : {Y : Type 0} (f : ℕ → Y → Option SetFault) (ys : List Y) (i : ℕ) (whole : Option SetFault) → length ys ≤ i
     → first_answer f i (drop i ys) ≡ whole → whole ≡ None
@@ -153,24 +130,6 @@ pub same_device : (name : List ℕ) (instance k : ℕ) (devices : List Device)
     → list_any (is_same_device name instance) (take k (map device_of devices)) ≡ list_any (λ d. bytes_eq d.desc.name name && d.instance == instance)
     (take k devices)
 same_device name instance k devices = rw take-map (any_same name instance (take k devices))
-
--- ---- the walk
-
--- a device whose own rules hold
-module _ (set : sets.Set) (i : ℕ) (d : sets.Device) (good : failing 1 (device_rules set i d) (here (parts.Device i)) ≡ None) where
-  inside : Option SetFault
-  inside = or_else (fields_fault (length set.structs) d.desc (parts.Device i)) (validations_fault d.desc (parts.Device i))
-
-  pub inside_stops : (e : DescFault)
-      → IsFirst (or_else (fields_fault (length set.structs) d.desc (parts.Device i)) (validations_fault d.desc (parts.Device i))) e
-      → IsFirst (device_fault set i d) e
-  unfolding inside
-  inside_stops e h = first_stops (or_else _ inside) (first_answer (sub_fault (length set.structs) i d) 0 d.subs) e (later_stops _ inside e good h)
-
-  pub subs_left : or_else (fields_fault (length set.structs) d.desc (parts.Device i)) (validations_fault d.desc (parts.Device i)) ≡ None
-      → device_fault set i d ≡ first_answer (sub_fault (length set.structs) i d) 0 d.subs
-  unfolding inside
-  subs_left h = first_good (or_else _ inside) (first_answer (sub_fault (length set.structs) i d) 0 d.subs) (both_good _ inside good h)
 
 -- ---- tests and names
 
@@ -269,39 +228,3 @@ distinct_is had names empty = cc (new_and_distinct had names, none_of_none had n
 
 pub empty_has_none : (names : BTreeSet (ℕ × Bor (List ℕ))) → names.keys ≡ [] → (n : List ℕ) → has_name names n ≡ false
 empty_has_none names e n = ap (λ (keys : List (ℕ × Bor (List ℕ))). list_any (is_at (λ k. by_key (key n, n) (k.0, k.1.now))) keys) e
-
--- ---- the walk
-
-module _ (set : sets.Set) where
-  own : Option SetFault
-  own = failing 1 (set_rules set) (here parts.Set)
-
-  last : Option SetFault
-  last = failing 1 (size_rules set) (here parts.Set)
-
-  devices : Option SetFault
-  devices = or_else (devices_from set 0 set.devices) last
-
-  pub set_stops : (e : DescFault) → IsFirst (failing 1 (set_rules set) (here parts.Set)) e → IsFirst (first_fault set) e
-  unfolding first_fault own devices last
-  set_stops e h = first_stops own (or_else (structs_from set.structs 0 set.structs) devices) e h
-
-  pub structs_stop : (e : DescFault) → failing 1 (set_rules set) (here parts.Set) ≡ None → IsFirst (structs_from set.structs 0 set.structs) e
-      → IsFirst (first_fault set) e
-  unfolding first_fault own devices last
-  structs_stop e good h =
-      later_stops own (or_else (structs_from set.structs 0 set.structs) devices) e good (first_stops (structs_from set.structs 0 set.structs) devices e h)
-
-  pub devices_stop : (e : DescFault) → failing 1 (set_rules set) (here parts.Set) ≡ None → structs_from set.structs 0 set.structs ≡ None
-      → IsFirst (devices_from set 0 set.devices) e
-      → IsFirst (first_fault set) e
-  unfolding first_fault own devices last
-  devices_stop e good structs h =
-      later_stops own (or_else (structs_from set.structs 0 set.structs) devices) e good
-      (later_stops (structs_from set.structs 0 set.structs) devices e structs (first_stops (devices_from set 0 set.devices) last e h))
-
-  pub items_left : failing 1 (set_rules set) (here parts.Set) ≡ None → structs_from set.structs 0 set.structs ≡ None → devices_from set 0 set.devices ≡ None
-      → first_fault set ≡ failing 1 (size_rules set) (here parts.Set)
-  unfolding first_fault own devices last
-  items_left good structs none =
-      cc (first_good own (or_else (structs_from set.structs 0 set.structs) devices) good, first_good (structs_from set.structs 0 set.structs) devices structs, first_good (devices_from set 0 set.devices) last none)

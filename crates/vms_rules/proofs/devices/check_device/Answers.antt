@@ -1,6 +1,6 @@
-use Rattle.vms_rules.proofs.Facade.{subs_from, ◌≡◌, ℕ, Option, [], None, length, ◌∙◌, length-map, no_desc, or_else, SetFault, failing, here}
+use Rattle.vms_rules.proofs.Facade.{subs_from, ◌≡◌, ℕ, Option, [], None, length, length-map, no_desc, or_else, SetFault, failing, here}
 use Rattle.vms_rules.proofs.Facade.{fields_fault, validations_fault, device_rules, device_fault, device_at, desc_of, device_of, set_of, get_map_at, IsFirst}
-use Rattle.vms_rules.proofs.WalkLaws.{inside_stops, subs_left, stops_by, first_stops}
+use Rattle.vms_rules.proofs.WalkLaws.{stops_by, first_stops}
 use Rattle.vms_rules.proofs.devices.check_device.Goals.{After-as_slice, After-index-as_slice-number, In_ok-lowest}
 use Rattle.vms_spec.specs.declared.Part.TheVariants as parts
 use Rattle.vms_spec.specs.Sets as sets
@@ -43,8 +43,8 @@ returns-in_err-check_inside c =
     let same = device_is (goal.at.returns-in_err-check_inside c).After-index-as_slice-number in
     let structs = structs_are (goal.at.returns-in_err-check_inside c).After-as_slice in
     let first : IsFirst (inside (length set.structs) (device_at set i) i) c.in_err-check_inside.field-0.0 = rw same (rw structs at c.in_err-check_inside.ensures) in
-    stops_by _ _ _ c.from_residual-in_err-check_inside.ensures.1
-    (inside_stops set i (device_at set i) (own_good (goal.at.returns-in_err-check_inside c).In_ok-lowest) _ first)
+    let good = own_good (goal.at.returns-in_err-check_inside c).In_ok-lowest in
+    stops_by _ _ _ c.from_residual-in_err-check_inside.ensures.1 (rw good (first_stops _ _ _ first))
 
 pub returns : goal.returns
 unfolding inside
@@ -57,5 +57,5 @@ returns c =
     let good = own_good (goal.at.returns c).In_ok-lowest in
     let none : inside (length set.structs) (device_at set i) i ≡ None = rw (same, ← structs) c.in_ok-check_inside.ensures in
     let left : device_fault set i (device_at set i) ≡ subs_from (length c.as_slice.result.now) i (device_of x) 0 (device_of x).subs =
-    subs_left set i (device_at set i) good none ∙ rw (same, structs) in
+    rw (good, none, same, structs) in
     rw left c.check_subs.ensures

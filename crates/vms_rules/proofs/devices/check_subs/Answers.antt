@@ -1,6 +1,6 @@
-use Rattle.vms_rules.proofs.{NameLaws.names_so_far, devices.check_subs.Goals.After-sub-item, Facade.device_of, Facade.get_map_at, Facade.has_name}
-use Rattle.vms_rules.proofs.Facade.{sub_at, Within, ◌≡◌, ◌<◌, ℕ, None, length, get_or, ap, arith, no_desc, AtLeast, sub_fault, Sub, sub_of}
-use Rattle.vms_rules.proofs.WalkLaws.{stops_by, place_good, place_stops}
+use Rattle.vms_rules.proofs.{NameLaws.names_so_far, devices.check_subs.Goals.After-sub-item, WalkLaws.stops_by, WalkLaws.goes_on, WalkLaws.stops_here}
+use Rattle.vms_rules.proofs.Facade.{device_of, get_map_at, has_name, sub_at, Within, ◌≡◌, ◌<◌, ℕ, None, length, get_or, ap, arith, no_desc, AtLeast}
+use Rattle.vms_rules.proofs.Facade.{sub_fault, Sub, sub_of, map, drop_is}
 use Rattle.vms_rules.proofs.devices.check_subs.Goals as goal
 
 -- the subsection of this number
@@ -23,8 +23,7 @@ returns-in_err-check_sub c =
     let w = c.args.within in
     let of = sub_is (goal.at.returns-in_err-check_sub c).After-sub-item in
     stops_by _ _ _ c.from_residual-in_err-check_sub.ensures.1
-    (place_stops (sub_fault w.structs w.number (device_of w.device.now)) sub_of w.device.now.subs _ _ _ _ of.lt of.is
-    (rw of.at at c.in_err-check_sub.ensures) c.loop-number.invariant.good)
+    (stops_here _ _ _ _ _ _ (ap (map sub_of) (drop_is w.device.now.subs _ _ of.lt of.is)) c.loop-number.invariant.good _ (rw of.at at c.in_err-check_sub.ensures))
 
 pub loop-number-preserved : goal.loop-number-preserved
 loop-number-preserved c =
@@ -36,5 +35,5 @@ loop-number-preserved c =
     record {
       names = names_so_far sub_of (λ e. e.desc.name) w.device.now.subs c.loop-number.number s (has_name c.loop-number.names)
           (has_name c.add_name.new.names) of.lt of.is c.loop-number.invariant.names (rw c.as_str.ensures at c.in_ok-is_new.ensures.added);
-      good = place_good fault sub_of w.device.now.subs _ _ _ of.lt of.is good c.loop-number.invariant.good;
+      good = goes_on fault _ _ _ _ _ (ap (map sub_of) (drop_is w.device.now.subs _ _ of.lt of.is)) c.loop-number.invariant.good good;
     }

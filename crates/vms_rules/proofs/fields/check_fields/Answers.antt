@@ -1,6 +1,6 @@
 use Rattle.vms_rules.proofs.{NameLaws.names_more, NameLaws.names_known, fields.check_fields.Goals.After-index-fields-number}
-use Rattle.vms_rules.proofs.Facade.{◌≡◌, ◌<◌, None, length, get_or, ap, arith, field_of, desc_of, IsFirst, has_name, at_field}
-use Rattle.vms_rules.proofs.WalkLaws.{stops_by, place_good, place_stops}
+use Rattle.vms_rules.proofs.Facade.{◌≡◌, ◌<◌, None, length, get_or, ap, arith, field_of, desc_of, IsFirst, has_name, at_field, map, drop_is}
+use Rattle.vms_rules.proofs.WalkLaws.{stops_by, goes_on, stops_here}
 use Rattle.vms_rules.proofs.fields.check_fields.Goals as goal
 
 pub returns-in_err-capacities : goal.returns-in_err-capacities
@@ -31,7 +31,7 @@ returns-in_err-lowest c =
     let first : IsFirst (at c.loop-number.number (field_of c.index-fields-number.result)) c.in_err-lowest.field-0.0 =
     rw c.field_rules-rules.ensures at c.in_err-lowest.ensures in
     stops_by _ _ _ c.from_residual-in_err-lowest.ensures.1
-    (place_stops at field_of c.args.desc.now.fields _ _ _ _ of.0 of.1 first c.loop-number.invariant.good)
+    (stops_here at _ _ _ _ _ (ap (map field_of) (drop_is c.args.desc.now.fields _ _ of.0 of.1)) c.loop-number.invariant.good _ first)
 
 pub loop-number-preserved : goal.loop-number-preserved
 loop-number-preserved c =
@@ -44,5 +44,5 @@ loop-number-preserved c =
     record {
       names = λ e. names_more fields i f (has_name c.loop-number.names) (has_name c.are_new_names.new.names) of.0 of.1 (c.loop-number.invariant.names e)
           (c.in_ok-are_new.ensures.added e);
-      good = place_good at field_of fields _ _ _ of.0 of.1 good c.loop-number.invariant.good;
+      good = goes_on at _ _ _ _ _ (ap (map field_of) (drop_is fields _ _ of.0 of.1)) c.loop-number.invariant.good good;
     }

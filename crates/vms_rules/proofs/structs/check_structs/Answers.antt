@@ -1,6 +1,6 @@
 use Rattle.vms_rules.proofs.{NameLaws.names_so_far, structs.check_structs.Goals.After-index-structs-number}
-use Rattle.vms_rules.proofs.Facade.{◌≡◌, None, map, arith, no_desc, struct_fault, desc_of, get_map_at, has_name, desc_at}
-use Rattle.vms_rules.proofs.WalkLaws.{depths_long, depth_at, stops_by, place_good, place_stops}
+use Rattle.vms_rules.proofs.Facade.{◌≡◌, None, map, arith, no_desc, struct_fault, desc_of, get_map_at, has_name, desc_at, ap, drop_is}
+use Rattle.vms_rules.proofs.WalkLaws.{depths_long, depth_at, stops_by, goes_on, stops_here}
 use Rattle.vms_rules.proofs.structs.check_structs.Goals as goal
 
 pub index-requires : goal.index-requires
@@ -17,8 +17,8 @@ pub returns-in_err-check_struct : goal.returns-in_err-check_struct
 returns-in_err-check_struct c =
     let here = desc_is (goal.at.returns-in_err-check_struct c).After-index-structs-number in
     stops_by _ _ _ c.from_residual-in_err-check_struct.ensures.1
-    (place_stops (struct_fault (map desc_of c.args.structs.now)) desc_of c.args.structs.now _ _ _ _ c.loop-number-test.true c.index-structs-number.is
-    (rw here at c.in_err-check_struct.ensures) c.loop-number.invariant.good)
+    (stops_here _ _ _ _ _ _ (ap (map desc_of) (drop_is c.args.structs.now _ _ c.loop-number-test.true c.index-structs-number.is)) c.loop-number.invariant.good _
+    (rw here at c.in_err-check_struct.ensures))
 
 pub loop-number-preserved : goal.loop-number-preserved
 loop-number-preserved c =
@@ -30,5 +30,5 @@ loop-number-preserved c =
     record {
       names = names_so_far desc_of (λ e. e.name) structs c.loop-number.number d (has_name c.loop-number.names) (has_name c.add_name.new.names)
           c.loop-number-test.true c.index-structs-number.is c.loop-number.invariant.names (rw c.as_str.ensures at c.in_ok-is_new.ensures.added);
-      good = place_good fault desc_of structs _ _ _ c.loop-number-test.true c.index-structs-number.is good c.loop-number.invariant.good;
+      good = goes_on fault _ _ _ _ _ (ap (map desc_of) (drop_is structs _ _ c.loop-number-test.true c.index-structs-number.is)) c.loop-number.invariant.good good;
     }
