@@ -1,12 +1,12 @@
 -- How a command ends, and what the call then does.
 use Rattle.std.proofs.{KnownBytes.Keeps-refl}
 use Rattle.std.proofs.Common.{◌≡◌, ℕ, Bool, true, false, List, refl, ◌∙◌, arith, Option, Some, None, append-nil, ◌⊎◌, ◌<◌, ◌^◌}
-use Rattle.std.proofs.Common.{drop, IfSome, sym, ap, subst, inl, inr, []}
+use Rattle.std.proofs.Common.{drop, IfSome, sym, inl, inr, []}
 use Rattle.std.specs.{Io.KnownBytes.Keeps, Io.KnownBytes.Appends, Prelude.string_bytes}
 use Rattle.vms_io.proofs.ShelvingLemmas.{looks_reaches, reaches_both, reaches_none}
 use Rattle.vms_io.proofs.WritingLemmas.{serves_none, stops_prefix}
 use Rattle.vms_io.specs.{Reading.Takes, Shelving.Looks, Told.Intake, Told.Outlet, Told.Stock, Writing.Serves, Causes.AppendsPrefix, Causes.Rose}
-use Rattle.vms_commands.specs.{StepEndings.TextEnds, Steps.Gives, declared.ending.Ending.Ending, Lines.bad_words, Outcomes.text_of, Outcomes.held_after}
+use Rattle.vms_commands.specs.{StepEndings.TextEnds, Steps.Gives, declared.ending.Ending.Ending, Lines.bad_words}
 use Rattle.vms_commands.specs.Courses.{Course, Draws, EndsSo, Risen, is_among}
 use Rattle.vms_commands.specs.Endings.{WritesAs, status_of, Caused, EndsAs, EndsWith, Quiet, Tells}
 use Rattle.vms_commands.specs.Outcomes.{Part, Outcome, Outside, ComesTo, ComesToFault, FailsToStore, TellsShelfFault, DoesOrStops, TakesBytes, done, ended}
@@ -101,7 +101,7 @@ kept_none (Some xs) None h = absurd h
 kept_none (Some xs) (Some ys) h = h ∙ sym (append-nil xs)
 
 pub same_keeps : (o o' : Outlet) → o' ≡ o → Keeps o.written o'.written
-same_keeps o o' e = subst (λ (x : Outlet). Keeps o.written x.written) (sym e) (Keeps-refl o.written)
+same_keeps o o' e = rw e (Keeps-refl o.written)
 
 -- nothing was begun
 pub comes_to_nothing : (o o' : Outlet) (s s' : Stock) (parts : List Part) → Keeps o.written o'.written → s'.held ≡ s.held → ComesTo o o' s s' parts
@@ -123,19 +123,14 @@ takes_nothing i few = record { left = nothing_left i.left; given = omega (arith,
 
 -- an outcome of a status of its own, and nothing taken
 pub ends_with : (k : ℕ) (line : List ℕ) (i : Intake) (x : Outcome) → i.given < 2 ^ 64 → x ≡ ended k line 0 → EndsWith k line i i x
-ends_with k line i x few is = record {
-  status_is = ap (λ (y : Outcome). y.status) is;
-  parts = ap (λ (y : Outcome). y.parts) is;
-  note = ap (λ (y : Outcome). y.note) is;
-  taken = subst (λ (n : ℕ). TakesBytes i i n) (sym (ap (λ (y : Outcome). y.taken) is)) (takes_nothing i few);
-}
+ends_with k line i x few is = rw is (record { status_is = refl; parts = refl; note = refl; taken = takes_nothing i few })
 
 -- a text was written, or a prefix of it, while the shelf stayed
 pub text_written : (text : List ℕ) (i i' : Intake) (o o' : Outlet) (s s' : Stock) (taken : ℕ) (ending : Option Ending)
     → WritesAs text o o' ending → s'.held ≡ s.held → TakesBytes i i' taken → EndsAs i i' o o' s s' ending (done text s.held taken)
 text_written text i i' o o' s s' taken None w same t = record {
   status_is = refl;
-  text = subst (λ (l : List ℕ). Appends o.written o'.written l) (sym (append-nil text)) w.told;
+  text = rw append-nil w.told;
   note = refl;
   held = same;
   taken = t;
@@ -156,13 +151,13 @@ module _ (i i' : Intake) (o o' n n' : Outlet) (s s' : Stock) where
       → DoesOrStops status (around i o n s) (around i' o' n' s') x
   ended_so k status line x ends keeps held (inl t) = inl record {
     same = t.0 ∙ sym ends.status_is;
-    text = subst (λ (l : List Part). Appends o.written o'.written (text_of l)) (sym ends.parts) (kept_none o.written o'.written keeps);
-    note = subst (λ (l : List ℕ). Appends n.written n'.written l) (sym ends.note) t.1;
-    shelf = held ∙ ap (λ (l : List Part). held_after s.held l) (sym ends.parts);
+    text = rw ends.parts (kept_none o.written o'.written keeps);
+    note = rw ends.note t.1;
+    shelf = rw ends.parts held;
     taken = ends.taken;
   }
   ended_so k status line x ends keeps held (inr t) = inr record {
-    why = inr (inr (inl ((t.0, t.1), inl (subst (λ (l : List ℕ). AppendsPrefix n.written n'.written l) (sym ends.note) t.2))));
+    why = inr (inr (inl ((t.0, t.1), inl (rw ends.note t.2))));
     come = inl (comes_to_nothing o o' s s' x.parts keeps held);
   }
 
@@ -178,7 +173,7 @@ module _ (i i' : Intake) (o o' n n' : Outlet) (s s' : Stock) where
   outcome_so None status x d c t = inl record {
     same = t.0 ∙ sym d.status_is;
     text = d.text;
-    note = subst (λ (l : List ℕ). Appends n.written n'.written l) (sym d.note) (kept_none n.written n'.written (same_keeps n n' t.1));
+    note = rw d.note (kept_none n.written n'.written (same_keeps n n' t.1));
     shelf = d.held;
     taken = d.taken;
   }

@@ -1,8 +1,8 @@
 -- Steps that a command takes before its work: how they end it, and what it does where they give something.
 use Rattle.std.proofs.{lemmas.Bool.leb-false, lemmas.Option.none-some}
-use Rattle.std.proofs.Common.{append-nil, ◌≡◌, ℕ, ◌<◌, ◌^◌, Bool, true, false, if◌then◌else◌, nat_le, ◌≤◌, List, length, Option, Some, None, Result, Ok, Err}
-use Rattle.std.proofs.Common.{refl, sym, ap, ◌∙◌, subst, arith, inl}
-use Rattle.std.specs.{Prelude.string_bytes, Result.IsErrAnd, Result.MatchResult, Io.KnownBytes.Appends}
+use Rattle.std.proofs.Common.{append-nil, ◌≡◌, ℕ, ◌<◌, ◌^◌, Bool, true, false, if◌then◌else◌, nat_le, ◌≤◌, List, length, Option}
+use Rattle.std.proofs.Common.{Some, None, Result, Ok, Err, refl, sym, ap, arith, inl}
+use Rattle.std.specs.{Prelude.string_bytes, Result.IsErrAnd, Result.MatchResult}
 use Rattle.vms_io.specs.{Shelves.Held, Told.Intake, Told.Outlet, Told.Stock}
 use Rattle.vms_descfile.specs.Files.{Said, Parts, Syntax, Shape, IllFormed, file_said}
 use Rattle.vms_commands.proofs.EndLemmas.{comes_to_nothing, ends_with, takes_nothing}
@@ -27,7 +27,7 @@ mapped_by m (Err fault) = Some (m fault)
 
 pub ending_mapped : {T F : Type 0} (m : F → Ending) (call : Result T F) (work : Result T Ending)
     → MatchResult call (λ t. work ≡ Ok t) (λ fault. IsErrAnd work (λ x. x ≡ m fault)) → ending_of work ≡ mapped_by m call
-ending_mapped {T} m (Ok t) work is = ap (λ (w : Result T Ending). ending_of w) is
+ending_mapped m (Ok t) work is = ap ending_of is
 ending_mapped m (Err fault) work is = ending_passed work is
 
 -- ---- one step after another
@@ -49,7 +49,7 @@ module _ {A B T U : Type 0} (m : T → A) (n : U → B) (f : A → Step B) where
   -- the second was taken
   pub then_as : (s : Step A) (t : T) (r : Result U Ending) → StepAs m s (Ok t) → StepAs n (f (m t)) r → StepAs n (next s f) r
   then_as Untold t r h k = tt
-  then_as (Gives a) t r h k = subst (λ (x : A). StepAs n (f x) r) h k
+  then_as (Gives a) t r h k = rw (← h) k
   then_as (Ends status line) t r h k = absurd h
 
 -- ---- texts for out
@@ -73,7 +73,7 @@ module _ {A T : Type 0} (m : T → A) (f : A → Step (List ℕ)) (o o' : Outlet
   -- it gave something
   pub then_text : (e : Option Ending) (s : Step A) (t : T) → StepAs m s (Ok t) → TextEnds (f (m t)) o o' e → TextEnds (next s f) o o' e
   then_text e Untold t first h = tt
-  then_text e (Gives a) t first h = subst (λ (x : A). TextEnds (f x) o o' e) first h
+  then_text e (Gives a) t first h = rw (← first) h
   then_text e (Ends status line) t first h = absurd first
 
 -- ---- the outcome
@@ -82,7 +82,7 @@ given_ends : (text : List ℕ) (i : Intake) (o o' : Outlet) (s s' : Stock) (e : 
     → EndsAs i i o o' s s' e (done text s.held 0)
 given_ends text i o o' s s' None few same quiet h = record {
   status_is = refl;
-  text = subst (λ (l : List ℕ). Appends o.written o'.written l) (sym (append-nil text)) h;
+  text = rw append-nil h;
   note = refl;
   held = same;
   taken = takes_nothing i few;
@@ -93,7 +93,7 @@ given_ends text i o o' s s' (Some NoMemory) few same quiet h = comes_to_nothing 
 given_ends text i o o' s s' e few same quiet h = absurd h
 
 same_end : (status k : ℕ) (line text : List ℕ) → status ≡ k → line ≡ text → ended status line 0 ≡ ended k text 0
-same_end status k line text e f = ap (λ (n : ℕ). ended n line 0) e ∙ ap (λ (l : List ℕ). ended k l 0) f
+same_end status k line text e f = rw (e, f)
 
 pub ended_ends : (status : ℕ) (line : List ℕ) (i : Intake) (o o' : Outlet) (s s' : Stock) (e : Option Ending) → i.given < 2 ^ 64 → s'.held ≡ s.held → Quiet o o' e → EndedAs status line e
     → EndsAs i i o o' s s' e (ended status line 0)
@@ -109,10 +109,8 @@ ended_ends status line i o o' s s' e few same quiet h = absurd h
 pub text_ends : (step : Step (List ℕ)) (i : Intake) (o o' : Outlet) (s s' : Stock) (e : Option Ending) (x : Outcome) → i.given < 2 ^ 64 → s'.held ≡ s.held
     → Quiet o o' e → TextEnds step o o' e → HasText s.held step x → EndsAs i i o o' s s' e x
 text_ends Untold i o o' s s' e x few same quiet h has = absurd has
-text_ends (Gives text) i o o' s s' e x few same quiet h has =
-    subst (λ (y : Outcome). EndsAs i i o o' s s' e y) (sym has) (given_ends text i o o' s s' e few same quiet h)
-text_ends (Ends status line) i o o' s s' e x few same quiet h has =
-    subst (λ (y : Outcome). EndsAs i i o o' s s' e y) (sym has) (ended_ends status line i o o' s s' e few same quiet h)
+text_ends (Gives text) i o o' s s' e x few same quiet h has = rw has (given_ends text i o o' s s' e few same quiet h)
+text_ends (Ends status line) i o o' s s' e x few same quiet h has = rw has (ended_ends status line i o o' s s' e few same quiet h)
 
 -- the outcome of a command that depends on what a step gives
 module _ {A T : Type 0} (m : T → A) (P : A → Outcome → Type 0) where
@@ -127,13 +125,12 @@ module _ {A T : Type 0} (m : T → A) (P : A → Outcome → Type 0) where
       → StepAs {A = A} {T = T} m step (Err e) → HasBy P step x → EndsAs i i o o' s s' (Some e) x
   ended_by Untold i o o' s s' e x few same quiet h has = absurd has
   ended_by (Gives a) i o o' s s' e x few same quiet h has = free_by i o o' s s' (Some e) x same quiet h
-  ended_by (Ends status line) i o o' s s' e x few same quiet h has =
-      subst (λ (y : Outcome). EndsAs i i o o' s s' (Some e) y) (sym has) (ended_ends status line i o o' s s' (Some e) few same quiet h)
+  ended_by (Ends status line) i o o' s s' e x few same quiet h has = rw has (ended_ends status line i o o' s s' (Some e) few same quiet h)
 
   -- where the step gave something
   pub had_by : (step : Step A) (t : T) (x : Outcome) → StepAs m step (Ok t) → HasBy P step x → P (m t) x
   had_by Untold t x h has = absurd has
-  had_by (Gives a) t x h has = subst (λ (y : A). P y x) (sym h) has
+  had_by (Gives a) t x h has = rw h has
   had_by (Ends status line) t x h has = absurd h
 
 -- ---- steps are known where the shelf is, and never end with status 0
@@ -207,4 +204,4 @@ under_gives most name text false e fits = absurd (omega (arith, leb-false (lengt
 
 pub fetched_gives : (most : ℕ) (map : Held) (name text : List ℕ) → map name ≡ Some text → length text ≤ most
     → fetched most (Some map) name ≡ Gives text
-fetched_gives most map name text e fits = ap (text_under most name) e ∙ under_gives most name text (nat_le (length text) most) refl fits
+fetched_gives most map name text e fits = rw e (under_gives most name text (nat_le (length text) most) refl fits)
