@@ -4,7 +4,7 @@ use Rattle.vms_script.proofs.Facade.{nat_tests, ℕ, ◌+◌, ◌^◌, ◌<◌, 
 use Rattle.vms_script.proofs.Facade.{Option, pos, if◌then◌else◌, ap, ◌∙◌, arith, decimal, list_all, and_parts, ne_eqb, not-true, digits_decimal}
 use Rattle.vms_script.proofs.Facade.{Event, numerals, number_holds, port_text, event_text, line_text, script_text, IsEvent, IsLine, AreLines, is_wire, NEWEST}
 use Rattle.vms_script.proofs.Facade.{ScriptLine, Read, or_form, number_in, is_wait, is_set_of, out_line, wire_line, set_spelled, save_line, is_name_byte}
-use Rattle.vms_script.proofs.Facade.{is_name, name_byte_high, is_shelf_name, Split, Reading, lines_of, also, with_line, lines_read, text_read, first_word}
+use Rattle.vms_script.proofs.Facade.{is_name, name_byte_high, is_shelf_name, Split, Reading, lines_of, with_line, lines_read, text_read, first_word}
 use Rattle.vms_script.proofs.Facade.{longer_word, byte_spelled, byte_text, port_spelled, level_spelled, ScriptReason, ℤ, negsuc, sym, subst, bytes_eq}
 use Rattle.vms_script.proofs.Facade.{eqb-true, bytes_eq-Decides, number_spelled, spelled_holds, ReadsExactly, or_range, in_line, byte_line, wait_line}
 use Rattle.vms_script.proofs.Facade.{name_spelled, restore_line, play_line, line_split, begun, unended, tail_read, level_text}
@@ -101,9 +101,7 @@ number_good holds line n early h = rw (number_holds (pos n) (early_small holds n
 event_good : (play : Option ℕ) (event : Event) → IsEvent event → line_read play (event_text event) ≡ Ok (Happens event)
 event_good play (events.Read port) h = rw (port_back port h)
 event_good play (events.Write port value) h =
-    ap out_line (word_front (port_text port) (byte_text value) (port_lacks 32 port (omega arith)))
-    ∙ ap (λ o. or_form o (λ p. or_form (byte_spelled (byte_text value)) (λ v. Ok (Happens (events.Write p v))))) (port_back port h.0)
-    ∙ ap (λ o. or_form o (λ v. Ok (Happens (events.Write port v)))) (byte_back value h.1)
+    rw (word_front (port_text port) (byte_text value) (port_lacks 32 port (omega arith)), port_back port h.0, byte_back value h.1)
 event_good play (events.Byte value) h = rw (byte_back value h)
 event_good play (events.Wait ns) h = number_good is_wait (λ ns. Happens (events.Wait ns)) ns waits_end h
 event_good play (events.Wire input true) h =
@@ -118,8 +116,7 @@ line_good : (play : Option ℕ) (line : ScriptLine) → IsLine play line → lin
 line_good play (Happens event) h = event_good play event h
 line_good (Some level) (Saves set name) h =
     ap (save_line level) (word_front (64 ∷ decimal set) name (decimal_lacks 32 set (omega arith) (early_small (is_set_of NEWEST level) set (sets_end level) h.0)))
-    ∙ ap (λ t. or_form (if t then Some name else None) (λ name. or_form (set_spelled (64 ∷ decimal set)) (λ number. number_in (is_set_of NEWEST level) (λ set. Saves set name) number))) h.1
-    ∙ number_good (is_set_of NEWEST level) (λ set. Saves set name) set (sets_end level) h.0
+    ∙ rw h.1 (number_good (is_set_of NEWEST level) (λ set. Saves set name) set (sets_end level) h.0)
 line_good (Some level) (Restores name) h = rw h
 line_good None _ h = absurd h
 
@@ -147,9 +144,7 @@ read_split play number split = lines_read play number split.lines split.tail
 text_good : (play : Option ℕ) (number : ℕ) (lines : List ScriptLine) → AreLines play lines → text_read play number (script_text lines) ≡ Ok lines
 text_good play number [] h = refl
 text_good play number (line ∷ lines) h =
-    ap (read_split play number) (lines_front (line_text line) (script_text lines) (line_lacks play line h.0))
-    ∙ ap (λ r. with_line number r (text_read play (number + 1) (script_text lines))) (line_good play line h.0)
-    ∙ ap (also line) (text_good play (number + 1) lines h.1)
+    rw (lines_front (line_text line) (script_text lines) (line_lacks play line h.0), line_good play line h.0, text_good play (number + 1) lines h.1)
 
 pub spelled_read : (play : Option ℕ) (lines : List ScriptLine) → AreLines play lines → script_read play (script_text lines) ≡ Ok lines
 unfolding script_read

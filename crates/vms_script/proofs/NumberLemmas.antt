@@ -1,10 +1,10 @@
 -- Numbers as they are spelled, and their ranges.
-use Rattle.vms_script.proofs.Facade.{◌≡◌, ℕ, ◌+◌, ◌-◌, ◌*◌, ◌^◌, ◌<◌, ◌≤◌, Bool, true, false, nat_le, List, length, get_or, drop, Option, Some, None}
-use Rattle.vms_script.proofs.Facade.{Ok, Err, ℤ, pos, negsuc, if◌then◌else◌, refl, sym, ap, ◌∙◌, arith, and_right, nat_tests}
-use Rattle.vms_script.proofs.Facade.{drop_more, drop_all, natural_from, number_spelled, natural_up, is_wire, NEWEST, ScriptLine, Happens, or_form, or_range}
-use Rattle.vms_script.proofs.Facade.{number_in, is_wait, is_set_of, wire_line, level_spelled, number_read, below_2_64, ScriptReason, ◌/◌, ◌%◌, not, ◌==◌}
-use Rattle.vms_script.proofs.Facade.{[], ◌∷◌, ◌++◌, list_all, leb-true, and_parts, div-mul-add, mod-mul-add, digit_char}
-use Rattle.vms_script.proofs.Facade.{is_digit, port_text, digit_spelled, joined, byte_spelled, port_spelled, byte_text}
+use Rattle.vms_script.proofs.Facade.{◌≡◌, ℕ, ◌+◌, ◌-◌, ◌*◌, ◌^◌, ◌<◌, ◌≤◌, Bool, true, false, nat_le, List, length, get_or}
+use Rattle.vms_script.proofs.Facade.{drop, Option, Some, None, Ok, Err, ℤ, pos, negsuc, if◌then◌else◌, refl, sym, ap, ◌∙◌, arith, and_right}
+use Rattle.vms_script.proofs.Facade.{nat_tests, drop_more, drop_all, natural_from, number_spelled, natural_up, is_wire, NEWEST, ScriptLine, Happens, or_form}
+use Rattle.vms_script.proofs.Facade.{or_range, number_in, is_wait, is_set_of, wire_line, level_spelled, number_read, below_2_64, ScriptReason, ◌/◌, ◌%◌}
+use Rattle.vms_script.proofs.Facade.{not, ◌==◌, [], ◌∷◌, ◌++◌, list_all, leb-true, and_parts, div-mul-add, mod-mul-add, digit_char, is_digit}
+use Rattle.vms_script.proofs.Facade.{port_text, digit_spelled, joined, byte_spelled, port_spelled, byte_text}
 use Rattle.dev_board.specs.declared.event.Event.TheVariants as events
 use Rattle.vms_script.specs.declared.line.ScriptReason.TheVariants as reasons
 
@@ -46,7 +46,7 @@ number_holds holds line (Some (pos n)) v e = grind (arith, nat_tests)
 in_judged : (holds : ℕ → Bool) (line : ℕ → ScriptLine) (text : List ℕ) (v : ℕ) (t : Bool) → Ok v ≡ number_read (number_spelled text) → t ≡ holds v
     → (if t then Ok (line v) else Err reasons.Range) ≡ number_in holds line text
 in_judged holds line text v t n h =
-    sym (number_holds holds line (number_spelled text) v (sym n) ∙ ap (λ t. if t then Ok (line v) else Err reasons.Range) (sym h))
+    rw h (sym (number_holds holds line (number_spelled text) v (sym n)))
 
 in_fails : (holds : ℕ → Bool) (line : ℕ → ScriptLine) (text : List ℕ) (reason : ScriptReason) → EndsEarly holds → Err reason ≡ number_read (number_spelled text) → Err reason ≡ number_in holds line text
 in_fails holds line text reason early n = sym (number_fails holds line (number_spelled text) reason early (sym n))
@@ -65,21 +65,18 @@ sets_end level n le = and_right (nat_le level n) (nat_le n NEWEST) (grind (arith
 -- a line of a wire has the number and the level that its words spell
 wire_spelled : (words : List ℕ × Option (List ℕ)) (number level : List ℕ) (up : Bool) → number ≡ words.0 → Some level ≡ words.1 → Some up ≡ level_spelled level
     → number_in is_wire (λ input. Happens (events.Wire input up)) words.0 ≡ wire_line words
-wire_spelled (a, b) number level up w r l =
-    ap (λ o. or_form o (λ up. number_in is_wire (λ input. Happens (events.Wire input up)) a)) l
-    ∙ ap (λ o. or_form o (λ level. or_form (level_spelled level) (λ up. number_in is_wire (λ input. Happens (events.Wire input up)) a))) r
+wire_spelled (a, b) number level up w r l = rw (← r, ← l)
 
 pub wire_judged : (words : List ℕ × Option (List ℕ)) (number level : List ℕ) (up : Bool) (v : ℕ) (t : Bool) → number ≡ words.0 → Some level ≡ words.1
     → Some up ≡ level_spelled level → Ok v ≡ number_read (number_spelled number) → t ≡ is_wire v
     → (if t then Ok (Happens (events.Wire v up)) else Err reasons.Range) ≡ wire_line words
 wire_judged words number level up v t w r l n h =
-    in_judged is_wire (λ (i : ℕ). Happens (events.Wire i up)) words.0 v t (n ∙ ap (λ t. number_read (number_spelled t)) w) h
-    ∙ wire_spelled words number level up w r l
+    in_judged is_wire (λ (i : ℕ). Happens (events.Wire i up)) words.0 v t (rw (← w) n) h ∙ wire_spelled words number level up w r l
 
 pub wire_fails : (words : List ℕ × Option (List ℕ)) (number level : List ℕ) (up : Bool) (reason : ScriptReason) → number ≡ words.0 → Some level ≡ words.1 → Some up ≡ level_spelled level
     → Err reason ≡ number_read (number_spelled number) → Err reason ≡ wire_line words
 wire_fails words number level up reason w r l n =
-    in_fails is_wire (λ (i : ℕ). Happens (events.Wire i up)) words.0 reason wires_end (n ∙ ap (λ t. number_read (number_spelled t)) w) ∙ wire_spelled words number level up w r l
+    in_fails is_wire (λ (i : ℕ). Happens (events.Wire i up)) words.0 reason wires_end (rw (← w) n) ∙ wire_spelled words number level up w r l
 
 -- ---- from a value to its digit and back
 
@@ -117,9 +114,7 @@ joins base _ _ v e = cc
 -- two texts of the parts of a number
 both : (base v a b : ℕ) (text_of : ℕ → List ℕ) (first second : List ℕ) → v ≡ a * base + b → b < base → first ≡ text_of a → second ≡ text_of b → first ++ second ≡ text_of (v / base) ++ text_of (v % base)
 both base v a b text_of first second value small f s =
-    let high : v / base ≡ a = ap (λ n. n / base) value ∙ div-mul-add a base b small in
-    let low : v % base ≡ b = ap (λ n. n % base) value ∙ mod-mul-add a base b small in
-    ap (λ t. t ++ second) (f ∙ ap text_of (sym high)) ∙ ap (λ t. text_of (v / base) ++ t) (s ∙ ap text_of (sym low))
+    rw (value, div-mul-add a base b small, mod-mul-add a base b small, f, s)
 
 -- a text that is read, of a number below a limit
 pub record IsTextOf (limit : ℕ) (text_of : ℕ → List ℕ) (text : List ℕ) (n : ℕ) : Type 0 where

@@ -1,10 +1,10 @@
 -- Scripts line by line, and the line that is refused.
-use Rattle.vms_script.proofs.{Facade.RefusesFirst, Facade.BadLine, NumberLemmas.lacks, GrammarLaws.unsplit, GrammarLaws.text_split, GrammarLaws.line_is}
-use Rattle.vms_script.proofs.Facade.{◌≡◌, ℕ, ◌+◌, ◌<◌, Bool, true, false, ◌==◌, List, [], ◌∷◌, ◌++◌, length, Option, Some, None}
-use Rattle.vms_script.proofs.Facade.{Ok, Err, if◌then◌else◌, refl, sym, ap, ◌∙◌, arith, append_assoc, eqb-true, append-nil, first_line, longer_line}
-use Rattle.vms_script.proofs.Facade.{ScriptLine, Read, line_read, Split, Reading, lines_of, begun, bad, also, with_line, unended, tail_read, lines_read}
-use Rattle.vms_script.proofs.Facade.{text_read, SaysLines, IsBadAt, IsPut, IsRefusal, ReadsLines, ScriptFault, Bad, NoMemory, ScriptReason, zero, suc}
-use Rattle.vms_script.proofs.Facade.{◌≤◌, get_or, take, drop, ⊎_elim, codes, bytes_eq, cases_lt, ne_eqb, eq-eqb, none-some, Ack, Happens, line_split}
+use Rattle.vms_script.proofs.{NumberLemmas.lacks, GrammarLaws.unsplit, GrammarLaws.text_split, GrammarLaws.line_is}
+use Rattle.vms_script.proofs.Facade.{RefusesFirst, BadLine, ◌≡◌, ℕ, ◌+◌, ◌<◌, Bool, true, false, ◌==◌, List, [], ◌∷◌, ◌++◌}
+use Rattle.vms_script.proofs.Facade.{length, Option, Some, None, Ok, Err, if◌then◌else◌, refl, sym, ap, ◌∙◌, arith, append_assoc, eqb-true}
+use Rattle.vms_script.proofs.Facade.{append-nil, first_line, longer_line, ScriptLine, Read, line_read, Split, Reading, lines_of, begun, bad, also, with_line}
+use Rattle.vms_script.proofs.Facade.{unended, tail_read, lines_read, text_read, SaysLines, IsBadAt, IsPut, IsRefusal, ReadsLines, ScriptFault, Bad, NoMemory}
+use Rattle.vms_script.proofs.Facade.{ScriptReason, zero, suc, ◌≤◌, get_or, take, drop, ⊎_elim, codes, bytes_eq, cases_lt, ne_eqb, eq-eqb, none-some}
 use Rattle.vms_script.proofs.Facade.{first_word, longer_word, ◌&&◌, nat_le, not, list_all, IsAscii, slice_index, and_parts, is_name_byte, is_name}
 use Rattle.vms_script.proofs.Facade.{name_byte_low, is_shelf_name, script_read, subst, not-true, line_text, script_text, unended_reason, IsBadHere, IsRefused}
 use Rattle.vms_script.specs.declared.line.ScriptReason.TheVariants as reasons
@@ -34,10 +34,10 @@ read_split play number split = lines_read play number split.lines split.tail
 
 text_first : (play : Option ℕ) (number : ℕ) (text line after : List ℕ) → first_line text ≡ Some (line, after)
     → text_read play number text ≡ with_line number (line_read play line) (text_read play (number + 1) after)
-text_first play number text line after e = ap (read_split play number) (lines_first text) ∙ ap (λ o. read_split play number (by_first o text)) e
+text_first play number text line after e = rw (lines_first text, e)
 
 text_last : (play : Option ℕ) (number : ℕ) (text : List ℕ) → first_line text ≡ None → text_read play number text ≡ tail_read play number text
-text_last play number text e = ap (read_split play number) (lines_first text) ∙ ap (λ o. read_split play number (by_first o text)) e
+text_last play number text e = rw (lines_first text, e)
 
 abbrev pub after_lines : List ScriptLine → Reading → Reading
 after_lines before (Ok lines) = Ok (before ++ lines)
@@ -59,7 +59,7 @@ line_goes before play number text line after said first good =
 pub line_stops : (before : List ScriptLine) (play : Option ℕ) (number : ℕ) (text line after : List ℕ) (reason : ScriptReason) → first_line text ≡ Some (line, after) → line_read play line ≡ Err reason
     → after_lines before (text_read play number text) ≡ bad number reason
 line_stops before play number text line after reason first is =
-    ap (after_lines before) (text_first play number text line after first ∙ ap (λ r. with_line number r (text_read play (number + 1) after)) is)
+    rw (text_first play number text line after first, is)
 
 -- the end of the text, or a last line without its end
 pub text_ends : (before : List ScriptLine) (play : Option ℕ) (number : ℕ) (text : List ℕ) → first_line text ≡ None → length text ≡ 0 → after_lines before (text_read play number text) ≡ Ok before
@@ -131,8 +131,7 @@ one_word (b ∷ xs) none = rw (ne_eqb b 32 (none 0 (omega arith))) (ap (longer_w
 -- the first space ends the first word
 pub found_word : (xs : List ℕ) (i : ℕ) → i < length xs → get_or xs i 0 ≡ 32 → NotBefore 32 xs i → first_word xs ≡ (take i xs, Some (drop (i + 1) xs))
 found_word xs i lt is before =
-    let s : suc i ≡ i + 1 = omega arith in
-    word_at xs i lt is before ∙ ap (λ (k : ℕ). (take i xs, Some (drop k xs))) s
+    let s : i + 1 ≡ suc i = omega arith in rw s (word_at xs i lt is before)
 
 pub no_blank : (xs : List ℕ) (i : ℕ) → length xs ≤ i → NotBefore 32 xs i → first_word xs ≡ (xs, None)
 no_blank xs i end none = one_word xs (λ k h is. none k (omega arith) is)
@@ -168,7 +167,7 @@ words_long (b ∷ xs) rest some = omega arith
 
 -- what a line of one word that isn't `ack` says
 pub other_says : (play : Option ℕ) (xs : List ℕ) → bytes_eq xs (codes "ack") ≡ false → (first_word xs).1 ≡ None → line_read play xs ≡ Err reasons.Form
-other_says play xs other none = ap (line_split play) (lone_word xs none) ∙ ap (λ t. if t then Ok (Happens Ack) else Err reasons.Form) other
+other_says play xs other none = rw (lone_word xs none, other)
 
 bytes_ascii : (bytes : List ℕ) → list_all is_name_byte bytes ≡ true → (i : ℕ) → slice_index bytes i < 128
 bytes_ascii [] e i = omega arith
