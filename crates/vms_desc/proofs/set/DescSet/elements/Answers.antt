@@ -1,6 +1,5 @@
-use Rattle.vms_desc.proofs.AskLaws.{field_found}
-use Rattle.vms_desc.proofs.Facade.{◌∙◌, ap, described}
-use Rattle.vms_desc.specs.Calls.{count_in}
+use Rattle.vms_desc.proofs.{AskLaws.field_found, Facade.◌∙◌, Facade.ap, Facade.described}
+use Rattle.vms_desc.specs.{Calls.count_in}
 use Rattle.vms_desc.proofs.set.DescSet.elements.Goals as goal
 
 pub count_of-requires : goal.count_of-requires

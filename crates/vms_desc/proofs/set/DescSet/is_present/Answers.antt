@@ -1,6 +1,5 @@
-use Rattle.vms_desc.proofs.{Facade.own_numbers, Facade.described, set.DescSet.is_present.Given.Over, set.DescSet.is_present.Goals.After-deref}
-use Rattle.vms_desc.proofs.AskLaws.{field_names}
-use Rattle.vms_desc.proofs.Facade.{◌≡◌, ◌∙◌, sym, ap, Option, Some, option_map, Formula, is_there, no_parent, field_of, formula, formula_in}
+use Rattle.vms_desc.proofs.{Facade.formula, Facade.formula_in, set.DescSet.is_present.Given.Over, set.DescSet.is_present.Goals.After-deref, AskLaws.field_names}
+use Rattle.vms_desc.proofs.Facade.{own_numbers, described, ◌≡◌, ◌∙◌, sym, ap, Option, Some, option_map, Formula, is_there, no_parent, field_of}
 use Rattle.vms_desc.proofs.set.DescSet.is_present.Goals as goal
 
 -- the test that the code found

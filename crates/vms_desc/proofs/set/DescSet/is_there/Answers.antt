@@ -1,6 +1,5 @@
-use Rattle.vms_desc.proofs.AskLaws.{field_found}
-use Rattle.vms_desc.proofs.Facade.{◌∙◌, ap, described}
-use Rattle.vms_desc.specs.Calls.{is_present_in}
+use Rattle.vms_desc.proofs.{AskLaws.field_found, Facade.◌∙◌, Facade.ap, Facade.described}
+use Rattle.vms_desc.specs.{Calls.is_present_in}
 use Rattle.vms_desc.proofs.set.DescSet.is_there.Goals as goal
 
 pub is_present-requires : goal.is_present-requires
