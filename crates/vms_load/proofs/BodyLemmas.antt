@@ -1,14 +1,15 @@
 -- Readings of the fields of a part that go on: numbers, constants and rules.
-use Rattle.vms_load.proofs.Facade.{false_from_ne_true, ◌≡◌, ℕ, ◌+◌, List, [], length, take, drop, slice_set, Option, Some, Result, Ok, Err, OnOk, ℤ, refl}
-use Rattle.vms_load.proofs.Facade.{sym, ap, ◌∙◌, subst, arith, Bool, true, false, not, ◌&&◌, nat_lt, ◌<◌, ◌^◌, IfErr, drop_all, Kind, width, value_of, Reason}
-use Rattle.vms_load.proofs.Facade.{same_number, exceeds, is_truth, is_above, Slot, Rule, Taken, Progress, take_slot, Piece, raw, Seen, Good, Bad, Short, seen}
-use Rattle.vms_load.proofs.Facade.{nothing_known, put, taken_by, IsUnit, by_tests, tested, slot_seen, AnswersSeen, Fails, ReadsNumber, ReadsFiller, FrameFault}
-use Rattle.vms_load.proofs.Facade.{TakesAs, ReadsCapped, ReadsConstant, TakesOn, progress, same_number_is, Intake, takes_none, reads_as, reads_last, ReadsAs}
-use Rattle.vms_load.proofs.{Facade.OnErr, Facade.Told, Facade.Fills, Facade.keeps_same, Facade.◌∷◌, RunReads.step_fills}
-use Rattle.vms_walk.specs.declared.step.WalkStep.TheVariants as steps
+use Rattle.vms_load.proofs.Facade.{false_from_ne_true, ◌≡◌, ℕ, ◌+◌, List, [], length, take, drop, slice_set, Option, Some, Result, Ok, Err, OnOk}
+use Rattle.vms_load.proofs.Facade.{ℤ, refl, sym, ap, ◌∙◌, subst, arith, Bool, true, false, not, ◌&&◌, nat_lt, ◌<◌, ◌^◌, IfErr, drop_all}
+use Rattle.vms_load.proofs.Facade.{Kind, width, value_of, Reason, same_number, exceeds, is_truth, is_above, Slot, Rule, Taken, Progress, take_slot, Piece, raw}
+use Rattle.vms_load.proofs.Facade.{Seen, Good, Bad, Short, seen, nothing_known, put, taken_by, IsUnit, by_tests, tested, slot_seen, AnswersSeen, Fails}
+use Rattle.vms_load.proofs.Facade.{ReadsNumber, ReadsFiller, FrameFault, TakesAs, ReadsCapped, ReadsConstant, TakesOn, progress, same_number_is, Intake}
+use Rattle.vms_load.proofs.Facade.{takes_none, reads_as, reads_last, ReadsAs, OnErr, Told, Fills, keeps_same, ◌∷◌}
+use Rattle.vms_load.proofs.RunReads.{step_fills}
 use Rattle.vms_spec.specs.Layout.{Number as NumberSlot, Constant as ConstantSlot, Filler as FillerSlot}
 use Rattle.vms_spec.specs.Units.{Number, Constant, Filler}
 use Rattle.vms_stream.specs.Dues.{Field}
+use Rattle.vms_walk.specs.declared.step.WalkStep.TheVariants as steps
 use Rattle.vms_spec.specs.declared.Reason.TheVariants as reasons
 use Rattle.vms_frames.specs.declared.fault.FrameFault.TheVariants as faults
 

@@ -1,6 +1,7 @@
 use Rattle.vms_load.proofs.BodyLemmas.{reads_rule, number_ok, number_err, constant_taken, filler_taken}
-use Rattle.vms_load.proofs.Facade.{refl, w128, to_z-of_z, err_from_is_err_and, rules, SFits, ◌≡◌, ℕ, ◌+◌, Some, Result, Ok, Err, OnOk, None, Typed, sym, subst, arith, WalkStep}
-use Rattle.vms_load.proofs.Facade.{capacities_of, take_slot, intake, reads_as, IsLong, FrameFault, TakesOn, HasMoved, progress, slot_of, step_long}
+use Rattle.vms_load.proofs.Facade.{refl, w128, to_z-of_z, err_from_is_err_and, rules, SFits, ◌≡◌, ℕ, ◌+◌, Some, Result, Ok, Err, OnOk, None, Typed}
+use Rattle.vms_load.proofs.Facade.{sym, subst, arith, WalkStep, capacities_of, take_slot, intake, reads_as, IsLong, FrameFault, TakesOn, HasMoved, progress}
+use Rattle.vms_load.proofs.Facade.{slot_of, step_long}
 use Rattle.vms_load.specs.Calls.{Input, TakesStep}
 use Rattle.std.specs.Prelude.{OnErr}
 use Rattle.vms_load.proofs.body.read_step.Goals as goal

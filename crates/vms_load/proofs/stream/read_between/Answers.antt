@@ -1,7 +1,7 @@
-use Rattle.vms_load.proofs.{stream.read_between.Given.Over, stream.read_between.Goals.After-between}
-use Rattle.vms_load.proofs.Facade.{is_configured, rules, Option, Some, None, Result, Ok, Err, IfErr, false, ◌≡◌, ◌≤◌, ◌+◌, ap, arith, err_from_is_err_and}
-use Rattle.vms_load.proofs.Facade.{reads_as, reads_both, judge, ask, Free, by_state, reading_on, described, held_long, Between, Step, Staged, LoadFault, intake}
-use Rattle.vms_load.proofs.Facade.{unit_of_step, GoesOn, IsRefused, Settles, LONGEST_HEAD, accepted_of, due_at, read_from, state_of, spot_of, spot_at, is_first}
+use Rattle.vms_load.proofs.{stream.read_between.Given.Over, stream.read_between.Goals.After-between, Facade.spot_of, Facade.spot_at, Facade.is_first}
+use Rattle.vms_load.proofs.Facade.{is_configured, rules, Option, Some, None, Result, Ok, Err, IfErr, false, ◌≡◌, ◌≤◌, ◌+◌, ap, arith}
+use Rattle.vms_load.proofs.Facade.{err_from_is_err_and, reads_as, reads_both, judge, ask, Free, by_state, reading_on, described, held_long, Between, Step}
+use Rattle.vms_load.proofs.Facade.{Staged, LoadFault, intake, unit_of_step, GoesOn, IsRefused, Settles, LONGEST_HEAD, accepted_of, due_at, read_from, state_of}
 use Rattle.vms_load.proofs.ReadLemmas.{spent_by, goes_judged, goes_still, same_course}
 use Rattle.vms_load.proofs.StreamReads.{turn_fault, turn_settled, turn_section}
 use Rattle.vms_frames.specs.{Calls.step_long, Reads.BetweenReads}

@@ -1,5 +1,6 @@
-use Rattle.vms_load.proofs.{stream.sections.Given.Over, Facade.spot_at, Facade.stream_due, Facade.LONGEST_HEAD, stream.sections.Goals.After-read_between}
-use Rattle.vms_load.proofs.Facade.{rules, Option, Some, None, ap, arith, ◌+◌, err_from_is_err_and, intake, described, Between, First, GoesOn, due_at, read_from}
+use Rattle.vms_load.proofs.{stream.sections.Given.Over, stream.sections.Goals.After-read_between}
+use Rattle.vms_load.proofs.Facade.{spot_at, stream_due, LONGEST_HEAD, rules, Option, Some, None, ap, arith, ◌+◌, err_from_is_err_and, intake, described}
+use Rattle.vms_load.proofs.Facade.{Between, First, GoesOn, due_at, read_from}
 use Rattle.vms_load.proofs.ReadLemmas.{goes_here, goes_on, goes_still}
 use Rattle.vms_load.proofs.stream.sections.Goals as goal
 

@@ -1,7 +1,7 @@
-use Rattle.vms_load.proofs.Facade.{rules, ◌≡◌, ◌*◌, ◌/◌, ◌<◌, ◌≤◌, [], take, drop, None, refl, sym, ap, ◌∙◌, arith, err_from_is_err_and}
-use Rattle.vms_load.proofs.Facade.{intake, takes_as, width, run_each, IsOfKind, fills_none}
-use Rattle.vms_walk.specs.declared.step.WalkStep.TheVariants.{Number}
+use Rattle.vms_load.proofs.Facade.{rules, ◌≡◌, ◌*◌, ◌/◌, ◌<◌, ◌≤◌, [], take, drop, None, refl, sym, ap, ◌∙◌, arith}
+use Rattle.vms_load.proofs.Facade.{err_from_is_err_and, intake, takes_as, width, run_each, IsOfKind, fills_none}
 use Rattle.vms_load.proofs.RunReads.{run_first, took_run, failed_run, cut_run, all_came, part_came}
+use Rattle.vms_walk.specs.declared.step.WalkStep.TheVariants.{Number}
 use Rattle.vms_load.proofs.body.ReaderWalker.run.Goals as goal
 
 pub codes-requires-clause-place : goal.codes-requires-clause-place
