@@ -22,8 +22,7 @@ use Rattle.vms_kinds.specs.declared.Kind.TheVariants as kinds
 
 -- an element of a mapped list is made of the one at the same number
 pub at_mapped : {X Y : Type 0} (f : X → Y) (xs : List X) (i : ℕ) (x : X) (y : Y) → x ≡ get_or xs i x → slice_get (map f xs) i ≡ Some y → y ≡ f x
-at_mapped f xs i x y is e =
-    let lt = slice_get_within (map f xs) i y e in cc (slice_get-map f xs i, slice_get-get_or xs i x (omega (arith, length-map xs f)))
+at_mapped f xs i x y is e = let lt = slice_get_within (map f xs) i y e in cc (slice_get-map f xs i, slice_get-get_or xs i x (omega (arith, length-map xs f)))
 
 -- the property of the code's devices, for the set
 pub heads_of : (parts : Parts) (devices : List CodeDevice) → devices ≡ parts.devices → HeadsFit (map device_of devices) → FitsHeads (set_of parts)

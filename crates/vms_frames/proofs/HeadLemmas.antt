@@ -65,8 +65,7 @@ not_bad kind code long good = refl
 
 pub number_good : (kind : Kind) (code : List ℕ) (value : ℤ) → length code ≡ width kind → (IsBadBool kind code → ⊥) → value ≡ value_of kind code
     → (rest : List ℕ) → number_seen kind (code ++ rest) ≡ Good (Number 0 kind value) (width kind)
-number_good kind code value long good is rest =
-    rw (number_came kind code rest long, not_bad kind code long good, raw_same kind code, is)
+number_good kind code value long good is rest = rw (number_came kind code rest long, not_bad kind code long good, raw_same kind code, is)
 
 is_bad : (kind : Kind) (code : List ℕ) → IsBadBool kind code → is_bad_bool kind code ≡ true
 is_bad kinds.Bool code bad = lt-ltb 1 _ (rw first bad.1)
@@ -186,8 +185,7 @@ module _ (d : Due) (k : Known) (mark longest : ℕ) (piece : List ℕ → Piece)
   few_bytes all n false few = cut_short d k (5 + n) all (piece (bytes_at n 5 all)) (omega arith)
 
   pub text_begins : (unit rest : List ℕ) → length unit + length rest < 5 → text_seen (unit ++ rest) ≡ Short
-  text_begins unit rest few =
-      let n = number_at 4 1 (unit ++ rest) in few_bytes (unit ++ rest) n (nat_lt longest n) (omega (arith, length-append unit rest))
+  text_begins unit rest few = let n = number_at 4 1 (unit ++ rest) in few_bytes (unit ++ rest) n (nat_lt longest n) (omega (arith, length-append unit rest))
 
   pub text_cut : (unit rest : List ℕ) → 5 ≤ length unit → number_at 4 1 unit ≤ longest → length unit + length rest < 5 + number_at 4 1 unit
       → text_seen (unit ++ rest) ≡ Short

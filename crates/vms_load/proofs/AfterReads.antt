@@ -95,8 +95,7 @@ ended_in machine images came tail = record { machine = machine; images = images;
 pub ends_later : (machine named : Option (List ℕ)) (images first : List Typed) (came now : List Bool) (k j : ℕ) (image new : Typed) (tail : StreamTail)
     → named ≡ machine → images ≡ slice_set first k image → now ≡ slice_set came k true → j ≡ k
     → ended_in machine (slice_set (map untyped first) j (untyped new)) (slice_set came k true) tail ≡ ended_in named (map untyped (slice_set images k new)) now tail
-ends_later machine named images first came now k j image new tail m i c same =
-    rw (m, i, c, same, set_twice first k image new, map-set untyped first k new)
+ends_later machine named images first came now k j image new tail m i c same = rw (m, i, c, same, set_twice first k image new, map-set untyped first k new)
 
 -- ---- What comes after the fields of a part, as the judge reads it.
 
@@ -197,8 +196,7 @@ module _ (set : Set) (names : List (List ℕ)) (state : State) (section : Sectio
     into images o = record { machine = state.machine; images = images; came = state.came; tail = t; spot = Inside section.device section.id o 0 }
 
     after_sub : (j : ℕ) → find_sub 0 (device_at set section.device).subs name ≡ Some j → after set inner (SubHead name v) ≡ state_in state section (marked j) (Inside section.device section.id (Some j) 0)
-    after_sub j e =
-        rw (there, e, image_is, set_twice state.images section.device image (marked j))
+    after_sub j e = rw (there, e, image_is, set_twice state.images section.device image (marked j))
 
     sub_ok : (o : Result ℕ Unfit) (j : ℕ) → find_sub 0 (device_at set section.device).subs name ≡ Some j → Ok j ≡ opened_at place o
         → Settles (verdict set names inner (SubHead name v) n o) place (λ next. state_in state section (marked j) (spot_in section next)) n (Ok (Some (record { sub = Some j; version = v })))

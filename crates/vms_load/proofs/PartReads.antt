@@ -185,12 +185,7 @@ module _ (set : Set) (good : IsGood set) (section : Section) (here : section.dev
     by_taken room inside place rest numbers to left (Err (faults.Refused p reason)) (Err r) e b held h =
         let l = front_left inside place rest (Err r) e in
         let same : r.place - place + r.long ≡ p - place + r.long = omega arith in
-        record {
-          long = r.long;
-          is = rw (h.0, h.1) b;
-          from = omega arith;
-          taken = cc (drop-drop r.long (r.place - place) rest);
-        }
+        record { long = r.long; is = rw (h.0, h.1) b; from = omega arith; taken = cc (drop-drop r.long (r.place - place) rest) }
     by_taken room inside place rest numbers to left (Err faults.ReadFault) t e b held h = tt
     by_taken room inside place rest numbers to left _ _ e b held h = absurd h
 

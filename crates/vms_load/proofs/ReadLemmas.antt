@@ -110,8 +110,7 @@ module _ (go : State → Onward) (section : Option ℕ) (it : Piece → ℕ → 
 
   by_verdict : {Y : Type 0} (v : Verdict State) (n : ℕ) (to : Stand) (left : Option (List ℕ)) (next : Y → State) (result : Result Y LoadFault)
       → left ≡ Some (drop n rest) → to.at ≡ at + n → to.held ≡ None → Settles v at next n result → Reads (reading_after go at rest v) (λ y. go (next y)) at to rest left result
-  by_verdict (Goes m s) n to left next (Ok y) e far held h =
-      rw (e, far, held, h.0, h.1) (refl, ap (λ k. drop k rest) (omega arith))
+  by_verdict (Goes m s) n to left next (Ok y) e far held h = rw (e, far, held, h.0, h.1) (refl, ap (λ k. drop k rest) (omega arith))
   by_verdict (Faulty section' reason m) n to left next (Err (faults.Refused r)) e far held h =
       refused_here at rest left section' reason m r h.0 (e ∙ ap (λ k. Some (drop k rest)) (sym h.1))
   by_verdict _ n to left next _ _ far held h = absurd h

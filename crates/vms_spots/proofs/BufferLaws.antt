@@ -52,8 +52,7 @@ at_spot {spots} {bytes} {cell} {s} h lt is =
     let code_is : take (width s.kind) (drop s.offset bytes) ≡ code (get_or kinds cell U8) (get_or numbers cell (pos 0)) =
     cc (code_at kinds numbers cell here h.fit.long) in
     let all : length bytes ≡ bytes_of kinds = omega (arith, ap length h.raw, raw_long 0 kinds numbers h.fit.long) in
-    let inside : s.offset + width s.kind ≤ length bytes =
-    omega (arith, ap (λ (x : Spot). x.offset) same, ap width kind, all, spot.inside) in
+    let inside : s.offset + width s.kind ≤ length bytes = omega (arith, ap (λ (x : Spot). x.offset) same, ap width kind, all, spot.inside) in
     let small : s.offset ≤ MOST_BYTES = omega (arith, few_bytes kinds (omega (arith, h.few, length-map spots (λ s. s.kind)))) in
     record {
       held_is = h;

@@ -17,20 +17,17 @@ use Rattle.vms_spec.specs.declared.Part.TheVariants as parts
 -- ---- elements
 
 pub times_more : {B : Type 0} (i : ℕ) (part : ℕ → List B) (at step : ℕ) → times (i + 1) part at step ≡ times i part at step ++ part (at + i * step)
-times_more zero part at step =
-    let e : at + zero * step ≡ at = grind arith in rw e (append-nil (part at))
+times_more zero part at step = let e : at + zero * step ≡ at = grind arith in rw e (append-nil (part at))
 times_more (suc i) part at step =
     let e : (at + step) + i * step ≡ at + suc i * step = grind arith in
     let one : suc i + 1 ≡ suc (i + 1) = omega arith in
-    rw (one, times_more i part (at + step) step, e)
-    (sym (append_assoc (part at) (times i part (at + step) step) (part (at + suc i * step))))
+    rw (one, times_more i part (at + step) step, e) (sym (append_assoc (part at) (times i part (at + step) step) (part (at + suc i * step))))
 
 -- the elements before element i, it, and the others
 pub times_split : {B : Type 0} (n i : ℕ) (part : ℕ → List B) (at step : ℕ) → i < n
     → (rest : List B) × (times n part at step ≡ times i part at step ++ (part (at + i * step) ++ rest))
 times_split zero i part at step lt = absurd (omega arith)
-times_split (suc n) zero part at step lt =
-    let e : at + zero * step ≡ at = grind arith in (times n part (at + step) step, rw e)
+times_split (suc n) zero part at step lt = let e : at + zero * step ≡ at = grind arith in (times n part (at + step) step, rw e)
 times_split (suc n) (suc i) part at step lt =
     let more = times_split n i part (at + step) step (omega arith) in
     let e : (at + step) + i * step ≡ at + suc i * step = grind arith in (
@@ -79,13 +76,11 @@ steps_append (x ∷ xs) ys = rw (steps_append xs ys)
 -- what remains of some of the steps remains of all
 pub left_within : (before here rest whole ys ws zs : List WalkStep) (x : WalkStep) → whole ≡ before ++ (here ++ rest) → here ≡ ys ++ (ws ++ (x ∷ zs))
     → whole ≡ (before ++ ys) ++ (ws ++ (x ∷ (zs ++ rest)))
-left_within before here rest whole ys ws zs x e f =
-    rw (e, f) (simp append_assoc)
+left_within before here rest whole ys ws zs x e f = rw (e, f) (simp append_assoc)
 
 -- a part among others
 pub steps_parts : (before here rest whole : List Slot) → whole ≡ before ++ (here ++ rest) → steps_of whole ≡ steps_of before ++ (steps_of here ++ steps_of rest)
-steps_parts before here rest whole e =
-    rw (e, steps_append before (here ++ rest), steps_append here rest)
+steps_parts before here rest whole e = rw (e, steps_append before (here ++ rest), steps_append here rest)
 
 -- ---- the least of the capacities that a number counts is enough
 
@@ -95,8 +90,7 @@ least_again (Some most) = refl
 
 pub steps_bare : (ms : List Meaning) (n : List ℤ) (item : Item) (caps : List ℕ) (k at step : ℕ)
     → steps_of (times k (item_slots ms item caps n) at step) ≡ steps_of (times k (item_slots ms item (capacities_of (least_of caps)) n) at step)
-steps_bare ms n (Num kind) caps (suc k) at step =
-    rw (steps_bare ms n (Num kind) caps k (at + step) step, least_again (least_of caps))
+steps_bare ms n (Num kind) caps (suc k) at step = rw (steps_bare ms n (Num kind) caps k (at + step) step, least_again (least_of caps))
 steps_bare ms n _ caps k at step = refl
 
 -- ---- the next field

@@ -79,8 +79,7 @@ lesser_within _ m _ = refl
 
 least_within : (o : Option ℕ) (caps : List ℕ) (z : ℤ) → is_within (least_from o caps) z ≡ (is_within o z && counts_well caps z)
 least_within o [] z = sym (and-true (is_within o z))
-least_within o (m ∷ caps) z =
-    rw (least_within (lesser o m) caps z, lesser_within o m z) (and_assoc (is_within o z) (int_le z (pos m)) (counts_well caps z))
+least_within o (m ∷ caps) z = rw (least_within (lesser o m) caps z, lesser_within o m z) (and_assoc (is_within o z) (int_le z (pos m)) (counts_well caps z))
 
 number_fine : (kind : Kind) (caps : List ℕ) (z : ℤ) → is_number_fine kind (least_of caps) z ≡ (in_range kind z && counts_well caps z)
 number_fine kind caps z = rw (least_within None caps z)

@@ -210,8 +210,7 @@ module _ (set : Set) (i : ℕ) (image : Image) (j : ℕ) (lt : j < length (devic
 pub sections_next : (set : Set) (i : ℕ) (ds : List Device) (images : List Image) (d : Device) (image : Image) → i < length ds → i < length images
     → written_sections set i (drop i ds) (drop i images)
     ≡ written_section set (get_or ds i d) (get_or images i image) i ++ written_sections set (i + 1) (drop (i + 1) ds) (drop (i + 1) images)
-sections_next set i ds images d image lt lt' =
-    let up : suc i ≡ i + 1 = omega arith in rw (drop_more ds i d lt, drop_more images i image lt', up)
+sections_next set i ds images d image lt lt' = let up : suc i ≡ i + 1 = omega arith in rw (drop_more ds i d lt, drop_more images i image lt', up)
 
 pub sections_at : (set : Set) (i : ℕ) (images : List Image) (image : Image) → i < length set.devices → i < length images → image ≡ get_or images i image
     → written_sections set i (drop i set.devices) (drop i images)

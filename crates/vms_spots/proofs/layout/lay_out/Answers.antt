@@ -5,8 +5,7 @@ pub loop-kind-init : goal.loop-kind-init
 loop-kind-init c = rw c.in_ok-spots.ensures.items (record { small = omega arith; rest = refl })
 
 pub loop-kind-preserved : goal.loop-kind-preserved
-loop-kind-preserved c =
-    goes _ c.loop-kind-test.true c.behind-spot.ensures c.in_ok-push.ensures.items c.end-end.ensures c.loop-kind.invariant
+loop-kind-preserved c = goes _ c.loop-kind-test.true c.behind-spot.ensures c.in_ok-push.ensures.items c.end-end.ensures c.loop-kind.invariant
 
 pub returns : goal.returns
 returns c =

@@ -20,6 +20,5 @@ holds_test-requires g c =
 pub returns-in-Some : goal.returns-in-Some
 returns-in-Some g c =
     let own = own_numbers (described c.args.self.now) c.args.part (g.C.Cells.numbers c.args.cells.now) c.args.base in
-    c.holds_test.ensures
-    ∙ ap (λ (t : Option Formula). is_there t c.args.field.now.since c.args.version own no_parent)
+    c.holds_test.ensures ∙ ap (λ (t : Option Formula). is_there t c.args.field.now.since c.args.version own no_parent)
     (sym (test_is g (goal.at.returns-in-Some g c).After-deref))
