@@ -16,12 +16,12 @@ pub use Rattle.vms_kinds.specs.declared.Item.TheVariants.{Equal, Num, Struct, Un
 pub use Rattle.vms_spec.proofs.ListsAndNumbers.{same_number_is, length-code, width_small, found_inside, none_left}
 pub use Rattle.vms_spec.proofs.Tables.{elements_fit, first_long}
 pub use Rattle.vms_spec.proofs.WellFormedLaws.{Clean, device_parts, struct_clean, sub_clean}
-pub use Rattle.vms_spec.specs.{Good.IsGood, Heads.FitsHeads, Layout.field_cells, Layout.field_slots, Layout.item_size, Layout.item_slots, Layout.meaning}
-pub use Rattle.vms_spec.specs.{Lists.at_option, Lists.position, Places.own_cell_count, Rules.is_small_item, Rules.is_small_optional, Sound.AreSound}
-pub use Rattle.vms_spec.specs.{Sound.IsSound, Tests.is_there, declared.Reason.Reason, declared.TheConstants.MOST_UNUSED, SoFar.device_named, SoFar.part_slots}
+pub use Rattle.vms_spec.specs.{Good.IsGood, Heads.FitsHeads, Layout.desc_cells, Layout.desc_slots, Layout.device_cells, Layout.elements_of, Lists.at_option}
+pub use Rattle.vms_spec.specs.{Lists.position, Places.own_cell_count, Rules.is_small_item, Rules.is_small_optional, Sound.AreSound, Sound.IsSound}
+pub use Rattle.vms_spec.specs.{Tests.is_there, declared.Reason.Reason, declared.TheConstants.MOST_UNUSED, SoFar.device_named, SoFar.part_slots}
 pub use Rattle.vms_spec.specs.Images.{Image, default_image, has_cell, own_cells, own_slots, sub_place, sub_slots, zeroed}
-pub use Rattle.vms_spec.specs.Layout.{meanings, no_cell, no_desc, no_meaning, no_parent, numbers_of, slots_from, struct_cells, times, Cell, Constant, Filler}
-pub use Rattle.vms_spec.specs.Layout.{Meaning, Number, Rule, Slot, all_hold, capacity_of, counted, desc_cells, desc_slots, device_cells, elements_of}
+pub use Rattle.vms_spec.specs.Layout.{field_cells, field_slots, item_size, item_slots, meaning, meanings, no_cell, no_desc, no_meaning, no_parent, numbers_of}
+pub use Rattle.vms_spec.specs.Layout.{slots_from, struct_cells, times, Cell, Constant, Filler, Meaning, Number, Rule, Slot, all_hold, capacity_of, counted}
 pub use Rattle.vms_spec.specs.Lookup.{bytes_at, did_come, find_device, find_sub, index, is_bad_bool, number_at}
 pub use Rattle.vms_spec.specs.Numbers.{exceeds, is_above, is_truth, same_number}
 pub use Rattle.vms_spec.specs.Readings.{Accepted, Faulty, Goes, Over, Reading, Refused, Verdict, reading_after}
@@ -41,11 +41,11 @@ pub use Rattle.vms_stream.proofs.{Finding.advances, Judging.solid, Judging.state
 pub use Rattle.vms_stream.proofs.Bodies.{IsUnit, after_read, body_read, by_tests, slot_seen, tested}
 pub use Rattle.vms_stream.proofs.Stated.{accepted_holds, never_both_holds, one_fault_holds, one_stream_holds}
 pub use Rattle.vms_stream.specs.{Faults.Cut, Faults.Fault, Faults.Why, Faults.Wrong, Finding.Whole, Finding.needs, Finding.text_at, Judge.by_row, Judge.judge}
-pub use Rattle.vms_stream.specs.{Judged.ask, Judged.judge_seen, SoFar.Known, SoFar.Unknown, State.open_at, Streams.HasSection, Streams.SectionsSpell}
-pub use Rattle.vms_stream.specs.{Streams.Takes, Table.alone, Table.asking, Table.first_row, Table.is_none, Table.test_some, Taking.nothing_known, Taking.put}
-pub use Rattle.vms_stream.specs.{Taking.taken_by, Dues.AMagic, Dues.AVersion, Dues.AfterEnd, Dues.AfterFields, Dues.begins_next, Dues.raw, Dues.rules_hold}
-pub use Rattle.vms_stream.specs.Seen.{Bad, Good, Seen, Short, seen, seen_by, seen_in}
-pub use Rattle.vms_stream.specs.State.{or_none, slots_at, Before, Ended, Free, Headed, Inside, Spot, State, after, at_start, by_state, due_by, known_at}
+pub use Rattle.vms_stream.specs.{Judged.ask, Judged.judge_seen, SoFar.Known, SoFar.Unknown, State.known_at, Streams.HasSection, Streams.SectionsSpell}
+pub use Rattle.vms_stream.specs.{Streams.Takes, Taking.nothing_known, Taking.put, Taking.taken_by, Dues.AMagic, Dues.AVersion, Dues.AfterEnd, Dues.AfterFields}
+pub use Rattle.vms_stream.specs.{Dues.begins_next, Dues.raw, Dues.rules_hold, Seen.Bad, Seen.Good, Seen.Seen, Seen.Short, Seen.seen, Seen.seen_by, Seen.seen_in}
+pub use Rattle.vms_stream.specs.State.{open_at, or_none, slots_at, Before, Ended, Free, Headed, Inside, Spot, State, after, at_start, by_state, due_by}
+pub use Rattle.vms_stream.specs.Table.{alone, asking, first_row, is_none, test_some}
 unfoldable pub use Rattle.vms_stream.specs.{Finding.trailer_at, Judge.reading}
 pub use Rattle.vms_desc.proofs.AskLaws.{few_cells, own_inside_device, sub_inside}
 pub use Rattle.vms_desc.proofs.Clean.{few_devices, few_items, few_machines, good_of, none_is}
@@ -57,13 +57,13 @@ pub use Rattle.vms_frames.specs.Calls.{ReadsNumber, ahead, due_of, held_long, in
 pub use Rattle.vms_image.specs.Typed.{AreImagesOf, IsImageOf, Typed, default_at}
 pub use Rattle.vms_io.proofs.ReadingLemmas.{no_bytes, nothing_follows, reads_as, reads_both, reads_last, reads_told, takes_as, takes_none}
 pub use Rattle.vms_io.specs.{Causes.capped, Reading.Breaks, Reading.Last, Reading.MayFollow, Reading.On, Told.Intake, Told.intake}
-pub use Rattle.vms_load.specs.{Calls.due_in, Calls.section_due, Good.AreKept, Good.IsKept, Heads.section_opened, Loads.Loads}
+pub use Rattle.vms_load.specs.{Calls.due_in, Calls.section_due, Good.AreKept, Good.IsKept, Heads.reason_against_sub, Loads.Loads}
 pub use Rattle.vms_load.specs.{declared.fault.LoadFault.LoadFault, declared.parts.Open.Open, declared.parts.Section.Section, declared.staged.Staged.Staged}
 pub use Rattle.vms_load.specs.Bodies.{AreOfKinds, HasMoved, IsOfKind, ReadsCapped, ReadsConstant, TakesAs, TakesOn, progress}
 pub use Rattle.vms_load.specs.Bounds.{desc_bytes, field_bytes, fields_bytes, item_bytes, struct_bytes}
 pub use Rattle.vms_load.specs.Exact.{EndsAtUnit, ExactLaw, GivesStream, IsRefusedAt, UnitLaw}
 pub use Rattle.vms_load.specs.Going.{GoesBehind, GoesOn, GoesSoFar, GoesThrough, IsSpent, LoadReads, Moves, course, fault_course}
-pub use Rattle.vms_load.specs.Heads.{sub_opened, sub_opened_at, unfit, Unfit, device_opened, opened_at, opened_unless, reason_against, reason_against_sub}
+pub use Rattle.vms_load.specs.Heads.{section_opened, sub_opened, sub_opened_at, unfit, Unfit, device_opened, opened_at, opened_unless, reason_against}
 pub use Rattle.vms_load.specs.Parts.{HoldsNone, IsIn, IsMoved, IsOpen, IsSame, OpensNext, after_fields, after_part, all_passed, bytes_of, bytes_of_part}
 pub use Rattle.vms_load.specs.Parts.{in_fields, part_base, part_desc, part_due, part_of, spot_in, state_in, subs_due}
 pub use Rattle.vms_load.specs.Reading.{Fills, IsFilled, Told, from, last_numbers, last_taken, long_append, numbers_then, slot_of, step_long, steps_long}

@@ -1,14 +1,13 @@
 -- A whole stream, as the judge reads it: the units before, between and after its sections.
-use Rattle.vms_load.proofs.{PartReads.concerns, Facade.LoadFault, Facade.Staged, Facade.longest_text}
-use Rattle.vms_load.proofs.AfterReads.{head_unit, head_long, section_long}
-use Rattle.vms_load.proofs.Facade.{◌≡◌, ℕ, ◌+◌, ◌-◌, ◌≤◌, nat_lt, if◌then◌else◌, Bool, true, false, List, length, take, drop}
-use Rattle.vms_load.proofs.Facade.{Option, Some, None, Result, Ok, Err, IfSome, OnOk, refl, sym, ap, ◌∙◌, subst, arith, ◌==◌, [], ◌∷◌, get_or}
-use Rattle.vms_load.proofs.Facade.{drop-drop, Set, Reason, number_at, bytes_at, Piece, Magic, Version, Long, Mark, Description, Verdict, Goes, Reading}
-use Rattle.vms_load.proofs.Facade.{reading_after, Accepted, Refused, reading_on, AMagic, AVersion, AfterEnd, first_row, alone, Whole, needs, text_at}
-use Rattle.vms_load.proofs.Facade.{trailer_at, judge, reading, ask, judge_seen, Seen, Good, Bad, Short, seen, seen_by, seen_in, State, Spot, Before, Headed}
-use Rattle.vms_load.proofs.Facade.{Free, by_state, Ended, at_start, nothing_known, judged_holds, Head, Stand, ahead, due_of, unit_of_step, ReadsBetween}
-use Rattle.vms_load.proofs.Facade.{AnswersSeen, AnswersAfter, AnswersHead, Fails, AnswersEnd, ReadsEnd, Between, First, Step, FrameFault, Onward, Reads}
-use Rattle.vms_load.proofs.Facade.{ReadsOn, LeadsOn, ReadsBehind, IsBehind, Settles, concerning, state_of, spot_of, is_first, is_configured, ReadsAll}
+use Rattle.vms_load.proofs.{PartReads.concerns, AfterReads.head_unit, AfterReads.head_long, AfterReads.section_long}
+use Rattle.vms_load.proofs.Facade.{LoadFault, Staged, longest_text, ◌≡◌, ℕ, ◌+◌, ◌-◌, ◌≤◌, nat_lt, if◌then◌else◌, Bool, true, false}
+use Rattle.vms_load.proofs.Facade.{List, length, take, drop, Option, Some, None, Result, Ok, Err, IfSome, OnOk, refl, sym, ap, ◌∙◌, subst, arith}
+use Rattle.vms_load.proofs.Facade.{◌==◌, [], ◌∷◌, get_or, drop-drop, Set, Reason, number_at, bytes_at, Piece, Magic, Version, Long, Mark, Description}
+use Rattle.vms_load.proofs.Facade.{Verdict, Goes, Reading, reading_after, Accepted, Refused, reading_on, AMagic, AVersion, AfterEnd, first_row, alone, Whole}
+use Rattle.vms_load.proofs.Facade.{needs, text_at, trailer_at, judge, reading, ask, judge_seen, Seen, Good, Bad, Short, seen, seen_by, seen_in, State, Spot}
+use Rattle.vms_load.proofs.Facade.{Before, Headed, Free, by_state, Ended, at_start, nothing_known, judged_holds, Head, Stand, ahead, due_of, unit_of_step}
+use Rattle.vms_load.proofs.Facade.{ReadsBetween, AnswersSeen, AnswersAfter, AnswersHead, Fails, AnswersEnd, ReadsEnd, Between, First, Step, FrameFault, Onward}
+use Rattle.vms_load.proofs.Facade.{Reads, ReadsOn, LeadsOn, ReadsBehind, IsBehind, Settles, concerning, state_of, spot_of, is_first, is_configured, ReadsAll}
 use Rattle.vms_load.proofs.ReadLemmas.{unit_fault, unit_settled, unit_behind, reads_on, unit_of, still_behind, unit_fails}
 use Rattle.vms_stream.specs.{Dues.Between as IsBetween, Finding.Cut, State.Over}
 use Rattle.vms_frames.specs.Calls.{step_long}

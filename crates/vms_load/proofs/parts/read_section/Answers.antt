@@ -1,9 +1,9 @@
-use Rattle.vms_load.proofs.{parts.read_section.Given.Over, parts.read_section.Goals.After-read_fields, parts.read_section.Goals.After-read_after_fields}
+use Rattle.vms_load.proofs.{parts.read_section.Given.Over, ReadLemmas.goes_here, ReadLemmas.goes_on, ReadLemmas.goes_still}
 use Rattle.vms_load.proofs.Facade.{rules, refl, ◌≡◌, ℕ, List, ◌+◌, ◌<◌, ◌≤◌, Option, Some, None, length, ap, ◌∙◌, arith}
 use Rattle.vms_load.proofs.Facade.{err_from_is_err_and, Result, Set, State, Device, GoesOn, Intake, LoadFault, Section, Typed, intake, Stand, held_long}
 use Rattle.vms_load.proofs.Facade.{described, device_at, Open, Onward, reach, IsMoved, part_due, subs_due, bytes_of_part, in_fields, after_fields, after_part}
 use Rattle.vms_load.proofs.Facade.{section_due, FOOT_LENGTH, LONGEST_SUB_HEAD, LONGEST_HEAD}
-use Rattle.vms_load.proofs.ReadLemmas.{goes_here, goes_on, goes_still}
+use Rattle.vms_load.proofs.parts.read_section.Goals.{After-read_fields, After-read_after_fields}
 use Rattle.vms_desc.specs.declared.set.DescSet.{DescSet}
 use Rattle.vms_image.specs.Typed.{state_of as untyped}
 use Rattle.vms_load.proofs.parts.read_section.Goals as goal
