@@ -6,11 +6,11 @@ pub use Rattle.std.proofs.Common.{take-append-drop, take_all, take_at, true, zer
 pub use Rattle.std.proofs.Common.{◌∙◌, ◌∷◌, ◌≡◌, ◌≤◌}
 pub use Rattle.std.proofs.lemmas.Bool.{eq-eqb, false_from_ne_true, le-ltb, lt-ltb, ltb-true, ne_eqb}
 pub use Rattle.std.proofs.lemmas.List.{append-nil, get_or-take, length-take-le, take-append-le}
-pub use Rattle.std.proofs.lemmas.Result.{err_from_is_err_and, on_ok_weaker, IfErr-weaker}
+pub use Rattle.std.proofs.lemmas.Result.{on_ok_weaker, IfErr-weaker}
 pub use Rattle.std.specs.{Int.w128, Str.bytes_eq}
 pub use Rattle.vms_kinds.specs.{Codes.IsBadBool, Codes.value_of, Codes.width, declared.Kind.Kind}
 pub use Rattle.vms_spec.specs.{Lookup.bytes_at, Lookup.is_bad_bool, Lookup.number_at, Streams.longest_text, Streams.magic, declared.Reason.Reason}
-pub use Rattle.vms_spec.specs.Units.{Configuration, Description, End, Foot, Long, Magic, Number, Piece, Start, Version}
+pub use Rattle.vms_spec.specs.Units.{Description, End, Foot, Long, Magic, Number, Piece, Start, Version}
 pub use Rattle.vms_spec.specs.declared.TheConstants.{LONGEST_NAME, LONGEST_TEXT}
 pub use Rattle.vms_bodies.proofs.{BodyOnly.if_false, Heads.bad_same, Heads.raw_same}
 pub use Rattle.vms_stream.proofs.{Calls.foot_row}

@@ -1,20 +1,25 @@
 -- Units by the bytes that came: numbers, heads, footers, and what ends a stream.
+use Rattle.std.proofs.{lemmas.Result.err_from_is_err_and, lemmas.List.get_or_append_left, lemmas.List.drop-append-le, Math.Bool.and-false}
+use Rattle.std.proofs.Common.{IsErrAnd, Result}
 use Rattle.vms_frames.proofs.Facade.{◌≡◌, ℕ, suc, zero, ◌+◌, ◌<◌, ◌≤◌, List, [], ◌++◌, length, get_or, drop, Some, Ok, Err, refl, sym}
-use Rattle.vms_frames.proofs.Facade.{ap, arith, length-drop, take-append-le, le-ltb, lt-ltb, big_from, Reason, number_at, bytes_at}
-use Rattle.vms_frames.proofs.Facade.{Refused, Piece, Known, Due, first_row, alone, needs, Seen, Good, Bad, Short, seen_in, seen_by}
-use Rattle.vms_frames.proofs.Facade.{not, ℤ, Bool, true, false, if◌then◌else◌, slice_index, take, None, ◌∙◌, length-append, take_at}
-use Rattle.vms_frames.proofs.Facade.{false_from_ne_true, ltb-true, bytes_eq, bytes_eq-Decides, big_number, Kind, width, value_of, IsBadBool}
-use Rattle.vms_frames.proofs.Facade.{is_bad_bool, Magic, Number, raw_same, bad_same, magic, AMagic, Field, raw, seen, nothing_known, ◌==◌, nat_lt, take_all}
-use Rattle.vms_frames.proofs.Facade.{eq-eqb, ne_eqb, get_or-take, length-take-le, Long, Start, Foot, head_in, sub_head_in, AfterFields, text_at, Section}
-use Rattle.vms_frames.proofs.Facade.{step_long, unit_of_step, in_section, head_seen, start_seen, IsStartReason, sub_seen, foot_seen, ReadsTrailer}
-use Rattle.vms_frames.proofs.Facade.{LONGEST_DESCRIPTION, ◌-◌, ◌∷◌, Option, Result, Intake, Takes, Breaks, reads_behind, reads_last, longest_text}
-use Rattle.vms_frames.proofs.Facade.{Description, AfterEnd, trailer_at, FrameFault, ReadFault, AnswersEnd, ReadsEnd, IsLong, ReadsText}
-use Rattle.std.proofs.{lemmas.List.get_or_append_left, lemmas.List.drop-append-le, Math.Bool.and-false}
+use Rattle.vms_frames.proofs.Facade.{ap, arith, length-drop, take-append-le, le-ltb, lt-ltb, big_from, Reason, number_at, bytes_at, Refused, Piece, Known, Due}
+use Rattle.vms_frames.proofs.Facade.{first_row, alone, needs, Seen, Good, Bad, Short, seen_in, seen_by, not, ℤ, Bool, true, false, if◌then◌else◌}
+use Rattle.vms_frames.proofs.Facade.{slice_index, take, None, ◌∙◌, length-append, take_at, false_from_ne_true, ltb-true, bytes_eq, bytes_eq-Decides}
+use Rattle.vms_frames.proofs.Facade.{big_number, Kind, width, value_of, IsBadBool, is_bad_bool, Magic, Number, raw_same, bad_same, magic, AMagic, Field, raw}
+use Rattle.vms_frames.proofs.Facade.{seen, nothing_known, ◌==◌, nat_lt, take_all, eq-eqb, ne_eqb, get_or-take, length-take-le, Long, Start, Foot, head_in}
+use Rattle.vms_frames.proofs.Facade.{sub_head_in, AfterFields, text_at, Section, step_long, unit_of_step, in_section, head_seen, start_seen, IsStartReason}
+use Rattle.vms_frames.proofs.Facade.{sub_seen, foot_seen, ReadsTrailer, LONGEST_DESCRIPTION, ◌-◌, ◌∷◌, Option, Result, Intake, Takes, Breaks}
+use Rattle.vms_frames.proofs.Facade.{reads_behind, reads_last, longest_text, Description, AfterEnd, trailer_at, FrameFault, ReadFault, AnswersEnd, ReadsEnd}
+use Rattle.vms_frames.proofs.Facade.{IsLong, ReadsText}
 use Rattle.vms_spec.specs.{Layout.Number as NumberSlot, Units.SubHead as ASub, Units.Mark}
 use Rattle.vms_stream.specs.Dues.{Between as IsBetween}
 use Rattle.vms_spec.specs.declared.Reason.TheVariants as reasons
 use Rattle.vms_kinds.specs.declared.Kind.TheVariants as kinds
 use Rattle.vms_stream.specs.SoFar as tails
+
+-- what `?` returns
+pub err_is : {T E : Type 0} (r : Result T E) (e : E) → IsErrAnd r (λ y. y ≡ e) → r ≡ Err e
+err_is r e is = let p = err_from_is_err_and r is in rw (p.1, p.2)
 
 -- ---- what the bytes of a unit are, whatever comes after them
 

@@ -1,5 +1,5 @@
 -- The names of other crates, and of this crate's `specs`, that the proofs use.
-pub use Rattle.std.proofs.{lemmas.Int.to_z-of_z, lemmas.Result.err_from_is_err_and}
+pub use Rattle.std.proofs.{lemmas.Int.to_z-of_z}
 pub use Rattle.std.proofs.Common.{◌||◌, ◌∙◌, ◌∷◌, ◌≡◌, ◌≤◌, Bool, Err, IfErr, IfSome, List, None, Ok, OnErr, OnOk, Option, Result}
 pub use Rattle.std.proofs.Common.{SFits, Some, [], ap, append-nil, append_assoc, arith, drop, false, get_or, if◌then◌else◌, inl, inr, length}
 pub use Rattle.std.proofs.Common.{length-append, length-drop, map, nat_le, nat_lt, not, of_z, refl, replicate, rules, slice_set, subst, suc, sym, take, true}

@@ -1,8 +1,8 @@
-use Rattle.vms_load.proofs.{stream.read_between.Given.Over, stream.read_between.Goals.After-between, Facade.read_from, Facade.state_of}
-use Rattle.vms_load.proofs.Facade.{spot_of, spot_at, is_first, is_configured, rules, Option, Some, None, Result, Ok, Err, IfErr, false, ◌≡◌, ◌≤◌}
-use Rattle.vms_load.proofs.Facade.{◌+◌, ap, arith, err_from_is_err_and, reads_as, reads_both, judge, ask, Free, by_state, reading_on, described, held_long}
+use Rattle.vms_load.proofs.{stream.read_between.Given.Over, stream.read_between.Goals.After-between}
+use Rattle.vms_load.proofs.Facade.{read_from, state_of, spot_of, spot_at, is_first, is_configured, rules, Option, Some, None, Result, Ok, Err, IfErr, false}
+use Rattle.vms_load.proofs.Facade.{◌≡◌, ◌≤◌, ◌+◌, ap, arith, reads_as, reads_both, judge, ask, Free, by_state, reading_on, described, held_long}
 use Rattle.vms_load.proofs.Facade.{Between, Step, Staged, LoadFault, intake, unit_of_step, GoesOn, IsRefused, Settles, LONGEST_HEAD, accepted_of, due_at}
-use Rattle.vms_load.proofs.ReadLemmas.{spent_by, goes_judged, goes_still, same_course}
+use Rattle.vms_load.proofs.ReadLemmas.{err_is, spent_by, goes_judged, goes_still, same_course}
 use Rattle.vms_load.proofs.StreamReads.{turn_fault, turn_settled, turn_section}
 use Rattle.vms_frames.specs.{Calls.step_long, Reads.BetweenReads}
 use Rattle.vms_frames.specs.declared.units.Step.TheVariants as steps
@@ -61,17 +61,15 @@ returns-in_err-stage_section-in-Ok-Section g c =
     let came = rw c.in-Ok-Section.field-0-is at c.in-Ok-Section.ensures in
     let held = c.in-Ok-Section.ensures.held in
     let e = c.in_err-stage_section-in-Ok-Section.field-0.0 in
-    let p = err_from_is_err_and c.from_residual.result c.from_residual.ensures.1 in
-    record {
-      reads = rw (p.1, p.2)
-          (goes_still (Unit {0}) (Option Between) _ (go (state_of set c.args.staged.now (spot_of at))) (λ x. go (state_of set c.stage_section.new.staged (Free false false))) (λ next. go (state_of set c.stage_section.new.staged (spot_at next))) from end end e
+    rw (err_is _ _ c.from_residual.ensures.1) (record {
+      reads = (goes_still (Unit {0}) (Option Between) _ (go (state_of set c.args.staged.now (spot_of at))) (λ x. go (state_of set c.stage_section.new.staged (Free false false))) (λ next. go (state_of set c.stage_section.new.staged (spot_at next))) from end end e
           (reads_both (λ k n l m. omega arith)
           (λ all rest left h r. turn_section set names c.args.staged.now at from c.between.new.self end (Some all) (Some rest) (Some left) head c.at-at.result (state_of set c.stage_section.new.staged (Free false false)) (Err e)
           c.requires.can.whole.came h came.place held c.at-at.ensures r) came.reads (c.in_err-stage_section-in-Ok-Section.ensures.reads names (is_first at) (is_configured at))));
-      moves = rw (p.1) tt;
-      next = rw (p.1) tt;
+      moves = tt;
+      next = tt;
       whole = c.in_err-stage_section-in-Ok-Section.ensures.whole;
-    }
+    })
 
 pub returns-in_ok-stage_section-in-Ok-Section : goal.returns-in_ok-stage_section-in-Ok-Section
 returns-in_ok-stage_section-in-Ok-Section g c =
