@@ -136,30 +136,21 @@ room_there : (n most : ℕ) (absent : Bool) → n ≤ most → (if absent then n
 room_there n most true h = grind (arith, nat_tests, h)
 room_there n most false h = refl
 
-room_by : (v n most : ℕ) (f : Field) (rest : List ℕ) (b : Bool) → Holds n ((if b then most ∷ [] else []) ++ rest)
-    → (if b && is_absent v f then nat_le n most else true) ≡ true
-room_by v n most f rest true h = room_there n most (is_absent v f) h.0
-room_by v n most f rest false h = refl
-
-room_one : (c : Count) (f : Field) (fs : List Field) (v i n : ℕ) → Holds n (counted i (of_count c f ∷ fs)) → has_room v i n f c ≡ true
+-- of a field and of those after it
+parted : (c : Count) (f : Field) (fs : List Field) (v i n : ℕ) → Holds n (counted i (of_count c f ∷ fs)) → (has_room v i n f c ≡ true) × Holds n (counted i fs)
 unfolding of_count
-room_one (Counted by most) f fs v i n h = room_by v n most f (counted i fs) (by == i) h
-room_one _ f fs v i n h = refl
-
-rest_by : (n most : ℕ) (rest : List ℕ) (b : Bool) → Holds n ((if b then most ∷ [] else []) ++ rest) → Holds n rest
-rest_by n most rest true h = h.1
-rest_by n most rest false h = h
-
-rest_hold : (c : Count) (f : Field) (fs : List Field) (i n : ℕ) → Holds n (counted i (of_count c f ∷ fs)) → Holds n (counted i fs)
-unfolding of_count
-rest_hold (Counted by most) f fs i n h = rest_by n most (counted i fs) (by == i) h
-rest_hold _ f fs i n h = h
+parted (Counted by most) f fs v i n h = by_test (by == i) h
+  where
+    by_test : (b : Bool) → Holds n ((if b then most ∷ [] else []) ++ counted i fs)
+        → ((if b && is_absent v f then nat_le n most else true) ≡ true) × Holds n (counted i fs)
+    by_test true h = (room_there n most (is_absent v f) h.0, h.1)
+    by_test false h = (refl, h)
+parted _ f fs v i n h = (refl, h)
 
 all_hold : (fields : List Field) (v i n : ℕ) → Holds n (counted i fields) → absent_hold v i n fields ≡ true
 unfolding of_count
 all_hold [] v i n h = refl
-all_hold (f ∷ fs) v i n h =
-    and_from (has_room v i n f f.count) (absent_hold v i n fs) (room_one f.count f fs v i n h) (all_hold fs v i n (rest_hold f.count f fs i n h))
+all_hold (f ∷ fs) v i n h = let p = parted f.count f fs v i n h in and_from (has_room v i n f f.count) (absent_hold v i n fs) p.0 (all_hold fs v i n p.1)
 
 pub room_none : (fields : List Field) (v i n : ℕ) → None ≡ least_of (counted i fields) → true ≡ absent_hold v i n fields
 room_none fields v i n e = sym (all_hold fields v i n (all_none (counted i fields) n (sym e)))

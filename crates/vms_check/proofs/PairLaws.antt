@@ -205,16 +205,11 @@ none_at zero k = refl
 none_at (suc n) zero = refl
 none_at (suc n) (suc k) = none_at n k
 
-position_there : (v : ℕ) (fields : List CodeField) (k : ℕ) (f : CodeField) → k < length fields → f ≡ get_or fields k f → is_absent v (field_of f) ≡ false
-    → position_in v (map field_of fields) k ≡ Some (count_present v (map field_of (take k fields)))
-position_there v fields k f lt is e =
-    there_is v (map field_of fields) k false (omega (arith, length-map fields field_of)) (rw (get_map_at field_of fields k f no_field lt is) e)
-    ∙ rw (take-map field_of k fields)
-
-position_absent : (v : ℕ) (fields : List CodeField) (k : ℕ) (f : CodeField) → k < length fields → f ≡ get_or fields k f → is_absent v (field_of f) ≡ true
-    → position_in v (map field_of fields) k ≡ None
-position_absent v fields k f lt is e =
-    there_is v (map field_of fields) k true (omega (arith, length-map fields field_of)) (rw (get_map_at field_of fields k f no_field lt is) e)
+position_at : (v : ℕ) (fields : List CodeField) (k : ℕ) (f : CodeField) (b : Bool) → k < length fields → f ≡ get_or fields k f → is_absent v (field_of f) ≡ b
+    → position_in v (map field_of fields) k ≡ (if b then None else Some (count_present v (map field_of (take k fields))))
+position_at v fields k f b lt is e =
+    let here = get_map_at field_of fields k f no_field lt is in
+    rw take-map at (there_is v (map field_of fields) k b (omega (arith, length-map fields field_of)) (rw here e))
 
 count-append : (v : ℕ) (fs gs : List Field) → count_present v (fs ++ gs) ≡ count_present v fs + count_present v gs
 count-append v [] gs = omega arith
@@ -228,8 +223,8 @@ module _ (v : ℕ) (fields : List CodeField) (k : ℕ) (f : CodeField) (is_there
   entry_is = by is_there e
     where
       by : (b : Bool) → b ≡ not (is_absent v (field_of f)) → (if b then Some count else None) ≡ position_in v (map field_of fields) k
-      by true h = ap Some n ∙ sym (position_there v fields k f lt is (flipped (is_absent v (field_of f)) true (sym h)))
-      by false h = sym (position_absent v fields k f lt is (flipped (is_absent v (field_of f)) false (sym h)))
+      by true h = ap Some n ∙ sym (position_at v fields k f false lt is (flipped (is_absent v (field_of f)) true (sym h)))
+      by false h = sym (position_at v fields k f true lt is (flipped (is_absent v (field_of f)) false (sym h)))
 
   -- how many are there with it
   pub counted_is : (if is_there then suc count else count) ≡ count_present v (map field_of (take (k + 1) fields))

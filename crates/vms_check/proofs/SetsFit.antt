@@ -1,14 +1,14 @@
 -- Two descriptions and two sets: no rule fails exactly where they fit as the rules say.
-use Rattle.vms_check.proofs.Facade.{◌≡◌, inl, inr, ℕ, zero, suc, List, [], ◌∷◌, ◌++◌, length, get_or, Bool, true, false, Option, Some, None}
+use Rattle.vms_check.proofs.Facade.{◌≡◌, inl, inr, ℕ, zero, suc, List, [], ◌∷◌, length, get_or, Bool, true, false, Option, Some, None}
 use Rattle.vms_check.proofs.Facade.{refl, sym, ◌∙◌, arith, ◌+◌, ◌<◌, slice_get, is_none, ltb-true, slice_get-get_or, Item, Struct, Part, no_desc}
 use Rattle.vms_check.proofs.Facade.{struct_cells, or_else, first_answer, uses_below, Formula, Field, Desc, Sub, Device, Set, here, in_field, WellFormed}
-use Rattle.vms_check.proofs.Facade.{first_fault, struct_rules, device_rules, sub_rules, Comparer, Entry, compare_desc, compare_fields, entry_of, failing_pair}
+use Rattle.vms_check.proofs.Facade.{first_fault, struct_rules, device_rules, sub_rules, Comparer, Entry, compare_desc, compare_fields, failing_pair}
 use Rattle.vms_check.proofs.Facade.{is_covered, is_kept, no_comparer, pair_rules, pair_structs, Compatible, compare_device, compare_sub, compare_subs, is_in}
 use Rattle.vms_check.proofs.Facade.{ArePaired, DescsFit, IsKept, fields_at, in_old, in_new, DevicesFit, Fits, IsSubFor, SetsFit, Reduced, Known, presence}
 use Rattle.vms_check.proofs.Facade.{reduced, fields_from, Mismatch, or_else_none, answers_none, both_none, find_device, find_sub, index, is_one_of, Clean}
 use Rattle.vms_check.proofs.Facade.{struct_clean, device_parts, sub_clean, none_is, AreRules, table, device_mismatch, lost_mismatch, machines_mismatch, each}
 use Rattle.vms_check.proofs.PairLaws.{passes, pass, at_every, none_answers, paired_so, so_paired}
-use Rattle.vms_check.proofs.WholeLaws.{desc_split, AllBelow, structs_are, whole_is}
+use Rattle.vms_check.proofs.WholeLaws.{desc_split, AllBelow, one_below, structs_are, whole_is}
 use Rattle.vms_spec.specs.Layout.{Cell}
 use Rattle.vms_spec.specs.declared.Part.TheVariants as parts
 
@@ -16,14 +16,9 @@ use Rattle.vms_spec.specs.declared.Part.TheVariants as parts
 
 -- ---- which structures entries use
 
-one_below : (k i : ℕ) (f : Field) (o : Option (Option Formula)) (es : List Entry) → uses_below k f.item ≡ true → AllBelow k es
-    → AllBelow k (entry_of i 0 f o ++ es)
-one_below k i f None es h rest = rest
-one_below k i f (Some left) es h rest = (h, rest)
-
 pub all_uses : (k v i : ℕ) (fs : List Field) → ((j : ℕ) (f : Field) → slice_get fs j ≡ Some f → uses_below k f.item ≡ true) → AllBelow k (fields_from v i fs)
 all_uses k v i [] h = tt
-all_uses k v i (f ∷ fs) h = one_below k i f (presence v f.test f.since) _ (h 0 f refl) (all_uses k v (suc i) fs (λ j g e. h (suc j) g e))
+all_uses k v i (f ∷ fs) h = one_below k i 0 f (presence v f.test f.since) _ (h 0 f refl) (all_uses k v (suc i) fs (λ j g e. h (suc j) g e))
 
 -- ---- two descriptions
 

@@ -1,17 +1,17 @@
 -- Descriptions, structures and whole sets: no rule depends on where cells begin, and what is found by its name.
-use Rattle.vms_check.proofs.Facade.{◌≡◌, ℕ, suc, ◌+◌, List, [], ◌∷◌, ◌++◌, length, map, Bool, true, false, Option, Some, None, refl, sym, ap, ◌∙◌, drop, ◌<◌}
-use Rattle.vms_check.proofs.Facade.{get_or, arith, if◌then◌else◌, not, ltb-true, slice_get-get_or, fun_ext, Part, Place, field_cells, first, no_desc}
-use Rattle.vms_check.proofs.Facade.{no_field, struct_cells, or_else, first_answer, position, Formula, Field, Desc, Set, Device, Sub, in_field, here, Comparer}
-use Rattle.vms_check.proofs.Facade.{Entry, compare_desc, compare_fields, compare_validations, entry_of, failing_pair, pair_structs, position_from, present}
-use Rattle.vms_check.proofs.Facade.{present_from, comparer_of, no_comparer, compare_device, compare_sub, compare_subs, first_mismatch, is_in, presence}
-use Rattle.vms_check.proofs.Facade.{failing_number, IsFirst, fields_on, pair_mismatch, rules_on, structs_on, table_on, struct_mismatch, table, fields_from}
-use Rattle.vms_check.proofs.Facade.{position_in, desc_on, position_on, Mismatch, Item, Struct, Present, Side, uses_below, first_at, first_long}
-use Rattle.vms_check.proofs.Facade.{is_well_formed, HasPart, desc_at, sub_at, reach, field_clean, reach_whole, find_device, find_sub, index, found_inside}
-use Rattle.vms_check.proofs.Facade.{device_mismatch, is_missing, lost_mismatch, machines_mismatch, AllByRecursion}
-use Rattle.vms_spec.specs.declared.Part.TheVariants as parts
+use Rattle.vms_check.proofs.Facade.{◌≡◌, ℕ, suc, ◌+◌, List, [], ◌∷◌, ◌++◌, length, map, Bool, true, false, Option, Some, None, refl, sym}
+use Rattle.vms_check.proofs.Facade.{ap, ◌∙◌, drop, ◌<◌, get_or, arith, if◌then◌else◌, not, ltb-true, slice_get-get_or, fun_ext, Part, Place}
+use Rattle.vms_check.proofs.Facade.{field_cells, first, no_desc, no_field, struct_cells, or_else, first_answer, position, Formula, Field, Desc, Set, Device}
+use Rattle.vms_check.proofs.Facade.{Sub, in_field, here, Comparer, Entry, compare_desc, compare_fields, compare_validations, entry_of, failing_pair}
+use Rattle.vms_check.proofs.Facade.{pair_structs, position_from, present, present_from, comparer_of, no_comparer, compare_device, compare_sub, compare_subs}
+use Rattle.vms_check.proofs.Facade.{first_mismatch, is_in, presence, failing_number, IsFirst, fields_on, pair_mismatch, rules_on, structs_on, table_on}
+use Rattle.vms_check.proofs.Facade.{struct_mismatch, table, fields_from, position_in, desc_on, position_on, Mismatch, Item, Struct, Present, Side, uses_below}
+use Rattle.vms_check.proofs.Facade.{first_at, first_long, is_well_formed, HasPart, desc_at, sub_at, reach, field_clean, reach_whole, find_device, find_sub}
+use Rattle.vms_check.proofs.Facade.{index, found_inside, device_mismatch, is_missing, lost_mismatch, machines_mismatch, AllByRecursion}
 use Rattle.vms_spec.specs.Layout.{Cell}
 use Rattle.vms_desc.proofs.Clean.{struct_clean}
 use Rattle.vms_parts.specs.Devices.{device_at}
+use Rattle.vms_spec.specs.declared.Part.TheVariants as parts
 
 -- ---- answers one after the other
 
@@ -127,7 +127,7 @@ module _ (s t : Side) where
 abbrev pub AllBelow : ℕ → List Entry → Type 0
 AllBelow k es = AllByRecursion (λ e. uses_below k e.field.item ≡ true) es
 
-one_below : (k i at : ℕ) (f : Field) (o : Option (Option Formula)) (es : List Entry) → uses_below k f.item ≡ true → AllBelow k es
+pub one_below : (k i at : ℕ) (f : Field) (o : Option (Option Formula)) (es : List Entry) → uses_below k f.item ≡ true → AllBelow k es
     → AllBelow k (entry_of i at f o ++ es)
 one_below k i at f None es h rest = rest
 one_below k i at f (Some left) es h rest = (h, rest)

@@ -1,13 +1,13 @@
 -- The fields that tests and counts of a well-formed set name exist, and the code's answers are
 -- those of the definitions.
-use Rattle.vms_desc.proofs.{Clean.small_layout, Clean.field_clean, Clean.validate_clean, Clean.sub_clean, EvalLaws.truth_same, EvalLaws.own_number}
+use Rattle.vms_desc.proofs.{Clean.small_layout, Clean.field_clean, Clean.validate_clean, Clean.sub_clean, EvalLaws.truth_same}
 use Rattle.vms_desc.proofs.Facade.{◌≡◌, ℕ, zero, suc, ◌+◌, ◌<◌, ◌≤◌, List, [], ◌∷◌, length, length-append, get_or, map, Option}
-use Rattle.vms_desc.proofs.Facade.{Some, None, refl, sym, ap, ◌∙◌, arith, Bool, true, ◌&&◌, ℤ, flat_map, slice_get, list_all, and_parts, length-map}
+use Rattle.vms_desc.proofs.Facade.{Some, None, refl, sym, ap, ◌∙◌, arith, Bool, true, ◌&&◌, flat_map, slice_get, list_all, and_parts, length-map}
 use Rattle.vms_desc.proofs.Facade.{get_or_from_slice_get, get_or-map, MOST_ITEMS, Counted, Own, Parent, Part, Formula, AtLeast, Below, Cell, Not, And, Or}
-use Rattle.vms_desc.proofs.Facade.{Field, Desc, Sub, Device, Set, truth, own_cells, sub_place, no_desc, no_field, no_parent, all_hold, desc_cells, struct_cells}
+use Rattle.vms_desc.proofs.Facade.{Field, Desc, Sub, Device, Set, own_cells, sub_place, no_desc, no_field, no_parent, all_hold, desc_cells, struct_cells}
 use Rattle.vms_desc.proofs.Facade.{device_cells, is_num, is_one, has_no_test, is_steady, is_steady_in, is_earlier_in, is_counting, names_well, nobody}
-use Rattle.vms_desc.proofs.Facade.{test_names_well, count_names_well, device_at, field_of, desc_of, sub_of, device_of, form_of, get_map_at, Scope, own_numbers}
-use Rattle.vms_desc.proofs.Facade.{HasCells, is_well_formed, fields_in, number_of, IsScope, HasPart, desc_at, sub_at, is_number, is_number_in, is_placed}
+use Rattle.vms_desc.proofs.Facade.{test_names_well, count_names_well, device_at, field_of, desc_of, sub_of, device_of, form_of, get_map_at, Scope}
+use Rattle.vms_desc.proofs.Facade.{is_well_formed, fields_in, HasPart, desc_at, sub_at, is_number, is_number_in, is_placed}
 pub use Rattle.vms_spec.proofs.ListsAndNumbers.{sub_first}
 use Rattle.vms_parts.specs.{declared.types.Desc.Desc as CodeDesc, declared.types.Device.Device as CodeDevice, declared.types.Field.Field as CodeField}
 use Rattle.vms_parts.specs.{declared.types.Sub.Sub as CodeSub}
@@ -103,20 +103,9 @@ pub field_found : (set : Set) (part : Part) (d : CodeDesc) (fields : List CodeFi
     → k < length (desc_at set part).fields → f ≡ get_or fields k f → field_of f ≡ get_or (desc_at set part).fields k no_field
 field_found set part d fields k f d_is fields_are lt is = found_field fields (desc_at set part).fields k f (here_fields set part d fields d_is fields_are) lt is
 
-all_hold_same : (ts : List Formula) (v : ℕ) (own now : ℕ → ℕ) → ((k : ℕ) → own k ≡ now k) → all_hold ts v own ≡ all_hold ts v now
+pub all_hold_same : (ts : List Formula) (v : ℕ) (own now : ℕ → ℕ) → ((k : ℕ) → own k ≡ now k) → all_hold ts v own ≡ all_hold ts v now
 all_hold_same [] v own now h = refl
 all_hold_same (t ∷ ts) v own now h = cc (truth_same v own now no_parent no_parent h (λ k. refl) t, all_hold_same ts v own now h)
-
-module _ (set : Set) (part : Part) (base : ℕ) (own : Scope) (numbers : List ℤ) (s : IsScope set (desc_at set part) base own) (few : length numbers ≤ MOST_ITEMS)
-    (room : HasCells set part numbers base) where
-  pub same_number : (k : ℕ) → number_of numbers own k ≡ own_numbers set part numbers base k
-  same_number k = own_number set (desc_at set part) base own numbers s few room k
-
-  pub same_truth : (t : Formula) (v : ℕ) → truth t v (number_of numbers own) no_parent ≡ truth t v (own_numbers set part numbers base) no_parent
-  same_truth t v = truth_same v (number_of numbers own) (own_numbers set part numbers base) no_parent no_parent same_number (λ k. refl) t
-
-  pub same_rules : (ts : List Formula) (v : ℕ) → all_hold ts v (number_of numbers own) ≡ all_hold ts v (own_numbers set part numbers base)
-  same_rules ts v = all_hold_same ts v (number_of numbers own) (own_numbers set part numbers base) same_number
 
 -- ---- where subsections begin
 

@@ -1,15 +1,15 @@
 -- Well-formed sets: their limits, their properties part by part, and that the shipped sets are.
-use Rattle.vms_desc.proofs.{Facade.shipped_set, Facade.clock_set, Facade.heads_fit, Facade.clock_1, Facade.clock_2, EvalLaws.cells_size, EvalLaws.struct_sizes}
-use Rattle.vms_desc.proofs.Facade.{items_are, items_to, is_well_formed, ◌≡◌, ℕ, zero, suc, ◌*◌, ◌≤◌, List, ◌∷◌, ◌++◌, length}
-use Rattle.vms_desc.proofs.Facade.{length-append, get_or, map, sym, ap, ◌∙◌, arith, true, ◌&&◌, nat_le, [], flat_map, and_parts, leb-true, length-map}
-use Rattle.vms_desc.proofs.Facade.{map-map, Item, Struct, MOST_ITEMS, Field, Desc, Sub, Device, Set, first, no_desc, capacity_of, desc_cells, struct_cells}
-use Rattle.vms_desc.proofs.Facade.{device_cells, first_fault, items_in, struct_items, subs_items, devices_items, IsFit, IsGood, FitsHeads, first_long}
-use Rattle.vms_desc.proofs.Facade.{well_good, Cells, Items, in_u32, size_of, fields_size, sizes_to, form_of, layout_of, ◌<◌, Some, refl, Bool, list_all}
-use Rattle.vms_desc.proofs.Facade.{slice_get, slice_get-get_or, Equal, Unused, Count, One, Fixed, Counted, Part, Formula, AtLeast, no_field, is_name}
-use Rattle.vms_desc.proofs.Facade.{is_name_byte, is_steady_in, names_well, nobody, test_names_well, count_names_well, uses_below, has_good_count, field_rules}
-use Rattle.vms_desc.proofs.Facade.{validation_rules, has_few, struct_rules, sub_rules, device_rules, WellFormed, device_at, HasPart, desc_at, sub_at, AllTrue}
-use Rattle.vms_desc.proofs.Facade.{Clean, device_parts, ◌+◌, ltb-true, lt-ltb, ◌-◌, drop, get_or_default, get_or-map, get_or-drop}
-use Rattle.vms_desc.proofs.Facade.{get_or-map-range_with_len, range_with_len, NEWEST_SET, shipped_sets, all_fit, device_fits, each, fit, is_fit, newest_set}
+use Rattle.vms_desc.proofs.{Facade.newest_set, EvalLaws.cells_size, EvalLaws.struct_sizes}
+use Rattle.vms_desc.proofs.Facade.{shipped_set, clock_set, heads_fit, clock_1, clock_2, items_are, items_to, is_well_formed, ◌≡◌, ℕ, zero, suc, ◌*◌}
+use Rattle.vms_desc.proofs.Facade.{◌≤◌, List, ◌∷◌, ◌++◌, length, length-append, get_or, map, sym, ap, ◌∙◌, arith, true, ◌&&◌, nat_le}
+use Rattle.vms_desc.proofs.Facade.{[], flat_map, and_parts, leb-true, length-map, map-map, Item, Struct, MOST_ITEMS, Field, Desc, Sub, Device, Set, first}
+use Rattle.vms_desc.proofs.Facade.{no_desc, capacity_of, desc_cells, struct_cells, device_cells, first_fault, items_in, struct_items, subs_items, devices_items}
+use Rattle.vms_desc.proofs.Facade.{IsFit, IsGood, FitsHeads, first_long, well_good, Cells, Items, in_u32, size_of, fields_size, sizes_to, form_of, layout_of}
+use Rattle.vms_desc.proofs.Facade.{◌<◌, Some, refl, Bool, list_all, slice_get, slice_get-get_or, Equal, Unused, Count, One, Fixed, Counted, Part, Formula}
+use Rattle.vms_desc.proofs.Facade.{AtLeast, no_field, is_name, is_name_byte, is_steady_in, names_well, nobody, test_names_well, count_names_well, uses_below}
+use Rattle.vms_desc.proofs.Facade.{has_good_count, field_rules, validation_rules, has_few, struct_rules, sub_rules, device_rules, WellFormed, device_at}
+use Rattle.vms_desc.proofs.Facade.{HasPart, desc_at, sub_at, AllTrue, Clean, device_parts, ◌+◌, ltb-true, lt-ltb, ◌-◌, drop, get_or_default, get_or-map}
+use Rattle.vms_desc.proofs.Facade.{get_or-drop, get_or-map-range_with_len, range_with_len, NEWEST_SET, shipped_sets, all_fit, device_fits, each, fit, is_fit}
 pub use Rattle.vms_spec.proofs.ShippedSets.{none_is}
 use Rattle.vms_spec.proofs.WellFormedLaws.{set_clean, struct_clean as struct_at, sub_clean as sub_of}
 use Rattle.vms_spec.specs.declared.Part.TheVariants as parts

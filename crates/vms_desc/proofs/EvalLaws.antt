@@ -4,13 +4,13 @@ use Rattle.vms_desc.proofs.Facade.{◌≡◌, ℕ, zero, suc, ◌+◌, ◌*◌, 
 use Rattle.vms_desc.proofs.Facade.{take, map, ◌∙◌, arith, Some, inl, inr, [], slice_get, get_or-map, cases_lt, get_or_append_left, length-map, map-append}
 use Rattle.vms_desc.proofs.Facade.{map_more, get_or_default, FitsHeads, capacity_of, no_field, no_desc, Field, Sub, Device, AtLeast, get_or_push, Cells, Parts}
 use Rattle.vms_desc.proofs.Facade.{in_u32, size_of, fields_size, set_of, field_of, device_of, get_map_at, Table, HeadsFit, sub_at, IsTable, no_table, AreTables}
-use Rattle.vms_desc.proofs.Facade.{device_fields, AreDeviceTables, ◌≤◌, min, refl, sym, ap, Bool, true, ◌&&◌, Option, None, ℤ, pos, flat_map}
-use Rattle.vms_desc.proofs.Facade.{and_parts, take_min, map-map, Item, Num, Struct, Count, One, Part, MOST_ITEMS, Own, Parent, first, times, counted}
-use Rattle.vms_desc.proofs.Facade.{item_cells, item_size, field_cells, cells_from, desc_cells, struct_cells, device_cells, numbers_of, place_of, is_num, is_one}
-use Rattle.vms_desc.proofs.Facade.{names_well, Formula, Below, Cell, Not, And, Or, Desc, Set, truth, field_size, device_at, sizes_to, form_of, capped_fields}
-use Rattle.vms_desc.proofs.Facade.{Scope, item_forms, fields_forms, subs_forms, device_forms, forms_to, sizes_of, place_in, number_in, number_of}
-use Rattle.vms_desc.proofs.Facade.{number_of_parent, desc_at, is_number, is_number_in, is_number_of_parent, is_placed, parent_of, HasParentCells, may_ask}
-use Rattle.vms_desc.proofs.Facade.{may_ask_parent, IsInside, IsInsideParent, IsScope, IsParent, AreStarts}
+use Rattle.vms_desc.proofs.Facade.{device_fields, AreDeviceTables, ◌≤◌, min, refl, sym, ap, true, ◌&&◌, Option, None, ℤ, pos, flat_map, and_parts}
+use Rattle.vms_desc.proofs.Facade.{take_min, map-map, Item, Num, Struct, Count, One, Part, MOST_ITEMS, Own, Parent, first, times, counted, item_cells}
+use Rattle.vms_desc.proofs.Facade.{item_size, field_cells, cells_from, desc_cells, struct_cells, device_cells, numbers_of, place_of, is_num, is_one, names_well}
+use Rattle.vms_desc.proofs.Facade.{Formula, Below, Cell, Not, And, Or, Desc, Set, truth, field_size, sizes_to, form_of, capped_fields, Scope, item_forms}
+use Rattle.vms_desc.proofs.Facade.{fields_forms, subs_forms, device_forms, forms_to, sizes_of, place_in, number_in, number_of, number_of_parent, desc_at}
+use Rattle.vms_desc.proofs.Facade.{is_number, is_number_in, is_number_of_parent, is_placed, parent_of, HasParentCells, may_ask, may_ask_parent, IsInside}
+use Rattle.vms_desc.proofs.Facade.{IsInsideParent, IsScope, IsParent, AreStarts, slice_get-map, slice_get_within, slice_get-get_or}
 use Rattle.vms_parts.specs.{declared.types.Device.Device as CodeDevice, declared.types.Field.Field as CodeField}
 use Rattle.std.proofs.Common.{negsuc, ◌%◌, ◌^◌}
 use Rattle.vms_kinds.specs.{Codes.residue, Codes.width, declared.Kind.Kind}
@@ -22,9 +22,7 @@ use Rattle.vms_kinds.specs.declared.Kind.TheVariants as kinds
 
 -- an element of a mapped list is made of the one at the same number
 pub at_mapped : {X Y : Type 0} (f : X → Y) (xs : List X) (i : ℕ) (x : X) (y : Y) → x ≡ get_or xs i x → slice_get (map f xs) i ≡ Some y → y ≡ f x
-at_mapped f [] i x y is e = cc
-at_mapped f (z ∷ xs) zero x y is e = cc
-at_mapped f (z ∷ xs) (suc i) x y is e = at_mapped f xs i x y is e
+at_mapped f xs i x y is e = let lt = slice_get_within (map f xs) i y e in cc (slice_get-map f xs i, slice_get-get_or xs i x (omega (arith, length-map xs f)))
 
 -- the property of the code's devices, for the set
 pub heads_of : (parts : Parts) (devices : List CodeDevice) → devices ≡ parts.devices → HeadsFit (map device_of devices) → FitsHeads (set_of parts)
@@ -166,9 +164,10 @@ struct_sizes ds (suc k) = let d = get_or ds k no_desc in rw (struct_sizes ds k, 
 
 -- ---- the forms of cells are those of their structures
 
-forms_times : (part : List OneCell) (n : ℕ) → map form_of (times n (λ _. part) 0 0) ≡ times n (λ _. map form_of part) 0 0
-forms_times part zero = refl
-forms_times part (suc n) = rw (map-append, forms_times part n)
+-- each of the repeated elements is mapped
+pub times_map : {X Y : Type 0} (f : X → Y) (part : List X) (n : ℕ) → map f (times n (λ _. part) 0 0) ≡ times n (λ _. map f part) 0 0
+times_map f part zero = refl
+times_map f part (suc n) = rw (map-append, times_map f part n)
 
 forms_item : (cs : List (List OneCell)) (item : Item) (capacities : List ℕ) (z : ℤ)
     → map form_of (item_cells cs item capacities z) ≡ item_forms (map (map form_of) cs) item z
@@ -180,13 +179,8 @@ forms_fields : (cs : List (List OneCell)) (fields : List Field) (i : ℕ) (fs : 
 forms_fields cs fields i [] = refl
 forms_fields cs fields i (f ∷ fs) =
     let caps = counted i fields in
-    rw (
-      map-append,
-      forms_times (item_cells cs f.item caps f.default) (capacity_of f.count),
-      forms_item cs f.item caps f.default,
-      forms_fields cs fields
-          (suc i) fs,
-    )
+    rw (map-append, times_map form_of (item_cells cs f.item caps f.default) (capacity_of f.count), forms_item cs f.item caps f.default)
+    (rw (forms_fields cs fields (suc i) fs))
 
 struct_forms_all : (ds : List Desc) (k : ℕ) → forms_to ds k ≡ map (map form_of) (first desc_cells ds k)
 unfolding first
@@ -298,44 +292,33 @@ parent_asked set part (Some s) p = absurd p
 
 pub placed : (set : Set) (part : Part) (base : ℕ) (own : Scope) (parent : Option Scope) (t : Formula) → IsScope set (desc_at set part) base own
     → IsParent set part parent → is_placed set part t ≡ true → names_well (may_ask own) (may_ask_parent parent) t ≡ true
-placed set part base own parent t s p h =
-    ap (λ (fs : List Field). names_well (is_number_in fs) (may_ask_parent parent) t) s.fields
-    ∙ ap (λ (f : ℕ → Bool). names_well (is_number_in (desc_at set part).fields) f t) (parent_asked set part parent p) ∙ h
+placed set part base own parent t s p h = rw (s.fields, parent_asked set part parent p) h
 
-module _ (set : Set) (d : Desc) (base : ℕ) (own : Scope) (numbers : List ℤ) (s : IsScope set d base own) (few : length numbers ≤ MOST_ITEMS)
-    (room : base + length (desc_cells (struct_cells set) d) ≤ length numbers) where
-  small : length (desc_cells (struct_cells set) d) ≤ MOST_ITEMS
-  small = omega arith
+-- what is read through a scope: its cells are there, and its numbers are the definition's
+pub record IsSeen (set : Set) (d : Desc) (base : ℕ) (own : Scope) (numbers : List ℤ) : Type 0 where
+  pub inside : IsInside numbers own
+  pub number : (k : ℕ) → number_of numbers own k ≡ numbers_of (struct_cells set) d numbers base k
 
-  pub own_inside : IsInside numbers own
-  own_inside = record {
-    starts = omega (arith, ap length s.fields, s.starts.long);
-    cells = λ k asked. rw (s.fields, s.first) (cells_inside set d small own.starts.now s.starts base (length numbers) room k (rw s.fields at asked));
-  }
-
-  pub own_number : (k : ℕ) → number_of numbers own k ≡ numbers_of (struct_cells set) d numbers base k
-  own_number k = rw (s.fields, s.first) (number_is set d small own.starts.now s.starts numbers base k)
+pub seen : {set : Set} {d : Desc} {base : ℕ} {own : Scope} {numbers : List ℤ} → IsScope set d base own → length numbers ≤ MOST_ITEMS
+    → base + length (desc_cells (struct_cells set) d) ≤ length numbers → IsSeen set d base own numbers
+seen {set} {d} {base} {own} {numbers} s few room =
+    let small : length (desc_cells (struct_cells set) d) ≤ MOST_ITEMS = omega arith in
+    record {
+      inside = record {
+        starts = omega (arith, ap length s.fields, s.starts.long);
+        cells = λ k asked. rw (s.fields, s.first) (cells_inside set d small own.starts.now s.starts base (length numbers) room k (rw s.fields at asked));
+      };
+      number = λ k. rw (s.fields, s.first) (number_is set d small own.starts.now s.starts numbers base k);
+    }
 
 -- the cells of the parent are there, and its numbers are those of the part's parent
 pub parent_is : (set : Set) (part : Part) (parent : Option Scope) (numbers : List ℤ) → IsParent set part parent → length numbers ≤ MOST_ITEMS
     → HasParentCells set part (length numbers)
     → IsInsideParent numbers parent × ((k : ℕ) → number_of_parent numbers parent k ≡ parent_of set part numbers k)
 parent_is set (parts.Sub i j) None numbers p few h = absurd p
-parent_is set (parts.Sub i j) (Some s) numbers p few h =
-    let room : 0 + length (desc_cells (struct_cells set) (device_at set i).desc) ≤ length numbers = omega arith in
-    (own_inside set (device_at set i).desc 0 s numbers p few room, own_number set (device_at set i).desc 0 s numbers p few room)
+parent_is set (parts.Sub i j) (Some s) numbers p few h = let r = seen p few (omega arith) in (r.inside, r.number)
 parent_is set part None numbers p few h = (tt, λ k. refl)
 parent_is set part (Some s) numbers p few h = absurd p
-
-pub truth_is : (set : Set) (part : Part) (base : ℕ) (own : Scope) (parent : Option Scope) (numbers : List ℤ) (t : Formula) (v : ℕ)
-    → IsScope set (desc_at set part) base own
-    → IsParent set part parent → length numbers ≤ MOST_ITEMS → base + length (desc_cells (struct_cells set) (desc_at set part)) ≤ length numbers
-    → HasParentCells set part (length numbers)
-    → truth t v (number_of numbers own) (number_of_parent numbers parent) ≡ truth t v (numbers_of (struct_cells set) (desc_at set part) numbers base)
-    (parent_of set part numbers)
-truth_is set part base own parent numbers t v s p few room h =
-    truth_same v (number_of numbers own) (numbers_of (struct_cells set) (desc_at set part) numbers base) (number_of_parent numbers parent)
-    (parent_of set part numbers) (own_number set (desc_at set part) base own numbers s few room) (parent_is set part parent numbers p few h).1 t
 
 -- ---- the low bytes of a number
 
@@ -343,17 +326,5 @@ truth_is set part base own parent numbers t v s p few room h =
 pub residue_cut : (kind : Kind) (z : ℤ) → residue 8 z % 2 ^ (8 * width kind) ≡ residue (width kind) z
 residue_cut kinds.U8 (pos n) = omega arith
 residue_cut kinds.U8 (negsuc n) = omega arith
-residue_cut kinds.I8 (pos n) = omega arith
-residue_cut kinds.I8 (negsuc n) = omega arith
-residue_cut kinds.Bool (pos n) = omega arith
-residue_cut kinds.Bool (negsuc n) = omega arith
-residue_cut kinds.U16 (pos n) = omega arith
-residue_cut kinds.U16 (negsuc n) = omega arith
-residue_cut kinds.I16 (pos n) = omega arith
-residue_cut kinds.I16 (negsuc n) = omega arith
-residue_cut kinds.U32 (pos n) = omega arith
-residue_cut kinds.U32 (negsuc n) = omega arith
-residue_cut kinds.I32 (pos n) = omega arith
-residue_cut kinds.I32 (negsuc n) = omega arith
 residue_cut _ (pos n) = omega arith
 residue_cut _ (negsuc n) = omega arith

@@ -1,13 +1,13 @@
 -- Forms that are appended, and the numbers of a device's cells at their defaults.
-use Rattle.vms_desc.proofs.{Clean.none_is, EvalLaws.device_forms_are, Facade.AreForms, Facade.Puts, Facade.kinds_at, Facade.form_numbers, Facade.defaults_at}
-use Rattle.vms_desc.proofs.Facade.{◌≡◌, ℕ, zero, suc, ◌+◌, ◌-◌, ◌*◌, ◌<◌, ◌≤◌, List, [], ◌∷◌, ◌++◌, length, get_or}
-use Rattle.vms_desc.proofs.Facade.{drop, take, map, refl, sym, ap, ◌∙◌, arith, ℤ, pos, append_assoc, append-nil, length-append, true, drop_all, drop_at}
-use Rattle.vms_desc.proofs.Facade.{ext_get_or, length-map, map-append, take-map, take_at, take-append-le, length-drop, get_or_past, mul-le, slice_get-get_or}
-use Rattle.vms_desc.proofs.Facade.{map-map, Kind, U8, InRange, FitsHeads, no_desc, no_cell, times, device_cells, first_fault, DefaultsFit, first_at, first_take}
-use Rattle.vms_desc.proofs.Facade.{first_long, well_good, device_at, CellForm, Parts, field_of, desc_of, sub_of, device_of, set_of, form_of, layout_of, drop_is}
-use Rattle.vms_desc.proofs.Facade.{get_map_at, Held, Forms, is_well_formed, field_forms, fields_forms, subs_forms, device_forms, forms_to, structs_forms}
+use Rattle.vms_desc.proofs.{Clean.none_is, EvalLaws.device_forms_are, EvalLaws.times_map, Facade.device_forms, Facade.forms_to, Facade.structs_forms}
+use Rattle.vms_desc.proofs.Facade.{AreForms, Puts, kinds_at, form_numbers, defaults_at, ◌≡◌, ℕ, zero, suc, ◌+◌, ◌-◌, ◌*◌, ◌<◌}
+use Rattle.vms_desc.proofs.Facade.{◌≤◌, List, [], ◌∷◌, ◌++◌, length, get_or, drop, take, map, refl, sym, ap, ◌∙◌, arith, ℤ, pos}
+use Rattle.vms_desc.proofs.Facade.{append_assoc, append-nil, length-append, true, drop_at, ext_get_or, length-map, map-append, take-map, take_at}
+use Rattle.vms_desc.proofs.Facade.{take-append-le, length-drop, get_or_past, mul-le, slice_get-get_or, map-map, Kind, U8, InRange, FitsHeads, no_desc, no_cell}
+use Rattle.vms_desc.proofs.Facade.{times, device_cells, first_fault, DefaultsFit, first_at, first_take, first_long, well_good, device_at, CellForm, Parts}
+use Rattle.vms_desc.proofs.Facade.{field_of, desc_of, device_of, set_of, form_of, layout_of, get_map_at, Held, Forms, is_well_formed, fields_forms}
 use Rattle.std.proofs.{Common.drop-drop, Common.take_all, Math.Seq.take-add, lemmas.List.drop-append-le, lemmas.List.get_or-map, lemmas.List.length-take-le}
-use Rattle.vms_parts.specs.{declared.types.Desc.Desc, declared.types.Device.Device, declared.types.Field.Field, declared.types.Sub.Sub}
+use Rattle.vms_parts.specs.{declared.types.Desc.Desc, declared.types.Device.Device}
 use Rattle.vms_spec.specs.Sets as sets
 
 -- ---- forms in order
@@ -49,35 +49,20 @@ left_none none left = record {
   defaults = sym (append-nil _) ∙ (rw none at left.defaults);
 }
 
-pub fields_next : (ts : List (List CellForm)) (fields : List Field) (i : ℕ) (f : Field) → i < length fields → f ≡ get_or fields i f
-    → fields_forms ts (map field_of (drop i fields)) ≡ field_forms ts (field_of f) ++ fields_forms ts (map field_of (drop (i + 1) fields))
-fields_next ts fields i f lt is = rw (drop_is fields i f lt is)
-
-pub fields_over : (ts : List (List CellForm)) (fields : List Field) (i : ℕ) → length fields ≤ i → fields_forms ts (map field_of (drop i fields)) ≡ []
-fields_over ts fields i all = rw (drop_all i fields all)
-
-pub subs_next : (ts : List (List CellForm)) (subs : List Sub) (i : ℕ) (s : Sub) → i < length subs → s ≡ get_or subs i s
-    → subs_forms ts (map sub_of (drop i subs)) ≡ fields_forms ts (map field_of s.desc.fields) ++ subs_forms ts (map sub_of (drop (i + 1) subs))
-subs_next ts subs i s lt is = rw (drop_is subs i s lt is)
-
-pub subs_over : (ts : List (List CellForm)) (subs : List Sub) (i : ℕ) → length subs ≤ i → subs_forms ts (map sub_of (drop i subs)) ≡ []
-subs_over ts subs i all = rw (drop_all i subs all)
-
 -- one more piece of a part that is appended again
 pub piece_next : {X : Type 0} (old items new : List X) (start done next : ℕ) → start ≤ done → done ≤ next → next ≤ length old
     → items ≡ old ++ take (done - start) (drop start old) → new ≡ items ++ take (next - done) (drop done items)
     → new ≡ old ++ take (next - start) (drop start old)
 piece_next old items new start done next begun on inside is more =
     let part = drop start old in
-    let here : drop done items ≡ drop done old ++ take (done - start) part = ap (drop done) is ∙ drop-append-le done old (take (done - start) part) (omega arith) in
-    let piece : take (next - done) (drop done items) ≡ take (next - done) (drop done old) =
-    ap (take (next - done)) here ∙ take-append-le (next - done) (drop done old) (take (done - start) part) (omega (arith, length-drop done old)) in
-    let there : drop done old ≡ drop (done - start) part =
-    let e : done ≡ start + (done - start) = omega arith in ap (λ (k : ℕ). drop k old) e ∙ sym (drop-drop (done - start) start old) in
-    let sum : next - start ≡ (done - start) + (next - done) = omega arith in
-    more ∙ ap (λ l. items ++ l) (piece ∙ ap (take (next - done)) there) ∙ ap (λ l. l ++ take (next - done) (drop (done - start) part)) is
-    ∙ append_assoc old (take (done - start) part) (take (next - done) (drop (done - start) part))
-    ∙ ap (λ l. old ++ l) (sym (take-add (done - start) (next - done) part)) ∙ ap (λ (k : ℕ). old ++ take k part) (sym sum)
+    let k = done - start in
+    let m = next - done in
+    let at : start + k ≡ done = omega arith in
+    let sum : next - start ≡ k + m = omega arith in
+    let there : drop done old ≡ drop k part = ap (λ (i : ℕ). drop i old) (sym at) ∙ sym (drop-drop k start old) in
+    let piece : take m (drop done items) ≡ take m (drop k part) =
+    rw (is, drop-append-le done old (take k part) (omega arith), take-append-le m (drop done old) (take k part) (omega (arith, length-drop done old)), there) in
+    cc (piece, append_assoc old (take k part) (take m (drop k part)), take-add k m part)
 
 -- one element, repeated
 module _ {X : Type 0} (part : List X) where
@@ -111,17 +96,11 @@ module _ {X : Type 0} (part : List X) where
       omega (arith, ap (λ (k : ℕ). k * done) wide, ap length is, length-append front (repeated done), repeated_long done)
 
 module _ {X : Type 0} (g : CellForm → X) where
-  times_put : (part : List CellForm) (n : ℕ) → map g (times n (λ _. part) 0 0) ≡ times n (λ _. map g part) 0 0
-  times_put part zero = refl
-  times_put part (suc n) = rw (map-append, times_put part n)
-
   -- the appended forms are repeated
   pub repeated_put : (old list new : List X) (part : List CellForm) (start n : ℕ) → start ≡ length old → list ≡ old ++ map g part
       → new ≡ take start list ++ times n (λ _. drop start list) 0 0 → new ≡ old ++ map g (times n (λ _. part) 0 0)
   repeated_put old list new part start n at put is =
-      let front : take start list ≡ old = ap (take start) put ∙ take_at old (map g part) start (sym at) in
-      let back : drop start list ≡ map g part = ap (drop start) put ∙ drop_at old (map g part) start (sym at) in
-      is ∙ rw (front, back, times_put part n)
+      rw (is, put, take_at old (map g part) start (sym at), drop_at old (map g part) start (sym at), times_map g part n)
 
 -- a structure's forms are made from the earlier ones
 pub struct_forms : (structs : List Desc) (j : ℕ) (d : Desc) → j < length structs → d ≡ get_or structs j d

@@ -1,22 +1,22 @@
 -- The cell of a path, given the numbers of cells of the structures, and the first cell of a path.
-use Rattle.vms_desc.proofs.Facade.{◌≡◌, ℕ, zero, suc, ◌+◌, ◌*◌, ◌<◌, ◌≤◌, List, ◌∷◌, length, length-append, length-take-le, get_or, take, map, refl, sym, ap}
-use Rattle.vms_desc.proofs.Facade.{cases_Bool, ◌∙◌, arith, inl, inr, Option, Some, None, [], nat_lt, if◌then◌else◌, flat_map, slice_get, ltb-true, lt-ltb}
-use Rattle.vms_desc.proofs.Facade.{cases_lt, length-map, take_all, take-append-le, take-map, map-map, get_or-map, Kind, Item, Num, Struct, MOST_ITEMS, first}
-use Rattle.vms_desc.proofs.Facade.{no_desc, capacity_of, place_of, item_size, desc_cells, struct_cells, device_cells, sub_place, own_cells, item_at}
-use Rattle.vms_desc.proofs.Facade.{element_at, path_at, cell_in, desc_of_sub, element_room, first_long, first_at, Cells, in_u32, size_of, fields_size}
-use Rattle.vms_desc.proofs.Facade.{subs_size, field_of, desc_of, form_of, layout_of, capped_fields, capped_subs, Placed, Element, sizes_of, element_in}
-use Rattle.vms_desc.proofs.Facade.{element_of, begin_desc, begin_base, Begins, Enters, IsPlaced}
-use Rattle.vms_spec.specs.Sets as sets
+use Rattle.vms_desc.proofs.EvalLaws.{cells_size, place_is, take_less, exact}
+use Rattle.vms_desc.proofs.Facade.{◌≡◌, ℕ, zero, suc, ◌+◌, ◌*◌, ◌<◌, ◌≤◌, List, ◌∷◌, length, length-append, length-take-le}
+use Rattle.vms_desc.proofs.Facade.{get_or, take, map, refl, sym, ap, cases_Bool, ◌∙◌, arith, inl, inr, Option, Some, None, [], nat_lt}
+use Rattle.vms_desc.proofs.Facade.{if◌then◌else◌, flat_map, slice_get, ltb-true, lt-ltb, cases_lt, length-map, take_all, take-append-le, take-map}
+use Rattle.vms_desc.proofs.Facade.{map-map, get_or-map, Kind, Item, Num, Struct, MOST_ITEMS, first, no_desc, capacity_of, place_of, item_size, desc_cells}
+use Rattle.vms_desc.proofs.Facade.{struct_cells, device_cells, sub_place, own_cells, item_at, element_at, path_at, cell_in, desc_of_sub, element_room}
+use Rattle.vms_desc.proofs.Facade.{first_long, first_at, Cells, in_u32, size_of, fields_size, subs_size, field_of, desc_of, form_of, layout_of, capped_fields}
+use Rattle.vms_desc.proofs.Facade.{capped_subs, Placed, Element, sizes_of, element_in, element_of, begin_desc, begin_base, Begins, Enters, IsPlaced}
+use Rattle.vms_desc.proofs.Facade.{slice_get-map, slice_get_within, slice_get-get_or, get_or_from_slice_get}
 use Rattle.vms_spec.specs.Layout.{Cell}
 use Rattle.vms_parts.specs.declared.types.Field.{Field}
-use Rattle.vms_desc.proofs.EvalLaws.{cells_size, place_is, take_less, exact}
+use Rattle.std.proofs.lemmas.List.{get_or-map as map_at}
+use Rattle.vms_spec.specs.Sets as sets
 
 -- ---- one element
 
 pub at_there : {X Y : Type 0} (g : X → Y) (xs : List X) (i : ℕ) (x : X) → i < length xs → x ≡ get_or xs i x → slice_get (map g xs) i ≡ Some (g x)
-at_there g [] i x lt is = absurd (omega arith)
-at_there g (y ∷ xs) zero x lt is = cc
-at_there g (y ∷ xs) (suc i) x lt is = at_there g xs i x (omega arith) is
+at_there g xs i x lt is = cc (slice_get-map g xs i, slice_get-get_or xs i x lt)
 
 field_room : (sizes : List ℕ) (fs : List sets.Field) (i : ℕ) (f : sets.Field) → slice_get fs i ≡ Some f
     → fields_size Cells sizes (take i fs) + capacity_of f.count * size_of Cells sizes f.item ≤ fields_size Cells sizes fs
@@ -126,12 +126,8 @@ module _ (set : sets.Set) (p : Placed) (placed : IsPlaced set p) where
   inner_placed number cell inner enters few =
       let long : length inner.sizes.now ≡ number = ap length enters.sizes_are ∙ length-take-le number p.sizes.now (omega (arith, enters.known)) in
       let cut : take number p.sizes.now ≡ map (λ cells. in_u32 (length cells)) (first desc_cells set.structs number) =
-      rw (
-        placed.sized,
-        take-map (λ cells. in_u32 (length cells)) number cells,
-        take_first desc_cells set.structs number (length p.sizes.now)
-            (omega (arith, enters.known)),
-      ) in
+      rw (placed.sized, take-map (λ cells. in_u32 (length cells)) number cells)
+      (rw (take_first desc_cells set.structs number (length p.sizes.now) (omega (arith, enters.known)))) in
       let capped : size_of Cells p.sizes.now (Struct number) ≡ in_u32 (length (get_or cells number [])) =
       ap (λ (l : List ℕ). size_of Cells l (Struct number)) placed.sized ∙ size_capped cells (Struct number) in
       let made = ap length (first_at desc_cells set.structs [] (length p.sizes.now) number enters.known) in
@@ -208,13 +204,8 @@ module _ (set : sets.Set) (d : sets.Device) (few : length (device_cells set d) �
 
   all_few : fields_size Cells lengths d.desc.fields + subs_size Cells lengths d.subs ≤ MOST_ITEMS
   all_few =
-      omega (
-        arith,
-        length-append (desc_cells (struct_cells set) d.desc) (flat_map (λ s. desc_cells (struct_cells set) s.desc) d.subs),
-        own_size,
-        subs_cells
-            (struct_cells set) d.subs,
-      )
+      let cells = struct_cells set in
+      omega (arith, length-append (desc_cells cells d.desc) (flat_map (λ s. desc_cells cells s.desc) d.subs), own_size, subs_cells cells d.subs)
 
   pub same_base : (part : Option ℕ) → begin_base (sizes_of set) d part ≡ base_of set d part
   same_base None = refl
@@ -244,12 +235,9 @@ module _ (set : sets.Set) (d : sets.Device) (few : length (device_cells set d) �
         room = rw long (omega (arith, begins.base, same_base part, has_room part (desc_of p.desc.now) begins.desc));
       }
 
-get_there : {X Y : Type 0} (g : X → Y) (xs : List X) (i : ℕ) (x : X) (d : Y) → slice_get xs i ≡ Some x → get_or (map g xs) i d ≡ g x
-get_there g [] i x d e = cc
-get_there g (y ∷ xs) zero x d e = cc
-get_there g (y ∷ xs) (suc i) x d e = get_there g xs i x d e
-
 pub few_of_device : (set : sets.Set) (k : ℕ) (d : sets.Device) → slice_get set.devices k ≡ Some d → length (get_or (layout_of set) k []) ≤ MOST_ITEMS
     → length (device_cells set d) ≤ MOST_ITEMS
 few_of_device set k d there few =
-    omega (arith, ap length (get_there (λ d. map form_of (device_cells set d)) set.devices k d [] there), length-map (device_cells set d) form_of)
+    let cells = λ (d : sets.Device). map form_of (device_cells set d) in
+    let here = map_at cells set.devices k d [] (slice_get_within set.devices k d there) in
+    omega (arith, ap length here, ap (λ (d : sets.Device). length (cells d)) (get_or_from_slice_get set.devices k d d there), length-map (device_cells set d) form_of)

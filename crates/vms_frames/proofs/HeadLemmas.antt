@@ -1,38 +1,25 @@
 -- Units by the bytes that came: numbers, heads, footers, and what ends a stream.
+use Rattle.std.proofs.{lemmas.Result.err_from_is_err_and, lemmas.List.get_or_append_left, lemmas.List.drop-append-le, Math.Bool.and-false}
+use Rattle.std.proofs.Common.{IsErrAnd, Result}
 use Rattle.vms_frames.proofs.Facade.{◌≡◌, ℕ, suc, zero, ◌+◌, ◌<◌, ◌≤◌, List, [], ◌++◌, length, get_or, drop, Some, Ok, Err, refl, sym}
-use Rattle.vms_frames.proofs.Facade.{ap, arith, drop_at, length-drop, take-append-le, append-nil, le-ltb, lt-ltb, big_from, Reason, number_at, bytes_at}
-use Rattle.vms_frames.proofs.Facade.{Refused, Piece, Known, Due, first_row, alone, needs, Seen, Good, Bad, Short, seen_in, seen_by, AnswersSeen, Fails}
-use Rattle.vms_frames.proofs.Facade.{◌&&◌, not, ℤ, Bool, true, false, if◌then◌else◌, slice_index, take, None, ◌∙◌, length-append, take_at}
-use Rattle.vms_frames.proofs.Facade.{false_from_ne_true, ltb-true, bytes_eq, bytes_eq-Decides, big_number, Kind, width, value_of, IsBadBool, is_truth, is_above}
-use Rattle.vms_frames.proofs.Facade.{is_bad_bool, Magic, Number, raw_same, bad_same, magic, AMagic, Field, raw, seen, nothing_known, ◌==◌, nat_lt, take_all}
-use Rattle.vms_frames.proofs.Facade.{eq-eqb, ne_eqb, get_or-take, length-take-le, Long, Start, Foot, head_in, sub_head_in, AfterFields, text_at, Section}
-use Rattle.vms_frames.proofs.Facade.{step_long, unit_of_step, in_section, head_seen, start_seen, IsStartReason, sub_seen, foot_seen, ReadsTrailer}
-use Rattle.vms_frames.proofs.Facade.{LONGEST_DESCRIPTION, ◌-◌, ◌∷◌, Option, Result, Intake, Takes, Breaks, reads_behind, reads_last, longest_text}
-use Rattle.vms_frames.proofs.Facade.{Description, AfterEnd, trailer_at, FrameFault, ReadFault, AnswersEnd, ReadsEnd, IsLong, ReadsText}
-use Rattle.std.proofs.{lemmas.List.get_or_append_left, lemmas.List.drop-append-le, Math.Bool.and-false}
+use Rattle.vms_frames.proofs.Facade.{ap, arith, length-drop, take-append-le, le-ltb, lt-ltb, big_from, Reason, number_at, bytes_at, Refused, Piece, Known, Due}
+use Rattle.vms_frames.proofs.Facade.{first_row, alone, needs, Seen, Good, Bad, Short, seen_in, seen_by, not, ℤ, Bool, true, false, if◌then◌else◌}
+use Rattle.vms_frames.proofs.Facade.{slice_index, take, None, ◌∙◌, length-append, take_at, false_from_ne_true, ltb-true, bytes_eq, bytes_eq-Decides}
+use Rattle.vms_frames.proofs.Facade.{big_number, Kind, width, value_of, IsBadBool, is_bad_bool, Magic, Number, raw_same, bad_same, magic, AMagic, Field, raw}
+use Rattle.vms_frames.proofs.Facade.{seen, nothing_known, ◌==◌, nat_lt, take_all, eq-eqb, ne_eqb, get_or-take, length-take-le, Long, Start, Foot, head_in}
+use Rattle.vms_frames.proofs.Facade.{sub_head_in, AfterFields, text_at, Section, step_long, unit_of_step, in_section, head_seen, start_seen, IsStartReason}
+use Rattle.vms_frames.proofs.Facade.{sub_seen, foot_seen, ReadsTrailer, LONGEST_DESCRIPTION, ◌-◌, ◌∷◌, Option, Result, Intake, Takes, Breaks}
+use Rattle.vms_frames.proofs.Facade.{reads_behind, reads_last, longest_text, Description, AfterEnd, trailer_at, FrameFault, ReadFault, AnswersEnd, ReadsEnd}
+use Rattle.vms_frames.proofs.Facade.{IsLong, ReadsText}
 use Rattle.vms_spec.specs.{Layout.Number as NumberSlot, Units.SubHead as ASub, Units.Mark}
 use Rattle.vms_stream.specs.Dues.{Between as IsBetween}
 use Rattle.vms_spec.specs.declared.Reason.TheVariants as reasons
 use Rattle.vms_kinds.specs.declared.Kind.TheVariants as kinds
 use Rattle.vms_stream.specs.SoFar as tails
 
--- ---- a unit whose bytes came one part after the other
-
-module _ {X : Type 0} (piece : List ℕ → X → Piece) (long : X → ℕ) (found : List ℕ → Seen) where
-  -- a whole unit came
-  pub whole : (left unit : List ℕ) (at : ℕ) (x : X) → length unit ≡ long x → ((rest : List ℕ) → found (unit ++ rest) ≡ Good (piece (unit ++ rest) x) (long x))
-      → AnswersSeen (piece (unit ++ left)) long (found (unit ++ left)) at (unit ++ left) (Some left) (Ok x)
-  whole left unit at x e is = (is left, ap Some (sym (drop_at unit left (long x) e)))
-
-  -- an invalid unit came
-  pub wrong : (left unit : List ℕ) (at n : ℕ) (why : Reason) → length unit ≡ n → ((rest : List ℕ) → found (unit ++ rest) ≡ Bad n why)
-      → AnswersSeen (piece (unit ++ left)) long (found (unit ++ left)) at (unit ++ left) (Some left) (Err (Refused at why))
-  wrong left unit at n why e is = (refl, rw (is left, drop_at unit left n e) (refl, refl))
-
-  -- a part of a unit is missing
-  pub short : (unit bytes left : List ℕ) (reason : Reason) → reason ≡ reasons.Truncated → found (unit ++ bytes) ≡ Short → left ≡ []
-      → Fails (found (unit ++ (bytes ++ left))) (unit ++ (bytes ++ left)) (Some left) reason
-  short unit bytes left reason r is none = rw (none, append-nil bytes, is) (r, refl)
+-- what `?` returns
+pub err_is : {T E : Type 0} (r : Result T E) (e : E) → IsErrAnd r (λ y. y ≡ e) → r ≡ Err e
+err_is r e is = let p = err_from_is_err_and r is in rw (p.1, p.2)
 
 -- ---- what the bytes of a unit are, whatever comes after them
 
@@ -70,10 +57,8 @@ seen_if kind z bad = seen_by (if bad then Some (None, reasons.BadBool) else None
 number_came : (kind : Kind) (code rest : List ℕ) → length code ≡ width kind
     → number_seen kind (code ++ rest) ≡ seen_if kind (value_of (raw kind) code) (is_bad_bool kind code)
 number_came kind code rest long =
-    let of : List ℕ → Seen = λ l. seen_if kind (value_of (raw kind) l) (is_truth kind && is_above (value_of (raw kind) l) 1) in
-    seen_whole (Field 0 (NumberSlot 0 kind [])) nothing_known (width kind) (code ++ rest)
-    (Number 0 kind (value_of (raw kind) (take (width kind) (code ++ rest)))) (omega (arith, length-append code rest))
-    ∙ ap of (take_at code rest (width kind) long) ∙ ap (seen_if kind (value_of (raw kind) code)) (bad_same kind code)
+    seen_whole (Field 0 (NumberSlot 0 kind [])) nothing_known (width kind) (code ++ rest) _ (omega (arith, length-append code rest))
+    ∙ rw (take_at code rest (width kind) long, bad_same kind code)
 
 -- the one byte of a truth value
 first : (code : List ℕ) → big_number 1 code ≡ slice_index code 0
@@ -85,9 +70,7 @@ not_bad kind code long good = refl
 
 pub number_good : (kind : Kind) (code : List ℕ) (value : ℤ) → length code ≡ width kind → (IsBadBool kind code → ⊥) → value ≡ value_of kind code
     → (rest : List ℕ) → number_seen kind (code ++ rest) ≡ Good (Number 0 kind value) (width kind)
-number_good kind code value long good is rest =
-    number_came kind code rest long ∙ ap (seen_if kind (value_of (raw kind) code)) (not_bad kind code long good)
-    ∙ ap (λ z. Good (Number 0 kind z) (width kind)) (raw_same kind code ∙ sym is)
+number_good kind code value long good is rest = rw (number_came kind code rest long, not_bad kind code long good, raw_same kind code, is)
 
 is_bad : (kind : Kind) (code : List ℕ) → IsBadBool kind code → is_bad_bool kind code ≡ true
 is_bad kinds.Bool code bad = lt-ltb 1 _ (rw first bad.1)
@@ -95,7 +78,7 @@ is_bad kind code bad = cc
 
 pub number_bad : (kind : Kind) (code : List ℕ) → length code ≡ width kind → IsBadBool kind code → (rest : List ℕ)
     → number_seen kind (code ++ rest) ≡ Bad (width kind) reasons.BadBool
-number_bad kind code long bad rest = number_came kind code rest long ∙ ap (seen_if kind (value_of (raw kind) code)) (is_bad kind code bad)
+number_bad kind code long bad rest = rw (number_came kind code rest long, is_bad kind code bad)
 
 -- ---- the magic
 
@@ -104,7 +87,7 @@ magic_by all b = seen_by (if not b then Some (None, reasons.BadMagic) else None)
 
 magic_came : (unit rest : List ℕ) → length unit ≡ 4 → seen AMagic nothing_known (unit ++ rest) ≡ magic_by (unit ++ rest) (bytes_eq unit magic)
 magic_came unit rest long =
-    seen_whole AMagic nothing_known 4 (unit ++ rest) (Magic (take 4 (unit ++ rest))) (omega (arith, length-append unit rest))
+    seen_whole AMagic nothing_known 4 (unit ++ rest) _ (omega (arith, length-append unit rest))
     ∙ ap (λ l. magic_by (unit ++ rest) (bytes_eq l magic)) (take_at unit rest 4 long)
 
 pub magic_good : (unit rest : List ℕ) → length unit ≡ 4 → unit ≡ magic → seen AMagic nothing_known (unit ++ rest) ≡ Good (Magic (take 4 (unit ++ rest))) 4
@@ -201,47 +184,33 @@ module _ (d : Due) (k : Known) (mark longest : ℕ) (piece : List ℕ → Piece)
   abbrev pub text_seen : List ℕ → Seen
   text_seen all = seen_in d k (text_at mark longest piece all (number_at 4 1 all))
 
-  text_by : List ℕ → ℕ → Bool → Seen
-  text_by all n b = seen_in d k (if b then needs 5 all (Long mark n) else needs (5 + n) all (piece (bytes_at n 5 all)))
-
-  few_bytes : (all : List ℕ) (n : ℕ) (b : Bool) → length all < 5 → text_by all n b ≡ Short
-  unfolding text_by
+  few_bytes : (all : List ℕ) (n : ℕ) (b : Bool) → length all < 5
+      → seen_in d k (if b then needs 5 all (Long mark n) else needs (5 + n) all (piece (bytes_at n 5 all))) ≡ Short
   few_bytes all n true few = cut_short d k 5 all (Long mark n) few
   few_bytes all n false few = cut_short d k (5 + n) all (piece (bytes_at n 5 all)) (omega arith)
 
   pub text_begins : (unit rest : List ℕ) → length unit + length rest < 5 → text_seen (unit ++ rest) ≡ Short
-  unfolding text_by
-  text_begins unit rest few =
-      let n = number_at 4 1 (unit ++ rest) in
-      few_bytes (unit ++ rest) n (nat_lt longest n) (omega (arith, length-append unit rest))
-
-  text_came : (unit rest : List ℕ) → 5 ≤ length unit
-      → text_seen (unit ++ rest) ≡ text_by (unit ++ rest) (number_at 4 1 unit) (nat_lt longest (number_at 4 1 unit))
-  unfolding text_by
-  text_came unit rest some = rw (number_of_unit 4 1 unit rest (omega arith))
+  text_begins unit rest few = let n = number_at 4 1 (unit ++ rest) in few_bytes (unit ++ rest) n (nat_lt longest n) (omega (arith, length-append unit rest))
 
   pub text_cut : (unit rest : List ℕ) → 5 ≤ length unit → number_at 4 1 unit ≤ longest → length unit + length rest < 5 + number_at 4 1 unit
       → text_seen (unit ++ rest) ≡ Short
-  unfolding text_by
   text_cut unit rest some low few =
-      text_came unit rest some ∙ ap (text_by (unit ++ rest) (number_at 4 1 unit)) (le-ltb longest (number_at 4 1 unit) low)
-      ∙ cut_short d k (5 + number_at 4 1 unit) (unit ++ rest) _ (omega (arith, length-append unit rest))
+      rw (number_of_unit 4 1 unit rest (omega arith), le-ltb longest (number_at 4 1 unit) low)
+      (cut_short d k (5 + number_at 4 1 unit) (unit ++ rest) _ (omega (arith, length-append unit rest)))
 
   -- an invalid length
   pub text_above : (unit rest : List ℕ) → length unit ≡ 5 → longest < number_at 4 1 unit
       → text_seen (unit ++ rest) ≡ seen_by (first_row (alone d k (Long mark (number_at 4 1 unit)))) (Long mark (number_at 4 1 unit)) 5
-  unfolding text_by
   text_above unit rest long high =
-      text_came unit rest (omega arith) ∙ ap (text_by (unit ++ rest) (number_at 4 1 unit)) (lt-ltb longest (number_at 4 1 unit) high)
-      ∙ seen_whole d k 5 (unit ++ rest) (Long mark (number_at 4 1 unit)) (omega (arith, length-append unit rest))
+      rw (number_of_unit 4 1 unit rest (omega arith), lt-ltb longest (number_at 4 1 unit) high)
+      (seen_whole d k 5 (unit ++ rest) (Long mark (number_at 4 1 unit)) (omega (arith, length-append unit rest)))
 
   pub text_whole : (unit rest : List ℕ) → 5 ≤ length unit → number_at 4 1 unit ≤ longest → 5 + number_at 4 1 unit ≤ length unit + length rest
       → text_seen (unit ++ rest) ≡ seen_by (first_row (alone d k (piece (bytes_at (number_at 4 1 unit) 5 (unit ++ rest)))))
       (piece (bytes_at (number_at 4 1 unit) 5 (unit ++ rest))) (5 + number_at 4 1 unit)
-  unfolding text_by
   text_whole unit rest some low le =
-      text_came unit rest some ∙ ap (text_by (unit ++ rest) (number_at 4 1 unit)) (le-ltb longest (number_at 4 1 unit) low)
-      ∙ seen_whole d k (5 + number_at 4 1 unit) (unit ++ rest) _ (omega (arith, length-append unit rest))
+      rw (number_of_unit 4 1 unit rest (omega arith), le-ltb longest (number_at 4 1 unit) low)
+      (seen_whole d k (5 + number_at 4 1 unit) (unit ++ rest) _ (omega (arith, length-append unit rest)))
 
 -- ---- what ends a stream: nothing, or a description section
 

@@ -1,13 +1,13 @@
 -- A section, as the judge reads it: its head, and what comes after the fields of a part.
-use Rattle.vms_load.proofs.Facade.{◌≡◌, ℕ, ◌+◌, ◌<◌, List, length, map, drop, slice_set, Option, Some, None, Bool, true, false, Result, Ok, Err, refl, sym, ap}
-use Rattle.vms_load.proofs.Facade.{◌∙◌, subst, zero, suc, ◌-◌, [], ◌∷◌, get_or, nat_lt, if◌then◌else◌, IfSome, arith, map-set, drop_all, slice_get-get_or}
-use Rattle.vms_load.proofs.Facade.{slice_get, bytes_eq, Set, Device, Sub, at_option, position, Image, Piece, SubHead, Foot, fresh, mark_come, part_slots}
-use Rattle.vms_load.proofs.Facade.{put_version, subs_of, Goes, reading_after, find_device, find_sub, reading_on, set_twice, at_set, put_image, judge, ask}
-use Rattle.vms_load.proofs.Facade.{judge_seen, State, Free, Inside, inside, after, by_state, or_none, slots_at, due_by, known_at, Head, Stand, Tail, Refusal}
-use Rattle.vms_load.proofs.Facade.{Typed, Unfit, opened_at, section_opened, opened_unless, reason_against_sub, sub_opened, Onward, Reads, ReadsOn, ReadsBehind}
-use Rattle.vms_load.proofs.Facade.{behind, Settles, concerning, state_in, in_fields, after_part, bytes_of, subs_due, spot_in, all_passed, after_fields}
-use Rattle.vms_load.proofs.Facade.{image_at, state_of, LoadFault, Section, Staged, AfterFields, begins_next, rules_hold, Good, seen, judged_holds, next_holds}
-use Rattle.vms_load.proofs.Facade.{seen_holds, device_at, sub_at, ahead, AnswersBehind, in_section, tail_of, FrameFault, Open, LONGEST_SUB_HEAD}
+use Rattle.vms_load.proofs.Facade.{no_desc, ◌≡◌, ℕ, ◌+◌, ◌<◌, List, length, map, drop, slice_set, Option, Some, None, Bool, true, false, Result}
+use Rattle.vms_load.proofs.Facade.{Ok, Err, refl, sym, ap, ◌∙◌, subst, zero, suc, ◌-◌, [], ◌∷◌, get_or, nat_lt, if◌then◌else◌, IfSome}
+use Rattle.vms_load.proofs.Facade.{arith, map-set, drop_all, slice_get-get_or, slice_get, Set, Device, Sub, Image, Piece, SubHead, Foot, part_slots, Goes}
+use Rattle.vms_load.proofs.Facade.{reading_after, find_device, find_sub, reading_on, set_twice, at_set, judge, ask, judge_seen, State, Free, Inside, after}
+use Rattle.vms_load.proofs.Facade.{by_state, or_none, slots_at, due_by, known_at, Head, Stand, Tail, Refusal, Typed, Unfit, opened_at, section_opened}
+use Rattle.vms_load.proofs.Facade.{opened_unless, reason_against_sub, sub_opened, Onward, Reads, ReadsOn, ReadsBehind, behind, Settles, concerning, state_in}
+use Rattle.vms_load.proofs.Facade.{in_fields, after_part, bytes_of, subs_due, spot_in, all_passed, after_fields, image_at, state_of, LoadFault, Section, Staged}
+use Rattle.vms_load.proofs.Facade.{AfterFields, begins_next, rules_hold, Good, seen, judged_holds, next_holds, seen_holds, device_at, sub_at, AnswersBehind}
+use Rattle.vms_load.proofs.Facade.{in_section, tail_of, FrameFault, Open, LONGEST_SUB_HEAD}
 use Rattle.vms_load.proofs.HeadLemmas.{device_is, known_sub, sub_below, sub_is, verdict, section_judged, sub_judged}
 use Rattle.vms_load.proofs.ReadLemmas.{IsLong, refused_here, unit_fails, unit_settled, unit_of}
 use Rattle.vms_spec.specs.Units.{Head as HeadUnit}
@@ -50,18 +50,7 @@ module _ (set : Set) (names : List (List ℕ)) (staged : Staged) (first configur
   opened_is : (id : ℕ) (name : List ℕ) (instance v k : ℕ) (image : Image) (tail : Tail) → find_device 0 set.devices name instance ≡ Some k → k < length set.devices → image ≡ image_at set k v → tail ≡ staged.tail
       → after set state (HeadUnit id name instance v) ≡ state_in (begun k) (record { device = k; id = id; tail = tail }) image (Inside k id None 0)
   opened_is id name instance v k image tail found below is same =
-      ap (λ o. headed o (at_option set.devices o)) found ∙ ap (λ d. headed (Some k) d) (slice_get-get_or set.devices k _ below)
-      ∙ ap (λ i. state_in (begun k) (record { device = k; id = id; tail = staged.tail }) i (Inside k id None 0)) (sym is)
-      ∙ ap (λ t. state_in (begun k) (record { device = k; id = id; tail = t }) image (Inside k id None 0)) (sym same)
-    where
-      headed : Option ℕ → Option Device → State
-      headed o d = record {
-        machine = state.machine;
-        images = put_image state.images o (fresh set d v);
-        came = mark_come state.came o;
-        tail = state.tail;
-        spot = inside o id None 0;
-      }
+      rw (found, slice_get-get_or set.devices k (record { instance = 0; desc = no_desc; subs = [] }) below, is, same)
 
   opens : (x : Piece) (n place k : ℕ) (o : Result ℕ Unfit) → Ok k ≡ opened_at place o → verdict set names state x n o ≡ Goes n (after set state x)
   opens x n place k (Ok i) e = refl
@@ -106,12 +95,7 @@ ended_in machine images came tail = record { machine = machine; images = images;
 pub ends_later : (machine named : Option (List ℕ)) (images first : List Typed) (came now : List Bool) (k j : ℕ) (image new : Typed) (tail : StreamTail)
     → named ≡ machine → images ≡ slice_set first k image → now ≡ slice_set came k true → j ≡ k
     → ended_in machine (slice_set (map untyped first) j (untyped new)) (slice_set came k true) tail ≡ ended_in named (map untyped (slice_set images k new)) now tail
-ends_later machine named images first came now k j image new tail m i c same =
-    let twice : slice_set images k new ≡ slice_set first k new = cc (set_twice first k image new) in
-    ap (λ n. ended_in machine (slice_set (map untyped first) n (untyped new)) (slice_set came k true) tail) same
-    ∙ ap (λ l. ended_in machine l (slice_set came k true) tail) (sym (map-set untyped first k new) ∙ ap (map untyped) (sym twice))
-    ∙ ap (λ l. ended_in machine (map untyped (slice_set images k new)) l tail) (sym c)
-    ∙ ap (λ o. ended_in o (map untyped (slice_set images k new)) now tail) (sym m)
+ends_later machine named images first came now k j image new tail m i c same = rw (m, i, c, same, set_twice first k image new, map-set untyped first k new)
 
 -- ---- What comes after the fields of a part, as the judge reads it.
 
@@ -167,9 +151,8 @@ module _ (set : Set) (names : List (List ℕ)) (state : State) (section : Sectio
       → IfSome old (λ rest. AnswersBehind t section.id from.at rest to.held left (Err fault))
       → ReadsOn (after_fields set names state section part image) next from to old left (Err (concerning (Some section.device) fault))
   after_fault from to (Some rest) left next (frames.Refused place reason) before a =
-      let P : List ℕ → Type 0 = λ l. Reads (onward inner from.at l) next from.at to l left (Err (faults.Refused (record { section = Some section.device; at = place; reason = reason }))) in
-      subst P (sym (ap (λ o. ahead o rest) before))
-      (rw (after_is from.at rest a.0) (unit_fails onward (Some section.device) (ask set names inner) from.at rest (seen (AfterFields 0 t) (in_section section.id) rest) left next to place reason a.1 a.2))
+      rw (before, after_is from.at rest a.0)
+      (unit_fails onward (Some section.device) (ask set names inner) from.at rest (seen (AfterFields 0 t) (in_section section.id) rest) left next to place reason a.1 a.2)
   after_fault from to _ left next _ before a = tt
 
   -- a unit after the fields that is judged
@@ -179,10 +162,9 @@ module _ (set : Set) (names : List (List ℕ)) (state : State) (section : Sectio
       → ReadsOn (after_fields set names state section part image) (after_part set names state now new) from to old left result
   after_settled from to None left x n now new result before free' a far h = tt
   after_settled from to (Some rest) left x n now new result before free' a far h =
-      let P : List ℕ → Type 0 = λ l. Reads (onward inner from.at l) (after_part set names state now new) from.at to l left result in
-      subst P (sym (ap (λ o. ahead o rest) before))
-      (rw (after_is from.at rest a.0) (unit_settled onward (Some section.device) (ask set names inner) from.at rest (seen (AfterFields 0 t) (in_section section.id) rest) x n left to
-      (λ next. state_in state now new (spot_in now next)) result (a.1, a.2) far free' h))
+      rw (before, after_is from.at rest a.0)
+      (unit_settled onward (Some section.device) (ask set names inner) from.at rest (seen (AfterFields 0 t) (in_section section.id) rest) x n left to
+      (λ next. state_in state now new (spot_in now next)) result (a.1, a.2) far free' h)
 
   -- the section ends at the next unit, whose first byte is held
   pub after_next : (from to : Stand) (old left : Option (List ℕ)) → from.held ≡ None → to.at ≡ from.at
@@ -191,13 +173,8 @@ module _ (set : Set) (names : List (List ℕ)) (state : State) (section : Sectio
   after_next from to None left before far a = tt
   after_next from to (Some []) left before far a = cc
   after_next from to (Some (b ∷ more)) left before far a =
-      let P : Option (List ℕ) → Option ℕ → Option ℕ → ℕ → Type 0 = λ l o h p. Reads {X = Option Open} (onward inner from.at (ahead o (b ∷ more))) (after_part set names state (record section { tail = tails.Bare }) image) from.at (record { at = p; held = h }) (ahead o (b ∷ more)) l (Ok None) in
-      let zero' : 0 ≡ from.at - from.at = omega arith in
-      subst (λ p. P left from.held to.held p) (sym far)
-      (subst (λ h. P left from.held h from.at) (sym a.1)
-      (subst (λ o. P left o (Some b) from.at) (sym before)
-      (subst (λ l. P l None (Some b) from.at) (sym a.2)
-      (next_is from.at (b ∷ more) a.0, ap (λ n. drop n (b ∷ more)) zero'))))
+      let none : from.at - from.at ≡ 0 = omega arith in
+      rw (far, a.1, before, a.2, none) (next_is from.at (b ∷ more) a.0, refl)
 
   -- the footer
   pub foot_settled : (at' : ℕ) → Settles (ask set names inner (Foot section.id) 5) at' (λ next. state_in state (record section { tail = tails.Footed }) image (spot_in (record section { tail = tails.Footed }) next)) 5 (Ok None)
@@ -219,12 +196,7 @@ module _ (set : Set) (names : List (List ℕ)) (state : State) (section : Sectio
     into images o = record { machine = state.machine; images = images; came = state.came; tail = t; spot = Inside section.device section.id o 0 }
 
     after_sub : (j : ℕ) → find_sub 0 (device_at set section.device).subs name ≡ Some j → after set inner (SubHead name v) ≡ state_in state section (marked j) (Inside section.device section.id (Some j) 0)
-    after_sub j e =
-        let found : position (λ (s : Sub). bytes_eq s.desc.name name) 0 (subs_of (slice_get set.devices section.device)) ≡ Some j =
-        ap (λ o. position (λ (s : Sub). bytes_eq s.desc.name name) 0 (subs_of o)) there ∙ e in
-        let put : Image → Option ℕ → List Image = λ i o. slice_set (slice_set state.images section.device image) section.device (record i { came = put_version i.came o v }) in
-        ap (λ o. into (put (open_image inner) o) o) found ∙ ap (λ i. into (put i (Some j)) (Some j)) image_is
-        ∙ ap (λ l. into l (Some j)) (set_twice state.images section.device image (marked j))
+    after_sub j e = rw (there, e, image_is, set_twice state.images section.device image (marked j))
 
     sub_ok : (o : Result ℕ Unfit) (j : ℕ) → find_sub 0 (device_at set section.device).subs name ≡ Some j → Ok j ≡ opened_at place o
         → Settles (verdict set names inner (SubHead name v) n o) place (λ next. state_in state section (marked j) (spot_in section next)) n (Ok (Some (record { sub = Some j; version = v })))

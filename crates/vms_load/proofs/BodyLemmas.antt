@@ -1,14 +1,15 @@
 -- Readings of the fields of a part that go on: numbers, constants and rules.
-use Rattle.vms_load.proofs.Facade.{false_from_ne_true, ◌≡◌, ℕ, ◌+◌, List, [], length, take, drop, slice_set, Option, Some, Result, Ok, Err, OnOk, ℤ, refl}
-use Rattle.vms_load.proofs.Facade.{sym, ap, ◌∙◌, subst, arith, Bool, true, false, not, ◌&&◌, nat_lt, ◌<◌, ◌^◌, IfErr, drop_all, Kind, width, value_of, Reason}
-use Rattle.vms_load.proofs.Facade.{same_number, exceeds, is_truth, is_above, Slot, Rule, Taken, Progress, take_slot, Piece, raw, Seen, Good, Bad, Short, seen}
-use Rattle.vms_load.proofs.Facade.{nothing_known, put, taken_by, IsUnit, by_tests, tested, slot_seen, AnswersSeen, Fails, ReadsNumber, ReadsFiller, FrameFault}
-use Rattle.vms_load.proofs.Facade.{TakesAs, ReadsCapped, ReadsConstant, TakesOn, progress, same_number_is, Intake, takes_none, reads_as, reads_last, ReadsAs}
-use Rattle.vms_load.proofs.{Facade.OnErr, Facade.Told, Facade.Fills, Facade.keeps_same, Facade.◌∷◌, RunReads.step_fills}
-use Rattle.vms_walk.specs.declared.step.WalkStep.TheVariants as steps
+use Rattle.vms_load.proofs.Facade.{false_from_ne_true, ◌≡◌, ℕ, ◌+◌, List, [], length, take, drop, slice_set, Option, Some, Result, Ok, Err, OnOk}
+use Rattle.vms_load.proofs.Facade.{ℤ, refl, sym, ap, ◌∙◌, subst, arith, Bool, true, false, not, ◌&&◌, nat_lt, ◌<◌, ◌^◌, IfErr, drop_all}
+use Rattle.vms_load.proofs.Facade.{Kind, width, value_of, Reason, same_number, exceeds, is_truth, is_above, Slot, Rule, Taken, Progress, take_slot, Piece, raw}
+use Rattle.vms_load.proofs.Facade.{Seen, Good, Bad, Short, seen, nothing_known, put, taken_by, IsUnit, by_tests, tested, slot_seen, AnswersSeen, Fails}
+use Rattle.vms_load.proofs.Facade.{ReadsNumber, ReadsFiller, FrameFault, TakesAs, ReadsCapped, ReadsConstant, TakesOn, progress, same_number_is, Intake}
+use Rattle.vms_load.proofs.Facade.{takes_none, reads_as, reads_last, ReadsAs, OnErr, Told, Fills, keeps_same, ◌∷◌}
+use Rattle.vms_load.proofs.RunReads.{step_fills}
 use Rattle.vms_spec.specs.Layout.{Number as NumberSlot, Constant as ConstantSlot, Filler as FillerSlot}
 use Rattle.vms_spec.specs.Units.{Number, Constant, Filler}
 use Rattle.vms_stream.specs.Dues.{Field}
+use Rattle.vms_walk.specs.declared.step.WalkStep.TheVariants as steps
 use Rattle.vms_spec.specs.declared.Reason.TheVariants as reasons
 use Rattle.vms_frames.specs.declared.fault.FrameFault.TheVariants as faults
 
@@ -62,49 +63,30 @@ fails_alike : (a b e : Bool) (x y : Piece) (n : ℕ) (why : Reason) (rest : List
 fails_alike false false false x y n why rest left reason h = absurd h
 fails_alike _ _ _ x y n why rest left reason h = h
 
-module _ (kind : Kind) (at : ℕ) (new : Option (List ℕ)) where
-  -- what is read of a number passed the tests
-  read_good : (rest : List ℕ) (v : ℤ) → seen (Field 0 (NumberSlot 0 kind [])) nothing_known rest ≡ Good (Number 0 kind v) (width kind)
-      → Passed (cut kind rest) (bad kind rest) false (Number 0 kind (z kind rest)) (Number 0 kind v)
-  read_good rest v h = passed (cut kind rest) (bad kind rest) false _ _ (width kind) reasons.CountTooLarge (sym (number_by kind rest 0 []) ∙ h)
+-- a slot with a test of its own beside those of its number
+module _ (kind : Kind) (at : ℕ) (new : Option (List ℕ)) (rest : List ℕ) {found : Seen} (own : ℤ → Bool) (x : ℤ → Piece) (why : Reason)
+    (is : found ≡ by_tests (cut kind rest) (bad kind rest) (own (z kind rest)) (x (z kind rest)) (width kind) why) where
+  -- what is read of the number passed the others
+  read_good : (v : ℤ) → ReadsNumber kind at (Some rest) new (Ok v) → Passed (cut kind rest) (bad kind rest) false (Number 0 kind (z kind rest)) (Number 0 kind v)
+  read_good v h = passed (cut kind rest) (bad kind rest) false _ _ (width kind) reasons.CountTooLarge (sym (number_by kind rest 0 []) ∙ h.0)
 
-  pub capped_ok : (caps : List ℕ) (rest : List ℕ) (v : ℤ) → ReadsNumber kind at (Some rest) new (Ok v) → exceeds caps v ≡ false → ReadsCapped kind caps at (Some rest) new (Ok v)
-  capped_ok caps rest v h e =
-      let t = read_good rest v h.0 in
+  own_ok : (v : ℤ) → ReadsNumber kind at (Some rest) new (Ok v) → own v ≡ false → (found ≡ Good (x v) (width kind)) × (new ≡ Some (drop (width kind) rest))
+  own_ok v h e =
+      let t = read_good v h in
       let same = number_same kind (z kind rest) v t.same in
-      (number_by kind rest 0 caps ∙ to_good _ _ _ _ _ (width kind) reasons.CountTooLarge t.cut t.bad (ap (exceeds caps) same ∙ e) t.same, h.1)
+      (is ∙ to_good _ _ _ _ _ (width kind) why t.cut t.bad (ap own same ∙ e) (ap x same), h.1)
 
-  pub capped_large : (caps : List ℕ) (rest : List ℕ) (v : ℤ) → ReadsNumber kind at (Some rest) new (Ok v) → exceeds caps v ≡ true → ReadsCapped kind caps at (Some rest) new (Err (faults.Refused at reasons.CountTooLarge))
-  capped_large caps rest v h e =
-      let t = read_good rest v h.0 in
-      let same = number_same kind (z kind rest) v t.same in
-      (refl, rw (number_by kind rest 0 caps ∙ to_bad _ _ _ _ (width kind) reasons.CountTooLarge t.cut t.bad (ap (exceeds caps) same ∙ e)) (refl, h.1))
+  own_fails : (v : ℤ) → ReadsNumber kind at (Some rest) new (Ok v) → own v ≡ true → (at ≡ at) × Fails found rest new why
+  own_fails v h e =
+      let t = read_good v h in
+      (refl, rw (is ∙ to_bad _ _ _ _ (width kind) why t.cut t.bad (ap own (number_same kind (z kind rest) v t.same) ∙ e)) (refl, h.1))
 
-  pub capped_err : (caps : List ℕ) (rest : List ℕ) (fault : FrameFault) → ReadsNumber kind at (Some rest) new (Err fault) → ReadsCapped kind caps at (Some rest) new (Err fault)
-  capped_err caps rest faults.ReadFault h = tt
-  capped_err caps rest (faults.Refused place reason) h = (
+  own_err : {X : Type 0} (unit : X → Piece) (long : X → ℕ) (fault : FrameFault) → ReadsNumber kind at (Some rest) new (Err fault)
+      → AnswersSeen unit long found at rest new (Err fault)
+  own_err unit long faults.ReadFault h = tt
+  own_err unit long (faults.Refused place reason) h = (
     h.0,
-    rw (number_by kind rest 0 caps) (fails_with (cut kind rest) (bad kind rest) (exceeds caps (z kind rest)) _ _ (width kind) reasons.CountTooLarge reasons.CountTooLarge rest new reason
-        (rw (number_by kind rest 0 []) at h.1)),
-  )
-
-  pub constant_ok : (y : ℤ) (rest : List ℕ) (v : ℤ) → ReadsNumber kind at (Some rest) new (Ok v) → same_number v y ≡ true → v ≡ y → ReadsConstant kind y at (Some rest) new (Ok tt)
-  constant_ok y rest v h e is =
-      let t = read_good rest v h.0 in
-      let same = number_same kind (z kind rest) v t.same in
-      (constant_by kind rest y ∙ to_good _ _ _ _ _ (width kind) reasons.NotEqual t.cut t.bad (rw same (ap not e)) (ap (Constant kind) (same ∙ is)), h.1)
-
-  pub constant_other : (y : ℤ) (rest : List ℕ) (v : ℤ) → ReadsNumber kind at (Some rest) new (Ok v) → same_number v y ≡ false → ReadsConstant kind y at (Some rest) new (Err (faults.Refused at reasons.NotEqual))
-  constant_other y rest v h e =
-      let t = read_good rest v h.0 in
-      let is = constant_by kind rest y ∙ to_bad _ _ _ _ (width kind) reasons.NotEqual t.cut t.bad (rw (number_same kind (z kind rest) v t.same) (ap not e)) in
-      (refl, rw is (refl, h.1))
-
-  pub constant_err : (y : ℤ) (rest : List ℕ) (fault : FrameFault) → ReadsNumber kind at (Some rest) new (Err fault) → ReadsConstant kind y at (Some rest) new (Err fault)
-  constant_err y rest faults.ReadFault h = tt
-  constant_err y rest (faults.Refused place reason) h = (
-    h.0,
-    rw (constant_by kind rest y) (fails_with (cut kind rest) (bad kind rest) (not (same_number (z kind rest) y)) _ _ (width kind) reasons.CountTooLarge reasons.NotEqual rest new reason
+    rw is (fails_with (cut kind rest) (bad kind rest) (own (z kind rest)) _ _ (width kind) reasons.CountTooLarge why rest new reason
         (rw (number_by kind rest 0 []) at h.1)),
   )
 
@@ -172,28 +154,41 @@ module _ (a b : Intake) (kind : Kind) (at : ℕ) where
   abbrev Fixed : ℤ → Result (Unit {0}) FrameFault → Type 0
   Fixed y r = ReadsAs a b (λ _. width kind) (width kind) (ReadsConstant kind y at) r
 
-module _ {a b : Intake} (kind : Kind) (at : ℕ) where
-  pub reads_capped : (caps : List ℕ) (v : ℤ) → exceeds caps v ≡ false → Plain a b kind at (Ok v) → Capped a b kind at caps (Ok v)
-  reads_capped caps v few p = reads_as (λ n l. l) (λ rest left h. capped_ok kind at (Some left) caps rest v h few) p
+module _ {a b : Intake} (kind : Kind) (at : ℕ) (caps : List ℕ) where
+  pub reads_capped : (v : ℤ) → exceeds caps v ≡ false → Plain a b kind at (Ok v) → Capped a b kind at caps (Ok v)
+  reads_capped v few p =
+      reads_as (λ n l. l) (λ rest left h. own_ok kind at (Some left) rest (exceeds caps) (Number 0 kind) _ (number_by kind rest 0 caps) v h few) p
 
   -- a number that is above a capacity
-  pub reads_large : (caps : List ℕ) (v : ℤ) (place : ℕ) → place ≡ at → exceeds caps v ≡ true → Plain a b kind at (Ok v) → Capped a b kind at caps (Err (faults.Refused place reasons.CountTooLarge))
-  reads_large caps v place here large p =
-      rw here (reads_last (reads_as (λ n l. omega arith) (λ rest left h. capped_large kind at (Some left) caps rest v h large) p))
+  pub reads_large : (v : ℤ) (place : ℕ) → place ≡ at → exceeds caps v ≡ true → Plain a b kind at (Ok v)
+      → Capped a b kind at caps (Err (faults.Refused place reasons.CountTooLarge))
+  reads_large v place here large p =
+      rw here (reads_last (reads_as (λ n l. omega arith)
+      (λ rest left h. own_fails kind at (Some left) rest (exceeds caps) (Number 0 kind) _ (number_by kind rest 0 caps) v h large) p))
 
-  pub reads_no_number : (caps : List ℕ) (e : FrameFault) → Plain a b kind at (Err e) → Capped a b kind at caps (Err e)
-  reads_no_number caps e p = reads_as (λ n l. l) (λ rest left h. capped_err kind at (Some left) caps rest e h) p
+  pub reads_no_number : (e : FrameFault) → Plain a b kind at (Err e) → Capped a b kind at caps (Err e)
+  reads_no_number e p =
+      reads_as (λ n l. l) (λ rest left h. own_err kind at (Some left) rest (exceeds caps) (Number 0 kind) _ (number_by kind rest 0 caps) (Number 0 kind) (λ _. width kind) e h) p
 
-  pub reads_constant : (y v : ℤ) → same_number v y ≡ true → v ≡ y → Plain a b kind at (Ok v) → Fixed a b kind at y (Ok tt)
-  reads_constant y v same is p = reads_as (λ n l. l) (λ rest left h. constant_ok kind at (Some left) y rest v h same is) p
+abbrev differs : ℤ → ℤ → Bool
+differs y v = not (same_number v y)
+
+module _ {a b : Intake} (kind : Kind) (at : ℕ) (y : ℤ) where
+  pub reads_constant : (v : ℤ) → same_number v y ≡ true → v ≡ y → Plain a b kind at (Ok v) → Fixed a b kind at y (Ok tt)
+  reads_constant v same is p =
+      reads_as (λ n l. l)
+      (λ rest left h. rw is at (own_ok kind at (Some left) rest (differs y) (Constant kind) _ (constant_by kind rest y) v h (ap not same))) p
 
   -- another number
-  pub reads_other : (y v : ℤ) (place : ℕ) → place ≡ at → same_number v y ≡ false → Plain a b kind at (Ok v) → Fixed a b kind at y (Err (faults.Refused place reasons.NotEqual))
-  reads_other y v place here other p =
-      rw here (reads_last (reads_as (λ n l. omega arith) (λ rest left h. constant_other kind at (Some left) y rest v h other) p))
+  pub reads_other : (v : ℤ) (place : ℕ) → place ≡ at → same_number v y ≡ false → Plain a b kind at (Ok v)
+      → Fixed a b kind at y (Err (faults.Refused place reasons.NotEqual))
+  reads_other v place here other p =
+      rw here (reads_last (reads_as (λ n l. omega arith)
+      (λ rest left h. own_fails kind at (Some left) rest (differs y) (Constant kind) _ (constant_by kind rest y) v h (ap not other)) p))
 
-  pub reads_no_constant : (y : ℤ) (e : FrameFault) → Plain a b kind at (Err e) → Fixed a b kind at y (Err e)
-  reads_no_constant y e p = reads_as (λ n l. l) (λ rest left h. constant_err kind at (Some left) y rest e h) p
+  pub reads_no_constant : (e : FrameFault) → Plain a b kind at (Err e) → Fixed a b kind at y (Err e)
+  reads_no_constant e p =
+      reads_as (λ n l. l) (λ rest left h. own_err kind at (Some left) rest (differs y) (Constant kind) _ (constant_by kind rest y) {X = Unit {0}} (λ _. Constant kind y) (λ _. width kind) e h) p
 
 -- nothing is read for the validations of a description
 pub reads_rule : (a : Intake) (holds : Bool) (numbers : List ℤ) (at : ℕ) (result : Result (Unit {0}) FrameFault) → a.given < 2 ^ 64 → OnOk result (holds ≡ true)

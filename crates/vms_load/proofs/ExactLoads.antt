@@ -1,11 +1,11 @@
 -- What a load returns: images that are normal and valid, and exactly what the input is.
-use Rattle.vms_load.proofs.Facade.{⊎_elim, cases_eq, ◌≡◌, ℕ, Bool, true, false, List, [], ◌∷◌, slice_set, Option, Some, None, map, suc, zero, refl, sym, ap}
-use Rattle.vms_load.proofs.Facade.{subst, ◌∙◌, ◌+◌, ◌++◌, drop, Result, Ok, Err, IfSome, inl, inr, ◌≤◌, arith, length, length-append, length-drop, slice_get}
-use Rattle.vms_load.proofs.Facade.{same_Some, Device, Set, Image, EachOnce, none_left, HasSection, SectionsSpell, Takes, at_other, IsKept, AreKept, IsBytes}
-use Rattle.vms_load.proofs.Facade.{WellFormed, Reading, Accepted, Refused, FitsHeads, reading, State, by_state, at_start, accepted_holds, one_stream_holds}
-use Rattle.vms_load.proofs.Facade.{never_both_holds, one_fault_holds, state_refuses, Refusal, Intake, Last, MayFollow, bytes_both, no_bytes, reads_as}
-use Rattle.vms_load.proofs.Facade.{reads_told, Loads, GoesThrough, LoadReads, ReadsAll, name_of, most_given, LoadFault, Staged, capped, Piece, spell, spelled}
-use Rattle.vms_load.proofs.Facade.{Reason, Fault, Why, Cut, Wrong, EndsAtUnit, GivesStream, IsRefusedAt, ExactLaw, UnitLaw}
+use Rattle.vms_load.proofs.Facade.{⊎_elim, cases_eq, ◌≡◌, ℕ, Bool, true, false, List, [], ◌∷◌, slice_set, Option, Some, None, map, suc, zero}
+use Rattle.vms_load.proofs.Facade.{refl, sym, ap, subst, ◌∙◌, ◌+◌, ◌++◌, drop, Result, Ok, Err, IfSome, inl, inr, ◌≤◌, arith, length}
+use Rattle.vms_load.proofs.Facade.{length-append, length-drop, slice_get, same_Some, Device, Set, Image, EachOnce, none_left, HasSection, SectionsSpell, Takes}
+use Rattle.vms_load.proofs.Facade.{at_other, IsKept, AreKept, IsBytes, WellFormed, Reading, Accepted, Refused, FitsHeads, reading, State, by_state, at_start}
+use Rattle.vms_load.proofs.Facade.{accepted_holds, one_stream_holds, never_both_holds, one_fault_holds, state_refuses, Refusal, Intake, Last, MayFollow}
+use Rattle.vms_load.proofs.Facade.{bytes_both, no_bytes, reads_as, reads_told, Loads, GoesThrough, LoadReads, ReadsAll, name_of, most_given, LoadFault, Staged}
+use Rattle.vms_load.proofs.Facade.{capped, Piece, spell, spelled, Reason, Fault, Why, Cut, Wrong, EndsAtUnit, GivesStream, IsRefusedAt, ExactLaw, UnitLaw}
 use Rattle.vms_image.specs.Typed.{state_of as untyped}
 use Rattle.vms_stream.specs.Faults.{Fails}
 use Rattle.vms_load.specs.declared.fault.LoadFault.TheVariants as faults
@@ -19,7 +19,7 @@ section_is : (set : Set) (footed : Bool) (k : ℕ) (d : Device) (image : Image) 
 section_is set footed k d image (Some x) (Some y) bytes e f h =
     let a : x ≡ d = cc in
     let b : y ≡ image = cc in
-    subst (λ d. IsKept set d image) a (subst (λ image. IsKept set x image) b (record { normal = h.1.normal; valid = h.1.valid }))
+    rw (← a, ← b) (record { normal = h.1.normal; valid = h.1.valid })
 section_is set footed k d image (Some x) None bytes e f h = absurd h
 section_is set footed k d image None i bytes e f h = cc
 

@@ -4,7 +4,7 @@ use Rattle.vms_load.proofs.Facade.{◌∙◌, arith, Result, Err, not, nat_lt, s
 use Rattle.vms_load.proofs.Facade.{Set, find_device, find_sub, index, did_come, found_inside, device_at, sub_at, section_opened, device_opened, opened_unless}
 use Rattle.vms_load.proofs.Facade.{reason_against, reason_against_sub, sub_opened, sub_opened_at, opened_at, unfit, Unfit, Piece, SubHead, device_named}
 use Rattle.vms_load.proofs.Facade.{found_is, first_row, is_none, test_some, asking, Known, ask, by_row, State, open_at, known_at, after, by_state, Verdict}
-use Rattle.vms_load.proofs.Facade.{Goes, Faulty, zero, suc, ◌+◌, ◌≤◌, [], ◌∷◌, map, replicate, slice_set, subst, length-map, length-set}
+use Rattle.vms_load.proofs.Facade.{Goes, Faulty, zero, suc, ◌+◌, ◌≤◌, [], ◌∷◌, map, replicate, slice_set, length-map, length-set}
 use Rattle.vms_load.proofs.Facade.{ext_get_or, get_or-map, ⊎_elim, cases_eq, get_or-set_same, get_or-set_other, get_or_from_slice_get, at_set, Image}
 use Rattle.vms_load.proofs.Facade.{default_image, Unknown, Before, at_start, Typed, default_at, IsImageOf, AreImagesOf, AreShaped, begun_at, no_image}
 use Rattle.vms_load.proofs.Facade.{section_bytes, sections_due, at_other}
@@ -30,8 +30,8 @@ module _ (set : Set) (came : List Bool) (name : List ℕ) (instance v : ℕ) whe
 
   pub known : (k : ℕ) → find_device 0 set.devices name instance ≡ Some k → section_opened set came name instance v ≡ opened_unless (Some k) k (reason_against (device_at set k) (get_or came k false) v)
   known k e =
-      ap (λ found. device_opened v found (slice_get set.devices (index found)) (get_or came (index found) false)) e
-      ∙ ap (λ o. device_opened v (Some k) o (get_or came k false)) (slice_get-get_or set.devices k _ (device_below set.devices name instance k e))
+      let there : slice_get set.devices k ≡ Some (device_at set k) = slice_get-get_or set.devices k _ (device_below set.devices name instance k e) in
+      rw (e, there)
 
   pub opens : (place k : ℕ) (reason : Option Reason) → find_device 0 set.devices name instance ≡ Some k → reason ≡ reason_against (device_at set k) (get_or came k false) v
       → opened_at place (opened_unless (Some k) k reason) ≡ opened_at place (section_opened set came name instance v)
@@ -47,9 +47,8 @@ module _ (k : ℕ) (d : Device) (came : List (Option ℕ)) (name : List ℕ) (v 
       → sub_opened k d came name v ≡ opened_unless (Some k) j (reason_against_sub (sub_at d j) (get_or came j None) v)
   known_sub j long e =
       let lt : j < length d.subs = sub_below d.subs name j e in
-      ap (λ found. sub_opened_at k v found (slice_get d.subs (index found)) (slice_get came (index found))) e
-      ∙ ap (λ o. sub_opened_at k v (Some j) o (slice_get came j)) (slice_get-get_or d.subs j _ lt)
-      ∙ ap (λ o. sub_opened_at k v (Some j) (Some (sub_at d j)) o) (slice_get-get_or came j None (omega (arith, lt, long)))
+      let there : slice_get d.subs j ≡ Some (sub_at d j) = slice_get-get_or d.subs j _ lt in
+      rw (e, there, slice_get-get_or came j None (omega (arith, lt, long)))
 
   pub opens_sub : (j : ℕ) (reason : Option Reason) → length came ≡ length d.subs → find_sub 0 d.subs name ≡ Some j → reason ≡ reason_against_sub (sub_at d j) (get_or came j None) v
       → opened_unless (Some k) j reason ≡ sub_opened k d came name v
@@ -109,8 +108,7 @@ head_opened set names k id name instance v long = by (device_named set name inst
         let f = found_is set.devices 0 name instance j e in
         let d : slice_get set.devices j ≡ Some f.device = ap (slice_get set.devices) (sym (omega arith)) ∙ f.there in
         let inside : j < length k.came = (let x = slice_get_within set.devices j f.device d in omega arith) in
-        ap (λ o. head_rows (Some j) o (slice_get k.came j) v) d ∙ ap (λ o. head_rows (Some j) (Some f.device) o v) (slice_get-get_or k.came j false inside)
-        ∙ known_head j f.device (get_or k.came j false) v ∙ ap (λ o. unfit_for (device_opened v (Some j) o (get_or k.came j false))) (sym d)
+        rw (d, slice_get-get_or k.came j false inside) (known_head j f.device (get_or k.came j false) v)
 
 -- ---- subsections
 
@@ -141,10 +139,7 @@ sub_is_opened set names y k d name v section here long = cc (by (find_sub 0 d.su
         let f = sub_found d.subs 0 name j e in
         let s : slice_get d.subs j ≡ Some f.sub = ap (slice_get d.subs) (sym (omega arith)) ∙ f.there in
         let inside : j < length y.image.came = (let x = slice_get_within d.subs j f.sub s in omega arith) in
-        let c = slice_get-get_or y.image.came j None inside in
-        ap (λ o. sub_rows (Some k) (Some j) o (slice_get y.image.came j) v) s ∙ ap (λ o. sub_rows (Some k) (Some j) (Some f.sub) o v) c
-        ∙ known_rows k j f.sub (get_or y.image.came j None) v
-        ∙ ap (λ o. unfit_for (sub_opened_at k v (Some j) o (Some (get_or y.image.came j None)))) (sym s) ∙ ap (λ o. unfit_for (sub_opened_at k v (Some j) (slice_get d.subs j) o)) (sym c)
+        rw (s, slice_get-get_or y.image.came j None inside) (known_rows k j f.sub (get_or y.image.came j None) v)
 
 -- ---- the verdict
 
@@ -205,7 +200,7 @@ module _ (set : Set) (images : List Typed) (long : length images ≡ length set.
   all_shaped = record {
     all = long;
     each = λ k lt.
-        subst (λ (x : Typed). IsImageOf set k x) (sym (each k (omega arith))) (default_shaped set k (device_at set k).desc.version);
+        rw (each k (omega arith)) (default_shaped set k (device_at set k).desc.version);
   }
 
 -- the first images are at their defaults

@@ -1,14 +1,14 @@
 -- The fields of a part: its steps take what the structural reader takes, and the judge reads the same.
-use Rattle.vms_load.proofs.Facade.{◌≡◌, ℕ, ◌+◌, ◌≤◌, List, [], ◌∷◌, ◌++◌, length, take, slice_set, append_assoc, append-nil, ℤ, Option, Some, Ok, Err, Bool}
-use Rattle.vms_load.proofs.Facade.{◌||◌, ◌==◌, if◌then◌else◌, refl, sym, ap, ◌∙◌, subst, ◌-◌, ◌<◌, drop, None, Result, IfSome, OnOk, arith, eq-eqb, or_parts}
-use Rattle.vms_load.proofs.Facade.{drop-drop, drop_all, slice_get, slice_get-get_or, ⊎_elim, cases_lt, Kind, width, value_of, is_bad_bool, Desc, Set}
-use Rattle.vms_load.proofs.Facade.{Device, has_cell, Image, Slot, Number, meanings, desc_slots, Taken, Progress, takers}
-use Rattle.vms_load.proofs.Facade.{take_desc, refuse, on, if_whole, take_slot, IsSound, AreSound, IsAbove, desc_above, meanings_above, SameBelow, same_refl}
-use Rattle.vms_load.proofs.Facade.{same_trans, Keeps, Keeping, Gives, ComesTo, IsFrom, slot_keeps, set_desc_comes, FrameFault, WalkStep, step_of, steps_of}
-use Rattle.vms_load.proofs.Facade.{steps_append, exceeds_least, TakesAs, slot_of, take_steps, last_numbers, numbers_then, take_append, last_taken, Told, from}
-use Rattle.vms_load.proofs.Facade.{IsFilled, Reading, Refused, part_slots, State, Inside, by_state, judge, reading_on}
-use Rattle.vms_load.proofs.Facade.{body_read, after_read, Stand, ahead, tail_of, IsGood, Leaves, desc_leaves, device_at, sub_at, Reads, ReadsOn, concerning}
-use Rattle.vms_load.proofs.Facade.{IsIn, IsOpen, part_desc, part_base, state_in, in_fields, after_fields, Section}
+use Rattle.vms_load.proofs.Facade.{◌≡◌, ℕ, ◌+◌, ◌≤◌, List, [], ◌∷◌, ◌++◌, length, take, slice_set, append_assoc, append-nil, ℤ}
+use Rattle.vms_load.proofs.Facade.{Option, Some, Ok, Err, Bool, ◌||◌, ◌==◌, if◌then◌else◌, refl, sym, ap, ◌∙◌, subst, ◌-◌, ◌<◌}
+use Rattle.vms_load.proofs.Facade.{drop, None, Result, IfSome, OnOk, arith, eq-eqb, or_parts, drop-drop, drop_all, slice_get, slice_get-get_or, ⊎_elim}
+use Rattle.vms_load.proofs.Facade.{cases_lt, Kind, width, value_of, is_bad_bool, Desc, Set, Device, has_cell, Image, Slot, Number, meanings, desc_slots, Taken}
+use Rattle.vms_load.proofs.Facade.{Progress, takers, take_desc, refuse, on, if_whole, take_slot, IsSound, AreSound, IsAbove, desc_above, meanings_above}
+use Rattle.vms_load.proofs.Facade.{SameBelow, same_refl, same_trans, Keeps, Keeping, Gives, ComesTo, IsFrom, slot_keeps, set_desc_comes, FrameFault, WalkStep}
+use Rattle.vms_load.proofs.Facade.{step_of, steps_of, steps_append, exceeds_least, TakesAs, slot_of, take_steps, last_numbers, numbers_then, take_append}
+use Rattle.vms_load.proofs.Facade.{last_taken, Told, from, IsFilled, Refused, part_slots, State, Inside, by_state, judge, reading_on, body_read, after_read}
+use Rattle.vms_load.proofs.Facade.{Stand, tail_of, IsGood, Leaves, desc_leaves, device_at, sub_at, Reads, ReadsOn, concerning, IsIn, IsOpen, part_desc}
+use Rattle.vms_load.proofs.Facade.{part_base, state_in, in_fields, after_fields, Section}
 use Rattle.vms_spec.specs.Taking.{Refusal}
 use Rattle.vms_stream.proofs.Bodies.{Reads as ReadsBody}
 use Rattle.vms_spec.specs.declared.Reason.TheVariants as reasons
@@ -181,21 +181,11 @@ module _ (set : Set) (good : IsGood set) (section : Section) (here : section.dev
         → (t : Taken) → taken place rest ≡ t → ReadsBody set names outer device image section.device section.id sub there room 0 (start place rest) t → OnOk result (to.held ≡ None) → TakesAs t numbers to.at left result
         → Reads (in_fields set names state section sub image place rest) (λ _. after_fields set names state section sub (record image { numbers = numbers })) place to rest left (concerns (Some section.device) result)
     by_taken room inside place rest numbers to left (Ok x) (Ok q) e r held h =
-        let P : Option (List ℕ) → Type 0 = λ l. Reads {X = Unit {0}} (in_fields set names state section sub image place rest) (λ _. after_fields set names state section sub (record image { numbers = numbers })) place to rest l (Ok x) in
-        let now : Option ℕ → List ℤ → ℕ → Option (Reading State) = λ o n p. after_fields set names state section sub (record image { numbers = n }) p (ahead o q.rest) in
-        subst P (sym h.2) (
-          r.2 ∙ all_done room r.0 q r.1 ∙ ap (λ n. now None n q.place) (sym h.0) ∙ ap (λ p. now None numbers p) (sym h.1) ∙ ap (λ o. now o numbers to.at) (sym held),
-          rw held ((front_left inside place rest (Ok q) e).is ∙ ap (λ (p : ℕ). drop (p - place) rest) (sym h.1)),
-        )
+        rw (h.2, h.0, h.1, held) (r.2 ∙ all_done room r.0 q r.1, (front_left inside place rest (Ok q) e).is)
     by_taken room inside place rest numbers to left (Err (faults.Refused p reason)) (Err r) e b held h =
         let l = front_left inside place rest (Err r) e in
         let same : r.place - place + r.long ≡ p - place + r.long = omega arith in
-        record {
-          long = r.long;
-          is = b ∙ ap (λ n. Some (Refused n (Some section.device) r.reason r.long)) (sym h.0) ∙ ap (λ w. Some (Refused p (Some section.device) w r.long)) (sym h.1);
-          from = omega arith;
-          taken = cc (drop-drop r.long (r.place - place) rest);
-        }
+        record { long = r.long; is = rw (h.0, h.1) b; from = omega arith; taken = cc (drop-drop r.long (r.place - place) rest) }
     by_taken room inside place rest numbers to left (Err faults.ReadFault) t e b held h = tt
     by_taken room inside place rest numbers to left _ _ e b held h = absurd h
 
@@ -207,9 +197,5 @@ module _ (set : Set) (good : IsGood set) (section : Section) (here : section.dev
         → ReadsOn (in_fields set names state section sub image) (λ _. after_fields set names state section sub new) from to old left (concerns (Some section.device) result)
     fields_answer d base a b room open' from numbers new to None left result is before held h = tt
     fields_answer d base a b room open' from numbers new to (Some rest) left result is before held h =
-        let same : take_desc (takers set.structs (length set.structs)) d v base (start from.at rest) ≡ taken from.at rest =
-        ap (λ x. take_desc (takers set.structs (length set.structs)) x v base (start from.at rest)) a
-        ∙ ap (λ m. take_desc (takers set.structs (length set.structs)) (part_desc device sub) v m (start from.at rest)) b in
-        let P : Image → Option ℕ → Type 0 = λ x o. Reads (in_fields set names state section sub image from.at (ahead o rest)) (λ _. after_fields set names state section sub x) from.at to (ahead o rest) left (concerns (Some section.device) result) in
-        rw before (rw is (by_taken room (open_in device image sub v open') from.at rest numbers to left result (taken from.at rest) refl (fields_are room open' from.at rest) held
-        (subst (λ t. TakesAs t numbers to.at left result) same h)))
+        rw (before, is) (by_taken room (open_in device image sub v open') from.at rest numbers to left result (taken from.at rest) refl (fields_are room open' from.at rest) held
+        (rw (a, b) at h))

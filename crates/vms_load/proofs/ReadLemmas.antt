@@ -1,15 +1,20 @@
 -- Readings that go on from call to call.
-use Rattle.vms_load.proofs.Facade.{◌≡◌, ℕ, ◌+◌, ◌-◌, ◌≤◌, List, length, drop, Option, Some, None, Result, Ok, Err, OnOk, refl, sym, ap, ◌∙◌, subst, arith, ◌<◌}
-use Rattle.vms_load.proofs.Facade.{◌^◌, [], IfErr, drop-drop, drop_all, Reason, Verdict, Goes, Faulty, Over, Reading, Refused, reading_after, Piece, Set, State}
-use Rattle.vms_load.proofs.Facade.{by_state, Seen, Good, Bad, Short, judge_seen, judge, advances, solid, Stand, ahead, Fails, AnswersSeen, FrameFault, Refusal}
-use Rattle.vms_load.proofs.Facade.{Onward, behind, LeadsOn, Refuses, Reads, ReadsOn, ReadsBehind, IsBehind, Settles, concerning, IsRefused, reach}
-use Rattle.vms_load.proofs.Facade.{LoadFault, reading_on, one_unit, Intake, On, takes_none, reads_as, reads_both, reads_last, course, fault_course, IsSpent}
-use Rattle.vms_load.proofs.Facade.{GoesOn, GoesSoFar, GoesBehind, Moves}
+use Rattle.std.proofs.{Common.IsErrAnd, lemmas.Result.err_from_is_err_and}
+use Rattle.vms_load.proofs.Facade.{◌≡◌, ℕ, ◌+◌, ◌-◌, ◌≤◌, List, length, drop, Option, Some, None, Result, Ok, Err, OnOk, refl, sym, ap}
+use Rattle.vms_load.proofs.Facade.{◌∙◌, arith, ◌<◌, ◌^◌, [], IfErr, drop-drop, drop_all, Reason, Verdict, Goes, Faulty, Over, Reading, Refused}
+use Rattle.vms_load.proofs.Facade.{reading_after, Piece, Set, State, by_state, Seen, Good, Bad, Short, judge_seen, judge, advances, solid, Stand, ahead, Fails}
+use Rattle.vms_load.proofs.Facade.{AnswersSeen, FrameFault, Refusal, Onward, behind, LeadsOn, Refuses, Reads, ReadsOn, ReadsBehind, IsBehind, Settles}
+use Rattle.vms_load.proofs.Facade.{concerning, IsRefused, reach, LoadFault, reading_on, one_unit, Intake, On, takes_none, reads_as, reads_both, reads_last}
+use Rattle.vms_load.proofs.Facade.{course, fault_course, IsSpent, GoesOn, GoesSoFar, GoesBehind, Moves}
 use Rattle.vms_io.specs.Reading.{Reads as Takes}
 use Rattle.vms_frames.specs.Reads.{fault_course as frame_course}
 use Rattle.vms_spec.specs.declared.Reason.TheVariants as reasons
 use Rattle.vms_frames.specs.declared.fault.FrameFault.TheVariants as frames
 use Rattle.vms_load.specs.declared.fault.LoadFault.TheVariants as faults
+
+-- what `?` returns
+pub err_is : {T E : Type 0} (r : Result T E) (e : E) → IsErrAnd r (λ y. y ≡ e) → r ≡ Err e
+err_is r e is = let p = err_from_is_err_and r is in rw (p.1, p.2)
 
 -- one unit of a reading
 pub unit_of : (set : Set) (names : List (List ℕ)) (s : State) (place : ℕ) (rest : List ℕ)
@@ -110,12 +115,7 @@ module _ (go : State → Onward) (section : Option ℕ) (it : Piece → ℕ → 
 
   by_verdict : {Y : Type 0} (v : Verdict State) (n : ℕ) (to : Stand) (left : Option (List ℕ)) (next : Y → State) (result : Result Y LoadFault)
       → left ≡ Some (drop n rest) → to.at ≡ at + n → to.held ≡ None → Settles v at next n result → Reads (reading_after go at rest v) (λ y. go (next y)) at to rest left result
-  by_verdict (Goes m s) n to left next (Ok y) e far held h =
-      rw e (
-        ap (λ x. go x (at + m) (drop m rest)) h.0 ∙ ap (λ k. go (next y) (at + k) (drop k rest)) h.1 ∙ ap (λ k. go (next y) k (drop n rest)) (sym far)
-            ∙ ap (λ o. go (next y) to.at (ahead o (drop n rest))) (sym held),
-        ap (λ o. ahead o (drop n rest)) held ∙ ap (λ k. drop k rest) (omega arith),
-      )
+  by_verdict (Goes m s) n to left next (Ok y) e far held h = rw (e, far, held, h.0, h.1) (refl, ap (λ k. drop k rest) (omega arith))
   by_verdict (Faulty section' reason m) n to left next (Err (faults.Refused r)) e far held h =
       refused_here at rest left section' reason m r h.0 (e ∙ ap (λ k. Some (drop k rest)) (sym h.1))
   by_verdict _ n to left next _ _ far held h = absurd h
@@ -142,12 +142,10 @@ pub read_behind : {X : Type 0} (go : State → Onward) (v : Verdict State) (next
     → ReadsBehind go v next at long bytes end new result
 read_behind go v next long at bytes to end left new result b up r =
     let start : Stand = record { at = at; held = None } in
-    let lead : LeadsOn (λ place rest. behind go at v (at + long) (drop long bytes)) (behind go at v) start to (Some bytes) (Some (drop long bytes)) = (
-      ap (λ k. behind go at v k (drop long bytes)) (sym b.place) ∙ ap (λ o. behind go at v to.at (ahead o (drop long bytes))) (sym b.held),
-      ap (λ o. ahead o (drop long bytes)) b.held ∙ ap (λ k. drop k bytes) (omega arith),
-    ) in
+    let lead : LeadsOn (λ place rest. behind go at v (at + long) (drop long bytes)) (behind go at v) start to (Some bytes) (Some (drop long bytes)) =
+    rw (b.place, b.held) (refl, ap (λ k. drop k bytes) (omega arith)) in
     reads_on (Some bytes) (Some (drop long bytes)) new (λ place rest. behind go at v (at + long) (drop long bytes)) (behind go at v) next start to end result (omega arith) up
-    lead (subst (λ o. ReadsOn (behind go at v) next to end o new result) b.taken r)
+    lead (rw b.taken at r)
 
 -- ---- Calls of a load, one after the other.
 

@@ -1,11 +1,11 @@
 -- Steps that are taken or refused, and runs of numbers of one kind.
-use Rattle.vms_load.proofs.Facade.{◌≡◌, ℕ, List, [], ◌∷◌, Option, Some, Result, Ok, Err, OnErr, OnOk, ℤ, ap, arith, zero, suc, ◌+◌, ◌*◌, ◌<◌, ◌≤◌, ◌++◌, length}
-use Rattle.vms_load.proofs.Facade.{take, drop, slice_set, None, refl, ◌∙◌, length-append, length-drop, false, ◌/◌, sym, subst, le-ltb, lt-ltb, take-append-le}
-use Rattle.vms_load.proofs.Facade.{drop-append-le, drop_all, length-take-le, take-append-drop, take-take, IsAtEnd, div-le_of_le-mul, div-lt_iff_lt-mul}
-use Rattle.vms_load.proofs.Facade.{lt-div-mul-add, div-mul-le_self, Typed, Taken, ◌>>=◌, take_slot, Progress, refuse, on, reads_as, nothing_follows, FrameFault}
-use Rattle.vms_load.proofs.Facade.{WalkStep, TakesAs, TakesOn, progress, slot_of, take_steps, last_numbers, numbers_then, step_long, Told, from, Fills}
-use Rattle.vms_load.proofs.Facade.{IsFilled, steps_long, take_append, last_taken, told, Kind, width, value_of, is_bad_bool, values_of, put_from}
-use Rattle.vms_load.proofs.Facade.{run_of, keeps_same, keeps_more, keeps_put, run_split, Intake, Breaks, width_positive}
+use Rattle.vms_load.proofs.Facade.{◌≡◌, ℕ, List, [], ◌∷◌, Option, Some, Result, Ok, Err, OnErr, OnOk, ℤ, ap, arith, zero, suc, ◌+◌, ◌*◌}
+use Rattle.vms_load.proofs.Facade.{◌<◌, ◌≤◌, ◌++◌, length, take, drop, slice_set, None, refl, ◌∙◌, length-append, length-drop, false}
+use Rattle.vms_load.proofs.Facade.{◌/◌, sym, subst, le-ltb, lt-ltb, take-append-le, drop-append-le, drop_all, length-take-le, take-append-drop, take-take}
+use Rattle.vms_load.proofs.Facade.{IsAtEnd, div-le_of_le-mul, div-lt_iff_lt-mul, lt-div-mul-add, div-mul-le_self, Typed, Taken, ◌>>=◌, take_slot, Progress}
+use Rattle.vms_load.proofs.Facade.{refuse, on, reads_as, nothing_follows, FrameFault, WalkStep, TakesAs, TakesOn, progress, slot_of, take_steps, last_numbers}
+use Rattle.vms_load.proofs.Facade.{numbers_then, step_long, Told, from, Fills, IsFilled, steps_long, take_append, last_taken, told, Kind, width, value_of}
+use Rattle.vms_load.proofs.Facade.{is_bad_bool, values_of, put_from, run_of, keeps_same, keeps_more, keeps_put, run_split, Intake, Breaks, width_positive}
 use Rattle.vms_walk.specs.{Inside.Keeps, declared.step.WalkStep.TheVariants.Number}
 use Rattle.std.proofs.lemmas.List.{append-nil}
 use Rattle.vms_kinds.specs.declared.Kind.TheVariants.{Bool}
@@ -102,11 +102,13 @@ module _ (kind : Kind) (any : kind ≡ Bool → ⊥) where
       let v = value_of kind (take w bytes) in
       let front : take w (bytes ++ more) ≡ take w bytes = take-append-le w bytes more le in
       let far : (place + w) + count * w ≡ place + suc count * w = omega arith in
-      ap (λ t. t >>= take_steps (run_of (first + 1) count kind)) (number_whole first place numbers (bytes ++ more) (omega (arith, length-append bytes more)))
-      ∙ ap (λ l. take_steps (run_of (first + 1) count kind) (progress (slice_set numbers first (value_of kind l)) (place + w) (drop w (bytes ++ more)))) front
-      ∙ ap (λ l. take_steps (run_of (first + 1) count kind) (progress (slice_set numbers first v) (place + w) l)) (drop-append-le w bytes more le)
-      ∙ run_taken count (first + 1) (place + w) (slice_set numbers first v) (drop w bytes) more (omega (arith, length-drop w bytes))
-      ∙ ap (λ n. let t : Taken = Ok (progress (put_from (slice_set numbers first v) (first + 1) (values_of kind count (drop w bytes))) n more) in t) far
+      rw (
+        number_whole first place numbers (bytes ++ more) (omega (arith, length-append bytes more)),
+        front,
+        drop-append-le w bytes more le,
+        run_taken count (first + 1) (place + w) (slice_set numbers first v) (drop w bytes) more (omega (arith, length-drop w bytes)),
+        far,
+      )
 
   -- ---- the input ends within them
 
@@ -125,15 +127,11 @@ module _ (kind : Kind) (any : kind ≡ Bool → ⊥) where
 
     pub run_cut : take_steps (run_of first count kind) (progress numbers place (bytes ++ last)) ≡ refuse behind reasons.Truncated (length last)
     run_cut =
-        ap (λ l. take_steps l (progress numbers place (bytes ++ last))) split_there.1
-        ∙ take_append (run_of first whole kind) (Number (first + whole) kind None ∷ split_there.0) (progress numbers place (bytes ++ last))
-        ∙ ap (λ t. t >>= take_steps (Number (first + whole) kind None ∷ split_there.0)) done ∙ ap (λ t. t >>= take_steps split_there.0) at_cut
+        rw (split_there.1, take_append (run_of first whole kind) (Number (first + whole) kind None ∷ split_there.0) (progress numbers place (bytes ++ last)), done, at_cut)
 
     pub cut_numbers : last_numbers (run_of first count kind) (progress numbers place (bytes ++ last)) ≡ put_from numbers first (values_of kind whole bytes)
     cut_numbers =
-        ap (λ l. last_numbers l (progress numbers place (bytes ++ last))) split_there.1
-        ∙ last_taken (run_of first whole kind) (Number (first + whole) kind None ∷ split_there.0) (progress numbers place (bytes ++ last)) behind done
-        ∙ ap (λ t. numbers_then t behind.numbers (last_numbers split_there.0)) at_cut
+        rw (split_there.1, last_taken (run_of first whole kind) (Number (first + whole) kind None ∷ split_there.0) (progress numbers place (bytes ++ last)) behind done, at_cut)
 
 -- ---- What a run of numbers reads.
 

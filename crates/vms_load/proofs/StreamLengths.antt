@@ -64,12 +64,7 @@ desc_kinds set k (Some j) h v n =
 
 pub part_kinds : (set : Set) (k : ℕ) (sub : Option ℕ) → IsIn (device_at set k) sub → (spot : PartAt) → spot.part ≡ part_of k sub → spot.base ≡ first_cell set spot.part → (n : List ℤ)
     → AreOfKinds (kinds_at set k) (spot_slots set spot n)
-part_kinds set k sub h spot part base n =
-    let v = spot.version in
-    let is : spot_slots set spot n ≡ desc_slots (table set) (part_desc (device_at set k) sub) v n (part_base set (device_at set k) sub) =
-    ap (λ p. desc_slots (table set) (desc_at set p) v n spot.base) part ∙ ap (λ x. desc_slots (table set) x v n spot.base) (desc_is set k sub)
-    ∙ ap (λ b. desc_slots (table set) (part_desc (device_at set k) sub) v n b) (base ∙ ap (first_cell set) part ∙ base_is set k sub) in
-    subst (AreOfKinds (kinds_at set k)) (sym is) (desc_kinds set k sub h v n)
+part_kinds set k sub h spot part base n = rw (base, part, desc_is set k sub, base_is set k sub) (desc_kinds set k sub h spot.version n)
 
 one_of_kinds : (kinds : List Kind) (xs rest : List WalkStep) (x : WalkStep) → AllByRecursion (IsOfKind kinds) (xs ++ (x ∷ rest)) → IsOfKind kinds x
 one_of_kinds kinds [] rest x h = h.0

@@ -1,13 +1,13 @@
 -- A whole stream, as the judge reads it: the units before, between and after its sections.
-use Rattle.vms_load.proofs.{AfterReads.head_unit, AfterReads.head_long, AfterReads.section_long, PartReads.concerns}
-use Rattle.vms_load.proofs.Facade.{◌≡◌, ℕ, ◌+◌, ◌-◌, ◌≤◌, nat_lt, if◌then◌else◌, Bool, true, false, List, length, take, drop, Option, Some, None, Result, Ok}
-use Rattle.vms_load.proofs.Facade.{Err, IfSome, OnOk, refl, sym, ap, ◌∙◌, subst, arith, ◌==◌, [], ◌∷◌, get_or, drop-drop, Set, Reason, number_at, bytes_at}
-use Rattle.vms_load.proofs.Facade.{Piece, Magic, Version, Long, Mark, Description, Verdict, Goes, Reading, reading_after, Accepted, Refused, reading_on, AMagic}
-use Rattle.vms_load.proofs.Facade.{AVersion, AfterEnd, first_row, alone, Whole, needs, text_at, trailer_at, judge, reading, ask, judge_seen, Seen, Good, Bad}
-use Rattle.vms_load.proofs.Facade.{Short, seen, seen_by, seen_in, State, Spot, Before, Headed, Free, by_state, Ended, at_start, nothing_known, judged_holds}
-use Rattle.vms_load.proofs.Facade.{Head, Stand, ahead, due_of, unit_of_step, ReadsBetween, AnswersSeen, AnswersAfter, AnswersHead, Fails, AnswersEnd, ReadsEnd}
-use Rattle.vms_load.proofs.Facade.{Between, First, Step, FrameFault, Onward, Reads, ReadsOn, LeadsOn, ReadsBehind, IsBehind, Settles, concerning, state_of}
-use Rattle.vms_load.proofs.Facade.{spot_of, is_first, is_configured, ReadsAll, LoadFault, Staged, longest_text}
+use Rattle.vms_load.proofs.{PartReads.concerns, AfterReads.head_unit, AfterReads.head_long, AfterReads.section_long}
+use Rattle.vms_load.proofs.Facade.{LoadFault, Staged, longest_text, ◌≡◌, ℕ, ◌+◌, ◌-◌, ◌≤◌, nat_lt, if◌then◌else◌, Bool, true, false}
+use Rattle.vms_load.proofs.Facade.{List, length, take, drop, Option, Some, None, Result, Ok, Err, IfSome, OnOk, refl, sym, ap, ◌∙◌, subst, arith}
+use Rattle.vms_load.proofs.Facade.{◌==◌, [], ◌∷◌, get_or, drop-drop, Set, Reason, number_at, bytes_at, Piece, Magic, Version, Long, Mark, Description}
+use Rattle.vms_load.proofs.Facade.{Verdict, Goes, Reading, reading_after, Accepted, Refused, reading_on, AMagic, AVersion, AfterEnd, first_row, alone, Whole}
+use Rattle.vms_load.proofs.Facade.{needs, text_at, trailer_at, judge, reading, ask, judge_seen, Seen, Good, Bad, Short, seen, seen_by, seen_in, State, Spot}
+use Rattle.vms_load.proofs.Facade.{Before, Headed, Free, by_state, Ended, at_start, nothing_known, judged_holds, Head, Stand, ahead, due_of, unit_of_step}
+use Rattle.vms_load.proofs.Facade.{ReadsBetween, AnswersSeen, AnswersAfter, AnswersHead, Fails, AnswersEnd, ReadsEnd, Between, First, Step, FrameFault, Onward}
+use Rattle.vms_load.proofs.Facade.{Reads, ReadsOn, LeadsOn, ReadsBehind, IsBehind, Settles, concerning, state_of, spot_of, is_first, is_configured, ReadsAll}
 use Rattle.vms_load.proofs.ReadLemmas.{unit_fault, unit_settled, unit_behind, reads_on, unit_of, still_behind, unit_fails}
 use Rattle.vms_stream.specs.{Dues.Between as IsBetween, Finding.Cut, State.Over}
 use Rattle.vms_frames.specs.Calls.{step_long}
@@ -131,7 +131,7 @@ module _ (set : Set) (names : List (List ℕ)) (state : State) where
       → AnswersAfter found place rest left result → Reads (by_seen place rest found) onward place to rest left (concerns None result)
   by_magic place to rest left result (Good x n) is far free a =
       let goes : asked Before x n ≡ Goes 4 (at_spot Headed) = cc in
-      subst (λ v. Reads (reading_after (go set names) place rest v) onward place to rest left (concerns None result)) (sym goes) (on_version place to rest left result far free a)
+      rw goes (on_version place to rest left result far free a)
   by_magic place to rest left (Err fault) (Bad n reason) is far free a =
       unit_fault (go set names) None (asked Before) place rest {X = Unit {0}} (λ _. Magic (take 4 rest)) (λ _. 4) (Bad n reason) left onward to fault a
   by_magic place to rest left (Err fault) Short is far free a =

@@ -1,7 +1,7 @@
 -- Spots that are laid out in order.
-use Rattle.vms_spots.proofs.Facade.{◌≡◌, Some, ℕ, suc, ◌+◌, ◌-◌, ◌*◌, ◌<◌, ◌≤◌, List, [], ◌∷◌, ◌++◌, length, get_or, drop, refl, sym, ap, ◌∙◌, arith}
-use Rattle.vms_spots.proofs.Facade.{append_assoc, append-nil, drop_all, drop_more, length-map, slice_get_within, get_or_from_slice_get, slice_get, MOST_ITEMS}
-use Rattle.vms_spots.proofs.Facade.{Kind, width, MOST_BYTES, Spot, aligned, spots_from, spots_of, bytes_of, no_spot, kinds_of}
+use Rattle.vms_spots.proofs.Facade.{◌≡◌, Some, ℕ, ◌+◌, ◌-◌, ◌*◌, ◌<◌, ◌≤◌, List, [], ◌∷◌, ◌++◌, length, get_or, drop}
+use Rattle.vms_spots.proofs.Facade.{arith, append_assoc, append-nil, drop_all, drop_more, length-map, slice_get_within, get_or_from_slice_get, slice_get}
+use Rattle.vms_spots.proofs.Facade.{MOST_ITEMS, Kind, width, MOST_BYTES, Spot, aligned, spots_from, spots_of, bytes_of, no_spot, kinds_of}
 use Rattle.vms_spots.proofs.SpotLaws.{aligned_is, kinds_are, last_end, end_small}
 
 -- the spots so far and the remaining ones are the whole
@@ -9,13 +9,10 @@ pub record LaidOut (kinds : List Kind) (spots : List Spot) (end i : ℕ) : Type 
   pub small : end ≤ 8 * i
   pub rest : spots ++ spots_from end (drop i kinds) ≡ spots_of kinds
 
-pub begins : (kinds : List Kind) → LaidOut kinds [] 0 0
-begins kinds = record { small = omega arith; rest = refl }
-
-pub goes : (kinds : List Kind) (spots new : List Spot) (end next i : ℕ) (d : Kind) (s : Spot) → i < length kinds
-    → s ≡ record { offset = aligned (width (get_or kinds i d)) end; kind = get_or kinds i d }
-    → new ≡ spots ++ (s ∷ []) → next ≡ s.offset + width s.kind → LaidOut kinds spots end i → LaidOut kinds new next (i + 1)
-goes kinds spots new end next i d s lt is n e l =
+pub goes : {kinds : List Kind} {spots new : List Spot} {end next i : ℕ} {s : Spot} (d : Kind) → i < length kinds
+    → s ≡ record { offset = aligned (width (get_or kinds i d)) end; kind = get_or kinds i d } → new ≡ spots ++ (s ∷ []) → next ≡ s.offset + width s.kind
+    → LaidOut kinds spots end i → LaidOut kinds new next (i + 1)
+goes {kinds} {spots} {new} {end} {next} {i} d lt is n e l =
     let kind = get_or kinds i d in
     let next_is : next ≡ aligned (width kind) end + width kind = cc in
     let rest : List Spot = spots_from (aligned (width kind) end + width kind) (drop (i + 1) kinds) in
@@ -24,8 +21,8 @@ goes kinds spots new end next i d s lt is n e l =
       rest = cc (append_assoc spots ((record { offset = aligned (width kind) end; kind = kind }) ∷ []) rest, drop_more kinds i d lt);
     }
 
-pub ends : (kinds : List Kind) (spots : List Spot) (end i : ℕ) → length kinds ≤ i → LaidOut kinds spots end i → spots ≡ spots_of kinds
-ends kinds spots end i all l = cc (append-nil spots, drop_all i kinds all)
+pub ends : {kinds : List Kind} {spots : List Spot} {end i : ℕ} → length kinds ≤ i → LaidOut kinds spots end i → spots ≡ spots_of kinds
+ends {kinds} {spots} {i = i} all l = cc (append-nil spots, drop_all i kinds all)
 
 -- spots that are laid out are those of their kinds
 pub laid_again : (kinds : List Kind) (spots : List Spot) → spots ≡ spots_of kinds → spots ≡ spots_of (kinds_of spots)
@@ -45,19 +42,15 @@ pub record IsLast (kinds : List Kind) (s : Spot) : Type 0 where
 pub few_bytes : (kinds : List Kind) → length kinds ≤ MOST_ITEMS → bytes_of kinds ≤ MOST_BYTES
 few_bytes kinds few = omega (arith, end_small 0 kinds 0 (omega arith))
 
-pub is_last : (spots : List Spot) (s : Spot) (n : ℕ) → length spots ≤ MOST_ITEMS → spots ≡ spots_of (kinds_of spots)
-    → length spots ≡ suc n → s ≡ get_or spots n no_spot → IsLast (kinds_of spots) s
-is_last spots s n few laid long is =
+-- the last spot of a list that has one
+pub last_is : {spots : List Spot} {s : Spot} → length spots ≤ MOST_ITEMS → spots ≡ spots_of (kinds_of spots) → slice_get spots (length spots - 1) ≡ Some s
+    → IsLast (kinds_of spots) s
+last_is {spots} {s} few laid got =
     let kinds = kinds_of spots in
-    let all : length kinds ≡ suc n = length-map spots (λ s. s.kind) ∙ long in
-    let same : s ≡ get_or (spots_of kinds) n no_spot = is ∙ ap (λ (l : List Spot). get_or l n no_spot) laid in
-    let end : s.offset + width s.kind ≡ bytes_of kinds = ap (λ (x : Spot). x.offset + width x.kind) same ∙ last_end 0 kinds n all in
+    let n = length spots - 1 in
+    let some = slice_get_within spots n s got in
+    let long = length-map spots (λ s. s.kind) in
+    let same : s ≡ get_or (spots_of kinds) n no_spot = cc (get_or_from_slice_get spots n s no_spot got) in
+    let end : s.offset + width s.kind ≡ bytes_of kinds = cc (last_end 0 kinds n (omega arith)) in
     let bound : bytes_of kinds ≤ MOST_BYTES = few_bytes kinds (omega arith) in
     record { small = omega arith; end = end; bound = bound }
-
--- the same if the list has a last spot
-pub last_is : (spots : List Spot) (s : Spot) → length spots ≤ MOST_ITEMS → spots ≡ spots_of (kinds_of spots)
-    → slice_get spots (length spots - 1) ≡ Some s → IsLast (kinds_of spots) s
-last_is spots s few laid got =
-    let n = length spots - 1 in
-    is_last spots s n few laid (omega (arith, slice_get_within spots n s got)) (sym (get_or_from_slice_get spots n s no_spot got))

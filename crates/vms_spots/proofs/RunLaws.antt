@@ -1,8 +1,9 @@
 -- Numbers of one kind in consecutive cells follow one another without a gap.
-use Rattle.vms_spots.proofs.{Facade.codes_of, Facade.AreOne, SpotLaws.aligned_is, SpotLaws.part_is}
-use Rattle.vms_spots.proofs.Facade.{◌≡◌, ℕ, zero, suc, ◌+◌, ◌-◌, ◌*◌, ◌<◌, ◌≤◌, List, [], ◌∷◌, ◌++◌, length, get_or, take, drop, map, replicate, ℤ, refl, sym}
-use Rattle.vms_spots.proofs.Facade.{ap, ◌∙◌, subst, arith, length-append, append_assoc, length-replicate, length-map, length-take-le, get_or_read, Kind, U8}
-use Rattle.vms_spots.proofs.Facade.{width, code, length-code, Spot, aligned, spots_from, spots_of, no_spot, kinds_of, raw_from, number_at, Held, held, IsHeld}
+use Rattle.vms_spots.proofs.Facade.{codes_of, AreOne, ◌≡◌, ℕ, zero, suc, ◌+◌, ◌-◌, ◌*◌, ◌<◌, ◌≤◌, List, [], ◌∷◌, ◌++◌}
+use Rattle.vms_spots.proofs.Facade.{length, get_or, take, drop, map, replicate, ℤ, refl, sym, ap, ◌∙◌, subst, arith, length-append, append_assoc}
+use Rattle.vms_spots.proofs.Facade.{length-replicate, length-map, length-take-le, get_or_read, Kind, U8, width, code, length-code, Spot, aligned, spots_from}
+use Rattle.vms_spots.proofs.Facade.{spots_of, no_spot, kinds_of, raw_from, number_at, Held, held, IsHeld}
+use Rattle.vms_spots.proofs.SpotLaws.{aligned_is, part_is}
 use Rattle.std.proofs.lemmas.List.{length-drop}
 
 -- ---- after one at a multiple of its width the next follows
@@ -25,14 +26,9 @@ run_front kind (suc count) e (x ∷ kinds) [] at ones room long = absurd (omega 
 run_front kind (suc count) e (x ∷ kinds) (z ∷ numbers) at ones room long =
     let w = width kind in
     let r = run_front kind count (e + w) kinds numbers (again kind e at) (λ k lt. ones (suc k) (omega arith)) (omega arith) (omega arith) in
-    let none : aligned w e - e ≡ 0 = omega arith in (
-      r.0,
-      ap (λ (y : Kind). replicate (aligned (width y) e - e) 0 ++ (code y z ++ raw_from (aligned (width y) e + width y) kinds numbers)) (ones 0 (omega arith))
-          ∙ ap (λ (n : ℕ). replicate n 0 ++ (code kind z ++ raw_from (aligned w e + w) kinds numbers)) none
-          ∙ ap (λ (n : ℕ). code kind z ++ raw_from (n + w) kinds numbers) at
-          ∙ ap (λ (l : List ℕ). code kind z ++ l) r.1
-          ∙ sym (append_assoc (code kind z) (codes_of kind (take count numbers)) r.0),
-    )
+    let is : x ≡ kind = ones 0 (omega arith) in
+    let none : e - e ≡ 0 = omega arith in
+    (r.0, rw (is, at, none, r.1) (sym (append_assoc (code kind z) (codes_of kind (take count numbers)) r.0)))
 
 -- ---- the first of them anywhere
 
@@ -75,29 +71,24 @@ run_at kind count e (x ∷ kinds) (y ∷ numbers) (suc k) some ones room long =
 
 codes_long : (kind : Kind) (numbers : List ℤ) → length (codes_of kind numbers) ≡ length numbers * width kind
 codes_long kind [] = omega arith
-codes_long kind (z ∷ numbers) =
-    let one : (length numbers + 1) * width kind ≡ width kind + length numbers * width kind = grind arith in
-    let n : length numbers + 1 ≡ suc (length numbers) = omega arith in
-    (omega (arith, length-append (code kind z) (codes_of kind numbers), length-code kind z, codes_long kind numbers)) ∙ ap (λ (k : ℕ). k * width kind) n
+codes_long kind (z ∷ numbers) = omega (arith, length-append (code kind z) (codes_of kind numbers), length-code kind z, codes_long kind numbers)
 
 -- in a buffer, by what contracts see
-pub codes_seen : (spots : List Spot) (bytes : List ℕ) (first count : ℕ) (kind : Kind) (s : Spot) (seen : Held) → held spots bytes ≡ seen → IsHeld spots bytes → 0 < count
-    → first + count ≤ length seen.numbers → AreOne seen.kinds first count kind → s ≡ get_or spots first s
+pub codes_seen : {spots : List Spot} {bytes : List ℕ} {first count : ℕ} {kind : Kind} {s : Spot} {seen : Held} → held spots bytes ≡ seen → IsHeld spots bytes
+    → 0 < count → first + count ≤ length seen.numbers → AreOne seen.kinds first count kind → s ≡ get_or spots first s
     → (s.offset + count * width kind ≤ length bytes) × (take (count * width kind) (drop s.offset bytes) ≡ codes_of kind (take count (drop first seen.numbers)))
-codes_seen spots bytes first count kind s seen same h some room ones is =
+codes_seen {spots} {bytes} {first} {count} {kind} {s} same h some room ones is =
     let kinds = kinds_of spots in
     let numbers = map (number_at bytes) spots in
-    let all : first + count ≤ length numbers = subst (λ (x : Held). first + count ≤ length x.numbers) (sym same) room in
+    let all : first + count ≤ length numbers = rw (← same) at room in
     let long : length kinds ≡ length spots = length-map spots (λ s. s.kind) in
     let many : length numbers ≡ length spots = length-map spots (number_at bytes) in
-    let r = run_at kind count 0 kinds numbers first some (subst (λ (x : Held). AreOne x.kinds first count kind) (sym same) ones) (omega arith) h.fit.long in
+    let r = run_at kind count 0 kinds numbers first some (rw (← same) at ones) (omega arith) h.fit.long in
     let offset : s.offset ≡ (get_or (spots_of kinds) first no_spot).offset = cc (get_or_read spots first s (omega arith) is no_spot) in
     let part = take count (drop first numbers) in
     let some_long : length part ≡ count = length-take-le count (drop first numbers) (omega (arith, length-drop first numbers)) in
-    let codes : length (codes_of kind part) ≡ count * width kind = codes_long kind part ∙ ap (λ (n : ℕ). n * width kind) some_long in
+    let codes : length (codes_of kind part) ≡ count * width kind = rw some_long at (codes_long kind part) in
     let whole : bytes ≡ r.before ++ (codes_of kind part ++ r.after) = h.raw ∙ r.whole in (
       omega (arith, ap length whole, length-append r.before (codes_of kind part ++ r.after), length-append (codes_of kind part) r.after),
-      ap (λ (l : List ℕ). take (count * width kind) (drop s.offset l)) whole
-          ∙ part_is r.before (codes_of kind part) r.after s.offset (count * width kind) (omega arith) codes
-          ∙ ap (λ (x : Held). codes_of kind (take count (drop first x.numbers))) same,
+      rw (← same) (cc (part_is r.before (codes_of kind part) r.after s.offset (count * width kind) (omega arith) codes)),
     )

@@ -1,9 +1,9 @@
 -- The spots of kinds: each at a multiple of its width, inside of the buffer, apart from the others;
 -- and the bytes there.
-use Rattle.vms_spots.proofs.Facade.{◌≡◌, ◌⊎◌, inl, inr, ℕ, zero, suc, ◌+◌, ◌-◌, ◌*◌, ◌%◌, ◌<◌, ◌≤◌, List, [], ◌∷◌, ◌++◌, length, get_or, take, drop, map}
-use Rattle.vms_spots.proofs.Facade.{replicate, set, ℤ, pos, refl, sym, ap, ◌∙◌, subst, arith, append_assoc, length-append, length-replicate, length-map}
-use Rattle.vms_spots.proofs.Facade.{length-set, drop_at, take_at, get_or-map, set-get_or, ext_get_or, get_or-set_same, get_or-set_other, cases_eq, Kind, U8}
-use Rattle.vms_spots.proofs.Facade.{width, code, value_of, InRange, length-code, value_code, Spot, aligned}
+use Rattle.vms_spots.proofs.Facade.{◌≡◌, ◌⊎◌, inl, inr, ℕ, zero, suc, ◌+◌, ◌-◌, ◌*◌, ◌%◌, ◌<◌, ◌≤◌, List, [], ◌∷◌}
+use Rattle.vms_spots.proofs.Facade.{◌++◌, length, get_or, take, drop, map, replicate, set, ℤ, pos, refl, sym, ap, ◌∙◌, arith, append_assoc}
+use Rattle.vms_spots.proofs.Facade.{length-append, length-replicate, length-map, length-set, drop_at, take_at, get_or-map, set-get_or, ext_get_or}
+use Rattle.vms_spots.proofs.Facade.{get_or-set_same, get_or-set_other, cases_eq, Kind, U8, width, code, InRange, length-code, value_code, Spot, aligned}
 use Rattle.vms_spots.proofs.Facade.{spots_from, spots_of, end_from, no_spot, kinds_of, raw_from, raw_of, AreOf, number_at, AreApart}
 
 -- ---- the least multiple
@@ -108,9 +108,7 @@ split e (kind ∷ kinds) (y ∷ numbers) (suc k) lt long =
       before = front ++ (code kind y ++ r.before);
       after = r.after;
       long = omega (arith, length-append front (code kind y ++ r.before), length-append (code kind y) r.before, length-code kind y, length-replicate {A = ℕ} (at - e) 0);
-      whole = λ z. ap (λ (l : List ℕ). front ++ (code kind y ++ l)) (r.whole z)
-          ∙ ap (λ (l : List ℕ). front ++ l) (sym (append_assoc (code kind y) r.before (code (get_or kinds k U8) z ++ r.after)))
-          ∙ sym (append_assoc front (code kind y ++ r.before) (code (get_or kinds k U8) z ++ r.after));
+      whole = λ z. rw (r.whole z, append_assoc, append_assoc);
     }
 
 -- the bytes at an offset, by those before them
@@ -130,10 +128,7 @@ code_at kinds numbers k lt long =
 pub number_is : (kinds : List Kind) (numbers : List ℤ) (k : ℕ) → k < length kinds → AreOf kinds numbers
     → number_at (raw_of kinds numbers) (get_or (spots_of kinds) k no_spot) ≡ get_or numbers k (pos 0)
 number_is kinds numbers k lt are =
-    let kind = get_or kinds k U8 in
-    ap (λ (x : Kind). value_of x (take (width x) (drop (get_or (spots_of kinds) k no_spot).offset (raw_of kinds numbers)))) ((spot_is 0 kinds k lt).kind_is)
-    ∙ ap (λ (l : List ℕ). value_of kind l) (code_at kinds numbers k lt are.long)
-    ∙ value_code kind (get_or numbers k (pos 0)) (are.fits k lt)
+    cc ((spot_is 0 kinds k lt).kind_is, code_at kinds numbers k lt are.long, value_code (get_or kinds k U8) (get_or numbers k (pos 0)) (are.fits k lt))
 
 -- so the numbers can be read back from the bytes
 pub numbers_are : (kinds : List Kind) (numbers : List ℤ) → AreOf kinds numbers → map (number_at (raw_of kinds numbers)) (spots_of kinds) ≡ numbers
@@ -152,10 +147,8 @@ set_fits kinds numbers cell z are fits = record {
   fits = λ k lt. at k lt (cases_eq k cell);
 } where
   at : (k : ℕ) → k < length kinds → (k ≡ cell) ⊎ (k ≡ cell → ⊥) → InRange (get_or kinds k U8) (get_or (set numbers cell z) k (pos 0))
-  at k lt (inl e) =
-      subst (λ (i : ℕ). InRange (get_or kinds i U8) (get_or (set numbers cell z) i (pos 0))) (sym e)
-      (subst (λ (y : ℤ). InRange (get_or kinds cell U8) y) (sym (get_or-set_same numbers cell z (pos 0) (omega arith))) fits)
-  at k lt (inr n) = subst (λ (y : ℤ). InRange (get_or kinds k U8) y) (sym (get_or-set_other numbers cell k z (pos 0) n)) (are.fits k lt)
+  at k lt (inl e) = rw (e, get_or-set_same numbers cell z (pos 0) (omega arith)) fits
+  at k lt (inr n) = rw (get_or-set_other numbers cell k z (pos 0) n) (are.fits k lt)
 
 -- the bytes of a spot are replaced
 pub put_is : (before old part after xs : List ℕ) (at n : ℕ) → xs ≡ before ++ (old ++ after) → length before ≡ at → length old ≡ n

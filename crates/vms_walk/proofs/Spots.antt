@@ -1,6 +1,6 @@
 -- The spots of a walk, in ascending order; and runs of numbers of one kind.
 use Rattle.vms_walk.proofs.Facade.{◌≡◌, ℕ, ◌+◌, ◌*◌, ◌<◌, ◌≤◌, List, ◌++◌, length, get_or, drop, ℤ, refl, sym, ap, ◌∙◌}
-use Rattle.vms_walk.proofs.Facade.{arith, Bool, true, if◌then◌else◌, Option, Item, Struct, MOST_ITEMS, Set, Field, is_there, uses_below, least_of}
+use Rattle.vms_walk.proofs.Facade.{arith, Bool, true, Option, Item, Struct, MOST_ITEMS, Set, Field, is_there, uses_below, least_of}
 use Rattle.vms_walk.proofs.Facade.{no_desc, no_parent, item_slots, item_size, slots_from, desc_slots, desc_cells, struct_cells, elements_of, capacity_of}
 use Rattle.vms_walk.proofs.Facade.{counted, times, FieldsBelow, all_below, struct_slots, struct_cells_at, room_for_less, one_fits, cells_first, in_u32}
 use Rattle.vms_walk.proofs.Facade.{field_at, own_numbers, is_well_formed, desc_at, reach, field_clean, struct_clean, PartAt, table, cells_in, HasSpot}
@@ -46,8 +46,8 @@ pub present_then : (set : Set) (spot : PartAt) (n : List ℤ) (f : Field) (b : B
     → b ≡ is_there f.test f.since spot.version (own_numbers set spot.part n spot.base) no_parent → b ≡ true
     → count ≡ elements_of f.count (own_numbers set spot.part n spot.base) → count ≡ present_of f spot.version (spot_numbers set spot n)
 present_then set spot n f b count e t c =
-    c ∙ ap (λ x. if x then elements_of f.count (own_numbers set spot.part n spot.base) else 0) (sym t ∙ e)
-    ∙ ap (λ own. present_of f spot.version own) (own_is set spot n)
+    let there : is_there f.test f.since spot.version (own_numbers set spot.part n spot.base) no_parent ≡ true = sym e ∙ t in
+    rw (c, ← own_is set spot n, there)
 
 -- ---- structures
 
@@ -134,10 +134,8 @@ field_needs set well spot n h k cell count item most lt is there least room =
       lower = omega (arith, rank_below (reach set spot.part) item uses);
       small = omega (arith, one_fits (capacity_of f.count) (size_in set f.item) cell (length n) MOST_ITEMS clean.some room h.few);
       room = rw size (room_for_less count (capacity_of f.count) (size_in set f.item) cell (length n) fewer room);
-      steps = ap steps_of (present_slots (table set) all spot.version own n k cell f)
-          ∙ ap (λ x. steps_of (times x (item_slots (table set) f.item caps n) cell (size_in set f.item))) (sym there)
-          ∙ ap (λ x. steps_of (times count (item_slots (table set) x caps n) cell (size_in set x))) (sym is)
-          ∙ steps_bare (table set) n item caps count cell (size_in set item) ∙ ap (λ o. steps_of (elements_slots set item o n count cell)) (sym least);
+      steps = rw (present_slots (table set) all spot.version own n k cell f, ← there, ← is, least)
+          (steps_bare (table set) n item caps count cell (size_in set item));
     }
 
 -- ---- numbers of one kind whose cells follow one another are the elements of an array
@@ -165,7 +163,7 @@ pub run_split : (first count n : ℕ) (kind : Kind) → n < count
 run_split first count n kind lt =
     let e : first + n * 1 ≡ first + n = omega arith in
     let parts = times_split count n (λ cell. Number cell kind None ∷ []) first 1 lt in
-    (parts.0, parts.1 ∙ ap (λ k. run_of first n kind ++ (Number k kind None ∷ parts.0)) e)
+    (parts.0, rw e at parts.1)
 
 -- what holds of each step holds of each of their cells
 pub run_each : (P : WalkStep → Type 0) (first count : ℕ) (kind : Kind)
@@ -180,13 +178,13 @@ run_each P first count kind each k from below =
 -- the first few of them, and the others
 pub run_both : (first n m : ℕ) (kind : Kind) → run_of first (n + m) kind ≡ run_of first n kind ++ run_of (first + n) m kind
 run_both first zero m kind =
-    let e : first ≡ first + 0 = omega arith in
-    let none : 0 + m ≡ m = omega arith in
-    ap (λ k. run_of first k kind) none ∙ ap (λ k. run_of k m kind) e
+    let e : first + zero ≡ first = omega arith in
+    let none : zero + m ≡ m = omega arith in
+    rw (none, e)
 run_both first (suc n) m kind =
     let e : (first + 1) + n ≡ first + suc n = omega arith in
     let one : suc n + m ≡ suc (n + m) = omega arith in
-    rw (one, run_both (first + 1) n m kind ∙ ap (λ (k : ℕ). run_of (first + 1) n kind ++ run_of k m kind) e)
+    rw (one, run_both (first + 1) n m kind, e)
 
 -- some of them after those before them
 pub run_parts : (first n m count : ℕ) (kind : Kind) → n + m ≤ count
@@ -194,8 +192,8 @@ pub run_parts : (first n m count : ℕ) (kind : Kind) → n + m ≤ count
 run_parts first n m count kind le =
     let all : count ≡ (n + m) + (count - (n + m)) = omega arith in
     let rest = run_of (first + (n + m)) (count - (n + m)) kind in
-    ap (λ k. run_of first k kind) all ∙ run_both first (n + m) (count - (n + m)) kind ∙ ap (λ l. l ++ rest) (run_both first n m kind)
-    ∙ append_assoc (run_of first n kind) (run_of (first + n) m kind) rest
+    ap (λ k. run_of first k kind) all ∙ rw (run_both first (n + m) (count - (n + m)) kind, run_both first n m kind)
+    (append_assoc (run_of first n kind) (run_of (first + n) m kind) rest)
 
 -- ---- some of them after those before them
 
@@ -209,12 +207,12 @@ module _ {S F : Type 0} {N : S → List ℤ} {does : Does S F} (first cell count
         let front = cell - first in
         let there : first + front ≡ cell = omega arith in
         let sum : (cell + some) - first ≡ front + some = omega arith in
-        ap (λ (k : ℕ). run_of first k kind) sum ∙ run_both first front some kind ∙ ap (λ (k : ℕ). run_of first front kind ++ run_of k some kind) there;
+        rw (sum, run_both first front some kind, there);
     split = λ n.
         let front = cell - first in
         let there : first + front ≡ cell = omega arith in
         let behind = run_of (first + (front + some)) (count - (front + some)) kind in
-        (behind, run_parts first front some count kind (omega arith) ∙ ap (λ k. run_of first front kind ++ (run_of k some kind ++ behind)) there);
+        (behind, rw there at (run_parts first front some count kind (omega arith)));
   }
 
 -- ---- the slots of a description have their cells in ascending order, between its first cell and its end

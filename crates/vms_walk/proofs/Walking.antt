@@ -4,43 +4,35 @@ use Rattle.vms_walk.proofs.Facade.{◌≡◌, ℕ, zero, suc, ◌+◌, ◌*◌, 
 use Rattle.vms_walk.proofs.Facade.{◌∙◌, arith, append_assoc, append-nil, ◌≤◌, drop, refl, Bool, true, false, if◌then◌else◌, Option, Some}
 use Rattle.vms_walk.proofs.Facade.{None, drop_more, Field, Slot, Meaning, times, field_slots, slots_from, field_cells, place_of, no_field, item_slots}
 use Rattle.vms_walk.proofs.Facade.{item_size, elements_of, capacity_of, counted, no_parent, cells_in, steps_of, present_of, capacities_of, Item, Num, is_there}
-use Rattle.vms_walk.proofs.Facade.{field_size, elements_fit, room_for_less, least_of, WalkStep, IsErrAnd, Result, Ok, Err, Does, IsWalk, subst, length-set, slice_set}
-use Rattle.vms_walk.proofs.Facade.{pos, ◌==◌, ◌||◌, get_or-set_other, eq-eqb, or_parts, Kind, Number, has_step, Keeps, table, slice_get-get_or, Part}
-use Rattle.vms_walk.proofs.Facade.{Desc, Set, has_cell, numbers_of, IsSound, IsSoundField, AreSoundFields, IsEarlier, IsGood, SameBelow, same_less, place_next}
-use Rattle.vms_walk.proofs.Facade.{own_same, there_same, elements_same, IsAbove, SameIn, MeanSettled, item_settled, field_settled, meanings_settled, device_at}
-use Rattle.vms_walk.proofs.Facade.{HasPart, desc_at, sub_at}
+use Rattle.vms_walk.proofs.Facade.{field_size, elements_fit, room_for_less, least_of, WalkStep, IsErrAnd, Result, Ok, Err, Does, IsWalk, subst, length-set}
+use Rattle.vms_walk.proofs.Facade.{slice_set, pos, ◌==◌, ◌||◌, get_or-set_other, eq-eqb, or_parts, Kind, Number, has_step, Keeps, table}
+use Rattle.vms_walk.proofs.Facade.{slice_get-get_or, Part, Desc, Set, has_cell, numbers_of, IsSound, IsSoundField, AreSoundFields, IsEarlier, IsGood, SameBelow}
+use Rattle.vms_walk.proofs.Facade.{same_less, place_next, own_same, there_same, elements_same, IsAbove, SameIn, MeanSettled, item_settled, field_settled}
+use Rattle.vms_walk.proofs.Facade.{meanings_settled, device_at, HasPart, desc_at, sub_at}
 use Rattle.vms_walk.specs.Inside.{is_for}
 use Rattle.std.proofs.lemmas.List.Folds.{list_any-append}
-use Rattle.vms_walk.specs.declared.step.WalkStep.TheVariants as steps
 use Rattle.vms_spec.specs.Layout as slots
 use Rattle.vms_spec.specs.declared.Part.TheVariants as parts
 
 -- ---- elements
 
 pub times_more : {B : Type 0} (i : ℕ) (part : ℕ → List B) (at step : ℕ) → times (i + 1) part at step ≡ times i part at step ++ part (at + i * step)
-times_more zero part at step =
-    let e : at ≡ at + 0 * step = grind arith in
-    let one : 0 + 1 ≡ suc 0 = omega arith in
-    let none = append-nil (part at) in
-    ap (λ k. times k part at step) one ∙ none ∙ ap part e
+times_more zero part at step = let e : at + zero * step ≡ at = grind arith in rw e (append-nil (part at))
 times_more (suc i) part at step =
     let e : (at + step) + i * step ≡ at + suc i * step = grind arith in
     let one : suc i + 1 ≡ suc (i + 1) = omega arith in
-    rw (one, times_more i part (at + step) step ∙ ap (λ (k : ℕ). times i part (at + step) step ++ part k) e)
-    (sym (append_assoc (part at) (times i part (at + step) step) (part (at + suc i * step))))
+    rw (one, times_more i part (at + step) step, e) (sym (append_assoc (part at) (times i part (at + step) step) (part (at + suc i * step))))
 
 -- the elements before element i, it, and the others
 pub times_split : {B : Type 0} (n i : ℕ) (part : ℕ → List B) (at step : ℕ) → i < n
     → (rest : List B) × (times n part at step ≡ times i part at step ++ (part (at + i * step) ++ rest))
 times_split zero i part at step lt = absurd (omega arith)
-times_split (suc n) zero part at step lt =
-    let e : at ≡ at + 0 * step = grind arith in
-    (times n part (at + step) step, ap (λ k. part k ++ times n part (at + step) step) e)
+times_split (suc n) zero part at step lt = let e : at + zero * step ≡ at = grind arith in (times n part (at + step) step, rw e)
 times_split (suc n) (suc i) part at step lt =
     let more = times_split n i part (at + step) step (omega arith) in
     let e : (at + step) + i * step ≡ at + suc i * step = grind arith in (
       more.0,
-      rw (more.1 ∙ ap (λ (k : ℕ). times i part (at + step) step ++ (part k ++ more.0)) e)
+      rw (more.1, e)
           (sym (append_assoc (part at) (times i part (at + step) step) (part (at + suc i * step) ++ more.0))),
     )
 
@@ -68,10 +60,7 @@ module _ (ms : List Meaning) (fields : List Field) (v : ℕ) (own : ℕ → ℕ)
   fields_more [] j at i k e lt = absurd (omega arith)
   fields_more (f ∷ fs) j at zero k e lt =
       let same : j ≡ k = omega arith in
-      let one : 0 + 1 ≡ suc 0 = omega arith in
-      let next = at + length (field_cells (cells_in ms) fields j f) in
-      let none = append-nil (field_slots ms fields v own n j at f) in
-      ap (λ m. slots_from ms fields v own n j at (take m (f ∷ fs))) one ∙ none ∙ ap (λ x. field_slots ms fields v own n x at f) same
+      rw (← same) (append-nil (field_slots ms fields v own n j at f))
   fields_more (f ∷ fs) j at (suc i) k e lt =
       let one : suc i + 1 ≡ suc (i + 1) = omega arith in
       let next = at + length (field_cells (cells_in ms) fields j f) in
@@ -87,14 +76,11 @@ steps_append (x ∷ xs) ys = rw (steps_append xs ys)
 -- what remains of some of the steps remains of all
 pub left_within : (before here rest whole ys ws zs : List WalkStep) (x : WalkStep) → whole ≡ before ++ (here ++ rest) → here ≡ ys ++ (ws ++ (x ∷ zs))
     → whole ≡ (before ++ ys) ++ (ws ++ (x ∷ (zs ++ rest)))
-left_within before here rest whole ys ws zs x e f =
-    let behind = append_assoc ys (ws ++ (x ∷ zs)) rest ∙ ap (λ l. ys ++ l) (append_assoc ws (x ∷ zs) rest) in
-    e ∙ ap (λ l. before ++ l) (rw f (behind)) ∙ sym (append_assoc before ys (ws ++ (x ∷ (zs ++ rest))))
+left_within before here rest whole ys ws zs x e f = rw (e, f) (simp append_assoc)
 
 -- a part among others
 pub steps_parts : (before here rest whole : List Slot) → whole ≡ before ++ (here ++ rest) → steps_of whole ≡ steps_of before ++ (steps_of here ++ steps_of rest)
-steps_parts before here rest whole e =
-    ap steps_of e ∙ steps_append before (here ++ rest) ∙ ap (λ l. steps_of before ++ l) (steps_append here rest)
+steps_parts before here rest whole e = rw (e, steps_append before (here ++ rest), steps_append here rest)
 
 -- ---- the least of the capacities that a number counts is enough
 
@@ -104,9 +90,7 @@ least_again (Some most) = refl
 
 pub steps_bare : (ms : List Meaning) (n : List ℤ) (item : Item) (caps : List ℕ) (k at step : ℕ)
     → steps_of (times k (item_slots ms item caps n) at step) ≡ steps_of (times k (item_slots ms item (capacities_of (least_of caps)) n) at step)
-steps_bare ms n (Num kind) caps (suc k) at step =
-    ap (λ (o : Option ℕ). steps.Number at kind o ∷ steps_of (times k (item_slots ms (Num kind) caps n) (at + step) step)) (sym (least_again (least_of caps)))
-    ∙ ap (λ (l : List WalkStep). steps.Number at kind (least_of (capacities_of (least_of caps))) ∷ l) (steps_bare ms n (Num kind) caps k (at + step) step)
+steps_bare ms n (Num kind) caps (suc k) at step = rw (steps_bare ms n (Num kind) caps k (at + step) step, least_again (least_of caps))
 steps_bare ms n _ caps k at step = refl
 
 -- ---- the next field
@@ -278,9 +262,7 @@ module _ (ms : List Meaning) (settled : MeanSettled ms) (d : Desc) (sound : IsSo
   next_place i lt =
       let z : 0 + i ≡ i = omega arith in
       let one : i + 1 ≡ suc i = omega arith in
-      ap (λ k. place_of (cells_in ms) d.fields 0 base d.fields k) one
-      ∙ place_next (cells_in ms) d.fields 0 base d.fields i (get_or d.fields i no_field) (drop (i + 1) d.fields) (drop_more d.fields i no_field lt)
-      ∙ ap (λ k. place_of (cells_in ms) d.fields 0 base d.fields i + length (field_cells (cells_in ms) d.fields k (get_or d.fields i no_field))) z
+      rw one (rw z at (place_next (cells_in ms) d.fields 0 base d.fields i (get_or d.fields i no_field) (drop (i + 1) d.fields) (drop_more d.fields i no_field lt)))
 
   pub field_local : (i : ℕ) (n m : List ℤ) → i < length d.fields → SameBelow (place_of (cells_in ms) d.fields 0 base d.fields (i + 1)) n m
       → field_slots ms d.fields v (numbers_of (cells_in ms) d m base) m i (place_of (cells_in ms) d.fields 0 base d.fields i) (get_or d.fields i no_field)
@@ -299,14 +281,10 @@ module _ (ms : List Meaning) (settled : MeanSettled ms) (d : Desc) (sound : IsSo
       let lt : i < length d.fields = omega arith in
       let own = λ (x : List ℤ). numbers_of (cells_in ms) d x base in
       let up = rw one at s in
-      let here = λ (x : List ℤ). field_slots ms d.fields v (own x) x i (place i) (get_or d.fields i no_field) in
-      let before = λ (x : List ℤ). slots_from ms d.fields v (own x) x 0 base (take i d.fields) in
       let next = next_place i lt in
-      let whole =
-      λ (x : List ℤ). ap (λ k. slots_from ms d.fields v (own x) x 0 base (take k d.fields)) one
-      ∙ fields_more ms d.fields v (own x) x d.fields 0 base i i (omega arith) lt in
-      whole m ∙ ap (λ l. l ++ here m) (fields_local i n m (omega arith) (same_less (place i) (place (i + 1)) n m (omega arith) up))
-      ∙ ap (λ l. before n ++ l) (field_local i n m lt up) ∙ sym (whole n)
+      let whole = λ (x : List ℤ). fields_more ms d.fields v (own x) x d.fields 0 base i i (omega arith) lt in
+      let before = fields_local i n m (omega arith) (same_less (place i) (place (i + 1)) n m (omega arith) up) in
+      rw (one, whole m, whole n, before, field_local i n m lt up)
 
   -- how many elements of field i are there
   pub present_local : (i : ℕ) (n m : List ℤ) → i < length d.fields → SameBelow (place_of (cells_in ms) d.fields 0 base d.fields i) n m

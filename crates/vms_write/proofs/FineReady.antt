@@ -33,9 +33,8 @@ settle_plus slots forms n at zero b = ap (settle slots forms n at) (omega arith)
 settle_plus slots forms n at (suc a) b =
     let one : suc a + b ≡ suc (a + b) = omega arith in
     let first = has_cell slots at || same_number (get_or n at (pos 0)) (get_or forms at no_form).default in
-    ap (settle slots forms n at) one ∙ ap (λ (x : Bool). first && x) (settle_plus slots forms n (at + 1) a b)
-    ∙ ap (λ x. first && (settle slots forms n (at + 1) a && settle slots forms n x b)) (omega arith)
-    ∙ sym (and_assoc first (settle slots forms n (at + 1) a) (settle slots forms n (at + suc a) b))
+    let up : (at + 1) + a ≡ at + suc a = omega arith in
+    rw (one, settle_plus slots forms n (at + 1) a b, up) (sym (and_assoc first (settle slots forms n (at + 1) a) (settle slots forms n (at + suc a) b)))
 
 pub record SameCells (low end : ℕ) (xs ys : List Slot) : Type 0 where
   pub same : (c : ℕ) → low ≤ c → c < end → has_cell xs c ≡ has_cell ys c
@@ -54,11 +53,9 @@ pub fine_parts : (forms : List CellForm) (n : List ℤ) (xs ys : List Slot) (at 
 fine_parts forms n xs ys at a b below above =
     let front : SameCells at (at + a) (xs ++ ys) xs = record { same = λ c low lt. rw (names_append, above.below c lt) (or-false (has_cell xs c)) } in
     let back : SameCells (at + a) ((at + a) + b) (xs ++ ys) ys = record { same = λ c low lt. rw (names_append, below.above c low) refl } in
-    rw (
-      fit_append n xs ys,
-      settle_plus (xs ++ ys) forms n at a b ∙ ap (λ (x : Bool). x && settle (xs ++ ys) forms n (at + a) b) (settle_same (xs ++ ys) xs forms n at a front)
-          ∙ ap (λ (x : Bool). settle xs forms n at a && x) (settle_same (xs ++ ys) ys forms n (at + a) b back),
-    ) (and_swap (are_fit n xs) (are_fit n ys) (settle xs forms n at a) (settle ys forms n (at + a) b))
+    rw (fit_append n xs ys, settle_plus (xs ++ ys) forms n at a b)
+    (rw (settle_same (xs ++ ys) xs forms n at a front, settle_same (xs ++ ys) ys forms n (at + a) b back)
+    (and_swap (are_fit n xs) (are_fit n ys) (settle xs forms n at a) (settle ys forms n (at + a) b)))
 
 -- ---- where parts end
 
@@ -82,8 +79,7 @@ lesser_within _ m _ = refl
 
 least_within : (o : Option ℕ) (caps : List ℕ) (z : ℤ) → is_within (least_from o caps) z ≡ (is_within o z && counts_well caps z)
 least_within o [] z = sym (and-true (is_within o z))
-least_within o (m ∷ caps) z =
-    least_within (lesser o m) caps z ∙ ap (λ b. b && counts_well caps z) (lesser_within o m z) ∙ and_assoc (is_within o z) (int_le z (pos m)) (counts_well caps z)
+least_within o (m ∷ caps) z = rw (least_within (lesser o m) caps z, lesser_within o m z) (and_assoc (is_within o z) (int_le z (pos m)) (counts_well caps z))
 
 number_fine : (kind : Kind) (caps : List ℕ) (z : ℤ) → is_number_fine kind (least_of caps) z ≡ (in_range kind z && counts_well caps z)
 number_fine kind caps z = rw (least_within None caps z)
@@ -101,11 +97,10 @@ settle_number forms n at end c kind caps xs le asc =
       same = λ k low lt. rw (ne_eqb c k (λ e. omega arith)) (below_from (c + 1) end xs asc k (omega arith));
     } in
     let back : SameCells (c + 1) ((c + 1) + (end - (c + 1))) all xs = record { same = λ k low lt. rw (ne_eqb c k (λ e. omega arith)) refl } in
-    ap (settle all forms n at) (omega arith) ∙ settle_plus all forms n at (c - at) (suc (end - (c + 1)))
-    ∙ ap (λ b. b && settle all forms n (at + (c - at)) (suc (end - (c + 1)))) (settle_same all [] forms n at (c - at) front)
-    ∙ ap (λ k. settle [] forms n at (c - at) && settle all forms n k (suc (end - (c + 1)))) (omega arith)
-    ∙ ap (λ b. settle [] forms n at (c - at) && (((b || has_cell xs c) || default) && settle all forms n (c + 1) (end - (c + 1)))) (eq-eqb c c refl)
-    ∙ ap (λ b. settle [] forms n at (c - at) && b) (settle_same all xs forms n (c + 1) (end - (c + 1)) back)
+    let parts : end - at ≡ (c - at) + suc (end - (c + 1)) = omega arith in
+    let here : at + (c - at) ≡ c = omega arith in
+    rw (parts, settle_plus all forms n at (c - at) (suc (end - (c + 1))), settle_same all [] forms n at (c - at) front, here)
+    (rw (eq-eqb c c refl, settle_same all xs forms n (c + 1) (end - (c + 1)) back))
 
 settle_other : (forms : List CellForm) (n : List ℤ) (xs ys : List Slot) (at k : ℕ) → ((c : ℕ) → has_cell xs c ≡ has_cell ys c) → settle xs forms n at k ≡ settle ys forms n at k
 settle_other forms n xs ys at k h = settle_same xs ys forms n at k (record { same = λ c low lt. h c })
@@ -119,13 +114,12 @@ slots_fine forms n at end (Number c kind caps ∷ xs) h =
     let rest = are_steps_fine forms n (c + 1) (steps_of xs) in
     let tail = settle [] forms n (behind (c + 1) (steps_of xs)) (end - behind (c + 1) (steps_of xs)) in
     let fits = in_range kind z && counts_well caps z in
-    and_assoc (is_number_fine kind (least_of caps) z && gap) rest tail ∙ ap (λ b. (b && gap) && (rest && tail)) (number_fine kind caps z)
-    ∙ ap (λ b. (fits && gap) && b) (slots_fine forms n (c + 1) end xs h.1) ∙ and_swap fits gap (are_fit n xs) (settle xs forms n (c + 1) (end - (c + 1)))
-    ∙ ap (λ b. (fits && are_fit n xs) && b) (sym (settle_number forms n at end c kind caps xs h.0 h.1))
+    rw (and_assoc (is_number_fine kind (least_of caps) z && gap) rest tail, number_fine kind caps z, slots_fine forms n (c + 1) end xs h.1)
+    (rw (settle_number forms n at end c kind caps xs h.0 h.1) (and_swap fits gap (are_fit n xs) (settle xs forms n (c + 1) (end - (c + 1)))))
 slots_fine forms n at end (Rule b ∷ xs) h =
-    and_assoc b (are_steps_fine forms n at (steps_of xs)) (settle [] forms n (behind at (steps_of xs)) (end - behind at (steps_of xs)))
-    ∙ ap (λ x. b && x) (slots_fine forms n at end xs h) ∙ sym (and_assoc b (are_fit n xs) (settle xs forms n at (end - at)))
-    ∙ ap (λ x. (b && are_fit n xs) && x) (settle_other forms n xs (Rule b ∷ xs) at (end - at) (λ c. refl))
+    let tail = settle [] forms n (behind at (steps_of xs)) (end - behind at (steps_of xs)) in
+    rw (and_assoc b (are_steps_fine forms n at (steps_of xs)) tail, slots_fine forms n at end xs h)
+    (rw (settle_other forms n (Rule b ∷ xs) xs at (end - at) (λ c. refl)) (sym (and_assoc b (are_fit n xs) (settle xs forms n at (end - at)))))
 slots_fine forms n at end (x ∷ xs) h =
     slots_fine forms n at end xs h ∙ ap (λ b. are_fit n xs && b) (settle_other forms n xs (x ∷ xs) at (end - at) (λ c. refl))
 
@@ -142,21 +136,17 @@ pub part_fine : (set : Set) (spot : PartAt) (forms : List CellForm) (n : List �
     → settle [] forms n (behind spot.base (steps_of (spot_slots set spot n))) (end - behind spot.base (steps_of (spot_slots set spot n)))
     ≡ is_fine forms n (spot_slots set spot n) spot.base (own_cell_count set (desc_at set spot.part))
 part_fine set spot forms n end e fine =
-    let steps = steps_of (spot_slots set spot n) in
-    let size = own_cell_count set (desc_at set spot.part) in
-    let asc = subst (λ (k : ℕ). Ascends spot.base k (spot_slots set spot n)) (sym e) (part_ascends set spot n) in
-    ap (λ b. b && settle [] forms n (behind spot.base steps) (end - behind spot.base steps)) (sym fine)
-    ∙ slots_fine forms n spot.base end (spot_slots set spot n) asc ∙ ap (is_fine forms n (spot_slots set spot n) spot.base) (omega (arith, e))
+    let asc : Ascends spot.base end (spot_slots set spot n) = rw e (part_ascends set spot n) in
+    let size : end - spot.base ≡ own_cell_count set (desc_at set spot.part) = omega arith in
+    rw (fine, size) at (slots_fine forms n spot.base end (spot_slots set spot n) asc)
 
 -- it stops
 pub part_unfit : (set : Set) (spot : PartAt) (forms : List CellForm) (n : List ℤ) → are_steps_fine forms n spot.base (steps_of (spot_slots set spot n)) ≡ false
     → false ≡ is_fine forms n (spot_slots set spot n) spot.base (own_cell_count set (desc_at set spot.part))
 part_unfit set spot forms n fine =
-    let steps = steps_of (spot_slots set spot n) in
-    let size = own_cell_count set (desc_at set spot.part) in
-    let end = spot.base + size in
-    ap (λ b. b && settle [] forms n (behind spot.base steps) (end - behind spot.base steps)) (sym fine)
-    ∙ slots_fine forms n spot.base end (spot_slots set spot n) (part_ascends set spot n) ∙ ap (is_fine forms n (spot_slots set spot n) spot.base) (omega arith)
+    let end = spot.base + own_cell_count set (desc_at set spot.part) in
+    let size : end - spot.base ≡ own_cell_count set (desc_at set spot.part) = omega arith in
+    rw (fine, size) at (slots_fine forms n spot.base end (spot_slots set spot n) (part_ascends set spot n))
 
 -- ---- what the judging walk finds fine is ready, and what is ready it finds fine: slots that fit
 
@@ -197,10 +187,10 @@ subs_size set (s ∷ subs) = sub_size set s + subs_size set subs
 
 subs_long : (set : Set) (subs : List Sub) → length (flat_map (λ s. desc_cells (struct_cells set) s.desc) subs) ≡ subs_size set subs
 subs_long set [] = refl
-subs_long set (s ∷ subs) = length-append (desc_cells (struct_cells set) s.desc) (flat_map (λ s. desc_cells (struct_cells set) s.desc) subs) ∙ ap (λ k. sub_size set s + k) (subs_long set subs)
+subs_long set (s ∷ subs) = rw (length-append, subs_long set subs)
 
 cells_long : (set : Set) (d : Device) → own_cells set d + subs_size set d.subs ≡ length (device_cells set d)
-cells_long set d = sym (length-append (desc_cells (struct_cells set) d.desc) (flat_map (λ s. desc_cells (struct_cells set) s.desc) d.subs) ∙ ap (λ k. own_cells set d + k) (subs_long set d.subs))
+cells_long set d = rw (length-append, subs_long set d.subs)
 
 sub_above : (set : Set) (s : Sub) (v : ℕ) (n : List ℤ) (at : ℕ) → IsAbove at (sub_slots set s v n at)
 sub_above set s v n at = desc_above (meanings set.structs (length set.structs)) (meanings_above set.structs (length set.structs)) s.desc v n at
@@ -229,18 +219,18 @@ came_fine set d forms image j at (s ∷ subs) (None ∷ came) e =
     let later = come_as_needed set d image (suc j) subs came in
     let rest = came_slots set d n (at + sub_size set s) subs came in
     let none : IsBelow (at + sub_size set s) [] = record { above = λ c le. refl } in
-    ap (λ b. (unneeded && later) && b) (fine_parts forms n [] rest at (sub_size set s) (subs_size set subs) none (came_above set d n (at + sub_size set s) subs came))
-    ∙ and_swap unneeded later (settle [] forms n at (sub_size set s)) (is_fine forms n rest (at + sub_size set s) (subs_size set subs))
-    ∙ ap (λ b. (unneeded && settle [] forms n at (sub_size set s)) && b) (came_fine set d forms image (suc j) (at + sub_size set s) subs came (omega arith))
+    rw (fine_parts forms n [] rest at (sub_size set s) (subs_size set subs) none (came_above set d n (at + sub_size set s) subs came))
+    (rw (← came_fine set d forms image (suc j) (at + sub_size set s) subs came (omega arith))
+    (and_swap unneeded later (settle [] forms n at (sub_size set s)) (is_fine forms n rest (at + sub_size set s) (subs_size set subs))))
 came_fine set d forms image j at (s ∷ subs) (Some v ∷ came) e =
     let n = image.numbers in
     let needed = is_needed set d image s j && v == s.desc.version in
     let later = come_as_needed set d image (suc j) subs came in
     let here = sub_slots set s v n at in
     let rest = came_slots set d n (at + sub_size set s) subs came in
-    ap (λ b. (needed && later) && b) (fine_parts forms n here rest at (sub_size set s) (subs_size set subs) (part_below set s.desc v n at) (came_above set d n (at + sub_size set s) subs came))
-    ∙ and_swap needed later (is_fine forms n here at (sub_size set s)) (is_fine forms n rest (at + sub_size set s) (subs_size set subs))
-    ∙ ap (λ b. (needed && is_fine forms n here at (sub_size set s)) && b) (came_fine set d forms image (suc j) (at + sub_size set s) subs came (omega arith))
+    rw (fine_parts forms n here rest at (sub_size set s) (subs_size set subs) (part_below set s.desc v n at) (came_above set d n (at + sub_size set s) subs came))
+    (rw (← came_fine set d forms image (suc j) (at + sub_size set s) subs came (omega arith))
+    (and_swap needed later (is_fine forms n here at (sub_size set s)) (is_fine forms n rest (at + sub_size set s) (subs_size set subs))))
 
 -- what the walk returns for a device
 abbrev pub device_fine : Set → Device → List CellForm → Image → Bool
@@ -257,13 +247,11 @@ whole_fine set d forms image e =
     let own = own_slots set d image.version n in
     let from = own_cells set d in
     let rest = came_slots set d n from d.subs image.came in
-    let zero_first : from ≡ 0 + from = omega arith in
-    let above : IsAbove (0 + from) rest = subst (λ k. IsAbove k rest) zero_first (came_above set d n from d.subs image.came) in
-    let parts = fine_parts forms n own rest 0 from (subs_size set d.subs) (part_below set d.desc image.version n 0) above in
-    ap (λ b. (version && is_fine forms n own 0 from) && b) (sym (came_fine set d forms image 0 from d.subs image.came e))
-    ∙ and_swap version (is_fine forms n own 0 from) come (is_fine forms n rest from (subs_size set d.subs))
-    ∙ ap (λ k. (version && come) && (is_fine forms n own 0 from && is_fine forms n rest k (subs_size set d.subs))) zero_first
-    ∙ ap (λ b. (version && come) && b) (sym parts ∙ ap (is_fine forms n (own ++ rest) 0) (cells_long set d))
+    let here : 0 + from ≡ from = omega arith in
+    let parts =
+    rw here at (fine_parts forms n own rest 0 from (subs_size set d.subs) (part_below set d.desc image.version n 0) (rw here (came_above set d n from d.subs image.came))) in
+    rw (← came_fine set d forms image 0 from d.subs image.came e, ← cells_long set d, parts)
+    (and_swap version (is_fine forms n own 0 from) come (is_fine forms n rest from (subs_size set d.subs)))
 
 -- ---- readiness
 
@@ -331,7 +319,7 @@ module _ (set : Set) (well : is_well_formed set ≡ true) (good : IsGood set) (i
   decides : Decides (device_fine set (device_at set i) forms image) (IsReady set (device_at set i) image)
   decides =
       let d = device_at set i in
-      subst (λ b. Decides b (IsReady set d image)) (sym (whole_fine set d forms image subs)) (Decides-like _ (λ h. ready h.0.0 h.0.1 h.1.0 h.1.1) (λ r. (
+      rw (whole_fine set d forms image subs) (Decides-like _ (λ h. ready h.0.0 h.0.1 h.1.0 h.1.1) (λ r. (
         (r.version, r.needed),
         (
           (fit_slots (device_cells set d) image.numbers slots r.normal.cells (image_are set d image) (image_constants set good i d image found), r.valid),

@@ -1,18 +1,24 @@
 -- What is written of ready images: the forms of cells, and the bytes of subsections and sections,
 -- one after the other.
-use Rattle.vms_write.proofs.Facade.{AllPass-from_list_all, ◌≡◌, ℕ, zero, suc, ◌+◌, ◌<◌, ◌≤◌, List, [], ◌∷◌, length, length-drop}
-use Rattle.vms_write.proofs.Facade.{get_or, drop, sym, arith, true, map, ℤ, pos, refl, ap, ◌∙◌, and_parts, length-map, Set, is_name, first_fault}
-use Rattle.vms_write.proofs.Facade.{is_well_formed, device_at, sub_at, none_is, device_clean, sub_clean, Kind, Cell, device_cells, form_of, Held, defaults_at}
-use Rattle.vms_write.proofs.Facade.{no_form, formed_of, formed, forms_of, cases_lt, ⊎_elim, Some, get_or-map, slice_get-get_or, slice_get_within}
-use Rattle.vms_write.proofs.Facade.{get_or_from_slice_get, slice_get, U8, MOST_ITEMS, Device, Slot, Number, Constant, no_cell, no_desc, Image, own_cells}
-use Rattle.vms_write.proofs.Facade.{own_slots, sub_place, sub_slots, IsReady, AreReady, AreCells, FitsHeads, own_constants, part_constants, sub_are, fit_slots}
-use Rattle.vms_write.proofs.Facade.{own_are, FitSlots, versions_long, kinds_at, few_cells, good_of, CanWrite, Typed, IsImageOf, AreImagesOf, Rule, ◌++◌}
-use Rattle.vms_write.proofs.Facade.{take, Option, None, ◌&&◌, drop_more, desc_cells, struct_cells, zeroed, steps_of, WalkStep}
-use Rattle.vms_write.proofs.Facade.{CanSteps, CanStep, bytes_of, codes_of, run_of, Sub, AtLeast, written_subs, written_section}
-use Rattle.vms_write.proofs.Facade.{written_sections, first_cell, sub_next, CellForm, sub_fine, subs_fine, written_sub}
+use Rattle.vms_write.proofs.Facade.{wrote_fault, err_from_is_err_and, AllPass-from_list_all, ◌≡◌, ℕ, zero, suc, ◌+◌, ◌<◌, ◌≤◌, List, []}
+use Rattle.vms_write.proofs.Facade.{◌∷◌, length, length-drop, get_or, drop, sym, arith, true, map, ℤ, pos, refl, ap, ◌∙◌, and_parts, length-map}
+use Rattle.vms_write.proofs.Facade.{Set, is_name, first_fault, is_well_formed, device_at, sub_at, none_is, device_clean, sub_clean, Kind, Cell, device_cells}
+use Rattle.vms_write.proofs.Facade.{form_of, Held, defaults_at, no_form, formed_of, formed, forms_of, cases_lt, ⊎_elim, Some, get_or-map, slice_get-get_or}
+use Rattle.vms_write.proofs.Facade.{slice_get_within, get_or_from_slice_get, slice_get, U8, MOST_ITEMS, Device, Slot, Number, Constant, no_cell, no_desc, Image}
+use Rattle.vms_write.proofs.Facade.{own_cells, own_slots, sub_place, sub_slots, IsReady, AreReady, AreCells, FitsHeads, own_constants, part_constants, sub_are}
+use Rattle.vms_write.proofs.Facade.{fit_slots, own_are, FitSlots, versions_long, kinds_at, few_cells, good_of, CanWrite, Typed, IsImageOf, AreImagesOf, Rule}
+use Rattle.vms_write.proofs.Facade.{◌++◌, take, Option, None, ◌&&◌, drop_more, desc_cells, struct_cells, zeroed, steps_of, WalkStep, CanSteps, CanStep}
+use Rattle.vms_write.proofs.Facade.{bytes_of, codes_of, run_of, Sub, AtLeast, written_subs, written_section, written_sections, first_cell, sub_next, CellForm}
+use Rattle.vms_write.proofs.Facade.{sub_fine, subs_fine, written_sub}
+use Rattle.std.proofs.Common.{Result, IsErrAnd}
+use Rattle.vms_io.specs.{Told.Outlet, Writing.Stops, Writing.Wrote}
 use Rattle.vms_spec.proofs.WellFormedLaws.{name_short, set_clean}
 use Rattle.vms_parts.specs.Devices.{device_at as device_in}
 use Rattle.vms_spec.specs.declared.Part.TheVariants as parts
+
+-- a call that failed wrote a part of the bytes
+pub failed : {T E : Type 0} {a b : Outlet} {xs : List ℕ} (r : Result T E) (e : E) → IsErrAnd r (λ y. y ≡ e) → Stops a b xs → Wrote a b xs r
+failed r e is p = let fault = err_from_is_err_and r is in wrote_fault r _ fault.1 p
 
 -- ---- names of a well-formed set are short; the forms of a device's cells, by the numbers that a set keeps of it
 
@@ -204,14 +210,10 @@ module _ (set : Set) (i : ℕ) (image : Image) (j : ℕ) (lt : j < length (devic
 pub sections_next : (set : Set) (i : ℕ) (ds : List Device) (images : List Image) (d : Device) (image : Image) → i < length ds → i < length images
     → written_sections set i (drop i ds) (drop i images)
     ≡ written_section set (get_or ds i d) (get_or images i image) i ++ written_sections set (i + 1) (drop (i + 1) ds) (drop (i + 1) images)
-sections_next set i ds images d image lt lt' =
-    ap (λ xs. written_sections set i xs (drop i images)) (drop_more ds i d lt)
-    ∙ ap (λ ys. written_sections set i (get_or ds i d ∷ drop (i + 1) ds) ys) (drop_more images i image lt')
-    ∙ ap (λ k. written_section set (get_or ds i d) (get_or images i image) i ++ written_sections set k (drop (i + 1) ds) (drop (i + 1) images)) (omega arith)
+sections_next set i ds images d image lt lt' = let up : suc i ≡ i + 1 = omega arith in rw (drop_more ds i d lt, drop_more images i image lt', up)
 
 pub sections_at : (set : Set) (i : ℕ) (images : List Image) (image : Image) → i < length set.devices → i < length images → image ≡ get_or images i image
     → written_sections set i (drop i set.devices) (drop i images)
     ≡ written_section set (device_at set i) image i ++ written_sections set (i + 1) (drop (i + 1) set.devices) (drop (i + 1) images)
 sections_at set i images image lt lt' is =
-    sections_next set i set.devices images (record { instance = 0; desc = no_desc; subs = [] }) image lt lt'
-    ∙ ap (λ x. written_section set (device_at set i) x i ++ written_sections set (i + 1) (drop (i + 1) set.devices) (drop (i + 1) images)) (sym is)
+    rw (← is) at (sections_next set i set.devices images (record { instance = 0; desc = no_desc; subs = [] }) image lt lt')

@@ -1,7 +1,7 @@
-use Rattle.vms_check.proofs.Facade.{◌+◌, ◌*◌, ◌<◌, refl, sym, ap, ◌∙◌, arith, rules, struct_cells, field_of, described, reach, desc_mismatch, table_on, desc_on}
-use Rattle.vms_check.proofs.Facade.{own_side, Side}
-use Rattle.vms_spec.specs.declared.Part.TheVariants as parts
+use Rattle.vms_check.proofs.Facade.{◌+◌, ◌*◌, ◌<◌, refl, sym, ap, ◌∙◌, arith, rules, struct_cells, field_of, described, reach, desc_mismatch}
+use Rattle.vms_check.proofs.Facade.{table_on, desc_on, own_side, Side}
 use Rattle.vms_check.proofs.WholeLaws.{first_is, later_is, desc_split, pair_passes, pair_stops, rule_fails, passes_whole, structs_are, uses_at}
+use Rattle.vms_spec.specs.declared.Part.TheVariants as parts
 use Rattle.vms_check.proofs.descs.+walk.Goals as goal
 
 -- ---- the whole description

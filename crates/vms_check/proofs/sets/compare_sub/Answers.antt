@@ -1,5 +1,5 @@
-use Rattle.vms_check.proofs.{Facade.Side, WholeLaws.sub_in, WholeLaws.sub_found, sets.compare_sub.Goals.After-as_slice}
-use Rattle.vms_check.proofs.Facade.{◌≡◌, length, map, ap, ◌∙◌, arith, length-map, Desc, Device, sub_of, described, device_at, sub_at, few_subs, part_mismatch}
+use Rattle.vms_check.proofs.{Facade.few_subs, Facade.part_mismatch, WholeLaws.sub_in, WholeLaws.sub_found, sets.compare_sub.Goals.After-as_slice}
+use Rattle.vms_check.proofs.Facade.{Side, ◌≡◌, length, map, ap, ◌∙◌, arith, length-map, Desc, Device, sub_of, described, device_at, sub_at}
 use Rattle.vms_spec.specs.declared.Part.TheVariants as parts
 use Rattle.vms_check.proofs.sets.compare_sub.Goals as goal
 

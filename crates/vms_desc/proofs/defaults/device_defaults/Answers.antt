@@ -1,8 +1,8 @@
 use Rattle.vms_desc.proofs.{AskLaws.few_cells, defaults.device_defaults.Goals.In_ok-forms}
-use Rattle.vms_desc.proofs.Facade.{◌≡◌, ◌<◌, ◌∙◌, ◌++◌, ◌∷◌, [], ap, sym, get_or, List, length, map, take, arith, refl, length-map, map_more, device_at, set_of}
+use Rattle.vms_desc.proofs.Facade.{◌≡◌, ◌<◌, ap, get_or, length, map, arith, refl, length-map, map_more, device_at, set_of}
 use Rattle.vms_desc.proofs.Facade.{device_of, form_of, device_cells, Held, device_forms, structs_forms, form_numbers}
 use Rattle.vms_desc.proofs.FormLaws.{forms_are, forms_in, form_count, kinds_long, defaults_long, numbers_seen, kept_fit, defaults_made}
-use Rattle.vms_parts.specs.{declared.types.Desc.Desc, declared.types.Device.Device}
+use Rattle.vms_parts.specs.{declared.types.Device.Device}
 use Rattle.vms_desc.proofs.defaults.device_defaults.Goals as goal
 
 -- the device of this number, and the forms that are made of it
@@ -39,10 +39,8 @@ loop-device-preserved c =
     let ds = c.args.parts.now.devices in
     let made : Device → Held = λ x. form_numbers (forms_in c.args.parts.now x) in
     let seen : c.in_ok-numbers_of.field-0 ≡ made c.device-item.result =
-    numbers_seen c.in_ok-forms.forms _ c.in_ok-forms.ensures c.in_ok-numbers_of.field-0 c.in_ok-numbers_of.ensures
-    ∙ ap (λ (l : List Desc). form_numbers (device_forms (structs_forms l) (device_of c.device-item.result))) c.as_slice.ensures in
-    c.in_ok-push.ensures.items ∙ ap (λ (l : List Held). l ++ c.in_ok-numbers_of.field-0 ∷ []) c.loop-device.invariant
-    ∙ ap (λ (x : Held). map made (take i ds) ++ x ∷ []) (seen ∙ ap made here.is) ∙ sym (map_more made ds i c.device-item.result here.lt)
+    cc (numbers_seen c.in_ok-forms.forms _ c.in_ok-forms.ensures c.in_ok-numbers_of.field-0 c.in_ok-numbers_of.ensures, c.as_slice.ensures) in
+    cc (c.in_ok-push.ensures.items, c.loop-device.invariant, here.is, map_more made ds i c.device-item.result here.lt)
 
 pub returns : goal.returns
 returns c =

@@ -1,8 +1,8 @@
-use Rattle.vms_desc.proofs.Facade.{◌≡◌, sym, ap, rules, ◌∙◌, arith, length, ℕ, get_or, map, ◌+◌, ◌<◌, min, to_z-of_z, length-map, w128, SFits, kind_of}
-use Rattle.vms_desc.proofs.Facade.{no_field, field_of, get_map_at, place_in, Scope}
-use Rattle.vms_spec.specs.Sets as sets
-use Rattle.vms_parts.specs.declared.types.Field.{Field}
 use Rattle.vms_desc.proofs.EvalLaws.{number_num, number_there}
+use Rattle.vms_desc.proofs.Facade.{◌≡◌, sym, ap, rules, ◌∙◌, arith, length, ℕ, get_or, map, ◌+◌, ◌<◌, min, to_z-of_z, length-map, w128}
+use Rattle.vms_desc.proofs.Facade.{SFits, kind_of, no_field, field_of, get_map_at, place_in, Scope}
+use Rattle.vms_parts.specs.declared.types.Field.{Field}
+use Rattle.vms_spec.specs.Sets as sets
 use Rattle.vms_desc.proofs.eval.number_at.Goals as goal
 
 -- the first cell of a field, in the code's form

@@ -1,5 +1,5 @@
-use Rattle.vms_desc.proofs.Facade.{rules, ◌≡◌, ap, ◌∙◌, map, take, Item, item_forms, fields_forms, structs_forms, field_of}
-use Rattle.vms_desc.proofs.FormLaws.{puts_none, left_all, left_goes, left_none, fields_next, fields_over, repeated_put, struct_forms, no_struct_forms}
+use Rattle.vms_desc.proofs.Facade.{drop_is, drop_all, rules, ◌≡◌, ap, ◌∙◌, map, take, Item, item_forms, fields_forms, structs_forms, field_of}
+use Rattle.vms_desc.proofs.FormLaws.{puts_none, left_all, left_goes, left_none, repeated_put, struct_forms, no_struct_forms}
 use Rattle.vms_desc.proofs.forms.+forms.Goals as goal
 
 pub put_fields-loop-field-init : goal.put_fields-loop-field-init
@@ -7,14 +7,11 @@ put_fields-loop-field-init t c = left_all c.args.forms.now _
 
 pub put_fields-loop-field-preserved : goal.put_fields-loop-field-preserved
 put_fields-loop-field-preserved t c =
-    let ts = structs_forms c.args.structs.now in
-    left_goes _ _ _ _ (fields_next ts c.args.fields.now c.loop-field.field-index c.field-item.result c.loop-field-test.true c.field-item.is)
-    c.in_ok-put_field.ensures c.loop-field.invariant
+    let next = drop_is c.args.fields.now c.loop-field.field-index c.field-item.result c.loop-field-test.true c.field-item.is in
+    left_goes _ _ _ _ (rw next) c.in_ok-put_field.ensures c.loop-field.invariant
 
 pub put_fields-returns : goal.put_fields-returns
-put_fields-returns t c =
-    let ts = structs_forms c.args.structs.now in
-    left_none (fields_over ts c.args.fields.now c.loop-field.field-index c.loop-field-test.false) c.loop-field.invariant
+put_fields-returns t c = left_none (rw (drop_all c.loop-field.field-index c.args.fields.now c.loop-field-test.false)) c.loop-field.invariant
 
 pub put_field-returns : goal.put_field-returns
 put_field-returns t c =

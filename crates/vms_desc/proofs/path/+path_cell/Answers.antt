@@ -1,5 +1,5 @@
-use Rattle.vms_desc.proofs.Facade.{◌≡◌, Some, None, length, length-take-le, sym, ap, ◌∙◌, arith, nat_lt, if◌then◌else◌, slice_get, eqb-true, slice_get-get_or}
-use Rattle.vms_desc.proofs.Facade.{no_desc, path_at, desc_of, set_of}
+use Rattle.vms_desc.proofs.Facade.{◌≡◌, Some, None, length, length-take-le, sym, ap, ◌∙◌, arith, nat_lt, if◌then◌else◌, slice_get, eqb-true}
+use Rattle.vms_desc.proofs.Facade.{slice_get-get_or, no_desc, path_at, desc_of, set_of}
 use Rattle.vms_desc.proofs.PathLaws.{few_by_sizes, inner_placed, element_within, path_is, in_struct, at_number}
 use Rattle.std.proofs.lemmas.List.{nil_from_length}
 use Rattle.vms_desc.proofs.path.+path_cell.Goals as goal

@@ -1,12 +1,10 @@
-use Rattle.vms_frames.proofs.{HeadLemmas.kept_byte, ReadsUnits.grown_both, Facade.CutsShort, Facade.CutsHead}
-use Rattle.vms_frames.proofs.Facade.{rules, arith, ◌≡◌, ◌+◌, ◌-◌, ◌<◌, get_or, ap, err_from_is_err_and, on_ok_weaker, IfErr-weaker, intake}
+use Rattle.vms_frames.proofs.{HeadLemmas.err_is, HeadLemmas.kept_byte, ReadsUnits.grown_both}
+use Rattle.vms_frames.proofs.Facade.{CutsShort, CutsHead, rules, arith, ◌≡◌, ◌+◌, ◌-◌, ◌<◌, get_or, ap, on_ok_weaker, IfErr-weaker, intake}
 use Rattle.vms_frames.specs.Reads.{InFront, AfterFront}
 use Rattle.vms_frames.proofs.fill.grow_head.Goals as goal
 
 pub returns-in_err-grow-clause-cut : goal.returns-in_err-grow-clause-cut
-returns-in_err-grow-clause-cut g c =
-    let p = err_from_is_err_and c.from_residual.result c.from_residual.ensures.1 in
-    rw (p.1, p.2) (InFront c.in_err-grow.ensures.cut)
+returns-in_err-grow-clause-cut g c = rw (err_is _ _ c.from_residual.ensures.1) (InFront c.in_err-grow.ensures.cut)
 
 pub returns-clause-grown : goal.returns-clause-grown
 returns-clause-grown g c =

@@ -1,10 +1,8 @@
-use Rattle.vms_frames.proofs.Facade.{rules, arith, ap, sym, ◌∙◌, ◌≡◌, ◌+◌, ◌≤◌, true, false, length, drop, length-drop, Ok, Err}
-use Rattle.vms_frames.proofs.Facade.{length-take-le, err_from_is_err_and, LONGEST_NAME, number_at, bytes_at, configuration_in, Good, nothing_known}
-use Rattle.vms_frames.proofs.Facade.{configuration_seen}
+use Rattle.vms_frames.proofs.Facade.{rules, arith, ap, ◌∙◌, ◌≡◌, ◌+◌, ◌≤◌, true, false, length, drop, length-drop, Ok, Err, Result}
+use Rattle.vms_frames.proofs.Facade.{FrameFault, length-take-le, LONGEST_NAME, number_at, bytes_at, configuration_in, nothing_known, configuration_seen}
 use Rattle.vms_frames.proofs.HeadLemmas.{bytes_of_unit, text_begins, text_cut, text_above, text_whole}
 use Rattle.vms_frames.proofs.ReadsUnits.{a_step, unit_on, unit_whole, unit_refused, unit_short}
-use Rattle.vms_spec.specs.declared.Reason.TheVariants as reasons
-use Rattle.vms_frames.specs.declared.units.Step.TheVariants.{Configuration}
+use Rattle.vms_frames.specs.declared.units.Step.{Step, TheVariants.Configuration}
 use Rattle.vms_spec.specs.Units.{Configuration as AUnit}
 use Rattle.vms_stream.specs.Dues.{Between as IsBetween}
 use Rattle.vms_frames.proofs.read.configuration.Goals as goal
@@ -15,13 +13,12 @@ returns-in_err-grow-2 g c =
     let unit = c.grow.new.unit.items in
     let same : c.name_length-length.result ≡ number_at 4 1 unit = search rules in
     let low : c.name_length-length.result ≤ LONGEST_NAME = search rules in
-    let p = err_from_is_err_and c.from_residual-in_err-grow-2.result c.from_residual-in_err-grow-2.ensures.1 in
-    rw (p.1, p.2) (record {
+    record {
       reads =
-          unit_on (a_step configuration_seen) c.args.at (Err c.in_err-grow-2.field-0.0) one
-          (unit_short (a_step configuration_seen) unit c.args.at c.in_err-grow-2.field-0.0 (omega arith) c.in_err-grow-2.ensures.cut
+          unit_on (a_step configuration_seen) c.args.at _ one
+          (unit_short (a_step configuration_seen) _ _ _ _ c.from_residual-in_err-grow-2.ensures.1 (omega arith) c.in_err-grow-2.ensures.cut
           (λ rest lt. text_cut (IsBetween true false) nothing_known 0x07 LONGEST_NAME AUnit unit rest (omega arith) (omega arith) (omega arith)));
-    })
+    }
 
 pub returns-then-length-gt-LONGEST_NAME : goal.returns-then-length-gt-LONGEST_NAME
 returns-then-length-gt-LONGEST_NAME g c =
@@ -29,9 +26,9 @@ returns-then-length-gt-LONGEST_NAME g c =
     let unit = c.grow.new.unit.items in
     let long : length unit ≡ 5 = omega arith in
     record {
-      reads = unit_on (a_step configuration_seen) c.args.at (Err c.refused.result) one
-          (unit_refused (a_step configuration_seen) unit c.args.at 5 reasons.WrongMachine c.refused.result c.refused.ensures
-          (g.met.S.Source.counted c.grow.new.source) long (omega arith)
+      reads =
+          unit_on (a_step configuration_seen) c.args.at (Err c.refused.result) one
+          (unit_refused (a_step configuration_seen) unit c.refused.ensures (g.met.S.Source.counted c.grow.new.source) long (omega arith)
           (λ rest. text_above (IsBetween true false) nothing_known 0x07 LONGEST_NAME AUnit unit rest long (search rules)));
     }
 
@@ -42,26 +39,24 @@ returns g c =
     let unit = c.grow-2.new.unit.items in
     let n = c.name_length-length.result in
     let name = c.of.result.machine in
+    let result : Result Step FrameFault = Ok (Configuration name) in
     let same : n ≡ number_at 4 1 unit = search rules in
     let low : n ≤ LONGEST_NAME = search rules in
     let long : length unit ≡ 5 + n = omega arith in
     let named : name.items ≡ bytes_at (number_at 4 1 unit) 5 unit = rw (c.of.ensures ∙ ap configuration_in c.deref-2.ensures.0) in
-    let few : length name.items ≡ n = ap length named ∙ length-take-le (number_at 4 1 unit) (drop 5 unit) (omega (arith, length-drop 5 unit)) ∙ sym same in
+    let few : length name.items ≡ number_at 4 1 unit = rw named (length-take-le (number_at 4 1 unit) (drop 5 unit) (omega (arith, length-drop 5 unit))) in
     record {
-      reads = unit_on (a_step configuration_seen) c.args.at (Ok (Configuration name)) one
-          (unit_on (a_step configuration_seen) c.args.at (Ok (Configuration name)) two
-          (unit_whole (a_step configuration_seen) unit c.args.at (Configuration name) (g.met.S.Source.counted c.grow-2.new.source) (omega arith)
+      reads =
+          unit_on (a_step configuration_seen) c.args.at result one (unit_on (a_step configuration_seen) c.args.at result two
+          (unit_whole (a_step configuration_seen) {x = Configuration name} unit c.args.at (g.met.S.Source.counted c.grow-2.new.source) (omega arith)
           (λ rest.
           text_whole (IsBetween true false) nothing_known 0x07 LONGEST_NAME AUnit unit rest (omega arith) (omega arith) (omega arith)
-          ∙ ap (λ l. Good (AUnit l) (5 + number_at 4 1 unit)) (bytes_of_unit (number_at 4 1 unit) 5 unit rest (omega arith) ∙ sym named)
-          ∙ ap (λ k. Good (AUnit name.items) (5 + k)) (sym same ∙ sym few))));
+          ∙ rw (few, bytes_of_unit (number_at 4 1 unit) 5 unit rest (omega arith), named))));
     }
 
 pub returns-in_err-grow : goal.returns-in_err-grow
-returns-in_err-grow g c =
-    let p = err_from_is_err_and c.from_residual.result c.from_residual.ensures.1 in
-    rw (p.1, p.2) (record {
-      reads =
-          unit_short (a_step configuration_seen) c.args.unit.items c.args.at c.in_err-grow.field-0.0 (omega arith) c.in_err-grow.ensures.cut
-          (λ rest lt. text_begins (IsBetween true false) nothing_known 0x07 LONGEST_NAME AUnit c.args.unit.items rest (omega arith));
-    })
+returns-in_err-grow g c = record {
+  reads =
+      unit_short (a_step configuration_seen) _ _ _ _ c.from_residual.ensures.1 (omega arith) c.in_err-grow.ensures.cut
+      (λ rest lt. text_begins (IsBetween true false) nothing_known 0x07 LONGEST_NAME AUnit c.args.unit.items rest (omega arith));
+}

@@ -1,17 +1,13 @@
-use Rattle.vms_frames.proofs.Facade.{rules, arith, ap, sym, refl, ◌∙◌, ℕ, List, [], ◌∷◌, ◌++◌, ◌≡◌, ◌≤◌, ◌+◌, length, Ok, Err}
-use Rattle.vms_frames.proofs.Facade.{err_from_is_err_and, LONGEST_TEXT, number_at, bytes_at, Description, AfterEnd, Good, nothing_known, described}
+use Rattle.vms_frames.proofs.Facade.{rules, arith, sym, refl, ◌∙◌, [], ◌∷◌, ◌++◌, ◌≡◌, ◌≤◌, ◌+◌, length, Ok, Err}
+use Rattle.vms_frames.proofs.Facade.{LONGEST_TEXT, number_at, Description, AfterEnd, nothing_known}
 use Rattle.vms_frames.proofs.HeadLemmas.{number_of_unit, description_there, text_begins, text_cut, text_above, text_whole}
 use Rattle.vms_frames.proofs.ReadsUnits.{a_text, unit_behind, unit_passed, unit_refused, unit_short}
-use Rattle.vms_spec.specs.declared.Reason.TheVariants as reasons
 use Rattle.vms_frames.proofs.read.description.Goals as goal
 
 pub returns-in_err-fill-clause-reads : goal.returns-in_err-fill-clause-reads
 returns-in_err-fill-clause-reads g c =
-    let p = err_from_is_err_and c.from_residual.result c.from_residual.ensures.1 in
-    let mark : List ℕ = 0x06 ∷ [] in
-    rw (p.1, p.2)
-    (unit_short a_text {n = 4} mark c.args.at c.in_err-fill.field-0.0 (omega arith) c.in_err-fill.ensures.cut
-    (λ rest lt. sym (description_there rest) ∙ text_begins AfterEnd nothing_known 0x06 LONGEST_TEXT Description mark rest (omega arith)))
+    unit_short a_text {n = 4} (0x06 ∷ []) _ _ _ c.from_residual.ensures.1 (omega arith) c.in_err-fill.ensures.cut
+    (λ rest lt. sym (description_there rest) ∙ text_begins AfterEnd nothing_known 0x06 LONGEST_TEXT Description (0x06 ∷ []) rest (omega arith))
 
 pub returns-then-length-gt-LONGEST_TEXT-clause-reads : goal.returns-then-length-gt-LONGEST_TEXT-clause-reads
 returns-then-length-gt-LONGEST_TEXT-clause-reads g c =
@@ -19,9 +15,8 @@ returns-then-length-gt-LONGEST_TEXT-clause-reads g c =
     let unit = 0x06 ∷ bytes in
     let four : length bytes ≡ 4 = search rules in
     let long : length unit ≡ 5 = omega arith in
-    unit_behind a_text (0x06 ∷ []) unit c.args.at (Err c.refused.result) refl c.in_ok-fill.ensures.came
-    (unit_refused a_text unit c.args.at 5 reasons.DescriptionTooLong c.refused.result c.refused.ensures (g.met.S.Source.counted c.fill.new.source) long
-    (omega arith)
+    unit_behind a_text (0x06 ∷ []) c.args.at (Err c.refused.result) refl c.in_ok-fill.ensures.came
+    (unit_refused a_text unit c.refused.ensures (g.met.S.Source.counted c.fill.new.source) long (omega arith)
     (λ rest. sym (description_there (bytes ++ rest)) ∙ text_above AfterEnd nothing_known 0x06 LONGEST_TEXT Description unit rest long (search rules)))
 
 pub returns-in_err-pass-clause-reads : goal.returns-in_err-pass-clause-reads
@@ -30,15 +25,12 @@ returns-in_err-pass-clause-reads g c =
     let unit = 0x06 ∷ bytes in
     let n = c.read_u32-length.result in
     let four : length bytes ≡ 4 = search rules in
-    let long : length unit ≡ 5 = omega arith in
     let same : n ≡ number_at 4 1 unit = search rules in
     let low : n ≤ LONGEST_TEXT = search rules in
-    let p = err_from_is_err_and c.from_residual-in_err-pass.result c.from_residual-in_err-pass.ensures.1 in
-    rw (p.1, p.2)
-    (unit_behind a_text (0x06 ∷ []) unit c.args.at (Err c.in_err-pass.field-0.0) refl c.in_ok-fill.ensures.came
-    (unit_short a_text unit c.args.at c.in_err-pass.field-0.0 (omega arith) c.in_err-pass.ensures.cut
+    unit_behind a_text (0x06 ∷ []) c.args.at _ refl c.in_ok-fill.ensures.came
+    (unit_short a_text unit _ _ _ c.from_residual-in_err-pass.ensures.1 (omega arith) c.in_err-pass.ensures.cut
     (λ rest lt. sym (description_there (bytes ++ rest)) ∙ text_cut AfterEnd nothing_known 0x06 LONGEST_TEXT Description unit rest (omega arith) (omega arith)
-    (omega arith))))
+    (omega arith)))
 
 pub returns-clause-reads : goal.returns-clause-reads
 returns-clause-reads g c =
@@ -46,12 +38,11 @@ returns-clause-reads g c =
     let unit = 0x06 ∷ bytes in
     let n = c.read_u32-length.result in
     let four : length bytes ≡ 4 = search rules in
-    let long : length unit ≡ 5 = omega arith in
+    let same : n ≡ number_at 4 1 unit = search rules in
     let low : n ≤ LONGEST_TEXT = search rules in
-    unit_behind a_text (0x06 ∷ []) unit c.args.at (Ok (5 + n)) refl c.in_ok-fill.ensures.came
-    (unit_passed a_text unit c.args.at (5 + n) (omega arith)
+    unit_behind a_text (0x06 ∷ []) c.args.at (Ok (5 + n)) refl c.in_ok-fill.ensures.came
+    (unit_passed a_text unit c.args.at (omega arith)
     (λ rest le.
     sym (description_there (bytes ++ rest))
     ∙ text_whole AfterEnd nothing_known 0x06 LONGEST_TEXT Description unit rest (omega arith) (omega arith) (omega arith)
-    ∙ ap (λ k. Good (Description (bytes_at k 5 (unit ++ rest))) (5 + number_at 4 1 unit)) (sym (number_of_unit 4 1 unit rest (omega arith)))
-    ∙ ap (λ k. Good (described (unit ++ rest)) (5 + k)) (sym (search rules))) c.in_ok-pass.ensures.passed)
+    ∙ rw (same, number_of_unit 4 1 unit rest (omega arith))) c.in_ok-pass.ensures.passed)

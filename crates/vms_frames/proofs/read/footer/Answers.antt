@@ -1,15 +1,12 @@
-use Rattle.vms_frames.proofs.Facade.{rules, arith, ◌≡◌, length, Ok, Err, err_from_is_err_and, number_at}
-use Rattle.vms_spec.specs.declared.Reason.TheVariants as reasons
+use Rattle.vms_frames.proofs.Facade.{rules, arith, ◌≡◌, length, Ok, Err}
 use Rattle.vms_frames.proofs.HeadLemmas.{foot_cut, foot_whole, foot_wrong}
 use Rattle.vms_frames.proofs.ReadsUnits.{a_foot, unit_on, unit_whole, unit_refused, unit_short}
 use Rattle.vms_frames.proofs.read.footer.Goals as goal
 
 pub returns-in_err-grow : goal.returns-in_err-grow
 returns-in_err-grow g c =
-    let p = err_from_is_err_and c.from_residual.result c.from_residual.ensures.1 in
-    rw (p.1, p.2)
-    (unit_short (a_foot c.args.id) c.args.unit.items c.args.at c.in_err-grow.field-0.0 (omega arith) c.in_err-grow.ensures.cut
-    (λ rest lt. foot_cut c.args.id c.args.unit.items rest (omega arith)))
+    unit_short (a_foot c.args.id) _ _ _ _ c.from_residual.ensures.1 (omega arith) c.in_err-grow.ensures.cut
+    (λ rest lt. foot_cut c.args.id c.args.unit.items rest (omega arith))
 
 pub returns-then-of-id : goal.returns-then-of-id
 returns-then-of-id g c =
@@ -17,8 +14,7 @@ returns-then-of-id g c =
     let unit = c.grow.new.unit.items in
     let long : length unit ≡ 5 = omega arith in
     unit_on (a_foot c.args.id) c.args.at (Err c.no_footer.result) one
-    (unit_refused (a_foot c.args.id) unit c.args.at 5 reasons.BadFooter c.no_footer.result c.no_footer.ensures (g.met.S.Source.counted c.grow.new.source) long
-    (omega arith)
+    (unit_refused (a_foot c.args.id) unit c.no_footer.ensures (g.met.S.Source.counted c.grow.new.source) long (omega arith)
     (λ rest. foot_wrong c.args.id unit rest long (search rules)))
 
 pub returns : goal.returns
@@ -26,6 +22,5 @@ returns g c =
     let one = c.in_ok-grow.ensures.grown in
     let unit = c.grow.new.unit.items in
     let long : length unit ≡ 5 = omega arith in
-    let same : number_at 4 1 unit ≡ c.args.id = search rules in
     unit_on (a_foot c.args.id) c.args.at (Ok tt) one
-    (unit_whole (a_foot c.args.id) unit c.args.at tt (g.met.S.Source.counted c.grow.new.source) long (λ rest. foot_whole c.args.id unit rest long same))
+    (unit_whole (a_foot c.args.id) unit c.args.at (g.met.S.Source.counted c.grow.new.source) long (λ rest. foot_whole c.args.id unit rest long (search rules)))

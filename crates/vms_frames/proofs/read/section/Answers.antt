@@ -1,4 +1,4 @@
-use Rattle.vms_frames.proofs.Facade.{arith, ap, sym, ◌∙◌, ◌≡◌, ◌+◌, length, get_or, Ok, err_from_is_err_and, head_in, Section, Good, step_long, unit_of_step, head_seen}
+use Rattle.vms_frames.proofs.Facade.{arith, ◌≡◌, ◌+◌, length, get_or, Ok, Section, head_in, head_seen}
 use Rattle.vms_frames.proofs.HeadLemmas.{head_cut, head_whole, head_long}
 use Rattle.vms_frames.proofs.ReadsUnits.{a_step, unit_on, unit_whole, head_short}
 use Rattle.vms_frames.proofs.read.section.Goals as goal
@@ -13,15 +13,11 @@ returns-clause-reads g c =
     let grown = c.in_ok-grow_head.ensures.grown in
     let unit = c.grow_head.new.unit.items in
     let long : length unit ≡ 14 + get_or unit 5 0 = omega arith in
-    let same : c.of.result ≡ head_in unit = c.of.ensures ∙ ap head_in c.deref.ensures.0 in
+    let same : c.of.result ≡ head_in unit = cc (c.of.ensures, c.deref.ensures.0) in
     unit_on (a_step head_seen) c.args.at (Ok (Section c.of.result)) grown
-    (unit_whole (a_step head_seen) unit c.args.at (Section c.of.result) (g.met.S.Source.counted c.grow_head.new.source)
-    (head_long unit long ∙ ap (λ h. step_long (Section h)) (sym same))
-    (λ rest. head_whole unit rest long ∙ ap (λ h. Good (unit_of_step (Section h)) (step_long (Section h))) (sym same)))
+    (unit_whole (a_step head_seen) {x = Section c.of.result} unit c.args.at (g.met.S.Source.counted c.grow_head.new.source) (rw same (head_long unit long)) (λ rest. rw same (head_whole unit rest long)))
 
 pub returns-in_err-grow_head-clause-reads : goal.returns-in_err-grow_head-clause-reads
 returns-in_err-grow_head-clause-reads g c =
-    let p = err_from_is_err_and c.from_residual.result c.from_residual.ensures.1 in
-    rw (p.1, p.2)
-    (head_short (a_step head_seen) c.args.unit.items c.args.at c.in_err-grow_head.field-0.0 c.requires (omega arith) (omega arith)
-    (λ all few. head_cut all (omega arith)) c.in_err-grow_head.ensures.cut)
+    head_short (a_step head_seen) _ c.from_residual.ensures.1 c.requires (omega arith) (omega arith) (λ all few. head_cut all (omega arith))
+    c.in_err-grow_head.ensures.cut

@@ -1,6 +1,7 @@
 use Rattle.vms_load.proofs.BodyLemmas.{reads_rule, number_ok, number_err, constant_taken, filler_taken}
-use Rattle.vms_load.proofs.Facade.{refl, w128, to_z-of_z, err_from_is_err_and, rules, SFits, ◌≡◌, ℕ, ◌+◌, Some, Result, Ok, Err, OnOk, None, Typed, sym, subst, arith, WalkStep}
-use Rattle.vms_load.proofs.Facade.{capacities_of, take_slot, intake, reads_as, IsLong, FrameFault, TakesOn, HasMoved, progress, slot_of, step_long}
+use Rattle.vms_load.proofs.Facade.{refl, w128, to_z-of_z, rules, SFits, ◌≡◌, ℕ, ◌+◌, Some, Result, Ok, Err, OnOk, None, Typed, sym, subst, arith}
+use Rattle.vms_load.proofs.Facade.{WalkStep, capacities_of, take_slot, intake, reads_as, IsLong, FrameFault, TakesOn, HasMoved, progress, slot_of, step_long}
+use Rattle.vms_load.proofs.ReadLemmas.{err_is}
 use Rattle.vms_load.specs.Calls.{Input, TakesStep}
 use Rattle.std.specs.Prelude.{OnErr}
 use Rattle.vms_load.proofs.body.read_step.Goals as goal
@@ -31,9 +32,8 @@ set-requires-clause-range g c =
 
 pub returns-in_err-number-in-Number : goal.returns-in_err-number-in-Number
 returns-in_err-number-in-Number g c =
-    let p = err_from_is_err_and c.from_residual.result c.from_residual.ensures.1 in
     stays _ _ _ _ _ _ c.in-Number.is (search rules)
-    (rw (p.1, p.2)
+    (rw (err_is _ _ c.from_residual.ensures.1)
     (reads_as (λ n l. (l, tt)) (λ rest left h. number_err rest (Some left) c.args.cursor.now.at _ c.args.image.now.numbers c.in-Number.kind (capacities_of c.in-Number.most) c.in-Number.cell _ _ h)
     c.in_err-number-in-Number.ensures.reads))
 

@@ -1,8 +1,8 @@
-use Rattle.vms_load.proofs.Facade.{rules, ◌≡◌, ◌<◌, sym, ap, ◌∙◌, arith, length, Option, Some, None, ℕ, List, map, length-map, find_sub, sub_of}
-use Rattle.vms_load.proofs.Facade.{device_of, get_map_at, sub_at, reason_against_sub, sub_opened, opened_unless, Reason}
-use Rattle.vms_parts.specs.declared.types.Sub.{Sub as CodeSub}
+use Rattle.vms_load.proofs.Facade.{rules, ◌≡◌, ◌<◌, sym, ap, ◌∙◌, arith, length, Option, Some, None, ℕ, List, map, length-map, find_sub}
+use Rattle.vms_load.proofs.Facade.{sub_of, device_of, get_map_at, sub_at, reason_against_sub, sub_opened, opened_unless, Reason}
 use Rattle.vms_load.proofs.HeadLemmas.{unknown_sub, opens_sub, sub_below}
 use Rattle.vms_load.proofs.heads.open_sub.Goals.{After-against_sub, In-Some}
+use Rattle.vms_parts.specs.declared.types.Sub.{Sub as CodeSub}
 use Rattle.vms_load.proofs.heads.open_sub.Goals as goal
 
 -- the subsection found by its name

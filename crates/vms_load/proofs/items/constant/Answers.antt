@@ -1,12 +1,12 @@
-use Rattle.vms_load.proofs.Facade.{w128, rules, ◌≡◌, ap, of_z, to_z-of_z, err_from_is_err_and, is_same}
+use Rattle.vms_load.proofs.ReadLemmas.{err_is}
+use Rattle.vms_load.proofs.Facade.{w128, rules, ◌≡◌, ap, of_z, to_z-of_z, is_same}
 use Rattle.vms_load.proofs.BodyLemmas.{are_others, reads_constant, reads_other, reads_no_constant}
 use Rattle.vms_load.proofs.items.constant.Goals as goal
 
 pub returns-in_err-found : goal.returns-in_err-found
 returns-in_err-found g c =
-    let p = err_from_is_err_and c.from_residual.result c.from_residual.ensures.1 in
     record {
-      reads = rw (p.1, p.2) (reads_no_constant c.args.kind c.args.cursor.now.at c.args.value c.in_err-found.field-0.0 c.in_err-found.ensures.reads);
+      reads = rw (err_is _ _ c.from_residual.ensures.1) (reads_no_constant c.args.kind c.args.cursor.now.at c.args.value c.in_err-found.field-0.0 c.in_err-found.ensures.reads);
       place = search rules;
       held = search rules;
     }

@@ -1,12 +1,11 @@
-use Rattle.vms_load.proofs.Facade.{w128, rules, SFits, ◌≡◌, true, false, to_z-of_z, err_from_is_err_and, exceeds, capacities_of}
-use Rattle.vms_load.proofs.BodyLemmas.{reads_capped, reads_large, reads_no_number}
+use Rattle.vms_load.proofs.{ReadLemmas.err_is, BodyLemmas.reads_capped, BodyLemmas.reads_large, BodyLemmas.reads_no_number}
+use Rattle.vms_load.proofs.Facade.{w128, rules, SFits, ◌≡◌, true, false, to_z-of_z, exceeds, capacities_of}
 use Rattle.vms_load.proofs.items.number.Goals as goal
 
 pub returns-in_err-value : goal.returns-in_err-value
 returns-in_err-value g c =
-    let p = err_from_is_err_and c.from_residual.result c.from_residual.ensures.1 in
     record {
-      reads = rw (p.1, p.2) (reads_no_number c.args.kind c.args.cursor.now.at (capacities_of c.args.most) c.in_err-value.field-0.0 c.in_err-value.ensures.reads);
+      reads = rw (err_is _ _ c.from_residual.ensures.1) (reads_no_number c.args.kind c.args.cursor.now.at (capacities_of c.args.most) c.in_err-value.field-0.0 c.in_err-value.ensures.reads);
       range = search rules;
       place = search rules;
       held = search rules;

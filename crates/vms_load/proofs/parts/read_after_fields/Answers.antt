@@ -23,15 +23,13 @@ pub returns-in-Ok-Done : goal.returns-in-Ok-Done
 returns-in-Ok-Done g c =
     let set = described c.args.set.now in
     let section = c.args.section.now in
-    let reads = rw c.in-Ok-Done.field-0-is at c.in-Ok-Done.ensures.reads in
-    let place = rw c.in-Ok-Done.field-0-is at c.in-Ok-Done.ensures.place in
-    let held = rw c.in-Ok-Done.field-0-is at c.in-Ok-Done.ensures.held in
+    let came = rw c.in-Ok-Done.field-0-is at c.in-Ok-Done.ensures in
     record {
       reads = λ names state part room.
-          reads_as (λ n l. omega (arith, ap held_long held, ap held_long c.requires.cursor.held))
+          reads_as (λ n l. omega (arith, ap held_long came.held, ap held_long c.requires.cursor.held))
           (λ rest left h. after_settled set names state section part (untyped c.args.image.now) c.requires.image.device room c.args.cursor.now c.after_fields.new.self
           (Some rest) (Some left) (Foot section.id) 5 (record section { tail = tails.Footed }) (untyped c.args.image.now) (Ok None)
-          c.requires.cursor.held held h place (foot_settled set names state section part (untyped c.args.image.now) c.requires.image.device room c.args.cursor.now.at)) reads;
+          c.requires.cursor.held came.held h came.place (foot_settled set names state section part (untyped c.args.image.now) c.requires.image.device room c.args.cursor.now.at)) came.reads;
       section = (refl, refl);
       next = record { moved = omega arith; held = tt; opens = tt };
       moves = search rules;
@@ -40,14 +38,14 @@ returns-in-Ok-Done g c =
 
 pub returns-in-Ok-Next : goal.returns-in-Ok-Next
 returns-in-Ok-Next g c =
-    let place = rw c.in-Ok-Next.field-0-is at c.in-Ok-Next.ensures.place in
+    let came = rw c.in-Ok-Next.field-0-is at c.in-Ok-Next.ensures in
     let before = ap held_long c.requires.cursor.held in
-    let now = ap held_long (rw c.in-Ok-Next.field-0-is at c.in-Ok-Next.ensures.held).1 in
+    let now = ap held_long came.held.1 in
     record {
       reads = λ names state part room.
           reads_as (λ n l. omega arith)
           (λ rest left h. after_next (described c.args.set.now) names state c.args.section.now part (untyped c.args.image.now) c.requires.image.device room c.args.cursor.now c.after_fields.new.self
-          (Some rest) (Some left) c.requires.cursor.held (omega arith) h) (rw c.in-Ok-Next.field-0-is at c.in-Ok-Next.ensures.reads);
+          (Some rest) (Some left) c.requires.cursor.held (omega arith) h) came.reads;
       section = (refl, refl);
       next = record { moved = omega arith; held = tt; opens = tt };
       moves = search rules;
@@ -58,9 +56,7 @@ pub returns-in-Err-open_sub : goal.returns-in-Err-open_sub
 returns-in-Err-open_sub g c =
     let set = described c.args.set.now in
     let name = c.in-Ok-Sub.name.items in
-    let reads = rw c.in-Ok-Sub.field-0-is at c.in-Ok-Sub.ensures.reads in
-    let place = rw c.in-Ok-Sub.field-0-is at c.in-Ok-Sub.ensures.place in
-    let held = rw c.in-Ok-Sub.field-0-is at c.in-Ok-Sub.ensures.held in
+    let came = rw c.in-Ok-Sub.field-0-is at c.in-Ok-Sub.ensures in
     let e : LoadFault = Refused (record { section = Some c.args.section.now.device; at = c.at-at.result; reason = c.in-Err-open_sub.reason }) in
     let is = opened c.args.section.now.device c.at-at.result c.args.image.now.came name c.in-Ok-Sub.version _ _ c.open_sub.result (Err c.in-Err-open_sub.reason) c.device.ensures (c.open_sub.ensures.opened c.args.section.now.device) c.in-Err-open_sub.is
     ∙ ap (λ n. opened_at n (sub_opened c.args.section.now.device (device_at set c.args.section.now.device) c.args.image.now.came name c.in-Ok-Sub.version)) c.at-at.ensures in
@@ -69,9 +65,9 @@ returns-in-Err-open_sub g c =
           rw c.refused.ensures
           (goes_refused e tt (reads_as (λ n l. omega arith)
           (λ rest left h. after_settled set names state c.args.section.now part (untyped c.args.image.now) c.requires.image.device room c.args.cursor.now c.after_fields.new.self
-          (Some rest) (Some left) (SubHead name c.in-Ok-Sub.version) (6 + length name) c.args.section.now (untyped c.args.image.now) (Err e) c.requires.cursor.held held h place
+          (Some rest) (Some left) (SubHead name c.in-Ok-Sub.version) (6 + length name) c.args.section.now (untyped c.args.image.now) (Err e) c.requires.cursor.held came.held h came.place
           (sub_refused set names state c.args.section.now part (untyped c.args.image.now) c.requires.image.device room c.args.cursor.now.at name c.in-Ok-Sub.version c.requires.image.shaped.subs e
-          (λ next. state_in state c.args.section.now (untyped c.args.image.now) (spot_in c.args.section.now next)) is)) reads));
+          (λ next. state_in state c.args.section.now (untyped c.args.image.now) (spot_in c.args.section.now next)) is)) came.reads));
       section = (refl, refl);
       next = tt;
       moves = tt;
@@ -92,16 +88,14 @@ returns-in-Ok g c =
     let name = c.in-Ok-Sub.name.items in
     let j = c.in-Ok.sub in
     let v = c.in-Ok-Sub.version in
-    let reads = rw c.in-Ok-Sub.field-0-is at c.in-Ok-Sub.ensures.reads in
-    let place = rw c.in-Ok-Sub.field-0-is at c.in-Ok-Sub.ensures.place in
-    let held = rw c.in-Ok-Sub.field-0-is at c.in-Ok-Sub.ensures.held in
+    let came = rw c.in-Ok-Sub.field-0-is at c.in-Ok-Sub.ensures in
     let opens = opened c.args.section.now.device c.at-at.result c.args.image.now.came name v _ _ c.open_sub.result (Ok c.in-Ok.sub) c.device.ensures (c.open_sub.ensures.opened c.args.section.now.device) c.in-Ok.is in
     let is = opens ∙ ap (λ n. opened_at n (sub_opened c.args.section.now.device d c.args.image.now.came name v)) c.at-at.ensures in
     let new = sub_new c.args.section.now.device d c.args.image.now.came name v j c.at-at.result c.requires.image.shaped.subs opens in
     let due = subs_taken set d.subs c.args.image.now.came j v (record { desc = no_desc; needed = AtLeast 0 }) c.requires.image.shaped.subs new.1 in
     let same = ap (λ image. subs_due set d.subs image.came) c.mark.ensures in
     let before = ap held_long c.requires.cursor.held in
-    let now = ap held_long held in
+    let now = ap held_long came.held in
     let from = c.args.cursor.now in
     let to = c.after_fields.new.self in
     let begun : Open = record { sub = Some j; version = v } in
@@ -112,12 +106,12 @@ returns-in-Ok g c =
           subst P (sym c.mark.ensures)
           (reads_as (λ n l. omega (arith, now, before))
           (λ rest left h. after_settled set names state c.args.section.now part (untyped c.args.image.now) c.requires.image.device room from to (Some rest) (Some left) (SubHead name v) (6 + length name) c.args.section.now
-          (record (untyped c.args.image.now) { came = slice_set c.args.image.now.came j (Some v) }) (Ok (Some begun)) c.requires.cursor.held held h place
-          (sub_settled set names state c.args.section.now part (untyped c.args.image.now) c.requires.image.device room from.at name v c.requires.image.shaped.subs j is)) reads);
+          (record (untyped c.args.image.now) { came = slice_set c.args.image.now.came j (Some v) }) (Ok (Some begun)) c.requires.cursor.held came.held h came.place
+          (sub_settled set names state c.args.section.now part (untyped c.args.image.now) c.requires.image.device room from.at name v c.requires.image.shaped.subs j is)) came.reads);
       section = (refl, refl);
       next = record {
         moved = omega arith;
-        held = held;
+        held = came.held;
         opens = (new.0, rw (c.mark.ensures) (at_set c.args.image.now.came j (Some v) (omega arith)));
       };
       moves = (omega arith, omega arith, omega arith);

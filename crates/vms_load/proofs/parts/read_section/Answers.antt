@@ -1,10 +1,11 @@
-use Rattle.vms_load.proofs.{ReadLemmas.goes_here, ReadLemmas.goes_on, ReadLemmas.goes_still, parts.read_section.Given.Over}
-use Rattle.vms_load.proofs.Facade.{rules, refl, ◌≡◌, ℕ, List, ◌+◌, ◌<◌, ◌≤◌, Option, Some, None, length, ap, ◌∙◌, arith, err_from_is_err_and, Result, Set, State}
-use Rattle.vms_load.proofs.Facade.{Device, GoesOn, Intake, LoadFault, Section, Typed, intake, Stand, held_long, described, device_at, Open, Onward, reach, IsMoved, part_due, subs_due}
-use Rattle.vms_load.proofs.Facade.{bytes_of_part, in_fields, after_fields, after_part, section_due, FOOT_LENGTH, LONGEST_SUB_HEAD, LONGEST_HEAD}
+use Rattle.vms_load.proofs.{parts.read_section.Given.Over, parts.read_section.Goals.After-read_fields, parts.read_section.Goals.After-read_after_fields}
+use Rattle.vms_load.proofs.Facade.{rules, refl, ◌≡◌, ℕ, List, ◌+◌, ◌<◌, ◌≤◌, Option, Some, None, length, ap, ◌∙◌, arith, Result}
+use Rattle.vms_load.proofs.Facade.{Set, State, Device, GoesOn, Intake, LoadFault, Section, Typed, intake, Stand, held_long, described, device_at, Open, Onward}
+use Rattle.vms_load.proofs.Facade.{reach, IsMoved, part_due, subs_due, bytes_of_part, in_fields, after_fields, after_part, section_due, FOOT_LENGTH}
+use Rattle.vms_load.proofs.Facade.{LONGEST_SUB_HEAD, LONGEST_HEAD}
+use Rattle.vms_load.proofs.ReadLemmas.{err_is, goes_here, goes_on, goes_still}
 use Rattle.vms_desc.specs.declared.set.DescSet.{DescSet}
 use Rattle.vms_image.specs.Typed.{state_of as untyped}
-use Rattle.vms_load.proofs.parts.read_section.Goals.{After-read_fields, After-read_after_fields}
 use Rattle.vms_load.proofs.parts.read_section.Goals as goal
 
 pub loop-next-init : goal.loop-next-init
@@ -103,33 +104,29 @@ pub returns-in_err-read_fields : goal.returns-in_err-read_fields
 returns-in_err-read_fields g c =
     let set = described c.args.set.now in
     let end = c.read_fields.new.cursor in
-    let p = err_from_is_err_and c.from_residual.result c.from_residual.ensures.1 in
-    record {
+    rw (err_is _ _ c.from_residual.ensures.1) (record {
       reads = λ names state room.
           let next : Unit {0} → Onward = λ x. after_fields set names state c.loop-next.section c.in-Some.part.sub (untyped c.read_fields.new.image) in
-          rw (p.1, p.2)
           (goes_still (Unit {0}) (Unit {0}) _ (in_fields set names state c.args.section.now None (untyped c.args.image.now)) next (λ x. after_part set names state c.loop-next.section (untyped c.read_fields.new.image) None) c.args.cursor.now end end
           c.in_err-read_fields.field-0.0 (rw c.in_err-read_fields.was at (on_fields g (goal.at.returns-in_err-read_fields g c).After-read_fields names state room)));
       section = search rules;
-      moves = rw (p.1) tt;
+      moves = tt;
       shaped = search rules;
-    }
+    })
 
 pub returns-in_err-next : goal.returns-in_err-next
 returns-in_err-next g c =
     let at = goal.at.returns-in_err-next g c in
     let end = c.read_after_fields.new.cursor in
-    let p = err_from_is_err_and c.from_residual-in_err-next.result c.from_residual-in_err-next.ensures.1 in
-    record {
+    rw (err_is _ _ c.from_residual-in_err-next.ensures.1) (record {
       reads = λ names state room.
           let next = after_part (described c.args.set.now) names state c.read_after_fields.new.section (untyped c.read_after_fields.new.image) in
-          rw (p.1, p.2)
           (goes_still (Option Open) (Unit {0}) _ (in_fields (described c.args.set.now) names state c.args.section.now None (untyped c.args.image.now)) next (λ x. next None) c.args.cursor.now end end
           c.in_err-next.field-0.0 (rw c.in_err-next.was at (on_after g at.After-read_after_fields names state room (on_fields g at.After-read_fields names state room))));
       section = search rules;
-      moves = rw (p.1) tt;
+      moves = tt;
       shaped = search rules;
-    }
+    })
 
 -- less is due with each part
 less : (set : Set) (d : Device) (came : List (Option ℕ)) (next : Option Open) (from to : Stand) (most : ℕ) → from.held ≡ None → IsMoved from to next → reach to + part_due set d came next ≤ reach from + most → 0 < most

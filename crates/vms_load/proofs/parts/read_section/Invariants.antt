@@ -1,5 +1,5 @@
-use Rattle.vms_load.proofs.Facade.{◌+◌, ◌<◌, ◌≤◌, ℕ, List, Some, None, length, intake, State, described, device_at, reach, GoesSoFar, IsSame, HoldsNone}
-use Rattle.vms_load.proofs.Facade.{OpensNext, part_due, in_fields, after_part, IsImageOf}
+use Rattle.vms_load.proofs.Facade.{◌+◌, ◌<◌, ◌≤◌, ℕ, List, Some, None, length, intake, State, described, device_at, reach, GoesSoFar, IsSame}
+use Rattle.vms_load.proofs.Facade.{HoldsNone, OpensNext, part_due, in_fields, after_part, IsImageOf}
 use Rattle.vms_image.specs.Typed.{state_of as untyped}
 use Rattle.vms_load.proofs.parts.read_section.Given as goal
 

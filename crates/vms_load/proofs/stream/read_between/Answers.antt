@@ -1,8 +1,8 @@
 use Rattle.vms_load.proofs.{stream.read_between.Given.Over, stream.read_between.Goals.After-between}
-use Rattle.vms_load.proofs.Facade.{is_configured, rules, Option, Some, None, Result, Ok, Err, IfErr, false, ◌≡◌, ◌≤◌, ◌+◌, ap, arith, err_from_is_err_and}
-use Rattle.vms_load.proofs.Facade.{reads_as, reads_both, judge, ask, Free, by_state, reading_on, described, held_long, Between, Step, Staged, LoadFault, intake}
-use Rattle.vms_load.proofs.Facade.{unit_of_step, GoesOn, IsRefused, Settles, LONGEST_HEAD, accepted_of, due_at, read_from, state_of, spot_of, spot_at, is_first}
-use Rattle.vms_load.proofs.ReadLemmas.{spent_by, goes_judged, goes_still, same_course}
+use Rattle.vms_load.proofs.Facade.{read_from, state_of, spot_of, spot_at, is_first, is_configured, rules, Option, Some, None, Result, Ok, Err, IfErr, false}
+use Rattle.vms_load.proofs.Facade.{◌≡◌, ◌≤◌, ◌+◌, ap, arith, reads_as, reads_both, judge, ask, Free, by_state, reading_on, described, held_long}
+use Rattle.vms_load.proofs.Facade.{Between, Step, Staged, LoadFault, intake, unit_of_step, GoesOn, IsRefused, Settles, LONGEST_HEAD, accepted_of, due_at}
+use Rattle.vms_load.proofs.ReadLemmas.{err_is, spent_by, goes_judged, goes_still, same_course}
 use Rattle.vms_load.proofs.StreamReads.{turn_fault, turn_settled, turn_section}
 use Rattle.vms_frames.specs.{Calls.step_long, Reads.BetweenReads}
 use Rattle.vms_frames.specs.declared.units.Step.TheVariants as steps
@@ -27,11 +27,11 @@ judged g c step new result refused place held short settled reads =
 
 pub returns-in-Ok-Configuration : goal.returns-in-Ok-Configuration
 returns-in-Ok-Configuration g c =
-    let place = rw c.in-Ok-Configuration.field-0-is at c.in-Ok-Configuration.ensures.place in
+    let came = rw c.in-Ok-Configuration.field-0-is at c.in-Ok-Configuration.ensures in
     let now = ap held_long c.in-Ok-Configuration.ensures.held in
     record {
-      reads = judged g (goal.at.returns-in-Ok-Configuration g c).After-between (steps.Configuration c.in-Ok-Configuration.name) c.configure.new.staged c.configure.result c.configure.ensures.refused place c.in-Ok-Configuration.ensures.held
-          (omega arith) (c.configure.ensures.settles (is_first c.args.between) (is_configured c.args.between)) (rw c.in-Ok-Configuration.field-0-is at c.in-Ok-Configuration.ensures.reads);
+      reads = judged g (goal.at.returns-in-Ok-Configuration g c).After-between (steps.Configuration c.in-Ok-Configuration.name) c.configure.new.staged c.configure.result c.configure.ensures.refused came.place c.in-Ok-Configuration.ensures.held
+          (omega arith) (c.configure.ensures.settles (is_first c.args.between) (is_configured c.args.between)) came.reads;
       moves = search rules;
       next = search rules;
       whole = c.configure.ensures.whole;
@@ -39,11 +39,11 @@ returns-in-Ok-Configuration g c =
 
 pub returns-in-Ok-End : goal.returns-in-Ok-End
 returns-in-Ok-End g c =
-    let place = rw c.in-Ok-End.field-0-is at c.in-Ok-End.ensures.place in
+    let came = rw c.in-Ok-End.field-0-is at c.in-Ok-End.ensures in
     let now = ap held_long c.in-Ok-End.ensures.held in
     record {
-      reads = judged g (goal.at.returns-in-Ok-End g c).After-between steps.End c.args.staged.now c.take_end_mark.result c.take_end_mark.ensures.refused place c.in-Ok-End.ensures.held (omega arith)
-          (c.take_end_mark.ensures.settles (described c.args.set.now) (accepted_of (described c.args.set.now) c.args.only) (is_first c.args.between) (is_configured c.args.between)) (rw c.in-Ok-End.field-0-is at c.in-Ok-End.ensures.reads);
+      reads = judged g (goal.at.returns-in-Ok-End g c).After-between steps.End c.args.staged.now c.take_end_mark.result c.take_end_mark.ensures.refused came.place c.in-Ok-End.ensures.held (omega arith)
+          (c.take_end_mark.ensures.settles (described c.args.set.now) (accepted_of (described c.args.set.now) c.args.only) (is_first c.args.between) (is_configured c.args.between)) came.reads;
       moves = search rules;
       next = search rules;
       whole = c.requires.can.whole;
@@ -58,21 +58,18 @@ returns-in_err-stage_section-in-Ok-Section g c =
     let from = c.args.cursor.now in
     let end = c.stage_section.new.cursor in
     let head = c.in-Ok-Section.head in
-    let reads = rw c.in-Ok-Section.field-0-is at c.in-Ok-Section.ensures.reads in
-    let place = rw c.in-Ok-Section.field-0-is at c.in-Ok-Section.ensures.place in
+    let came = rw c.in-Ok-Section.field-0-is at c.in-Ok-Section.ensures in
     let held = c.in-Ok-Section.ensures.held in
     let e = c.in_err-stage_section-in-Ok-Section.field-0.0 in
-    let p = err_from_is_err_and c.from_residual.result c.from_residual.ensures.1 in
-    record {
-      reads = rw (p.1, p.2)
-          (goes_still (Unit {0}) (Option Between) _ (go (state_of set c.args.staged.now (spot_of at))) (λ x. go (state_of set c.stage_section.new.staged (Free false false))) (λ next. go (state_of set c.stage_section.new.staged (spot_at next))) from end end e
+    rw (err_is _ _ c.from_residual.ensures.1) (record {
+      reads = (goes_still (Unit {0}) (Option Between) _ (go (state_of set c.args.staged.now (spot_of at))) (λ x. go (state_of set c.stage_section.new.staged (Free false false))) (λ next. go (state_of set c.stage_section.new.staged (spot_at next))) from end end e
           (reads_both (λ k n l m. omega arith)
           (λ all rest left h r. turn_section set names c.args.staged.now at from c.between.new.self end (Some all) (Some rest) (Some left) head c.at-at.result (state_of set c.stage_section.new.staged (Free false false)) (Err e)
-          c.requires.can.whole.came h place held c.at-at.ensures r) reads (c.in_err-stage_section-in-Ok-Section.ensures.reads names (is_first at) (is_configured at))));
-      moves = rw (p.1) tt;
-      next = rw (p.1) tt;
+          c.requires.can.whole.came h came.place held c.at-at.ensures r) came.reads (c.in_err-stage_section-in-Ok-Section.ensures.reads names (is_first at) (is_configured at))));
+      moves = tt;
+      next = tt;
       whole = c.in_err-stage_section-in-Ok-Section.ensures.whole;
-    }
+    })
 
 pub returns-in_ok-stage_section-in-Ok-Section : goal.returns-in_ok-stage_section-in-Ok-Section
 returns-in_ok-stage_section-in-Ok-Section g c =
@@ -80,15 +77,14 @@ returns-in_ok-stage_section-in-Ok-Section g c =
     let names = accepted_of set c.args.only in
     let at = c.args.between in
     let head = c.in-Ok-Section.head in
-    let reads = rw c.in-Ok-Section.field-0-is at c.in-Ok-Section.ensures.reads in
-    let place = rw c.in-Ok-Section.field-0-is at c.in-Ok-Section.ensures.place in
+    let came = rw c.in-Ok-Section.field-0-is at c.in-Ok-Section.ensures in
     let held = c.in-Ok-Section.ensures.held in
     let now = ap held_long held in
     let moves = c.in_ok-stage_section-in-Ok-Section.ensures.moves in
     record {
-      reads = reads_both (λ k n l m. omega (arith, l, m, place, now, moves.1))
+      reads = reads_both (λ k n l m. omega (arith, l, m, came.place, now, moves.1))
           (λ all rest left h r. turn_section set names c.args.staged.now at c.args.cursor.now c.between.new.self c.stage_section.new.cursor (Some all) (Some rest) (Some left) head c.at-at.result (state_of set c.stage_section.new.staged (Free false false))
-          (Ok c.in_ok-stage_section-in-Ok-Section.field-0) c.requires.can.whole.came h place held c.at-at.ensures r) reads (c.in_ok-stage_section-in-Ok-Section.ensures.reads names (is_first at) (is_configured at));
+          (Ok c.in_ok-stage_section-in-Ok-Section.field-0) c.requires.can.whole.came h came.place held c.at-at.ensures r) came.reads (c.in_ok-stage_section-in-Ok-Section.ensures.reads names (is_first at) (is_configured at));
       moves = search rules;
       next = search rules;
       whole = c.in_ok-stage_section-in-Ok-Section.ensures.whole;

@@ -1,6 +1,6 @@
-use Rattle.vms_load.proofs.{stream.sections.Given.Over, Facade.spot_at, Facade.stream_due, Facade.LONGEST_HEAD, stream.sections.Goals.After-read_between}
-use Rattle.vms_load.proofs.Facade.{rules, Option, Some, None, ap, arith, ◌+◌, err_from_is_err_and, intake, described, Between, First, GoesOn, due_at, read_from}
-use Rattle.vms_load.proofs.ReadLemmas.{goes_here, goes_on, goes_still}
+use Rattle.vms_load.proofs.{stream.sections.Given.Over, stream.sections.Goals.After-read_between, Facade.due_at, Facade.read_from}
+use Rattle.vms_load.proofs.Facade.{spot_at, stream_due, LONGEST_HEAD, rules, Option, Some, None, ap, arith, ◌+◌, intake, described, Between, First, GoesOn}
+use Rattle.vms_load.proofs.ReadLemmas.{err_is, goes_here, goes_on, goes_still}
 use Rattle.vms_load.proofs.stream.sections.Goals as goal
 
 pub loop-place-init : goal.loop-place-init
@@ -43,15 +43,13 @@ loop-place-preserved g c =
 pub returns-in_err-place : goal.returns-in_err-place
 returns-in_err-place g c =
     let end = c.read_between.new.cursor in
-    let p = err_from_is_err_and c.from_residual.result c.from_residual.ensures.1 in
-    record {
-      reads = rw (p.1, p.2)
-          (goes_still (Option Between) (Unit {0}) _ (read_from c.args.set.now c.args.only c.args.staged.now (spot_at (Some First))) (λ next. read_from c.args.set.now c.args.only c.read_between.new.staged (spot_at next))
+    rw (err_is _ _ c.from_residual.ensures.1) (record {
+      reads = (goes_still (Option Between) (Unit {0}) _ (read_from c.args.set.now c.args.only c.args.staged.now (spot_at (Some First))) (λ next. read_from c.args.set.now c.args.only c.read_between.new.staged (spot_at next))
           (λ x. read_from c.args.set.now c.args.only c.read_between.new.staged (spot_at None)) c.args.cursor.now end end c.in_err-place.field-0.0 (rw c.in_err-place.was at (on g (goal.at.returns-in_err-place g c).After-read_between)));
-      held = rw (p.1) tt;
-      moves = rw (p.1) tt;
+      held = tt;
+      moves = tt;
       whole = c.in_err-place.ensures.whole;
-    }
+    })
 
 pub loop-place-smaller : goal.loop-place-smaller
 loop-place-smaller g c =

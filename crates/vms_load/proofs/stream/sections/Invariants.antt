@@ -1,5 +1,5 @@
-use Rattle.vms_load.proofs.Facade.{◌+◌, ◌-◌, ◌≤◌, Some, intake, judge, by_state, reading_on, described, First, reach, GoesSoFar, IsOf, HoldsAt, accepted_of}
-use Rattle.vms_load.proofs.Facade.{state_of, spot_at, stream_due}
+use Rattle.vms_load.proofs.Facade.{◌+◌, ◌-◌, ◌≤◌, Some, intake, judge, by_state, reading_on, described, First, reach, GoesSoFar, IsOf, HoldsAt}
+use Rattle.vms_load.proofs.Facade.{accepted_of, state_of, spot_at, stream_due}
 use Rattle.vms_load.proofs.stream.sections.Given as goal
 
 abbrev pub invariant-loop-place : goal.invariant-loop-place

@@ -1,9 +1,9 @@
-use Rattle.vms_load.proofs.{ReadLemmas.behind_here, ReadLemmas.goes_behind, stream.stage_section.Given.Over}
+use Rattle.vms_load.proofs.{ReadLemmas.err_is, ReadLemmas.behind_here, ReadLemmas.goes_behind, stream.stage_section.Given.Over}
 use Rattle.vms_load.proofs.AfterReads.{head_unit, head_long, begun, section_refused, section_reads, ended_in, ends_later}
 use Rattle.vms_load.proofs.Facade.{rules, ◌≡◌, ◌+◌, ℕ, List, Bool, map, [], Some, None, false, length, refl, slice_set, sym, ap, ◌∙◌, subst}
-use Rattle.vms_load.proofs.Facade.{arith, err_from_is_err_and, length-set, length-map, no_desc, judge, ask, Free, by_state, reading_on, described, device_at}
-use Rattle.vms_load.proofs.Facade.{due_in, opened_at, section_due, section_opened, subs_due, AreShaped, GoesBehind, IsOf, LONGEST_HEAD, Staged, after_part}
-use Rattle.vms_load.proofs.Facade.{begun_at, in_fields, name_of, state_of, sections_due, tail_of, intake, Onward}
+use Rattle.vms_load.proofs.Facade.{arith, length-set, length-map, no_desc, judge, ask, Free, by_state, reading_on, described, device_at, due_in, opened_at}
+use Rattle.vms_load.proofs.Facade.{section_due, section_opened, subs_due, AreShaped, GoesBehind, IsOf, LONGEST_HEAD, Staged, after_part, begun_at, in_fields}
+use Rattle.vms_load.proofs.Facade.{name_of, state_of, sections_due, tail_of, intake, Onward}
 use Rattle.vms_load.proofs.HeadLemmas.{image_begun, begun_here, shaped_put, still_fresh, default_shaped, sections_taken}
 use Rattle.vms_load.proofs.stream.stage_section.Goals.{After-index_mut-image, After-read_section}
 use Rattle.vms_image.specs.Typed.{state_of as untyped}
@@ -25,19 +25,17 @@ returns-in_err-device g c =
     let set = described c.args.set.now in
     let head = c.args.head.now in
     let e = c.in_err-device.field-0.0 in
-    let p = err_from_is_err_and c.from_residual.result c.from_residual.ensures.1 in
     let is = sym (c.in_err-device.was) ∙ c.open_section.ensures.opened ∙ ap (λ came. opened_at c.args.at (section_opened set came head.name.items head.instance head.version)) c.deref.ensures.0 in
-    record {
+    rw (err_is _ _ c.from_residual.ensures.1) (record {
       reads = λ names first after.
           let next : Unit {0} → Onward = λ x. reading_on (judge (by_state set names)) (state_of set c.args.staged.now (Free false false)) in
-          rw (p.1, p.2)
           (behind_here {X = Unit {0}} (intake g.S.Source c.args.source.now) (sections_due set set.devices c.args.staged.now.came.items) (reading_on (judge (by_state set names))) (ask set names (state_of set c.args.staged.now (Free first after)) (head_unit head) (head_long head))
           next c.args.at (head_long head) c.args.cursor.now c.args.cursor.now e c.in_err-device.ensures.refused (g.met.S.Source.counted c.args.source.now)
           (λ more bytes behind. section_refused set names c.args.staged.now first after head c.args.at c.args.cursor.now bytes (Some more) next e c.requires.whole.came is behind.taken));
-      moves = rw (p.1) tt;
+      moves = tt;
       whole = c.requires.whole;
       short = c.open_section.ensures.short;
-    }
+    })
 
 pub begin_section-requires : goal.begin_section-requires
 begin_section-requires g c = record {
@@ -115,13 +113,12 @@ whole g c first now images came machine =
 pub returns-in_err-read_section : goal.returns-in_err-read_section
 returns-in_err-read_section g c =
     let at = goal.at.returns-in_err-read_section g c in
-    let p = err_from_is_err_and c.from_residual-in_err-read_section.result c.from_residual-in_err-read_section.ensures.1 in
-    record {
-      reads = λ names first after. rw (p.1, p.2) (rw c.in_err-read_section.was at (behind g at.After-read_section (began g at.After-index_mut-image) (image g at.After-index_mut-image) names first after));
-      moves = rw (p.1) tt;
+    rw (err_is _ _ c.from_residual-in_err-read_section.ensures.1) (record {
+      reads = λ names first after. (rw c.in_err-read_section.was at (behind g at.After-read_section (began g at.After-index_mut-image) (image g at.After-index_mut-image) names first after));
+      moves = tt;
       whole = whole g at.After-read_section (began g at.After-index_mut-image) _ refl refl refl;
       short = c.open_section.ensures.short;
-    }
+    })
 
 pub returns : goal.returns
 returns g c =

@@ -1,8 +1,8 @@
-use Rattle.vms_load.proofs.{StreamLengths.most_small, StreamLengths.start_due, stream.stream.Given.Over, Facade.First, ReadLemmas.goes_on}
-use Rattle.vms_load.proofs.{ReadLemmas.same_course, stream.stream.Goals.After-sections, stream.stream.Goals.After-trailer}
-use Rattle.vms_load.proofs.Facade.{LONGEST_HEAD, ◌+◌, List, ℕ, Some, None, Result, Ok, Err, true, false, sym, subst, ap, arith, err_from_is_err_and}
-use Rattle.vms_load.proofs.Facade.{intake, reads_as, reads_both, judge, reading, Before, Free, by_state, at_start, reading_on, described, held_long, FrameFault}
-use Rattle.vms_load.proofs.Facade.{GoesOn, GoesThrough, LeadsOn, ReadsAll, ReadsEnd, accepted_of, due_at, read_from, reach, state_of, spot_at, most_given}
+use Rattle.vms_load.proofs.{ReadLemmas.err_is, ReadLemmas.goes_on, ReadLemmas.same_course, StreamLengths.most_small, StreamLengths.start_due}
+use Rattle.vms_load.proofs.{stream.stream.Given.Over, stream.stream.Goals.After-sections, stream.stream.Goals.After-trailer}
+use Rattle.vms_load.proofs.Facade.{First, LONGEST_HEAD, ◌+◌, List, ℕ, Some, None, Result, Ok, Err, true, false, sym, subst, ap, arith, intake, reads_as}
+use Rattle.vms_load.proofs.Facade.{reads_both, judge, reading, Before, Free, by_state, at_start, reading_on, described, held_long, FrameFault, GoesOn}
+use Rattle.vms_load.proofs.Facade.{GoesThrough, LeadsOn, ReadsAll, ReadsEnd, accepted_of, due_at, read_from, reach, state_of, spot_at, most_given}
 use Rattle.vms_load.proofs.StreamReads.{closed, closes_at, refused_before}
 use Rattle.vms_load.proofs.stream.stream.Goals as goal
 
@@ -16,9 +16,8 @@ returns-in_err-read_head g c =
     let go = reading_on (judge (by_state set names)) in
     let start = state_of set c.restart.new.staged Before in
     let e = c.in_err-read_head.field-0.0 in
-    let p = err_from_is_err_and c.from_residual.result c.from_residual.ensures.1 in
     record {
-      reads = rw (p.1, p.2)
+      reads = rw (err_is _ _ c.from_residual.ensures.1)
           (reads_as (λ n l. omega arith)
           (λ input left h. refused_before set names {X = Unit {0}} c.restart.new.staged start (Some input) (Some left) (λ x. go (state_of set c.restart.new.staged (Free true false))) c.new-cursor.result c.read_head.new.cursor e
           c.restart.ensures.state (rw (c.new-cursor.ensures)) (rw (c.new-cursor.ensures)) h) (c.in_err-read_head.ensures.reads set names start));
@@ -49,9 +48,8 @@ on g c =
 pub returns-in_err-sections : goal.returns-in_err-sections
 returns-in_err-sections g c =
     let set = described c.args.set.now in
-    let p = err_from_is_err_and c.from_residual-in_err-sections.result c.from_residual-in_err-sections.ensures.1 in
     record {
-      reads = rw (p.1, p.2)
+      reads = rw (err_is _ _ c.from_residual-in_err-sections.ensures.1)
           (reads_as (λ n l. l)
           (λ input left. refused_before set (accepted_of set c.args.only) {X = Unit {0}} c.sections.new.staged (state_of set c.restart.new.staged Before) (Some input) (Some left)
           (λ _. read_from c.args.set.now c.args.only c.sections.new.staged (spot_at None)) c.new-cursor.result c.sections.new.cursor c.in_err-sections.field-0.0 c.restart.ensures.state (rw (c.new-cursor.ensures)) (rw (c.new-cursor.ensures)))

@@ -121,10 +121,7 @@ item_is g t c = ap (λ x. x.item) (field_is g t c)
 count_is : (g : Over) (t : ℕ) (c : goal.walk_field-After-walk_row-arg-1 g t)
     → c.present-count.result ≡ present_of (field_at (described c.args.set.now) c.args.here.spot.part c.args.field)
     c.args.here.spot.version (spot_numbers (described c.args.set.now) c.args.here.spot (g.W.Cells.numbers c.args.walker.now))
-count_is g t c =
-    c.present-count.ensures
-    ∙ ap (λ x. present_of x c.args.here.spot.version (spot_numbers (described c.args.set.now) c.args.here.spot (g.W.Cells.numbers c.args.walker.now)))
-    (field_is g t c)
+count_is g t c = rw (← field_is g t c) c.present-count.ensures
 
 -- the steps of the field are those of its elements
 steps_are : (g : Over) (t : ℕ) (c : goal.walk_field-After-walk_row-arg-1 g t) (m : List ℤ) → length m ≡ length (g.W.Cells.numbers c.args.walker.now)

@@ -1,5 +1,5 @@
-use Rattle.vms_walk.proofs.Facade.{◌≡◌, ◌+◌, ◌*◌, Ok, length, take, slots_from, described, desc_at, steps_of, table, spot_numbers, size_in, elements_slots}
-use Rattle.vms_walk.proofs.Facade.{item_rank, part_rank}
+use Rattle.vms_walk.proofs.Facade.{◌≡◌, ◌+◌, ◌*◌, Ok, length, take, slots_from, described, desc_at, steps_of, table, spot_numbers, size_in}
+use Rattle.vms_walk.proofs.Facade.{elements_slots, item_rank, part_rank}
 use Rattle.vms_walk.proofs.fields.+walk.Given as goal
 
 abbrev pub decreases-walk_item : goal.decreases-walk_item

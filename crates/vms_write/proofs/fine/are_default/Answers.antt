@@ -1,4 +1,5 @@
-use Rattle.vms_write.proofs.Facade.{◌≡◌, ℕ, suc, ◌+◌, ◌-◌, ◌&&◌, [], List, ℤ, get_or, pos, ap, sym, ◌∙◌, arith, same_number, CellForm, no_form, formed, settle}
+use Rattle.vms_write.proofs.Facade.{◌≡◌, ℕ, suc, ◌+◌, ◌-◌, ◌&&◌, [], List, ℤ, get_or, pos, ap, sym, ◌∙◌, arith, same_number}
+use Rattle.vms_write.proofs.Facade.{CellForm, no_form, formed, settle}
 use Rattle.vms_write.proofs.fine.are_default.Goals as goal
 
 one_more : (f : List CellForm) (n : List ℤ) (at left more : ℕ) → left ≡ suc more

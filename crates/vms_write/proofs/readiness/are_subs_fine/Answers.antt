@@ -1,5 +1,5 @@
-use Rattle.vms_write.proofs.Facade.{◌+◌, ◌&&◌, drop, ap, sym, ◌∙◌, arith, own_cells, first_cell, described, device_at, state_of, sub_first, subs_fine, forms_of}
-use Rattle.vms_write.proofs.Sections.{subs_fine_next}
+use Rattle.vms_write.proofs.{Facade.subs_fine, Facade.forms_of, Sections.subs_fine_next}
+use Rattle.vms_write.proofs.Facade.{◌+◌, ◌&&◌, drop, ap, sym, ◌∙◌, arith, own_cells, first_cell, described, device_at, state_of, sub_first}
 use Rattle.vms_spec.specs.declared.Part.TheVariants as parts
 use Rattle.vms_write.proofs.readiness.are_subs_fine.Goals as goal
 

@@ -1,5 +1,5 @@
-use Rattle.vms_write.proofs.{Facade.forms_of, Sections.formed_defaults, Sections.formed_long}
-use Rattle.vms_write.proofs.Facade.{◌≡◌, ap, ◌∙◌, arith, [], ◌+◌, ◌-◌, own_cell_count, described, device_at, sub_at, sub_inside, settle}
+use Rattle.vms_write.proofs.Facade.{forms_of, ◌≡◌, arith, ◌+◌, ◌-◌, own_cell_count, described, device_at, sub_at, sub_inside}
+use Rattle.vms_write.proofs.Sections.{formed_defaults, formed_long}
 use Rattle.vms_write.proofs.readiness.is_bare.Goals as goal
 
 pub overflow_add-end : goal.overflow_add-end
@@ -23,4 +23,4 @@ returns c =
     let count = own_cell_count set (sub_at (device_at set c.args.device) c.args.sub).desc in
     let first = c.first_cell-first.result in
     let exact : (first + c.cells_of.result) - first ≡ count = omega (arith, sub_inside set c.args.device c.args.sub c.requires.is_sub) in
-    c.are_default.ensures ∙ ap (λ fs. settle [] fs n first ((first + c.cells_of.result) - first)) (formed_defaults set c.args.device c.defaults.result.now c.defaults.ensures.defaults) ∙ ap (settle [] forms n first) exact ∙ ap (λ k. settle [] forms n k count) c.first_cell-first.ensures
+    rw (c.are_default.ensures, formed_defaults set c.args.device c.defaults.result.now c.defaults.ensures.defaults, exact, c.first_cell-first.ensures)

@@ -1,4 +1,5 @@
-use Rattle.vms_write.proofs.Facade.{rules, OnTrue_from, OnFalse_from, OnFalse_at, ◌≡◌, sym, ◌∙◌, true, false, IsReady, described, device_at, IsImageOf, state_of}
+use Rattle.vms_write.proofs.Facade.{rules, OnTrue_from, OnFalse_from, OnFalse_at, ◌≡◌, sym, ◌∙◌, true, false, IsReady, described, device_at}
+use Rattle.vms_write.proofs.Facade.{IsImageOf, state_of}
 use Rattle.vms_write.proofs.readiness.may_be_written.Goals as goal
 
 pub ready-requires-clause-subs : goal.ready-requires-clause-subs

@@ -1,5 +1,5 @@
-use Rattle.vms_write.proofs.Facade.{◌≡◌, ◌&&◌, arith, sym, ◌∙◌, refl, Bool, true, false, OnTrue, OnFalse, IsReady, described, device_at, state_of}
-use Rattle.vms_write.proofs.Facade.{IsOfDevice, few_cells, good_of, forms_of, all_subs_fine}
+use Rattle.vms_write.proofs.Facade.{◌≡◌, ◌&&◌, arith, sym, ◌∙◌, refl, Bool, true, false, OnTrue, OnFalse, IsReady, described, device_at}
+use Rattle.vms_write.proofs.Facade.{state_of, IsOfDevice, few_cells, good_of, forms_of, all_subs_fine}
 use Rattle.vms_write.proofs.FineReady.{device_fine, ready_by, other_by}
 use Rattle.vms_write.proofs.readiness.ready.Goals.{After-is_own_fine, Start}
 use Rattle.vms_write.proofs.readiness.ready.Goals as goal
@@ -30,22 +30,14 @@ is_own_fine-requires c = record { device = of_device c }
 pub are_subs_fine-requires : goal.are_subs_fine-requires
 are_subs_fine-requires c = record { device = of_device (goal.at.are_subs_fine-requires c).Start }
 
-pub returns-then-is_own_fine-clause-ready : goal.returns-then-is_own_fine-clause-ready
-returns-then-is_own_fine-clause-ready c =
-    let h = goal.at.returns-then-is_own_fine-clause-ready c in
-    (judged h.Start _ (c.are_subs_fine.ensures ∙ fine h.After-is_own_fine true c.if-is_own_fine.true)).0
+pub returns-then-is_own_fine : goal.returns-then-is_own_fine
+returns-then-is_own_fine c =
+    let h = goal.at.returns-then-is_own_fine c in
+    let r = judged h.Start _ (c.are_subs_fine.ensures ∙ fine h.After-is_own_fine true c.if-is_own_fine.true) in
+    record { ready = r.0; other = r.1 }
 
-pub returns-then-is_own_fine-clause-other : goal.returns-then-is_own_fine-clause-other
-returns-then-is_own_fine-clause-other c =
-    let h = goal.at.returns-then-is_own_fine-clause-other c in
-    (judged h.Start _ (c.are_subs_fine.ensures ∙ fine h.After-is_own_fine true c.if-is_own_fine.true)).1
-
-pub returns-else-is_own_fine-clause-ready : goal.returns-else-is_own_fine-clause-ready
-returns-else-is_own_fine-clause-ready c =
-    let h = goal.at.returns-else-is_own_fine-clause-ready c in
-    (judged h.Start _ (c.if-is_own_fine.false ∙ fine h.After-is_own_fine false c.if-is_own_fine.false)).0
-
-pub returns-else-is_own_fine-clause-other : goal.returns-else-is_own_fine-clause-other
-returns-else-is_own_fine-clause-other c =
-    let h = goal.at.returns-else-is_own_fine-clause-other c in
-    (judged h.Start _ (c.if-is_own_fine.false ∙ fine h.After-is_own_fine false c.if-is_own_fine.false)).1
+pub returns-else-is_own_fine : goal.returns-else-is_own_fine
+returns-else-is_own_fine c =
+    let h = goal.at.returns-else-is_own_fine c in
+    let r = judged h.Start _ (c.if-is_own_fine.false ∙ fine h.After-is_own_fine false c.if-is_own_fine.false) in
+    record { ready = r.0; other = r.1 }

@@ -1,7 +1,7 @@
-use Rattle.vms_write.proofs.{Sections.sections_at, stream.write_sections.Given.Over, stream.write_sections.Goals.After-write_section-arg-1}
-use Rattle.vms_write.proofs.Facade.{◌≡◌, ◌+◌, ◌<◌, ◌++◌, length, drop, map, arith, refl, Some, slice_get, err_from_is_err_and, slice_get-get_or, described}
-use Rattle.vms_write.proofs.Facade.{device_at, state_of, states_long, state_at, at_state, image_at, leaves_all, leaves_rest, leaves_stop, wrote_fault}
-use Rattle.vms_write.proofs.Facade.{written_section, written_sections}
+use Rattle.vms_write.proofs.{stream.write_sections.Given.Over, stream.write_sections.Goals.After-write_section-arg-1, Facade.written_sections}
+use Rattle.vms_write.proofs.Facade.{◌≡◌, ◌+◌, ◌<◌, ◌++◌, length, drop, map, arith, refl, Some, slice_get, slice_get-get_or, described}
+use Rattle.vms_write.proofs.Facade.{device_at, state_of, states_long, state_at, at_state, image_at, leaves_all, leaves_rest, leaves_stop, written_section}
+use Rattle.vms_write.proofs.Sections.{failed, sections_at}
 use Rattle.vms_write.proofs.stream.write_sections.Goals as goal
 
 pub loop-device-init : goal.loop-device-init
@@ -38,5 +38,4 @@ write_section-requires-clause-ready g c =
 pub returns-in_err-write_section : goal.returns-in_err-write_section
 returns-in_err-write_section g c =
     let next = next_section g (goal.at.returns-in_err-write_section g c).After-write_section-arg-1 in
-    let p = err_from_is_err_and c.from_residual.result c.from_residual.ensures.1 in
-    wrote_fault _ _ p.1 (leaves_stop _ next c.loop-device.invariant c.in_err-write_section.ensures)
+    failed _ _ c.from_residual.ensures.1 (leaves_stop _ next c.loop-device.invariant c.in_err-write_section.ensures)

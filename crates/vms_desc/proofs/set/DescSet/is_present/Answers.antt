@@ -1,6 +1,5 @@
-use Rattle.vms_desc.proofs.{Facade.own_numbers, Facade.described, set.DescSet.is_present.Given.Over, set.DescSet.is_present.Goals.After-deref}
-use Rattle.vms_desc.proofs.AskLaws.{field_names}
-use Rattle.vms_desc.proofs.Facade.{◌≡◌, ◌∙◌, sym, ap, Option, Some, option_map, Formula, is_there, no_parent, field_of, formula, formula_in}
+use Rattle.vms_desc.proofs.{Facade.formula, Facade.formula_in, set.DescSet.is_present.Given.Over, set.DescSet.is_present.Goals.After-deref, AskLaws.field_names}
+use Rattle.vms_desc.proofs.Facade.{own_numbers, described, ◌≡◌, ◌∙◌, sym, ap, Option, Some, option_map, Formula, is_there, no_parent, field_of}
 use Rattle.vms_desc.proofs.set.DescSet.is_present.Goals as goal
 
 -- the test that the code found
@@ -21,6 +20,5 @@ holds_test-requires g c =
 pub returns-in-Some : goal.returns-in-Some
 returns-in-Some g c =
     let own = own_numbers (described c.args.self.now) c.args.part (g.C.Cells.numbers c.args.cells.now) c.args.base in
-    c.holds_test.ensures
-    ∙ ap (λ (t : Option Formula). is_there t c.args.field.now.since c.args.version own no_parent)
+    c.holds_test.ensures ∙ ap (λ (t : Option Formula). is_there t c.args.field.now.since c.args.version own no_parent)
     (sym (test_is g (goal.at.returns-in-Some g c).After-deref))

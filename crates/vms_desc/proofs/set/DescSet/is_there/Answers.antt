@@ -1,6 +1,5 @@
-use Rattle.vms_desc.proofs.AskLaws.{field_found}
-use Rattle.vms_desc.proofs.Facade.{◌∙◌, ap, described}
-use Rattle.vms_desc.specs.Calls.{is_present_in}
+use Rattle.vms_desc.proofs.{AskLaws.field_found, Facade.◌∙◌, Facade.ap, Facade.described}
+use Rattle.vms_desc.specs.{Calls.is_present_in}
 use Rattle.vms_desc.proofs.set.DescSet.is_there.Goals as goal
 
 pub is_present-requires : goal.is_present-requires
@@ -12,6 +11,5 @@ is_present-requires g c = record {
 
 pub returns : goal.returns
 returns g c =
-    c.is_present.ensures
-    ∙ ap (λ f. is_present_in c.args.self.now c.args.part c.args.base f c.args.version (g.C.Cells.numbers c.args.cells.now))
+    c.is_present.ensures ∙ ap (λ f. is_present_in c.args.self.now c.args.part c.args.base f c.args.version (g.C.Cells.numbers c.args.cells.now))
     (field_found (described c.args.self.now) c.args.part _ _ c.args.field _ c.desc.ensures c.as_slice.ensures c.requires.field c.index-as_slice-field.is)

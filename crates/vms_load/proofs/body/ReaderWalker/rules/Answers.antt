@@ -1,5 +1,4 @@
-use Rattle.vms_load.proofs.Facade.{refl, intake, told}
-use Rattle.vms_load.proofs.{BodyLemmas.rule_fills, RunReads.on_any}
+use Rattle.vms_load.proofs.{Facade.refl, Facade.intake, Facade.told, BodyLemmas.rule_fills, RunReads.on_any}
 use Rattle.vms_load.proofs.body.ReaderWalker.rules.Goals as goal
 
 pub returns : goal.returns

@@ -1,7 +1,8 @@
-use Rattle.vms_load.proofs.Facade.{rules, ◌≡◌, ◌*◌, ◌/◌, ◌<◌, ◌≤◌, [], take, drop, None, refl, sym, ap, ◌∙◌, arith, err_from_is_err_and}
+use Rattle.vms_load.proofs.ReadLemmas.{err_is}
+use Rattle.vms_load.proofs.Facade.{rules, ◌≡◌, ◌*◌, ◌/◌, ◌<◌, ◌≤◌, [], take, drop, None, refl, sym, ap, ◌∙◌, arith}
 use Rattle.vms_load.proofs.Facade.{intake, takes_as, width, run_each, IsOfKind, fills_none}
-use Rattle.vms_walk.specs.declared.step.WalkStep.TheVariants.{Number}
 use Rattle.vms_load.proofs.RunReads.{run_first, took_run, failed_run, cut_run, all_came, part_came}
+use Rattle.vms_walk.specs.declared.step.WalkStep.TheVariants.{Number}
 use Rattle.vms_load.proofs.body.ReaderWalker.run.Goals as goal
 
 pub codes-requires-clause-place : goal.codes-requires-clause-place
@@ -26,9 +27,8 @@ put_codes-requires-clause-one g c = λ k from below.
 pub returns-in_err-came : goal.returns-in_err-came
 returns-in_err-came g c =
     let a = c.args.self.now in
-    let p = err_from_is_err_and c.from_residual.result c.from_residual.ensures.1 in
     let wide : c.args.count * c.width-width.result ≡ c.args.count * width c.args.kind = rw (c.width-width.ensures) in
-    rw (p.1, p.2, c.in_err-came.ensures.failed.0)
+    rw (err_is _ _ c.from_residual.ensures.1, c.in_err-came.ensures.failed.0)
     (refl, refl, refl, failed_run (intake g.S.Source a.source.now) (intake g.S.Source c.codes.new.source) a.image.now c.args.first c.args.count a.cursor.now.at c.args.kind c.requires.number _ _ c.in_err-came.ensures.failed.1 (search (rules, wide)), λ e. tt)
 
 pub returns : goal.returns

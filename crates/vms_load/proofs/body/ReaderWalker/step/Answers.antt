@@ -1,6 +1,4 @@
-use Rattle.vms_load.proofs.Facade.{refl, arith, intake, Told, told}
-use Rattle.vms_load.proofs.RunReads.{step_fills}
-use Rattle.vms_load.proofs.body.ReaderWalker.step.Given.{Over}
+use Rattle.vms_load.proofs.{Facade.refl, Facade.arith, Facade.intake, Facade.Told, Facade.told, RunReads.step_fills, body.ReaderWalker.step.Given.Over}
 use Rattle.vms_load.proofs.body.ReaderWalker.step.Goals.{Start, After-read_step}
 use Rattle.vms_load.proofs.body.ReaderWalker.step.Goals as goal
 

@@ -1,13 +1,13 @@
-use Rattle.vms_spots.proofs.{Facade.length, Facade.with_items, Facade.with_items_is, RunLaws.codes_seen, PutLaws.puts_codes}
-use Rattle.vms_spots.proofs.Facade.{held, IsHeld, put_from, values_of, rules, ◌≡◌, ◌∙◌, ap, arith, ℕ, List, take, drop, ◌+◌, ◌-◌, ◌<◌, ◌≤◌, ◌++◌}
+use Rattle.vms_spots.proofs.{Facade.length, Facade.with_items, Facade.with_items_is, RunLaws.codes_seen, PutLaws.puts_codes, BufferLaws.Holds}
+use Rattle.vms_spots.proofs.Facade.{put_from, values_of, rules, ◌≡◌, ap, arith, List, ℕ, take, drop, ◌+◌, ◌-◌, ◌<◌, ◌≤◌, ◌++◌}
 use Rattle.vms_spots.proofs.buffer.Buffer.put_codes.Goals as goal
 
 pub slice_bounds-copy_from_slice-end : goal.slice_bounds-copy_from_slice-end
 slice_bounds-copy_from_slice-end c =
-    let s = c.index.result.now in
     let some : 0 < c.args.count = omega arith in
-    let seen = codes_seen c.self.inside.spots.items c.self.inside.bytes.items c.args.first c.args.count c.args.kind s c.args.self.now c.self.view_is c.self.invariant some c.requires.room c.requires.one c.index.ensures in
-    let inside : s.offset + length c.args.codes.now ≤ length c.deref_mut.result.now = omega (arith, seen.0, c.requires.long, ap length c.deref_mut.ensures.value) in
+    let seen = codes_seen c.self.view_is c.self.invariant some c.requires.room c.requires.one c.index.ensures in
+    let inside : c.index.result.now.offset + length c.args.codes.now ≤ length c.deref_mut.result.now =
+    omega (arith, seen.0, c.requires.long, ap length c.deref_mut.ensures.value) in
     search (rules, inside)
 
 -- the bytes afterwards
@@ -17,23 +17,21 @@ after c =
     take c.index.result.now.offset c.deref_mut.result.now ++ (c.copy_from_slice.new.self ++ drop n (drop c.index.result.now.offset c.deref_mut.result.now))
 
 stored : (c : goal.After-self-1)
-    → let bytes = (with_items c.self.inside.bytes (after c)).items in
-    IsHeld c.self.inside.spots.items bytes
-    × (held c.self.inside.spots.items bytes ≡ record c.args.self.now { numbers = put_from c.args.self.now.numbers c.args.first (values_of c.args.kind c.args.count c.args.codes.now) })
+    → let numbers = put_from c.args.self.now.numbers c.args.first (values_of c.args.kind c.args.count c.args.codes.now) in
+    Holds c.self.inside.spots.items (record c.args.self.now { numbers = numbers }) (with_items c.self.inside.bytes (after c)).items
 stored c =
     let s = c.index.result.now in
     let codes = c.args.codes.now in
     let n = (s.offset + length codes) - s.offset in
     let some : 0 < c.args.count = omega arith in
     let new : after c ≡ take s.offset c.self.inside.bytes.items ++ (codes ++ drop n (drop s.offset c.self.inside.bytes.items)) =
-    ap (λ (l : List ℕ). take s.offset l ++ (c.copy_from_slice.new.self ++ drop n (drop s.offset l))) c.deref_mut.ensures.value
-    ∙ ap (λ (l : List ℕ). take s.offset c.self.inside.bytes.items ++ (l ++ drop n (drop s.offset c.self.inside.bytes.items))) c.copy_from_slice.ensures.after in
-    let r = puts_codes c.self.inside.spots.items c.self.inside.bytes.items (after c) codes c.args.first c.args.count n c.args.kind s c.args.self.now c.self.view_is c.self.invariant some
-    c.requires.room c.requires.one c.requires.number c.requires.long (λ i. omega (arith, c.type_inv.codes i)) c.index.ensures (omega arith) new in
-    rw (with_items_is c.self.inside.bytes (after c) (omega (arith, ap length c.deref_mut.ensures.value))) (r.0, r.1)
+    cc (c.deref_mut.ensures.value, c.copy_from_slice.ensures.after) in
+    rw (with_items_is c.self.inside.bytes (after c) (omega (arith, ap length c.deref_mut.ensures.value)))
+    (puts_codes (after c) codes n c.self.view_is c.self.invariant some c.requires.room c.requires.one c.requires.number c.requires.long
+    (λ i. omega (arith, c.type_inv.codes i)) c.index.ensures (omega arith) new)
 
 pub invariant_of-self : goal.invariant_of-self
-invariant_of-self c = (stored c).0
+invariant_of-self c = (stored c).held_is
 
 pub returns : goal.returns
-returns c = (stored c).1
+returns c = (stored c).seen_is
