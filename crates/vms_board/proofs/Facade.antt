@@ -1,9 +1,8 @@
 -- The names of other crates, and of this crate's `specs`, that the proofs use.
-pub use Rattle.std.proofs.{lemmas.Bool.agree_below_at, lemmas.Bool.leb-true, lemmas.Option.slice_get-get_or, lemmas.Result.err_from_is_err_and}
+pub use Rattle.std.proofs.{lemmas.Bool.leb-true, lemmas.Option.slice_get-get_or, lemmas.Result.err_from_is_err_and}
 pub use Rattle.std.proofs.Common.{Err, IfSome, List, None, Ok, Option, Result, Some, [], ap, arith, drop, get_or, inl, inr, length, map, pos, refl, subst, suc}
-pub use Rattle.std.proofs.Common.{sym, take, true, zero, ℕ, ℤ, ◌+◌, ◌-◌, ◌<◌, ◌∙◌, ◌∷◌, ◌≡◌, ◌≤◌}
+pub use Rattle.std.proofs.Common.{sym, take, zero, ℕ, ℤ, ◌+◌, ◌-◌, ◌<◌, ◌∙◌, ◌∷◌, ◌≡◌, ◌≤◌}
 pub use Rattle.std.proofs.lemmas.List.{ext_get_or, get_or-map, length-map, take_rest}
-pub use Rattle.std.specs.Prelude.{nat_le}
 pub use Rattle.std.specs.{List.slice_get}
 pub use Rattle.vms_kinds.specs.{Codes.InRange, declared.Kind.Kind, declared.Kind.TheVariants.U8, declared.TheConstants.MOST_CELLS}
 pub use Rattle.vms_spec.specs.{Images.FitCells, Images.Image, Layout.device_cells, Layout.no_cell, Layout.no_desc, Streams.AreReady, Streams.written}
@@ -22,7 +21,6 @@ pub use Rattle.vms_image.proofs.Made.{same_image}
 pub use Rattle.vms_image.specs.Typed.{AreImagesOf, IsImageOf, Typed, state_of}
 pub use Rattle.vms_io.proofs.{ReadingLemmas.reads_as, ReadingLemmas.reads_told, WritingLemmas.puts_as, WritingLemmas.stops_as}
 pub use Rattle.vms_io.specs.{Told.Intake, Told.Outlet, Writing.Stops}
-pub use Rattle.vms_load.specs.declared.fault.LoadFault.{LoadFault}
 pub use Rattle.vms_load.specs.{Going.LoadReads, Lean.has, Lean.loads, Lean.taken_by, Loads.Loads, Staging.accepted_of, Staging.most_given, Staging.name_of}
 pub use Rattle.vms_parts.specs.Views.{device_of}
 pub use Rattle.vms_rtc.specs.declared.limits.TheConstants.{NEWEST_CLOCK}

@@ -1,11 +1,11 @@
 -- The images of a board of any family, and those of a clock board.
-use Rattle.vms_board.proofs.Facade.{AreImagesOf, AreReady, ArrayVec, AtLeast, BoardCells, ClockCells, Device, Err, Family, FitCells, FitDevice, Image}
-use Rattle.vms_board.proofs.Facade.{IsImageOf, List, MOST_CELLS, MaySaveIn, NEWEST, NEWEST_CLOCK, None, Outlet, Result, SaveFault, Saves, Set, Some, Stands}
-use Rattle.vms_board.proofs.Facade.{Stops, Sub, Typed, U8, [], agree_below_at, ap, arith, bare, cells_in, clock_set, described_text, device_at, device_cells}
-use Rattle.vms_board.proofs.Facade.{drop, ext_get_or, first, get_or, get_or-map, image_of, images_of, images_saved, kinds_at, leb-true, length, length-map, map}
-use Rattle.vms_board.proofs.Facade.{nat_le, needed_at, needed_from, no_cell, no_desc, pos, refl, same_at, same_image, saved_stream, shipped_set, slice_get}
-use Rattle.vms_board.proofs.Facade.{slice_get-get_or, state_of, stops_as, stream_with, suc, sym, take, take_rest, true, typed_of, version_needed, written, zero}
-use Rattle.vms_board.proofs.Facade.{ℕ, ℤ, ◌+◌, ◌-◌, ◌<◌, ◌∙◌, ◌∷◌, ◌≡◌, ◌≤◌}
+use Rattle.vms_board.proofs.Facade.{map, Some, subst, ◌≡◌, ℕ, zero, suc, ◌+◌, ◌<◌, ◌≤◌, List, [], ◌∷◌, length, get_or, None, ℤ}
+use Rattle.vms_board.proofs.Facade.{pos, refl, sym, ap, ◌∙◌, arith, ◌-◌, Result, Err, slice_get, ext_get_or, length-map, get_or-map, slice_get-get_or}
+use Rattle.vms_board.proofs.Facade.{same_at, kinds_at, InRange, Kind, U8, device_at, same_image, Typed, state_of, IsImageOf, AreImagesOf, Image, FitCells}
+use Rattle.vms_board.proofs.Facade.{no_desc, no_cell, device_cells, AtLeast, Sub, Device, Set, bare, image_of, images_of, needed_from, AreReady, written}
+use Rattle.vms_board.proofs.Facade.{FitDevice, typed_of, needed_at, version_needed, stops_as, Outlet, Stops, described_text, Family, MaySaveIn, Stands}
+use Rattle.vms_board.proofs.Facade.{images_saved, saved_stream, stream_with, Saves, SaveFault, take, drop, leb-true, take_rest, MOST_CELLS, NEWEST, shipped_set}
+use Rattle.vms_board.proofs.Facade.{clock_set, first, ArrayVec, BoardCells, ClockCells, cells_in, NEWEST_CLOCK}
 use Rattle.dev_images.specs.Images.{cells_in as board_cells_in}
 use Rattle.vms_board.specs.declared.save.SaveFault.TheVariants as faults
 
@@ -39,12 +39,17 @@ needed-long set d image i (s ∷ subs) = ap suc (needed-long set d image (suc i)
 no_sub : Sub
 no_sub = record { desc = no_desc; needed = AtLeast 0 }
 
-needed-get : (set : Set) (d : Device) (image : Image) (i : ℕ) (subs : List Sub) (k j : ℕ) → j ≡ i + k → k < length subs
-    → get_or (needed_from set d image i subs) k None ≡ version_needed set d image (get_or subs k no_sub) j
+needed-get : (set : Set) (d : Device) (image : Image) (i : ℕ) (subs : List Sub) (k : ℕ) → k < length subs
+    → get_or (needed_from set d image i subs) k None ≡ version_needed set d image (get_or subs k no_sub) (i + k)
 unfolding no_sub
-needed-get set d image i [] k j is lt = absurd (omega arith)
-needed-get set d image i (s ∷ subs) zero j is lt = let e : i ≡ j = omega arith in rw e
-needed-get set d image i (s ∷ subs) (suc k) j is lt = needed-get set d image (suc i) subs k j (omega arith) (omega arith)
+needed-get set d image i [] k lt = absurd (omega arith)
+needed-get set d image i (s ∷ subs) zero lt = let e : i ≡ i + zero = omega arith in ap (λ (n : ℕ). version_needed set d image s n) e
+needed-get set d image i (s ∷ subs) (suc k) lt =
+    needed-get set d image (suc i) subs k (omega arith) ∙ ap (λ (n : ℕ). version_needed set d image (get_or subs k no_sub) n) (omega arith)
+
+from-zero : (set : Set) (d : Device) (image : Image) (k : ℕ) → version_needed set d image (get_or d.subs k no_sub) (0 + k) ≡ needed_at set d image k
+unfolding no_sub
+from-zero set d image k = let e : 0 + k ≡ k = omega arith in ap (λ (n : ℕ). version_needed set d image (get_or d.subs k no_sub) n) e
 
 pub marked_all : (set : Set) (d : Device) (image old : Typed) (sub : ℕ) → Marked set d image old sub → length d.subs ≤ sub
     → image ≡ record old { came = needed_from set d (state_of old) 0 d.subs }
@@ -52,7 +57,8 @@ unfolding no_sub
 marked_all set d image old sub m all =
     same_image image (record old { came = needed_from set d (state_of old) 0 d.subs }) m.version
     (ext_get_or None image.came (needed_from set d (state_of old) 0 d.subs) (m.long ∙ sym (needed-long set d (state_of old) 0 d.subs))
-    (λ k lt. m.marked k (omega arith) ∙ sym (needed-get set d (state_of old) 0 d.subs k k (omega arith) (omega arith))))
+    (λ k lt. m.marked k (omega arith) ∙ sym
+    (needed-get set d (state_of old) 0 d.subs k (omega arith) ∙ from-zero set d (state_of old) k)))
     m.numbers m.kinds
 
 -- ---- an image of each device
@@ -95,7 +101,7 @@ fit-device set k numbers f =
         long = cc;
         fits = λ c lt.
             let within : c < length cells = omega arith in
-            rw (get_or-map (λ x. x.kind) cells c no_cell U8 within) (f.fits c within).0;
+            subst (λ (kind : Kind). InRange kind (get_or numbers c (pos 0))) (sym (get_or-map (λ x. x.kind) cells c no_cell U8 within)) (f.fits c within).0;
       };
     }
 
@@ -151,7 +157,7 @@ module _ (set : Set) (lists : List (List ℤ)) (images : List Typed) (device : �
         let below = at_below images k image here in
         let is : image ≡ typed_of set k (get_or lists k []) =
         same_at images k _ _ here (slice_get-get_or images k no_typed below) ∙ m.each k (omega (arith, below, m.long)) in
-        rw is (is-of set k (get_or lists k []) (fit_each set lists r k (omega arith)));
+        subst (λ (i : Typed). IsImageOf set k i) (sym is) (is-of set k (get_or lists k []) (fit_each set lists r k (omega arith)));
   }
 
 -- the images below an index are filled again
@@ -183,14 +189,14 @@ listed set own lists k r e lt = omega (arith, ap (λ (x : Set). length x.devices
 pub fits_of : (set own : Set) (lists : List (List ℤ)) (k : ℕ) (numbers : List ℤ) → AreReady own (images_of own own.devices lists) → set ≡ own
     → numbers ≡ get_or lists k [] → k < length set.devices → FitDevice set k numbers
 fits_of set own lists k numbers r e f lt =
-    rw f (fit_each set lists (rw (← e) at r) k lt)
+    subst (λ (n : List ℤ). FitDevice set k n) (sym f) (fit_each set lists (subst (λ (x : Set). AreReady x (images_of x x.devices lists)) (sym e) r) k lt)
 
 pub all_made : (set own : Set) (lists : List (List ℤ)) (images : List Typed) (device : ℕ) → AreReady own (images_of own own.devices lists) → set ≡ own
     → Made set lists images device → device ≡ length set.devices
     → (map state_of images ≡ images_of own own.devices lists) × AreImagesOf set images
 all_made set own lists images device r e m d =
-    let ready = rw (← e) at r in
-    (rw (← e) (made_states set lists images device ready m d), made_of set lists images device ready m d)
+    let ready = subst (λ (x : Set). AreReady x (images_of x x.devices lists)) (sym e) r in
+    (made_states set lists images device ready m d ∙ ap (λ (x : Set). images_of x x.devices lists) e, made_of set lists images device ready m d)
 
 -- ---- The bytes that a save writes.
 
@@ -198,7 +204,7 @@ module _ {S : Type 0} (f : Family S) {IsSound : S → Type 0} {AreTold : List (L
   -- a sound board's machine has its index in a set under which the board may be saved
   pub machine_named : (d m : S) (s : ℕ) → IsSound d → d ≡ m → MaySaveIn f m s → slice_get (f.set s).machines (f.number m - 1) ≡ Some (f.machine (f.number m))
   machine_named d m s sound e may =
-      stands.named (f.number m) s (rw e at (stands.numbered d sound).first) may.level_le_set may.set_le_newest
+      stands.named (f.number m) s (subst (λ (x : S). 1 ≤ f.number x) e (stands.numbered d sound).first) may.level_le_set may.set_le_newest
 
   pub machine_below : (d m : S) (s : ℕ) (set : Set) (machine : ℕ) → IsSound d → d ≡ m → MaySaveIn f m s → machine ≡ f.number d - 1 → set ≡ f.set s
       → machine < length set.machines
@@ -225,7 +231,7 @@ module _ {S : Type 0} (f : Family S) where
 
 pub saves_some : {bytes found : List ℕ} {old new : Outlet} (r : Result (Unit {0}) SaveFault) → found ≡ bytes → r ≡ Err faults.WriteFault
     → Stops old new found → Saves bytes old new r
-saves_some {bytes} {found} {old} {new} r e f h = rw f (stops_as e h)
+saves_some {bytes} {found} {old} {new} r e f h = subst (λ (x : Result (Unit {0}) SaveFault). Saves bytes old new x) (sym f) (stops_as e h)
 
 -- ---- images of the newest clock set, and the room for the numbers of the boards without a clock chip
 
@@ -233,16 +239,22 @@ saves_some {bytes} {found} {old} {new} r e f h = rw f (stops_as e h)
 
 few : (k : ℕ) → k < 5 → length (device_cells (shipped_set NEWEST) (device_at (shipped_set NEWEST) k)) ≤ MOST_CELLS
 unfolding first
-few k lt =
-    leb-true _ MOST_CELLS (agree_below_at (λ k. nat_le (length (device_cells (shipped_set NEWEST) (device_at (shipped_set NEWEST) k))) MOST_CELLS) (λ k. true) 5 k refl lt)
+few zero lt = leb-true (length (device_cells (shipped_set NEWEST) (device_at (shipped_set NEWEST) 0))) MOST_CELLS refl
+few (suc zero) lt = leb-true (length (device_cells (shipped_set NEWEST) (device_at (shipped_set NEWEST) 1))) MOST_CELLS refl
+few (suc (suc zero)) lt = leb-true (length (device_cells (shipped_set NEWEST) (device_at (shipped_set NEWEST) 2))) MOST_CELLS refl
+few (suc (suc (suc zero))) lt = leb-true (length (device_cells (shipped_set NEWEST) (device_at (shipped_set NEWEST) 3))) MOST_CELLS refl
+few (suc (suc (suc (suc zero)))) lt = leb-true (length (device_cells (shipped_set NEWEST) (device_at (shipped_set NEWEST) 4))) MOST_CELLS refl
+few (suc (suc (suc (suc (suc k))))) lt = absurd (omega arith)
 
 -- there are five images, each with room for its numbers among those of a device
+five_of : (images : List Typed) → AreImagesOf (shipped_set NEWEST) images → length images ≡ 5
+five_of images s = s.one_each
+
 pub room : (images : List Typed) (k : ℕ) (image : Typed) → AreImagesOf (shipped_set NEWEST) images → k < 5 → image ≡ get_or images k image
     → length image.numbers ≤ MOST_CELLS
 room images k image s lt is =
     let most = few k lt in
-    let five : length images ≡ 5 = s.one_each in
-    omega (arith, (s.each k image (cc (slice_get-get_or images k image (omega arith)))).cells)
+    omega (arith, (s.each k image (cc (slice_get-get_or images k image (omega (arith, (five_of images s), lt))))).cells)
 
 -- ---- Images of the newest clock set: the chip's, then those of the newest shipped set.
 
@@ -251,12 +263,14 @@ unfolding first
 chip-few = leb-true (length (device_cells (clock_set NEWEST_CLOCK) (device_at (clock_set NEWEST_CLOCK) 0))) MOST_CELLS refl
 
 -- there is one for the chip, with room for its numbers
+six_of : (images : List Typed) → AreImagesOf (clock_set NEWEST_CLOCK) images → length images ≡ 6
+six_of images are = are.one_each
+
 pub chip_room : (images : List Typed) (image : Typed) → AreImagesOf (clock_set NEWEST_CLOCK) images → image ≡ get_or images 0 image
     → length image.numbers ≤ MOST_CELLS
 chip_room images image are is =
     let most = chip-few in
-    let six : length images ≡ 6 = are.one_each in
-    omega (arith, (are.each 0 image (cc (slice_get-get_or images 0 image (omega arith)))).cells)
+    omega (arith, (are.each 0 image (cc (slice_get-get_or images 0 image (omega (arith, (six_of images are)))))).cells)
 
 -- the others are images of the shipped set
 inner : (k : ℕ) (image : Typed) → IsImageOf (clock_set NEWEST_CLOCK) (suc k) image → IsImageOf (shipped_set NEWEST) k image
@@ -271,7 +285,7 @@ behind-first [] are = absurd (omega arith)
 behind-first (image ∷ images) are = record { one_each = omega arith; each = λ k i here. inner k i (are.each (suc k) i here) }
 
 pub behind : (images : List Typed) → AreImagesOf (clock_set NEWEST_CLOCK) images → AreImagesOf (shipped_set NEWEST) (rest images)
-behind images are = rw (take_rest images 1) (behind-first images are)
+behind images are = subst (λ (i : List Typed). AreImagesOf (shipped_set NEWEST) i) (sym (take_rest images 1)) (behind-first images are)
 
 -- ---- their cells
 
@@ -284,4 +298,5 @@ pub cells-behind : (images : List Typed) (image : Typed) (clock : ArrayVec ℤ) 
     → record { clock = clock; board = board } ≡ cells_in (map state_of images)
 cells-behind [] image clock board are is c b = absurd (omega arith)
 cells-behind (first ∷ images) image clock board are is c b =
-    rw (b, take_rest (first ∷ images) 1) (ap (λ numbers. both numbers (board_cells_in (map state_of images))) (c ∙ ap (λ (i : Typed). i.numbers) is))
+    ap (λ (numbers : List ℤ). both numbers board) (c ∙ ap (λ (i : Typed). i.numbers) is)
+    ∙ ap (λ (x : BoardCells). both first.numbers x) (b ∙ ap (λ (i : List Typed). board_cells_in (map state_of i)) (take_rest (first ∷ images) 1))

@@ -1,4 +1,4 @@
-use Rattle.vms_board.proofs.Facade.{◌∙◌, ◌<◌, arith, described, length, refl}
+use Rattle.vms_board.proofs.Facade.{◌∙◌, ◌<◌, arith, described, length, refl, subst, Typed, IsImageOf}
 use Rattle.std.proofs.Common.{rules}
 use Rattle.vms_board.proofs.Imaging.{listed, fits_of, all_made, refilled_made, still_of}
 use Rattle.vms_board.proofs.images.refill.Goals as goal
@@ -26,7 +26,8 @@ fill-requires-clause-can g c =
 
 pub fill-requires-clause-of : goal.fill-requires-clause-of
 fill-requires-clause-of g c =
-    rw (c.index-images-device.is) at (still_of (described c.args.set.now) (g.M.Machine.family.lists c.args.number c.args.machine.now) c.loop-device.images c.args.images.now c.loop-device.device
+    subst (λ (i : Typed). IsImageOf (described c.args.set.now) c.loop-device.device i) c.index-images-device.is
+    (still_of (described c.args.set.now) (g.M.Machine.family.lists c.args.number c.args.machine.now) c.loop-device.images c.args.images.now c.loop-device.device
     c.index-images-device.result c.loop-device.invariant c.requires.of (omega arith) c.index-images-device.is)
 
 pub returns : goal.returns
