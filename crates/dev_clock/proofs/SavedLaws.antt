@@ -1,5 +1,5 @@
 -- What is saved of a clock board's devices and restored from it.
-use Rattle.dev_clock.proofs.Facade.{SavedAreCells, ComesBack, SavedComesBack, SavedGoesOn, IsSound, Alike, ClockState, CLOCK_DEVICE, LINES_CELL, ◌≡◌, ℕ}
+use Rattle.dev_clock.proofs.Facade.{SavedAreCells, ComesBack, SavedComesBack, SavedGoesOn, IsSound, ClockState, CLOCK_DEVICE, LINES_CELL, ◌≡◌, ℕ}
 use Rattle.dev_clock.proofs.Facade.{◌*◌, ◌+◌, ◌<◌, ◌==◌, ap, arith, ℤ, ◌≤◌, Bool, List, Result, Ok, refl, sym, subst, ◌∙◌, has}
 use Rattle.dev_clock.proofs.Facade.{lines_of, IsSoundPair, PicPair, CLOCK_INPUT, hook-ok, number_at, NEWEST, same-refl, by_device, State, Misfit, carried-saved}
 use Rattle.dev_clock.proofs.Facade.{Numbers, saved_is_restored, saved_cells, line_of, CanRestore, hook_restored, Rtc, MaySaveUnder, saved, carried}
@@ -72,7 +72,7 @@ module _ (set : ℕ) (m : ClockState) (s : IsSound m) (may : MaySaveUnder m.cloc
   -- The board's devices.
   board-back : BoardComesBack NEWEST (board_carried NEWEST (board_saved NEWEST m.board)) m.board
   board-back =
-      subst (λ (level : ℕ). BoardComesBack level (board_carried NEWEST (board_saved NEWEST m.board)) m.board) s.devices.level
+      subst (λ level. BoardComesBack level (board_carried NEWEST (board_saved NEWEST m.board)) m.board) s.devices.level
       (board-comes-back.back NEWEST m.board s.board may-board)
 
   -- The slave's line.
@@ -114,8 +114,7 @@ saved_comes_back = record { back = comes-back }
 pub saved_goes_on : SavedGoesOn
 saved_goes_on = record {
   answers = λ set m back events s may e. let there = comes-back set m s may in
-      let same : there.back ≡ back = ok-same there.back back _ there.restored e in
-      alike_stays.answers events m back (subst (λ (n : ClockState). Alike m n) same there.alike);
+      alike_stays.answers events m back (rw (ok-same there.back back _ there.restored e) at there.alike);
 }
 
 -- ---- restored devices are sound: the devices that misfits of a board name
@@ -155,7 +154,7 @@ of-all level (Ok moment) (Ok pair) (Ok pit) (Ok port) a b c d = of-lines _
 
 pub placed : (level : ℕ) (cells : BoardCells) (misfit : Misfit) → board_restored level cells ≡ Err misfit → IsPlaced misfit
 placed level cells misfit e =
-    subst (λ (outcome : Result State Misfit). MayBePlaced outcome) e
+    subst MayBePlaced e
     (of-all level _ _ _ _ (of-moment _) (of-chips level _ _) (of-device _ _ (omega arith)) (of-device _ _ (omega arith)))
 
 -- ---- the devices
@@ -167,11 +166,10 @@ pub record IsMadeOf (of_clock : Result Rtc Misfit) (of_board : Result State Misf
 
 pub made_of : (of_clock : Result Rtc Misfit) (of_board : Result State Misfit) (m : ClockState) → joined of_clock of_board ≡ Ok m → IsMadeOf of_clock of_board m
 unfolding joined
-made_of (Err misfit) of_board m e = cc
-made_of (Ok clock) (Err misfit) m e = cc
 made_of (Ok clock) (Ok board) m e =
     let is : record { clock = clock; board = board } ≡ m = cc in
-    record { clock = ap (λ (o : ClockState). Ok o.clock) is; board = ap (λ (o : ClockState). Ok o.board) is }
+    record { clock = ap (λ o. Ok o.clock) is; board = ap (λ o. Ok o.board) is }
+made_of _ _ m e = cc
 
 -- A chip whose line the slave remembers.
 pub record IsLined (line : Bool) (outcome : Result Rtc ℕ) (clock : Rtc) : Type 0 where
@@ -187,7 +185,7 @@ unfolding with_line
 lined line (Err rule) clock e = cc
 lined line (Ok found) clock e =
     let is = lined-by (same line (line_of found)) found clock e in
-    record { found = ap (λ (c : Rtc). Ok c) is.1; kept = same-is line (line_of found) is.0 ∙ ap line_of is.1 }
+    record { found = rw (is.1); kept = same-is line (line_of found) is.0 ∙ ap line_of is.1 }
 
 pub clock-lined : (version : ℕ) (line : Bool) (cells : List ℤ) (clock : Rtc) → clock_back version line cells ≡ Ok clock
     → IsLined line (clock_restored version cells) clock
@@ -250,7 +248,7 @@ module _ (m : ClockState) (s : IsSound m) where
 
   board-own : (back : State) × (board_restored NEWEST (board_saved NEWEST m.board) ≡ Ok back)
   board-own =
-      subst (λ (level : ℕ). (back : State) × (board_restored level (board_saved NEWEST m.board) ≡ Ok back)) s.devices.level
+      subst (λ level. (back : State) × (board_restored level (board_saved NEWEST m.board) ≡ Ok back)) s.devices.level
       ((board-meets.board m.board).0 s.board).1
 
   told : IsTold m
@@ -271,9 +269,8 @@ module _ (m : ClockState) (t : IsTold m) (n : ClockState) (e : restored m.clock.
   made = made_of _ _ n e
 
   sound-board : IsSoundBoard m.board
-  sound-board =
-      (board-meets.board m.board).1
-      (t.board, (n.board, ap (λ (level : ℕ). board_restored level (board_saved NEWEST m.board)) t.level ∙ made.board))
+  sound-board = (board-meets.board m.board).1
+      (t.board, (n.board, ap (λ level. board_restored level (board_saved NEWEST m.board)) t.level ∙ made.board))
 
   is-lined : IsLined (slave_line (board_saved NEWEST m.board).slave.items) (clock_restored m.clock.version (saved_cells NEWEST_CLOCK m.clock)) n.clock
   is-lined = clock-lined m.clock.version _ (saved_cells NEWEST_CLOCK m.clock) n.clock made.clock

@@ -1,7 +1,7 @@
 -- What each event keeps, and that devices that are alike give equal answers.
-use Rattle.dev_clock.proofs.Facade.{refl, NumbersAre, ◌≡◌, ℕ, ◌==◌, ◌∙◌, either, moment_left, Answer, Event, Read, Write, Byte, Wait, Wire}
-use Rattle.dev_clock.proofs.Facade.{Ack, int_of, version_stays, is_port, line_of, AnswersTellInt, ClockGoesOn, ClockState, waited, acted, follows_line, step}
-use Rattle.dev_clock.proofs.Facade.{CLOCK_INPUT, ◌<◌, Bool, List, [], ◌∷◌, sym, subst, arith, has, IsLevel, IsUpTo, NEWEST, wires_stay, IsEvent}
+use Rattle.dev_clock.proofs.Facade.{refl, NumbersAre, ◌≡◌, ℕ, ◌==◌, ◌∙◌, either, moment_left, Answer, Event, Read, Write, Wait, Wire}
+use Rattle.dev_clock.proofs.Facade.{int_of, version_stays, is_port, line_of, AnswersTellInt, ClockGoesOn, ClockState, waited, acted, follows_line, step}
+use Rattle.dev_clock.proofs.Facade.{CLOCK_INPUT, ◌<◌, Bool, List, [], ◌∷◌, arith, IsLevel, IsUpTo, NEWEST, wires_stay, IsEvent}
 use Rattle.dev_clock.proofs.Facade.{AreEvents, State, after_by, chip_on, lines_of, calls_keep_sound, read_of, passed, NEWEST_CLOCK, Rtc, SoundStays, HasDevices}
 use Rattle.dev_clock.proofs.Facade.{IsSound, power_on, on_board, clock_read, clock_written, after_all, true, false, cond, ap, stays-alike, AnswersAlike}
 use Rattle.dev_clock.proofs.Facade.{AlikeStays, Alike}
@@ -9,7 +9,7 @@ use Rattle.dev_board.proofs.{SavedLaws.alike_stays as board_alike}
 use Rattle.dev_board.proofs.SoundLaws.{answers_tell_int as board_tells_int, clock_goes_on as board_goes_on, sound_stays_on as board_stays}
 use Rattle.dev_board.specs.{Sound.IsSound as IsSoundBoard, Sound.Alike as AlikeBoards, State.power_on as board_on, Step.step as board_step}
 use Rattle.dev_pic.specs.Pair.{power_on as pair_on}
-use Rattle.vms_rtc.specs.{Chip.power_on as clock_on, Sound.IsSound as IsSoundClock}
+use Rattle.vms_rtc.specs.{Chip.power_on as clock_on}
 
 -- ---- the numbers are the constants' by their definition
 
@@ -24,20 +24,23 @@ record IsAt (moment version : ℕ) (after : Answer × ClockState) : Type 0 where
   version_is : after.1.clock.version ≡ version
 
 module _ (m : ClockState) where
-  acted-clock : (event : Event) → IsAt (moment_left event m.board.moment) m.clock.version (acted event m)
+  abbrev Keeps : Event → Answer × ClockState → Type 0
+  Keeps event = IsAt (moment_left event m.board.moment) m.clock.version
+
+  on-board-clock : (event : Event) → Keeps event (on_board event m)
+  on-board-clock event = record { moment_is = board_goes_on.moment event m.board; version_is = refl }
+
+  acted-clock : (event : Event) → Keeps event (acted event m)
   unfolding acted waited
   acted-clock (Read port) =
-      either (IsAt m.board.moment m.clock.version) (is_port port) _ _ (record { moment_is = refl; version_is = version_stays.read port m.clock })
-      (record { moment_is = board_goes_on.moment (Read port) m.board; version_is = refl })
+      either (Keeps (Read port)) (is_port port) _ _ (record { moment_is = refl; version_is = version_stays.read port m.clock }) (on-board-clock (Read port))
   acted-clock (Write port value) =
-      either (IsAt m.board.moment m.clock.version) (is_port port) _ _ (record { moment_is = refl; version_is = version_stays.write port value m.clock })
-      (record { moment_is = board_goes_on.moment (Write port value) m.board; version_is = refl })
-  acted-clock (Byte value) = record { moment_is = board_goes_on.moment (Byte value) m.board; version_is = refl }
+      either (Keeps (Write port value)) (is_port port) _ _ (record { moment_is = refl; version_is = version_stays.write port value m.clock })
+      (on-board-clock (Write port value))
   acted-clock (Wait ns) = record { moment_is = board_goes_on.moment (Wait ns) m.board; version_is = version_stays.passed m.board.moment _ m.clock }
   acted-clock (Wire input up) =
-      either (IsAt m.board.moment m.clock.version) (input == CLOCK_INPUT) _ _ (record { moment_is = refl; version_is = refl })
-      (record { moment_is = board_goes_on.moment (Wire input up) m.board; version_is = refl })
-  acted-clock Ack = record { moment_is = board_goes_on.moment Ack m.board; version_is = refl }
+      either (Keeps (Wire input up)) (input == CLOCK_INPUT) _ _ (record { moment_is = refl; version_is = refl }) (on-board-clock (Wire input up))
+  acted-clock event = on-board-clock event
 
 follows-clock : (moment version : ℕ) (done : Answer × ClockState) → IsAt moment version done → IsAt moment version (follows_line done)
 unfolding follows_line
@@ -91,16 +94,16 @@ waited-has ns m h = record { clock = calls_keep_sound.passed m.board.moment _ m.
 -- The same for what a call returned.
 pub after-read : (m : ClockState) → HasDevices m → (port value : ℕ) (after : Rtc) → (value, after) ≡ read_of port m.clock
     → HasDevices (record m { clock = after })
-after-read m h port value after e = subst (λ (r : ℕ × Rtc). HasDevices (record m { clock = r.1 })) (sym e) (read-has port m h)
+after-read m h port value after e = let found = read-has port m h in rw (← e) at found
 
 pub after-event : (m : ClockState) → HasDevices m → (event : Event) (answer : Answer) (after : State) → (answer, after) ≡ board_step event m.board
     → HasDevices (record m { board = after })
-after-event m h event answer after e = subst (λ (r : Answer × State). HasDevices (record m { board = r.1 })) (sym e) (board-has event m h)
+after-event m h event answer after e = let found = board-has event m h in rw (← e) at found
 
 pub after-wait : (m : ClockState) → HasDevices m → (ns from to : ℕ) (answer : Answer) (after : State) (clock : Rtc)
     → (answer, after) ≡ board_step (Wait ns) m.board → clock ≡ passed from to m.clock → HasDevices (record { clock = clock; board = after })
 after-wait m h ns from to answer after clock e f = record {
-  clock = subst IsSoundClock (sym f) (calls_keep_sound.passed from to m.clock h.clock);
+  clock = rw f (calls_keep_sound.passed from to m.clock h.clock);
   level = (after-event m h (Wait ns) answer after e).level;
 }
 
@@ -110,8 +113,7 @@ pub after-line : (m : ClockState) → HasDevices m → (up : Bool) (answer : Ans
 after-line m h up answer after l e s = record {
   devices = after-event m h (Wire CLOCK_INPUT up) answer after e;
   board = s;
-  line = subst (λ (r : Answer × State). has (lines_of r.1.pair) CLOCK_INPUT ≡ up) (sym e) (wires_stay.wire (Wire CLOCK_INPUT up) m.board CLOCK_INPUT refl refl)
-      ∙ l;
+  line = (rw (← e) at (wires_stay.wire (Wire CLOCK_INPUT up) m.board CLOCK_INPUT refl refl)) ∙ l;
 }
 
 -- ---- the event itself
@@ -130,11 +132,10 @@ acted-kept (Read port) m e s =
     either IsKept (is_port port) _ _ (record { devices = read-has port m s.devices; board = s.board }) (on-board (Read port) m e s)
 acted-kept (Write port value) m e s =
     either IsKept (is_port port) _ _ (record { devices = written-has port value m e s.devices; board = s.board }) (on-board (Write port value) m e s)
-acted-kept (Byte value) m e s = on-board (Byte value) m e s
 acted-kept (Wait ns) m e s = record { devices = waited-has ns m s.devices; board = board_stays.event (Wait ns) m.board e s.board }
 acted-kept (Wire input up) m e s =
     either IsKept (input == CLOCK_INPUT) _ _ (record { devices = s.devices; board = s.board }) (on-board (Wire input up) m e s)
-acted-kept Ack m e s = on-board Ack m e s
+acted-kept event m e s = on-board event m e s
 
 -- ---- whole events
 
@@ -185,26 +186,17 @@ module _ (m : ClockState) (board : State) (a : AlikeBoards m.board board) where
   unfolding waited
   waited-alike ns =
       let answers = board_alike.event (Wait ns) m.board board a in
-      let after = (board_step (Wait ns) m.board).1.moment in
-      record {
-        value = answers.value;
-        alike = record {
-          clock = ap (λ (to : ℕ). passed board.moment to m.clock) (same-moment _ _ answers.alike)
-              ∙ ap (λ (from : ℕ). passed from after m.clock) (same-moment m.board board a);
-          board = answers.alike;
-        };
-      }
+      record { value = answers.value; alike = record { clock = rw (same-moment _ _ answers.alike, same-moment m.board board a); board = answers.alike } }
 
   acted-alike : (event : Event) → AnswersAlike Alike (acted event m) (acted event other)
   unfolding acted
   acted-alike (Read port) = chosen (is_port port) _ _ _ _ (record { value = refl; alike = record { clock = refl; board = a } }) (on_board-alike (Read port))
   acted-alike (Write port value) =
       chosen (is_port port) _ _ _ _ (record { value = refl; alike = record { clock = refl; board = a } }) (on_board-alike (Write port value))
-  acted-alike (Byte value) = on_board-alike (Byte value)
   acted-alike (Wait ns) = waited-alike ns
   acted-alike (Wire input up) =
       chosen (input == CLOCK_INPUT) _ _ _ _ (record { value = refl; alike = record { clock = refl; board = a } }) (on_board-alike (Wire input up))
-  acted-alike Ack = on_board-alike Ack
+  acted-alike event = on_board-alike event
 
 -- The board after it took a chip's line.
 abbrev line-taken : Rtc → State → Answer × State
@@ -214,24 +206,16 @@ follows-alike : (first second : Answer × ClockState) → AnswersAlike Alike fir
 unfolding follows_line
 follows-alike first second a =
     let answers = board_alike.event (Wire CLOCK_INPUT (line_of first.1.clock)) first.1.board second.1.board a.alike.board in
-    let told : Answer → Answer → Answer = (λ done after. record { value = done.value; int = after.int; sent = done.sent }) in
     record {
-      value =
-          ap (λ (done : Answer). told done (line-taken second.1.clock second.1.board).0) a.value
-          ∙ ap (λ (clock : Rtc). told first.0 (line-taken clock second.1.board).0) a.alike.clock
-          ∙ ap (λ (after : Answer). told first.0 after) answers.value;
-      alike = record {
-        clock = a.alike.clock;
-        board = subst (λ (clock : Rtc). AlikeBoards (line-taken first.1.clock first.1.board).1 (line-taken clock second.1.board).1) (sym a.alike.clock) answers.alike;
-      };
+      value = rw (a.value, a.alike.clock, answers.value) refl;
+      alike = record { clock = a.alike.clock; board = rw (a.alike.clock) (answers.alike) };
     }
 
 step-alike : (event : Event) (m n : ClockState) → Alike m n → AnswersAlike Alike (step event m) (step event n)
 unfolding step
 step-alike event m n a =
-    let same : n ≡ record m { board = n.board } = ap (λ (clock : Rtc). record n { clock = clock }) a.clock in
-    subst (λ (o : ClockState). AnswersAlike Alike (follows_line (acted event m)) (follows_line (acted event o))) (sym same)
-    (follows-alike (acted event m) (acted event (record m { board = n.board })) (acted-alike m n.board a.board event))
+    let same : n ≡ record m { board = n.board } = rw (a.clock) refl in
+    rw same (follows-alike (acted event m) (acted event (record m { board = n.board })) (acted-alike m n.board a.board event))
 
 pub alike_stays : AlikeStays
 alike_stays = stays-alike Alike step step-alike

@@ -20,6 +20,6 @@ pub use Rattle.dev_clock.specs.Saved.{AreClockCells, AreSavedCells, MaySaveUnder
 unfoldable pub use Rattle.dev_clock.specs.Saved.{saved}
 pub use Rattle.dev_clock_images.specs.{Images.cells_in, Places.PlacesLaw}
 pub use Rattle.dev_clock_images.specs.Laws.{ChipIsReady, ImagesComeBack, KindsLaw, NormalMayBeRestored, SavedAreReady, SavedIsCarried, SetsAreCompatible}
-pub use Rattle.dev_images.proofs.{ShippedDevices.needs, ShippedDevices.unneeded, NormalCells.of-kinds, ReadyOf.are_kept, ReadyOf.ready-plain}
+pub use Rattle.dev_images.proofs.{ShippedDevices.needs, ShippedDevices.unneeded, NormalCells.of-kinds, ReadyOf.are_kept, ReadyOf.ready-of}
 pub use Rattle.dev_images.specs.{Laws.ReadyOf}
 pub use Rattle.dev_images.specs.Images.{bare, board_from, image_of, images_of, list_at, needed_from, numbers_in}

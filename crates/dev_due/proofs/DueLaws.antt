@@ -1,26 +1,24 @@
 -- When a board is next due: at one wait at most, and at what was found.
-use Rattle.dev_due.proofs.{Facade.Clock, PortLaws.Covers, PortLaws.IsBase, PortLaws.LeavesBy, PortLaws.covers}
-use Rattle.dev_due.proofs.Facade.{◌≡◌, ℕ, ◌<◌, ◌≤◌, Bool, true, false, Some, None, refl, ap, arith, ⊎_elim, cases_lt, Answer, Event}
-use Rattle.dev_due.proofs.Facade.{OneIsDue, shows, length, Option, ◌+◌, ◌*◌, ◌⊎◌, inl, inr, sym, ◌∙◌, subst, ◌-◌, ◌==◌, not}
-use Rattle.dev_due.proofs.Facade.{◌||◌, List, IfSome, false_from_ne_true, le-leb, lt-leb, LAST_MOMENT, IsSound, State, loaded, LoadedBy, edge_of, out_of}
-use Rattle.dev_due.proofs.Facade.{IsLoadedBy, counter_of, pit_edge, pit_out, pit-later, IsShift, Shift, character_of, devices_of, shows_at, board_int}
-use Rattle.dev_due.proofs.Facade.{clock_int, IsEnd, timer_of, shows_of, Finds, Found, FoundAt, FoundSend, FoundSends, IsBy, Shown, Tried, IsSegment, SameClock}
-use Rattle.dev_due.proofs.Facade.{SameLine, Board, same, acted, after_act, inputs_of, later_by, settled, step, waited, wires_after, wires_of, Wait, ClockState}
-use Rattle.dev_due.proofs.Facade.{follows_line, advanced, line_of, passed, ends_within, AreTurns, IsTurn, Turns, IsSentAfter, has_come, period_in, Rtc, Isa}
+use Rattle.dev_due.proofs.Facade.{Answer, AreTurns, Board, Bool, Clock, ClockState, Event, Finds, Found, FoundAt, FoundSend, FoundSends, IfSome, IsBy, IsEnd}
+use Rattle.dev_due.proofs.Facade.{IsLoadedBy, IsSegment, IsSentAfter, IsShift, IsSound, IsTurn, Isa, LAST_MOMENT, LoadedBy, None, OneIsDue, Option, Rtc}
+use Rattle.dev_due.proofs.Facade.{SameClock, SameLine, Shift, Shown, Some, State, Tried, Turns, Wait, acted, advanced, after_act, ap, arith, board_int}
+use Rattle.dev_due.proofs.Facade.{cases_lt, character_of, clock_int, counter_of, devices_of, edge_of, ends_within, false, false_from_ne_true, false≢true}
+use Rattle.dev_due.proofs.Facade.{follows_line, has_come, inl, inputs_of, inr, later_by, le-leb, length, line_of, loaded, lt-leb, not, out_of, passed}
+use Rattle.dev_due.proofs.Facade.{period_in, pit-later, pit_edge, pit_out, refl, settled, shows, shows_at, shows_of, step, sym, timer_of, true, waited}
+use Rattle.dev_due.proofs.Facade.{wires_after, wires_of, ℕ, ⊎_elim, ◌*◌, ◌+◌, ◌-◌, ◌<◌, ◌==◌, ◌||◌, ◌∙◌, ◌≡◌, ◌≤◌}
+use Rattle.dev_due.proofs.Facade.{◌⊎◌}
+use Rattle.dev_due.proofs.PortLaws.{Covers, IsBase, LeavesBy, covers}
 use Rattle.dev_clock.specs.Step.{acted as clock_acted, step as clock_step, waited as clock_waited}
 
 -- ---- a board is next due at one wait at most
 
-never-both : {A : Type 0} (b : Bool) → b ≡ true → b ≡ false → A
-never-both b h l = let bad : true ≡ false = cc in absurd (cc)
-
 pub one_is_due : {S : Type 0} (step : Event → S → Answer × S) (int : S → Bool) → OneIsDue step int
 one_is_due step int m None None h l = refl
-one_is_due step int m None (Some second) h l = never-both (shows step int m second) l.0 (h second)
-one_is_due step int m (Some first) None h l = never-both (shows step int m first) h.0 (l first)
+one_is_due step int m None (Some second) h l = absurd (false≢true (sym (h second) ∙ l.0))
+one_is_due step int m (Some first) None h l = absurd (false≢true (sym (l first) ∙ h.0))
 one_is_due step int m (Some first) (Some second) h l = ⊎_elim
-    (λ (f : first < second). never-both (shows step int m first) h.0 (l.1 first f))
-    (λ (f : second ≤ first). ⊎_elim (λ (g : second < first). never-both (shows step int m second) l.0 (h.1 second g))
+    (λ (f : first < second). absurd (false≢true (sym (l.1 first f) ∙ h.0)))
+    (λ (f : second ≤ first). ⊎_elim (λ (g : second < first). absurd (false≢true (sym (h.1 second g) ∙ l.0)))
     (λ (g : first ≤ second). ap (λ (n : ℕ). Some n) (omega arith))
     (cases_lt second first)) (cases_lt first second)
 
@@ -79,8 +77,7 @@ pub next_sends : (board : Board) (old new : Option ℕ) (due left sent : ℕ) �
     → sent ≡ due + left * character_of board → FoundSend board sent new → (k : ℕ) → k < left + 1 → FoundSend board (due + k * character_of board) new
 next_sends board old new due left sent all finds e here k h = ⊎_elim
     (λ (l : k < left). keep_send finds (all k l))
-    (λ (l : left ≤ k).
-    subst (λ (t : ℕ). FoundSend board t new) (e ∙ ap (λ (n : ℕ). due + n * character_of board) (omega arith)) here) (cases_lt k left)
+    (λ (l : left ≤ k). let last : k ≡ left = omega arith in rw (last, ← e) here) (cases_lt k left)
 
 -- ---- what a wait shows: OUT of counter 0 and its edge, the serial line, and the bytes that left
 
@@ -92,47 +89,41 @@ pub record SameShown (m : State) (c to : ℕ) : Type 0 where
   pub sent : (advanced c m.serial).0 ≡ (advanced to m.serial).0
 
 -- the answer and the board at a moment
-at : ℕ → State → Answer × State
-at to m = after_act (wires_of m) (waited to m)
+ended : ℕ → State → Answer × State
+ended to m = after_act (wires_of m) (waited to m)
 
-wait-at : (ns : ℕ) (m : State) → step (Wait ns) m ≡ at (later_by ns m.moment) m
-unfolding step acted wires_after at
+wait-at : (ns : ℕ) (m : State) → step (Wait ns) m ≡ ended (later_by ns m.moment) m
+unfolding step acted wires_after ended
 wait-at ns m = refl
 
--- of a moment that isn't before the present one, up to the last
-pub later-to : (moment to : ℕ) → moment ≤ to → to ≤ LAST_MOMENT → later_by (to - moment) moment ≡ to
-later-to moment to h l = omega arith
-
-same-at : (m : State) (c to : ℕ) → SameShown m c to → ((at c m).0.int ≡ (at to m).0.int) × ((at c m).0.sent ≡ (at to m).0.sent)
-unfolding at after_act waited settled inputs_of
+same-at : (m : State) (c to : ℕ) → SameShown m c to → ((ended c m).0.int ≡ (ended to m).0.int) × ((ended c m).0.sent ≡ (ended to m).0.sent)
+unfolding ended after_act waited settled inputs_of
 same-at m c to s = (rw (s.edge, s.out, s.line) refl, rw s.sent refl)
 
--- a wait up to a moment
-pub same_shows : (m : State) (c to : ℕ) → m.moment ≤ c → c ≤ LAST_MOMENT → m.moment ≤ to → to ≤ LAST_MOMENT → SameShown m c to
-    → shows step board_int m (c - m.moment) ≡ shows step board_int m (to - m.moment)
-same_shows m c to hc lc ht lt s =
-    let second = wait-at (to - m.moment) m ∙ ap (λ (t : ℕ). at t m) (later-to m.moment to ht lt) in
-    let same = same-at m c to s in
-    rw ((wait-at (c - m.moment) m ∙ ap (λ (t : ℕ). at t m) (later-to m.moment c hc lc)), second, same.0, same.1) refl
+board-sent : (to : ℕ) (m : State) → (ended to m).0.sent.items ≡ (advanced to m.serial).0
+unfolding ended after_act waited
+board-sent to m = refl
 
--- the bytes that leave by a moment
-pub sent_at_wait : (to : ℕ) (m : State) → m.moment ≤ to → to ≤ LAST_MOMENT → (step (Wait (to - m.moment)) m).0.sent.items ≡ (advanced to m.serial).0
-unfolding at after_act waited
-sent_at_wait to m h l = ap (λ (done : Answer × State). done.0.sent.items) (wait-at (to - m.moment) m ∙ ap (λ (t : ℕ). at t m) (later-to m.moment to h l))
+-- a board of a kind, whose wait ends as `by` says at the moment that it goes up to
+module _ {S : Type 0} (step : Event → S → Answer × S) (int : S → Bool) (now : S → ℕ) (by : ℕ → S → Answer × S)
+    (waits : (ns : ℕ) (m : S) → step (Wait ns) m ≡ by (later_by ns (now m)) m) (m : S) where
+  wait-to : (to : ℕ) → now m ≤ to → to ≤ LAST_MOMENT → step (Wait (to - now m)) m ≡ by to m
+  wait-to to h l = let last : later_by (to - now m) (now m) ≡ to = omega arith in waits (to - now m) m ∙ ap (λ t. by t m) last
 
--- a wait beyond the last moment shows what one up to it shows
-again : (ns moment : ℕ) → moment ≤ LAST_MOMENT → later_by (later_by ns moment - moment) moment ≡ later_by ns moment
-again ns moment h = omega arith
+  same-shows : (c to : ℕ) → now m ≤ c → c ≤ LAST_MOMENT → now m ≤ to → to ≤ LAST_MOMENT
+      → ((by c m).0.int ≡ (by to m).0.int) × ((by c m).0.sent ≡ (by to m).0.sent) → shows step int m (c - now m) ≡ shows step int m (to - now m)
+  same-shows c to hc lc ht lt same = rw (wait-to c hc lc, wait-to to ht lt, same.0, same.1) refl
 
-pub shows_by : (ns : ℕ) (m : State) → m.moment ≤ LAST_MOMENT → shows step board_int m ns ≡ shows step board_int m (later_by ns m.moment - m.moment)
-shows_by ns m h = rw (wait-at ns m, (wait-at (later_by ns m.moment - m.moment) m ∙ ap (λ (t : ℕ). at t m) (again ns m.moment h))) refl
+  -- a wait beyond the last moment shows what one up to it shows
+  shows-by : (ns : ℕ) → now m ≤ LAST_MOMENT → shows step int m ns ≡ shows step int m (later_by ns (now m) - now m)
+  shows-by ns h = rw (waits ns m, wait-to (later_by ns (now m)) (omega arith) (omega arith)) refl
 
 -- ---- a clock board
 
 -- the answer and the devices at a moment
 clock-at : ℕ → ClockState → Answer × ClockState
 clock-at to m =
-    let done = at to m.board in
+    let done = ended to m.board in
     follows_line (done.0, record { clock = passed m.board.moment done.1.moment m.clock; board = done.1 })
 
 clock-wait-at : (ns : ℕ) (m : ClockState) → clock_step (Wait ns) m ≡ clock-at (later_by ns m.board.moment) m
@@ -142,28 +133,12 @@ clock-wait-at ns m =
 
 same-clock-at : (m : ClockState) (c to : ℕ) → SameShown m.board c to → passed m.board.moment c m.clock ≡ passed m.board.moment to m.clock
     → ((clock-at c m).0.int ≡ (clock-at to m).0.int) × ((clock-at c m).0.sent ≡ (clock-at to m).0.sent)
-unfolding clock-at follows_line at step acted wires_after after_act waited settled inputs_of wires_of
+unfolding clock-at follows_line ended step acted wires_after after_act waited settled inputs_of wires_of
 same-clock-at m c to s p = (rw (s.edge, s.out, s.line, p) refl, rw s.sent refl)
 
-pub same_clock_shows : (m : ClockState) (c to : ℕ) → m.board.moment ≤ c → c ≤ LAST_MOMENT → m.board.moment ≤ to → to ≤ LAST_MOMENT → SameShown m.board c to
-    → passed m.board.moment c m.clock ≡ passed m.board.moment to m.clock
-    → shows clock_step clock_int m (c - m.board.moment) ≡ shows clock_step clock_int m (to - m.board.moment)
-same_clock_shows m c to hc lc ht lt s p =
-    let second = clock-wait-at (to - m.board.moment) m ∙ ap (λ (t : ℕ). clock-at t m) (later-to m.board.moment to ht lt) in
-    let same = same-clock-at m c to s p in
-    rw ((clock-wait-at (c - m.board.moment) m ∙ ap (λ (t : ℕ). clock-at t m) (later-to m.board.moment c hc lc)), second, same.0, same.1) refl
-
-pub clock_sent_at_wait : (to : ℕ) (m : ClockState) → m.board.moment ≤ to → to ≤ LAST_MOMENT
-    → (clock_step (Wait (to - m.board.moment)) m).0.sent.items ≡ (advanced to m.board.serial).0
-unfolding clock-at follows_line at after_act waited
-clock_sent_at_wait to m h l =
-    ap (λ (done : Answer × ClockState). done.0.sent.items)
-    (clock-wait-at (to - m.board.moment) m ∙ ap (λ (t : ℕ). clock-at t m) (later-to m.board.moment to h l))
-
-pub clock_shows_by : (ns : ℕ) (m : ClockState) → m.board.moment ≤ LAST_MOMENT
-    → shows clock_step clock_int m ns ≡ shows clock_step clock_int m (later_by ns m.board.moment - m.board.moment)
-clock_shows_by ns m h =
-    rw (clock-wait-at ns m, (clock-wait-at (later_by ns m.board.moment - m.board.moment) m ∙ ap (λ (t : ℕ). clock-at t m) (again ns m.board.moment h))) refl
+clock-sent : (to : ℕ) (m : ClockState) → (clock-at to m).0.sent.items ≡ (advanced to m.board.serial).0
+unfolding clock-at follows_line ended after_act waited
+clock-sent to m = refl
 
 -- ---- if something shows, one of the tried moments shows something no later
 
@@ -176,9 +151,11 @@ same-any : (board : Board) (at to : ℕ) → now_of board ≤ at → at ≤ LAST
     → SameLine (devices_of board).serial at to → SameClock board at to → shows_at board at ≡ shows_at board to
 unfolding pit_edge pit_out
 same-any (Isa devices) at to ha la ht lt edge out line clock =
-    same_shows devices.now at to ha la ht lt (record { edge = edge; out = out; line = line.line; sent = line.sent })
+    same-shows step board_int (λ m. m.moment) ended wait-at devices.now at to ha la ht lt
+    (same-at devices.now at to (record { edge = edge; out = out; line = line.line; sent = line.sent }))
 same-any (Clock devices) at to ha la ht lt edge out line clock =
-    same_clock_shows devices.now at to ha la ht lt (record { edge = edge; out = out; line = line.line; sent = line.sent }) clock
+    same-shows clock_step clock_int (λ m. m.board.moment) clock-at clock-wait-at devices.now at to ha la ht lt
+    (same-clock-at devices.now at to (record { edge = edge; out = out; line = line.line; sent = line.sent }) clock)
 
 -- where the base and the moments at which OUT may turn after it were tried, all that shows in its segments was found
 pub found_from : (board : Board) (base : ℕ) (turns : Turns) (found : Option ℕ) → LoadedBy (now_of board) (timer_of board).loaded_at
@@ -187,10 +164,10 @@ pub found_from : (board : Board) (base : ℕ) (turns : Turns) (found : Option �
 found_from board base turns found loaded are here first second third = record { by = in-segment }
   where
     by-turn : (at : ℕ) → IsTurn turns base at → Tried board at found
-    by-turn at (inl own) = subst (λ (t : ℕ). Tried board t found) (sym own) here
-    by-turn at (inr (inl own)) = subst (λ (t : ℕ). Tried board t found) (sym own) first
-    by-turn at (inr (inr (inl own))) = subst (λ (t : ℕ). Tried board t found) (sym own) second
-    by-turn at (inr (inr (inr own))) = subst (λ (t : ℕ). Tried board t found) (sym own) third
+    by-turn at (inl own) = rw own here
+    by-turn at (inr (inl own)) = rw own first
+    by-turn at (inr (inr (inl own))) = rw own second
+    by-turn at (inr (inr (inr own))) = rw own third
 
     in-segment : (to : ℕ) → IsSegment board base to → shows_at board to ≡ true → IsBy to found
     in-segment to s e =
@@ -204,7 +181,7 @@ found_from board base turns found loaded are here first second third = record { 
 
 same-chip : (chip : Rtc) (now at to : ℕ) → ends_within (period_in chip) now at ≡ ends_within (period_in chip) now to → passed now at chip ≡ passed now to chip
 unfolding passed
-same-chip chip now at to e = ap (λ (b : Bool). record chip { pf = chip.pf || b }) e
+same-chip chip now at to e = rw e
 
 same-clock : (board : Board) (end : Option ℕ) (at to : ℕ) → IsEnd board end → now_of board ≤ at → now_of board ≤ to → has_come end at ≡ has_come end to
     → SameClock board at to
@@ -242,8 +219,9 @@ shown-by false empty e = ap not e
 
 leaves-shows : (board : Board) (to : ℕ) → now_of board ≤ to → to ≤ LAST_MOMENT → (length (advanced to (devices_of board).serial).0 == 0) ≡ false
     → shows_at board to ≡ true
-leaves-shows (Isa devices) to h l e = shown-by _ _ (ap (λ (s : List ℕ). length s == 0) (sent_at_wait to devices.now h l) ∙ e)
-leaves-shows (Clock devices) to h l e = shown-by _ _ (ap (λ (s : List ℕ). length s == 0) (clock_sent_at_wait to devices.now h l) ∙ e)
+leaves-shows (Isa devices) to h l e = shown-by _ _ (rw (wait-to step board_int (λ m. m.moment) ended wait-at devices.now to h l, board-sent to devices.now) e)
+leaves-shows (Clock devices) to h l e =
+    shown-by _ _ (rw (wait-to clock_step clock_int (λ m. m.board.moment) clock-at clock-wait-at devices.now to h l, clock-sent to devices.now) e)
 
 sent-later : (now : ℕ) (shift : Option Shift) → IsShift now shift → IsSentAfter now shift
 sent-later now None h = tt
@@ -254,28 +232,14 @@ sent-later now (Some shift) h = h.later
 module _ (board : Board) (found : Option ℕ) (sound : IsSound (devices_of board)) (now_found : Found board (now_of board) found)
     (timeout : FoundAt board (devices_of board).serial.receiver.timeout found)
     (sends : FoundSends board (devices_of board).serial.transmitter.shift found) where
-  at-timeout : (base : ℕ) (own : Option ℕ) → own ≡ Some base → FoundAt board own found → Found board base found
-  at-timeout base own e h = subst (λ (b : Option ℕ). FoundAt board b found) e h
-
-  at-send : (shift : Shift) (own : Option Shift) (k : ℕ) → own ≡ Some shift → FoundSends board own found
-      → k ≤ length (devices_of board).serial.transmitter.waiting
-      → FoundSend board (shift.due + k * character_of board) found
-  at-send shift own k e h few = (subst (λ (s : Option Shift). FoundSends board s found) e h) k few
-
   at-base : (base : ℕ) → IsBase (devices_of board).serial (now_of board) base → Found board base found
-  at-base base (inl own) = subst (λ (b : ℕ). Found board b found) (sym own) now_found
-  at-base base (inr (inl own)) = at-timeout base (devices_of board).serial.receiver.timeout own timeout
-  at-base base (inr (inr (shift, own, (k, few, inl is)))) =
-      subst (λ (b : ℕ). Found board b found) (sym is) (at-send shift (devices_of board).serial.transmitter.shift k own sends few).leaves
-  at-base base (inr (inr (shift, own, (k, few, inr is)))) =
-      subst (λ (b : ℕ). Found board b found) (sym is) (at-send shift (devices_of board).serial.transmitter.shift k own sends few).ends
+  at-base base (inl own) = rw own now_found
+  at-base base (inr (inl own)) = rw own at timeout
+  at-base base (inr (inr (shift, own, (k, few, inl is)))) = rw is ((rw own at sends) k few).leaves
+  at-base base (inr (inr (shift, own, (k, few, inr is)))) = rw is ((rw own at sends) k few).ends
 
   at-first : (shift : Shift) → (devices_of board).serial.transmitter.shift ≡ Some shift → Tried board shift.due found
-  at-first shift own =
-      subst (λ (t : ℕ). Tried board t found) (omega arith) (at-send shift (devices_of board).serial.transmitter.shift 0 own sends (omega arith)).tried
-
-  later-sent : (shift : Shift) (own : Option Shift) → own ≡ Some shift → IsSentAfter (now_of board) own → now_of board < shift.due
-  later-sent shift own e h = subst (IsSentAfter (now_of board)) e h
+  at-first shift own = let now : shift.due + 0 * character_of board ≡ shift.due = omega arith in rw now at ((rw own at sends) 0 (omega arith)).tried
 
   is-sent : IsSentAfter (now_of board) (devices_of board).serial.transmitter.shift
   is-sent = sent-later (now_of board) (devices_of board).serial.transmitter.shift sound.devices.serial.transmitter.shift
@@ -284,7 +248,7 @@ module _ (board : Board) (found : Option ℕ) (sound : IsSound (devices_of board
       → Covers (devices_of board).serial (now_of board) at ⊎ LeavesBy (devices_of board).serial at → IsBy at found
   by-cover end is ends at s (inl c) = by-clock board c.base at found c.from c.span.upto s.last c.span.same s.shows (at-base c.base c.is) end is ends
   by-cover end is ends at s (inr l) =
-      let later : now_of board < l.shift.due = later-sent l.shift (devices_of board).serial.transmitter.shift l.sends is-sent in
+      let later : now_of board < l.shift.due = rw (l.sends) at is-sent in
       let from : now_of board ≤ l.shift.due = omega arith in
       let last : l.shift.due ≤ LAST_MOMENT = omega arith in
       by_later l.shift.due at found l.by
@@ -300,8 +264,8 @@ abbrev reached : Board → ℕ → ℕ
 reached board ns = later_by ns (devices_of board).moment
 
 shows-reached : (board : Board) (ns : ℕ) → (devices_of board).moment ≤ LAST_MOMENT → shows_of board ns ≡ shows_at board (reached board ns)
-shows-reached (Isa devices) ns h = shows_by ns devices.now h
-shows-reached (Clock devices) ns h = clock_shows_by ns devices.now h
+shows-reached (Isa devices) ns h = shows-by step board_int (λ m. m.moment) ended wait-at devices.now ns h
+shows-reached (Clock devices) ns h = shows-by clock_step clock_int (λ m. m.board.moment) clock-at clock-wait-at devices.now ns h
 
 shown-there : (board : Board) (ns : ℕ) → (devices_of board).moment ≤ LAST_MOMENT → shows_of board ns ≡ true → Shown board (reached board ns)
 shown-there board ns h e = record { from = omega arith; last = omega arith; shows = cc (shows-reached board ns h) }

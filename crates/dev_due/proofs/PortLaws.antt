@@ -1,9 +1,9 @@
 -- The serial port's line while time passes.
-use Rattle.dev_due.proofs.Facade.{◌≡◌, ℕ, suc, ◌+◌, ◌*◌, ◌<◌, ◌≤◌, ◌==◌, ◌⊎◌, inl, inr, Bool, true, false, ◌&&◌, if◌then◌else◌, List, [], ◌∷◌, ◌++◌, length}
-use Rattle.dev_due.proofs.Facade.{Option, Some, None, refl, sym, ap, ◌∙◌, subst, arith, ⊎_elim, cases_lt, le-leb, lt-leb, nat_tests, same_Some, is_some, nat_le}
-use Rattle.dev_due.proofs.Facade.{nat_lt, either, has, advanced, character_time, ReceiverState, TransmitterState, Port, interrupt, line_of, mode_of, received}
-use Rattle.dev_due.proofs.Facade.{IsSentAfter, departures, gone, holding, run_until, staying, timetable, bytes_of, Shift, SameLine, bytes_of-timetable}
-use Rattle.dev_due.proofs.Facade.{advances_in_parts, character-positive, loops_at_moment, still, waits_until_due, append-nil}
+use Rattle.dev_due.proofs.Facade.{Bool, IsSentAfter, List, None, Option, Port, ReceiverState, SameLine, Shift, Some, [], advanced, advances_in_parts, ap}
+use Rattle.dev_due.proofs.Facade.{append-nil, arith, bytes_of-timetable, cases_lt, character-positive, character_time, departures, either, false, gone, has}
+use Rattle.dev_due.proofs.Facade.{holding, if◌then◌else◌, inl, inr, interrupt, is_some, le-leb, length, line_of, loops_at_moment, lt-leb, mode_of, nat_le}
+use Rattle.dev_due.proofs.Facade.{nat_lt, nat_tests, received, refl, run_until, same_Some, staying, still, suc, sym, timetable, true, waits_until_due, ℕ}
+use Rattle.dev_due.proofs.Facade.{⊎_elim, ◌&&◌, ◌*◌, ◌++◌, ◌+◌, ◌<◌, ◌==◌, ◌∙◌, ◌∷◌, ◌≡◌, ◌≤◌, ◌⊎◌}
 use Rattle.dev_serial.specs.Port.{has_come}
 
 -- ---- nothing leaves
@@ -106,9 +106,7 @@ received-timeout port byte at receiver =
 
 sent-timeout : (port : Port) (shift : Shift) → has port.mcr 4 ≡ true → port.transmitter.shift ≡ Some shift
     → IsTimeout port.receiver.timeout (shift.due + 4 * character_time port.divisor port.lcr) (after shift.due port).receiver.timeout
-sent-timeout port shift l e =
-    subst (λ (r : ReceiverState). IsTimeout port.receiver.timeout (shift.due + 4 * character_time port.divisor port.lcr) r.timeout)
-    (sym (loops_at_moment port shift l e).1) (received-timeout port shift.byte shift.due port.receiver)
+sent-timeout port shift l e = rw ((loops_at_moment port shift l e).1) (received-timeout port shift.byte shift.due port.receiver)
 
 some_left : (n : ℕ) → (suc n == 0) ≡ false
 some_left n = grind (arith, nat_tests)
@@ -134,6 +132,14 @@ pub record Covers (port : Port) (now to : ℕ) : Type 0 where
   pub from : now ≤ base
   pub is : IsBase port now base
   pub span : IsSpan port base to
+
+-- a span that begins at a base, or where the timeout comes
+cover-from : (base to : ℕ) (port : Port) (now : ℕ) → base ≤ to → IsSentAfter to (after base port).transmitter.shift → now ≤ base → IsBase port now base
+    → ((begin : ℕ) → (after base port).receiver.timeout ≡ Some begin → IsBase port now begin) → Covers port now to
+cover-from base to port now l h from here timed =
+    let b = begins base to port l h in
+    let is : IsBase port now b.begin = ⊎_elim (λ own. rw own here) (timed b.begin) b.is in
+    record { base = b.begin; from = let later = b.from in omega arith; is = is; span = b.span }
 
 -- a timeout is that of the port, or one that began with one of the first k bytes that left
 abbrev IsSince : Port → Shift → (k : ℕ) → Option ℕ → Type 0
@@ -175,18 +181,8 @@ module _ (port : Port) (now to : ℕ) (looped : has port.mcr 4 ≡ true) (shift 
   -- a span that begins at this moment, or where the timeout comes
   covered : (k base : ℕ) (p : Port) → Reached k base p → base ≤ to → IsSentAfter to p.transmitter.shift → Covers port now to
   covered k base p r l h =
-      let b = begins base to port l (subst (λ (q : Port). IsSentAfter to q.transmitter.shift) r.is h) in
-      by_begin b b.is
-    where
-      by_begin : (b : Begins base to port l (subst (λ (q : Port). IsSentAfter to q.transmitter.shift) r.is h))
-          → (b.begin ≡ base) ⊎ ((after base port).receiver.timeout ≡ Some b.begin) → Covers port now to
-      by_begin b (inl own) = record { base = b.begin; from = omega arith; is = subst (IsBase port now) (sym own) r.begins_there; span = b.span }
-      by_begin b (inr timed) = record {
-        base = b.begin;
-        from = omega arith;
-        is = since-base k p.receiver.timeout b.begin r.few (ap (λ (q : Port). q.receiver.timeout) r.is ∙ timed) r.timeout;
-        span = b.span;
-      }
+      cover-from base to port now l (rw (r.is) at h) r.from r.begins_there
+      (λ begin e. since-base k p.receiver.timeout begin r.few (ap (λ (q : Port). q.receiver.timeout) r.is ∙ e) r.timeout)
 
   -- the port after k bytes left, of which the next is due at its moment, and which holds these bytes still
   record Holds (k : ℕ) (bytes : List ℕ) (p : Port) : Type 0 where
@@ -223,18 +219,16 @@ module _ (port : Port) (now to : ℕ) (looped : has port.mcr 4 ≡ true) (shift 
   -- by induction on the bytes that are still held
   cover-loop : (bytes : List ℕ) (k base : ℕ) (p : Port) → Reached k base p → Holds k bytes p → base ≤ to → base ≤ shift.due + k * character → Covers port now to
   cover-loop [] k base p r h l later =
-      covered k base p r l (subst (IsSentAfter to) (sym (ap (λ (t : TransmitterState). t.shift) h.transmitter ∙ none-shift (shift.due + k * character))) tt)
+      covered k base p r l (rw (h.transmitter, none-shift (shift.due + k * character)) tt)
   cover-loop (byte ∷ bytes) k base p r h l later =
       let due = shift.due + k * character in
       let first : Shift = record { byte = byte; due = due } in
       let e : p.transmitter.shift ≡ Some first = cc (first-shift due byte bytes) in
-      ⊎_elim (λ (f : to < due). covered k base p r l (subst (IsSentAfter to) (sym e) f))
+      ⊎_elim (λ (f : to < due). covered k base p r l (rw e f))
       (λ (f : due ≤ to).
       cover-loop bytes (k + 1) due (after due p) (next-reached k base due p first r e refl (omega arith) later) (record {
-        transmitter = sent-transmitter p first e
-            ∙ ap (λ (c : ℕ). holding (timetable c (due + c) p.transmitter.waiting)) r.time
-            ∙ ap (λ (d : ℕ). holding (timetable character d p.transmitter.waiting)) (omega arith)
-            ∙ ap (λ (w : List ℕ). holding (timetable character (shift.due + (k + 1) * character) w)) (cc (first-waiting due byte bytes));
+        transmitter = let next : due + character ≡ shift.due + (k + 1) * character = omega arith in
+            cc (sent-transmitter p first e, r.time, next, first-waiting due byte bytes);
         all = omega arith;
       }) f (omega arith)) (cases_lt to due)
 
@@ -242,10 +236,7 @@ module _ (port : Port) (now to : ℕ) (looped : has port.mcr 4 ≡ true) (shift 
   unfolding holding timetable
   whole =
       let due : shift.due + 0 * character ≡ shift.due = omega arith in
-      ap (λ (s : Option Shift). let t : TransmitterState = record { waiting = port.transmitter.waiting; shift = s } in t) sends
-      ∙ ap (λ (w : List ℕ). let t : TransmitterState = record { waiting = w; shift = Some shift } in t)
-      (sym (bytes_of-timetable character (shift.due + 0 * character + character) port.transmitter.waiting))
-      ∙ ap (λ (d : ℕ). let t : TransmitterState = record { waiting = bytes_of (timetable character (shift.due + 0 * character + character) port.transmitter.waiting); shift = Some (record { byte = shift.byte; due = d }) } in t) (sym due)
+      rw (bytes_of-timetable character (shift.due + 0 * character + character) port.transmitter.waiting, due, ← sends) refl
 
   -- from the present moment
   cover-now : now ≤ to → now < shift.due → Covers port now to
@@ -271,18 +262,7 @@ pub record LeavesBy (port : Port) (to : ℕ) : Type 0 where
 at-once : (port : Port) (now to : ℕ) → now ≤ to → IsSentAfter to port.transmitter.shift → Covers port now to
 at-once port now to l h =
     let same : after now port ≡ port = ap (λ (x : List ℕ × Port). x.1) (still now port (sent_after port.transmitter.shift now to l h)) in
-    by_begin (begins now to port l (subst (λ (q : Port). IsSentAfter to q.transmitter.shift) (sym same) h)) same
-  where
-    by_begin : {h : IsSentAfter to (after now port).transmitter.shift} → (b : Begins now to port l h) → after now port ≡ port → Covers port now to
-    by_begin b same = ⊎_elim
-        (λ (own : b.begin ≡ now). let c : Covers port now to = record { base = b.begin; from = b.from; is = inl own; span = b.span } in c)
-        (λ (timed : (after now port).receiver.timeout ≡ Some b.begin). record {
-          base = b.begin;
-          from = b.from;
-          is = inr (inl (sym (ap (λ (q : Port). q.receiver.timeout) same) ∙ timed));
-          span = b.span;
-        })
-        b.is
+    cover-from now to port now l (rw same h) (omega arith) (inl refl) (λ begin e. inr (inl (rw same at e)))
 
 by-mode : (looped : Bool) (port : Port) (now to : ℕ) (shift : Shift) → has port.mcr 4 ≡ looped → port.transmitter.shift ≡ Some shift → now ≤ to
     → now < shift.due → shift.due ≤ to → Covers port now to ⊎ LeavesBy port to
@@ -291,9 +271,9 @@ by-mode false port now to shift l e h d f = inr (record { shift = shift; sends =
 
 by-shift : (shift : Option Shift) (port : Port) (now to : ℕ) → port.transmitter.shift ≡ shift → now ≤ to → IsSentAfter now shift
     → Covers port now to ⊎ LeavesBy port to
-by-shift None port now to e h d = inl (at-once port now to h (subst (IsSentAfter to) (sym e) tt))
+by-shift None port now to e h d = inl (at-once port now to h (rw e tt))
 by-shift (Some shift) port now to e h d = ⊎_elim
-    (λ (f : to < shift.due). inl (at-once port now to h (subst (IsSentAfter to) (sym e) f)))
+    (λ (f : to < shift.due). inl (at-once port now to h (rw e f)))
     (λ (f : shift.due ≤ to). by-mode (has port.mcr 4) port now to shift refl e h d f) (cases_lt to shift.due)
 
 -- up to any moment the line stays from one of the port's moments on, or a byte left

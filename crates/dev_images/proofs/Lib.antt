@@ -2,6 +2,7 @@ pub mod BoardReady
 pub mod Carried
 pub mod Facade
 pub mod NormalCells
+pub mod PitSaved
 pub mod ReadyOf
-pub mod SerialReady
+pub mod SerialSaved
 pub mod ShippedDevices

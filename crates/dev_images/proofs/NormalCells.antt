@@ -1,16 +1,16 @@
 -- Normal images of the newest set have the cells that a restore of a board takes.
-use Rattle.dev_images.proofs.BoardReady.{chip_slots, status_slots, no_gate}
-use Rattle.dev_images.proofs.Facade.{◌≡◌, ℕ, zero, suc, ◌+◌, ◌<◌, ◌≤◌, true, false, ◌==◌, List, ◌∷◌, ◌++◌, get_or, map}
-use Rattle.dev_images.proofs.Facade.{Option, ℤ, pos, negsuc, refl, sym, ap, ◌∙◌, subst, arith, [], ints, WLOW_HELD, WLOW, LATCHED, LATCH}
-use Rattle.dev_images.proofs.Facade.{STATUS_LATCHED, CELLS, InRange, Kind, Image, has_cell, image_slots, FitCells, IsNormal, AreVersionsOf, Cell, no_cell}
-use Rattle.dev_images.proofs.Facade.{first, device_cells, Slot, Rule, NEWEST, shipped_set, set_2, timer, i8259_at_4, i8254_at_2, AreOf, kind_at, nat_of}
-use Rattle.dev_images.proofs.Facade.{flag_at, number_at, timer_kinds, AreCellsOf, channel_place, TX_COUNT, TX, TIMEOUT_AT, RX_DATA, ◌&&◌, length, take}
-use Rattle.dev_images.proofs.Facade.{drop, min, Some, None, ◌≤ℤ◌, and_parts, ltb-true, or_from, nat_le, nat_lt, same_number, Set, Device, Sub, residue}
-use Rattle.dev_images.proofs.Facade.{U8, own_slots, sub_slots, came_slots, IsVersionOf, times, Number, thr_ipending, fifo, timeout, ring, same_number_is}
-use Rattle.dev_images.proofs.Facade.{IsPortCells, THR_IPENDING, RX_COUNT, RX, slice_get, AreBoardCells, cells_in, NormalMayBeRestored}
-use Rattle.dev_images.proofs.ReadyOf.{kind-of, count-of, has-none, before-none, neq, all_within, element, sub_cells, zero_defaults}
-use Rattle.dev_images.proofs.SerialReady.{byte, second_slots, inner_slots, fifo_slots, elements}
-use Rattle.dev_images.proofs.ShippedDevices.{needs, channel, second_at, third_at, none_at, channel-none, slots_in, serial_at_4}
+use Rattle.dev_images.proofs.Facade.{AreBoardCells, AreCellsOf, AreOf, AreVersionsOf, Bool, CELLS, Cell, Device, FitCells, Image, InRange, IsNormal}
+use Rattle.dev_images.proofs.Facade.{IsPortCells, IsVersionOf, LATCH, LATCHED, List, NEWEST, None, NormalMayBeRestored, Option, RX, RX_COUNT, RX_DATA}
+use Rattle.dev_images.proofs.Facade.{STATUS_LATCHED, Set, Slot, Some, Sub, THR_IPENDING, TIMEOUT_AT, TX, TX_COUNT, U8, WLOW, WLOW_HELD, [], ap, arith}
+use Rattle.dev_images.proofs.Facade.{came_slots, cells_in, channel_place, device_cells, false, fifo, first, flag_at, get_or, has_cell, i8254_at_2, i8259_at_4}
+use Rattle.dev_images.proofs.Facade.{image_slots, ints, kind_at, length, map, min, nat_le, nat_lt, nat_of, nat_tests, ne_eqb, negsuc, no_cell, number}
+use Rattle.dev_images.proofs.Facade.{number_at, or_from, or_second, own_slots, pos, refl, residue, ring, same_number, same_number_is, serial, set_2}
+use Rattle.dev_images.proofs.Facade.{shipped_set, slice_get, sub_slots, suc, thr_ipending, timeout, timer, timer_kinds, times, true, zero, ℕ, ℤ, ◌+◌}
+use Rattle.dev_images.proofs.Facade.{◌<◌, ◌==◌, ◌||◌, ◌∙◌, ◌∷◌, ◌≡◌, ◌≤ℤ◌, ◌≤◌}
+use Rattle.dev_images.proofs.PitSaved.{AreChannels, chip-has, chip_has, chip_slots, no_gate, second_at, status_slots, third_at}
+use Rattle.dev_images.proofs.ReadyOf.{all_within, count-of, from-at, has-none, kind-of, outside, sub_cells}
+use Rattle.dev_images.proofs.SerialSaved.{element, elements, elements-none, fifo_slots}
+use Rattle.dev_images.proofs.ShippedDevices.{needs, serial_at_4}
 use Rattle.vms_kinds.specs.declared.Kind.TheVariants.{Bool as Truth}
 use Rattle.dev_pic.specs.Cells.{kinds as pic_kinds}
 use Rattle.dev_pit.proofs.CallLaws.{each_of}
@@ -31,11 +31,6 @@ chip-of instance image n = of-kinds (device_cells (shipped_set NEWEST) (i8259_at
 
 -- ---- the timer chip
 
--- If a cell is in no channel's slots and not in those that follow, it is in none of a chip's slots.
-chip-none : (a b c rest : List Slot) (k : ℕ) → has_cell a k ≡ false → has_cell b k ≡ false → has_cell c k ≡ false → has_cell rest k ≡ false
-    → has_cell (chip_slots a b c rest) k ≡ false
-chip-none a b c rest k p q r s = grind (arith, has-none)
-
 -- A clear flag.
 flag-off : (z : ℤ) → InRange Truth z → (nat_of z == 1) ≡ false → needs z ≡ false
 flag-off (pos zero) r e = refl
@@ -46,17 +41,20 @@ flag-off (negsuc n) r e = absurd (omega arith)
 -- The slots of an image of the chip, at either version.
 record HasSlots (normal-numbers : List ℤ) (slots : List Slot) : Type 0 where
   rest : List Slot
-  same : slots ≡ chip_slots (slots_in set_2 normal-numbers 0) (slots_in set_2 normal-numbers second_at) (slots_in set_2 normal-numbers third_at) rest
+  same : slots ≡ chip_slots set_2 normal-numbers rest
   none : (k : ℕ) → k < STATUS_LATCHED → has_cell rest k ≡ false
 
 slots-at : (v : ℕ) (came : List (Option ℕ)) (normal-numbers : List ℤ) → 1 ≤ v → v ≤ 2 → AreVersionsOf [] came
     → HasSlots normal-numbers (image_slots (shipped_set NEWEST) i8254_at_2 (record { version = v; came = came; numbers = normal-numbers }))
 unfolding first
-slots-at zero came normal-numbers l h a = absurd (omega arith)
 slots-at (suc zero) [] normal-numbers l h a = record { rest = []; same = refl; none = λ k lt. refl }
-slots-at (suc (suc zero)) [] normal-numbers l h a = record { rest = status_slots; same = refl; none = λ k lt. before-none STATUS_LATCHED CELLS status_slots k refl lt }
-slots-at (suc (suc (suc v))) came normal-numbers l h a = absurd (omega arith)
+slots-at (suc (suc zero)) [] normal-numbers l h a = record {
+  rest = status_slots;
+  same = refl;
+  none = λ k lt. outside STATUS_LATCHED CELLS status_slots k refl (λ low high. omega arith);
+}
 slots-at v (o ∷ came) normal-numbers l h a = absurd a
+slots-at _ came normal-numbers l h a = absurd (omega arith)
 
 module _ (image : Image) (n : IsNormal (shipped_set NEWEST) i8254_at_2 image) where
   abbrev normal-numbers : List ℤ
@@ -70,14 +68,12 @@ module _ (image : Image) (n : IsNormal (shipped_set NEWEST) i8254_at_2 image) wh
 
   -- A cell that no channel has is at its default, 0.
   lacks : (k : ℕ) → k < STATUS_LATCHED → (get_or (device_cells (shipped_set NEWEST) i8254_at_2) k no_cell).default ≡ pos 0
-      → none_at 0 (channel normal-numbers 0) k ≡ true → none_at second_at (channel normal-numbers second_at) k ≡ true → none_at third_at (channel normal-numbers third_at) k ≡ true
-      → nat_of (get_or normal-numbers k (pos 0)) ≡ 0
+      → chip_has normal-numbers [] k ≡ false → nat_of (get_or normal-numbers k (pos 0)) ≡ 0
   unfolding first
-  lacks k lt d a b c =
-      let none = chip-none (slots_in set_2 normal-numbers 0) (slots_in set_2 normal-numbers second_at) (slots_in set_2 normal-numbers third_at) slots.rest k
-      (channel-none set_2 normal-numbers 0 no_gate k refl refl a) (channel-none set_2 normal-numbers second_at no_gate k refl refl b)
-      (channel-none set_2 normal-numbers third_at no_gate k refl refl c) (slots.none k lt) in
-      ap nat_of (n.absent k (omega arith) (rw (slots.same) (none)) ∙ d)
+  lacks k lt d e =
+      let channels : AreChannels set_2 normal-numbers no_gate = record { first = refl; second = refl; third = refl; none = λ k. refl; rules = tt } in
+      let none : chip_has normal-numbers slots.rest k ≡ false = rw (slots.none k lt) e in
+      ap nat_of (n.absent k (omega arith) (rw (slots.same) (chip-has set_2 normal-numbers no_gate slots.rest channels k ∙ none)) ∙ d)
 
   off : (place : ℕ) → place < CELLS → kind_at (map (λ cell. cell.kind) (device_cells (shipped_set NEWEST) i8254_at_2)) place ≡ Truth
       → (nat_of (get_or normal-numbers place (pos 0)) == 1) ≡ false → needs (get_or normal-numbers place (pos 0)) ≡ false
@@ -91,32 +87,20 @@ module _ (image : Image) (n : IsNormal (shipped_set NEWEST) i8254_at_2 image) wh
       record {
         of_kinds = kinds;
         wlow = each_of (default WLOW_HELD WLOW)
-            (λ e. lacks WLOW (omega arith) refl (rw (off WLOW_HELD (omega arith) refl e) refl) refl refl)
-            (λ e. lacks (second_at + WLOW) (omega arith) refl refl (rw (off (second_at + WLOW_HELD) (omega arith) refl e) refl) refl)
-            (λ e. lacks (third_at + WLOW) (omega arith) refl refl refl (rw (off (third_at + WLOW_HELD) (omega arith) refl e) refl));
+            (λ e. lacks WLOW (omega arith) refl (rw (off WLOW_HELD (omega arith) refl e) refl))
+            (λ e. lacks (second_at + WLOW) (omega arith) refl (rw (off (second_at + WLOW_HELD) (omega arith) refl e) refl))
+            (λ e. lacks (third_at + WLOW) (omega arith) refl (rw (off (third_at + WLOW_HELD) (omega arith) refl e) refl));
         latch = each_of (default LATCHED LATCH)
-            (λ e. lacks LATCH (omega arith) refl (rw (off LATCHED (omega arith) refl e) refl) refl refl)
-            (λ e. lacks (second_at + LATCH) (omega arith) refl refl (rw (off (second_at + LATCHED) (omega arith) refl e) refl) refl)
-            (λ e. lacks (third_at + LATCH) (omega arith) refl refl refl (rw (off (third_at + LATCHED) (omega arith) refl e) refl));
+            (λ e. lacks LATCH (omega arith) refl (rw (off LATCHED (omega arith) refl e) refl))
+            (λ e. lacks (second_at + LATCH) (omega arith) refl (rw (off (second_at + LATCHED) (omega arith) refl e) refl))
+            (λ e. lacks (third_at + LATCH) (omega arith) refl (rw (off (third_at + LATCHED) (omega arith) refl e) refl));
       }
 
 -- ---- a normal image of the newest set's serial port has the cells that a restore of a port requires
 
-within-none : (low high : ℕ) (slots : List Slot) (c : ℕ) → all_within low high slots ≡ true → high ≤ c → has_cell slots c ≡ false
-within-none low high [] c e h = refl
-within-none low high (Number k kind capacities ∷ slots) c e h =
-    let q = and_parts (nat_lt k high) (all_within low high slots) (and_parts (nat_le low k) (nat_lt k high && all_within low high slots) e).1 in
-    or_from (k == c) (has_cell slots c) (neq k c (λ same. absurd (omega (arith, ltb-true k high q.0)))) (within-none low high slots c q.1 h)
-within-none low high (slot ∷ slots) c e h = within-none low high slots c e h
-
--- The elements of an array that isn't at a cell.
-elements-none : (n at c : ℕ) → (at ≤ c → at + n ≤ c) → has_cell (times n (element byte) at 1) c ≡ false
-elements-none zero at c h = refl
-elements-none (suc n) at c h = grind (arith, or_from, neq, elements-none n (at + 1) c (λ l. omega arith))
-
 -- The FIFOs' slots lack the cells after the elements of each array.
 fifo-lack : (n m c : ℕ) → RX + n ≤ c → (TX_COUNT ≤ c → TX + m ≤ c) → has_cell (fifo_slots n m) c ≡ false
-fifo-lack n m c rx tx = grind (arith, has-none, times, element, or_from, neq, elements-none)
+fifo-lack n m c rx tx = grind (arith, has-none, times, element, or_from, ne_eqb, elements-none)
 
 -- Subsections that came lack a cell that none of them has.
 abbrev SubsLack : Set → List ℤ → ℕ → ℕ → List Sub → Type 0
@@ -142,17 +126,9 @@ version-1 zero P l h p = absurd (omega arith)
 version-1 (suc zero) P l h p = p
 version-1 (suc (suc v)) P l h p = absurd (omega arith)
 
--- The default of a cell of a run that has zeros.
-default-in : (cells : List Cell) (at i n place : ℕ) → place ≡ at + i → i < n → zero_defaults (take n (drop at cells)) ≡ true
-    → (get_or cells place no_cell).default ≡ pos 0
-default-in [] at i n place is lt e = refl
-default-in (cell ∷ cells) (suc at) i n zero is lt e = absurd (omega arith)
-default-in (cell ∷ cells) (suc at) i n (suc place) is lt e = default-in cells at i n place (omega arith) lt e
-default-in (cell ∷ cells) zero i zero place is lt e = absurd (omega arith)
-default-in (cell ∷ cells) zero i (suc n) zero is lt e = grind (arith, same_number_is, same_number)
-default-in (cell ∷ cells) zero zero (suc n) (suc place) is lt e = absurd (omega arith)
-default-in (cell ∷ cells) zero (suc i) (suc n) (suc place) is lt e =
-    default-in cells zero i n place (omega arith) (omega arith) (and_parts (same_number (pos 0) cell.default) (zero_defaults (take n cells)) e).1
+-- The FIFOs' cells have the default 0.
+abbrev is_zero_cell : ℕ → Cell → Bool
+is_zero_cell k cell = nat_lt k RX_COUNT || (nat_le TIMEOUT_AT k || same_number (pos 0) cell.default)
 
 module _ (image : Image) (n : IsNormal (shipped_set NEWEST) serial_at_4 image) where
   abbrev numbers : List ℤ
@@ -198,21 +174,20 @@ module _ (image : Image) (n : IsNormal (shipped_set NEWEST) serial_at_4 image) w
       → has_cell (image_slots (shipped_set NEWEST) serial_at_4 image) c ≡ false
   unfolding first
   lack c low high e =
-      has-none (own_slots (shipped_set NEWEST) serial_at_4 image.version numbers)
-      (came_slots (shipped_set NEWEST) serial_at_4 numbers THR_IPENDING serial_at_4.subs image.came) c
-      (within-none 0 THR_IPENDING (own_slots (shipped_set NEWEST) serial_at_4 image.version numbers) c
-      (own-within image.version numbers n.version.0 n.version.1) (omega arith))
-      (came-lack (shipped_set NEWEST) serial_at_4 numbers c THR_IPENDING serial_at_4.subs image.came n.subs (
-        (λ v h. version-1 v (λ v. has_cell (sub_slots (shipped_set NEWEST) thr_ipending v numbers THR_IPENDING) c ≡ false) h.0 h.1
-            (within-none THR_IPENDING RX_COUNT (sub_slots (shipped_set NEWEST) thr_ipending 1 numbers THR_IPENDING) c refl low)),
+      let set = shipped_set NEWEST in
+      has-none (own_slots set serial_at_4 image.version numbers) (came_slots set serial_at_4 numbers THR_IPENDING serial_at_4.subs image.came) c
+      (outside 0 THR_IPENDING (own_slots set serial_at_4 image.version numbers) c (own-within image.version numbers n.version.0 n.version.1) (λ l h. omega arith))
+      (came-lack set serial_at_4 numbers c THR_IPENDING serial_at_4.subs image.came n.subs (
+        (λ v h. version-1 v (λ v. has_cell (sub_slots set thr_ipending v numbers THR_IPENDING) c ≡ false) h.0 h.1
+            (outside THR_IPENDING RX_COUNT (sub_slots set thr_ipending 1 numbers THR_IPENDING) c refl (λ l h. omega arith))),
         (
-          (λ v h. version-1 v (λ v. has_cell (sub_slots (shipped_set NEWEST) fifo v numbers RX_COUNT) c ≡ false) h.0 h.1 e),
+          (λ v h. version-1 v (λ v. has_cell (sub_slots set fifo v numbers RX_COUNT) c ≡ false) h.0 h.1 e),
           (
-            (λ v h. version-1 v (λ v. has_cell (sub_slots (shipped_set NEWEST) timeout v numbers TIMEOUT_AT) c ≡ false) h.0 h.1
-                (before-none TIMEOUT_AT RX_DATA (sub_slots (shipped_set NEWEST) timeout 1 numbers TIMEOUT_AT) c refl high)),
+            (λ v h. version-1 v (λ v. has_cell (sub_slots set timeout v numbers TIMEOUT_AT) c ≡ false) h.0 h.1
+                (outside TIMEOUT_AT RX_DATA (sub_slots set timeout 1 numbers TIMEOUT_AT) c refl (λ l h. omega arith))),
             (
-              (λ v h. version-1 v (λ v. has_cell (sub_slots (shipped_set NEWEST) ring v numbers RX_DATA) c ≡ false) h.0 h.1
-                  (before-none RX_DATA 84 (sub_slots (shipped_set NEWEST) ring 1 numbers RX_DATA) c refl (omega arith))),
+              (λ v h. version-1 v (λ v. has_cell (sub_slots set ring v numbers RX_DATA) c ≡ false) h.0 h.1
+                  (outside RX_DATA 84 (sub_slots set ring 1 numbers RX_DATA) c refl (λ l h. omega arith))),
               tt,
             ),
           ),
@@ -220,23 +195,25 @@ module _ (image : Image) (n : IsNormal (shipped_set NEWEST) serial_at_4 image) w
       ))
 
   -- An element that no slot has is at its default.
-  element-zero : (at i : ℕ) → RX ≤ at → at + 16 ≤ TIMEOUT_AT → i < 16 → zero_defaults (take 16 (drop at (device_cells (shipped_set NEWEST) serial_at_4))) ≡ true
-      → has_cell (fifo_slots rx_elements tx_elements) (at + i) ≡ false → get_or numbers (at + i) (pos 0) ≡ pos 0
+  element-zero : (c : ℕ) → RX_COUNT ≤ c → c < TIMEOUT_AT → has_cell (fifo_slots rx_elements tx_elements) c ≡ false → get_or numbers c (pos 0) ≡ pos 0
   unfolding first
-  element-zero at i low high b zeros e =
-      cc (n.absent (at + i) (omega arith) (lack (at + i) (omega arith) (omega arith) e), default-in (device_cells (shipped_set NEWEST) serial_at_4) at i 16 (at + i) refl b zeros)
+  element-zero c low high e =
+      let cells = device_cells (shipped_set NEWEST) serial_at_4 in
+      let given : is_zero_cell c (get_or cells c no_cell) ≡ true = from-at is_zero_cell 0 cells refl c c (omega arith) (omega arith) in
+      let there = or_second (nat_le TIMEOUT_AT c) _ (or_second (nat_lt c RX_COUNT) _ given (grind (arith, nat_tests))) (grind (arith, nat_tests)) in
+      cc (n.absent c (omega arith) (lack c low high e), same_number_is (pos 0) (get_or cells c no_cell).default there)
 
   rx-zeros : (i : ℕ) → nat_of (get_or numbers RX_COUNT (pos 0)) ≤ i → i < 16 → get_or numbers (RX + i) (pos 0) ≡ pos 0
   unfolding first
   rx-zeros i l b =
       let is = elements (get_or numbers RX_COUNT (pos 0)) rx-range rx-fits in
-      element-zero RX i (omega arith) (omega arith) b refl (fifo-lack rx_elements tx_elements (RX + i) (omega arith) (λ l. omega arith))
+      element-zero (RX + i) (omega arith) (omega arith) (fifo-lack rx_elements tx_elements (RX + i) (omega arith) (λ l. omega arith))
 
   tx-zeros : (i : ℕ) → nat_of (get_or numbers TX_COUNT (pos 0)) ≤ i → i < 16 → get_or numbers (TX + i) (pos 0) ≡ pos 0
   unfolding first
   tx-zeros i l b =
       let is = elements (get_or numbers TX_COUNT (pos 0)) tx-range tx-fits in
-      element-zero TX i (omega arith) (omega arith) b refl (fifo-lack rx_elements tx_elements (TX + i) (omega arith) (λ m. omega arith))
+      element-zero (TX + i) (omega arith) (omega arith) (fifo-lack rx_elements tx_elements (TX + i) (omega arith) (λ m. omega arith))
 
   pub port-of : IsPortCells numbers
   unfolding first

@@ -1,14 +1,12 @@
 -- The devices of the shipped sets, their places, kinds, structures and slots.
-use Rattle.dev_images.proofs.Facade.{Some, refl, codes, find_device, by_list, PlacesLaw, first, KindsLaw, kinds_in, kinds_saved, ◌≡◌, ℕ, zero, suc}
-use Rattle.dev_images.proofs.Facade.{arith, ◌≤◌, List, [], ◌∷◌, ◌++◌, sym, Device, Set, NEWEST, shipped_set, set_2, timer, i8259_at_4}
-use Rattle.dev_images.proofs.Facade.{i8254_at_2, serial, serial_fields, divider, divisor, fcr, thr_ipending, fifo, timeout, ring, timer_in, chip_in, pit_in}
-use Rattle.dev_images.proofs.Facade.{serial_in, i8259_at_1, i8259_at_2, ChipIsReady, image_of, ◌==◌, Bool, true, false, get_or, ℤ, pos, negsuc, ints}
-use Rattle.dev_images.proofs.Facade.{bit_and, place_of_pic, residue, InRange, image_slots, IsValid, device_cells, set_1, set_3, subst, AreChipCells, ReadyWhere}
-use Rattle.dev_images.proofs.Facade.{ReadyOf, AreOf, Kind, not, ◌&&◌, ◌||◌, cond, map, Option, None, ap, ◌∙◌, and_parts, and_from, eq-eqb}
-use Rattle.dev_images.proofs.Facade.{not-true, or_from, and-true, is_same, rules_append, Row, channel_rows, WLOW_HELD, WLOW, LATCHED, LATCH, has_cell}
-use Rattle.dev_images.proofs.Facade.{RulesHold, struct_cells, meanings, no_meaning, Cell, Slot, Number, Rule, same_number, channel_place}
-use Rattle.dev_images.proofs.ReadyOf.{are_kept, ready-plain, kept-left, kept-right, or-lift, has-none}
-use Rattle.dev_pic.specs.Cells.{kinds as pic_kinds, origins as pic_origins}
+use Rattle.dev_images.proofs.Facade.{AreChipCells, AreOf, AreTimerCells, Bool, CarriedWhere, ChipIsCarried, ChipIsReady, Device, InEachSet, InRange, KindsLaw}
+use Rattle.dev_images.proofs.Facade.{List, NEWEST, Origin, PlacesLaw, ReadyOf, ReadyWhere, Set, TimerIsCarried, TimerIsReady, [], arith, bit_and, by_list}
+use Rattle.dev_images.proofs.Facade.{carried_by, carried_numbers, cell_count, chip_in, codes, divider, divisor, false, fcr, fifo, first, get_or, i8254_at_2}
+use Rattle.dev_images.proofs.Facade.{i8259_at_1, i8259_at_2, i8259_at_4, kinds_in, kinds_saved, length, negsuc, newest_set, pit_in, place_of_pic, places, pos}
+use Rattle.dev_images.proofs.Facade.{refl, residue, ring, serial, serial_fields, serial_in, set_1, set_2, set_3, shipped_set, subst, suc, sym, thr_ipending}
+use Rattle.dev_images.proofs.Facade.{timeout, timer, timer_in, timer_kinds, true, zero, ℕ, ℤ, ◌++◌, ◌==◌, ◌∷◌, ◌≡◌, ◌≤◌}
+use Rattle.dev_images.proofs.ReadyOf.{needed, ready-of}
+use Rattle.dev_pic.specs.Cells.{kinds as pic_kinds, origins as pic_origins, carried as pic_carried}
 use Rattle.dev_pit.specs.Cells.{kinds_of, origins as origins_of_pit}
 use Rattle.dev_serial.specs.Cells.{kinds as serial_kinds, origins as serial_origins}
 use Rattle.vms_kinds.specs.declared.Kind.TheVariants.{Bool as Truth}
@@ -93,13 +91,52 @@ port_kinds s l h = sym (by_list (λ set. serial_kinds 4) serial_kinds 4 refl s l
 pub port_origins : (s : ℕ) → 4 ≤ s → s ≤ NEWEST → serial_origins s ≡ serial_origins 4
 port_origins s l h = sym (by_list (λ set. serial_origins 4) serial_origins 4 refl s l h)
 
--- ---- the image of a chip of the pair is ready
+-- ---- a device's cells are saved in a ready image, which is carried as the device's own table says
+
+-- Its image is ready, and is carried to the device `new` of the newest set as these cells.
+pub record IsSavedAs (set : Set) (d new : Device) (numbers cells : List ℤ) : Type 0 where
+  pub ready : ReadyOf set d numbers
+  pub carried : carried_numbers set d new numbers ≡ cells
+
+-- The same for every list of numbers that are such cells, by the table.
+abbrev pub SavedWhere : (ℕ → List ℤ → Type 0) → (ℕ → List ℤ → List ℤ) → Device → ℕ → Set → Device → Type 0
+SavedWhere Are table new s set d = (numbers : List ℤ) → Are s numbers → IsSavedAs set d new numbers (table s numbers)
+
+module _ {Are : ℕ → List ℤ → Type 0} {table : ℕ → List ℤ → List ℤ} {new : Device} {device : Set → Device} where
+  pub ready-in : InEachSet (SavedWhere Are table new) device → InEachSet (ReadyWhere Are) device
+  ready-in h = record { each = λ s l m numbers are. (h.each s l m numbers are).ready }
+
+  pub carried-in : InEachSet (SavedWhere Are table new) device → InEachSet (CarriedWhere Are table new) device
+  carried-in h = record { each = λ s l m numbers are. (h.each s l m numbers are).carried }
+
+-- ---- the moment
+
+-- A list of one number.
+one : (numbers : List ℤ) → length numbers ≡ 1 → (get_or numbers 0 (pos 0) ∷ []) ≡ numbers
+one (z ∷ []) e = refl
+one _ e = absurd (omega arith)
+
+-- In any set, since the moment is no structure.
+timer-saved : (set : Set) (numbers : List ℤ) → AreOf timer_kinds numbers → IsSavedAs set timer timer numbers numbers
+unfolding first
+timer-saved set numbers are = record { ready = ready-of set timer numbers (omega arith) tt are refl refl (refl, tt); carried = one numbers are.count }
+
+pub timer_is_saved : InEachSet (SavedWhere AreTimerCells (λ set numbers. numbers) (timer_in newest_set)) timer_in
+timer_is_saved = record { each = λ s l h. rw (is_timer s l h) (timer-saved (shipped_set s)) }
+
+pub timer_is_ready : TimerIsReady
+timer_is_ready = ready-in timer_is_saved
+
+pub timer_is_carried : TimerIsCarried
+timer_is_carried = carried-in timer_is_saved
+
+-- ---- a chip of the pair
 
 -- The place of the level mode's cell in the newest set, and the number that it holds.
-abbrev pub mode_place : ℕ
+abbrev mode_place : ℕ
 mode_place = place_of_pic (codes "ltim")
 
-abbrev pub mode_in : List ℤ → ℤ
+abbrev mode_in : List ℤ → ℤ
 mode_in numbers = get_or numbers mode_place (pos 0)
 
 -- The level mode's cell, by whether its subsection is needed.
@@ -114,142 +151,43 @@ unneeded (negsuc n) r e = absurd (omega arith)
 
 -- No item of a chip is a structure, so these hold in any set.
 module _ (set : Set) (instance : ℕ) (numbers : List ℤ) where
-  kept-4 : (needed : Bool) → needs (mode_in numbers) ≡ needed → (needed ≡ false → mode_in numbers ≡ pos 0) → (are_kept (image_slots set (i8259_at_4 instance) (image_of set (i8259_at_4 instance) numbers)) numbers 0 (device_cells set (i8259_at_4 instance)) ≡ true) × IsValid set (i8259_at_4 instance) (image_of set (i8259_at_4 instance) numbers)
+  saved-1 : AreChipCells 1 numbers → IsSavedAs set (i8259_at_1 instance) (i8259_at_4 instance) numbers (pic_carried 1 numbers)
   unfolding first
-  kept-4 true e off = rw e (refl, (refl, (refl, tt)))
-  kept-4 false e off = rw (e, off refl) (refl, (refl, tt))
+  saved-1 are = record { ready = ready-of set (i8259_at_1 instance) numbers (omega arith) tt are refl refl (refl, tt); carried = refl }
 
-  ready-1 : AreChipCells 1 numbers → ReadyOf set (i8259_at_1 instance) numbers
+  saved-2 : AreChipCells 2 numbers → IsSavedAs set (i8259_at_2 instance) (i8259_at_4 instance) numbers (pic_carried 2 numbers)
   unfolding first
-  ready-1 are = ready-plain set (i8259_at_1 instance) numbers (omega arith) tt are refl refl (refl, tt)
+  saved-2 are = record { ready = ready-of set (i8259_at_2 instance) numbers (omega arith) tt are refl refl (refl, tt); carried = refl }
 
-  ready-2 : AreChipCells 2 numbers → ReadyOf set (i8259_at_2 instance) numbers
+  saved-4 : AreChipCells 4 numbers → (needed : Bool) → needs (mode_in numbers) ≡ needed
+      → IsSavedAs set (i8259_at_4 instance) (i8259_at_4 instance) numbers (carried_by (places 0 cell_count) numbers)
   unfolding first
-  ready-2 are = ready-plain set (i8259_at_2 instance) numbers (omega arith) tt are refl refl (refl, tt)
+  saved-4 are true e = record {
+    ready = ready-of set (i8259_at_4 instance) numbers (omega arith) (omega arith, tt) are refl (rw e refl) (rw e (refl, (refl, tt)));
+    carried = rw e refl;
+  }
+  saved-4 are false e =
+      let off = unneeded (mode_in numbers) (are.in_range mode_place (omega arith)) e in
+      record {
+        ready = ready-of set (i8259_at_4 instance) numbers (omega arith) (omega arith, tt) are refl (rw (e, off) refl) (rw e (refl, tt));
+        carried = rw (e, off) refl;
+      }
 
-  ready-4 : AreChipCells 4 numbers → ReadyOf set (i8259_at_4 instance) numbers
-  unfolding first
-  ready-4 are =
-      let both = kept-4 (needs (mode_in numbers)) refl (unneeded (mode_in numbers) (are.in_range mode_place (omega arith))) in
-      ready-plain set (i8259_at_4 instance) numbers (omega arith) (omega arith, tt) are refl both.0 both.1
+chip-each : (instance s : ℕ) → 1 ≤ s → s ≤ NEWEST → SavedWhere AreChipCells pic_carried (chip_in instance newest_set) s (shipped_set s) (chip_in instance (shipped_set s))
+unfolding first
+chip-each instance =
+    from_four (λ s. SavedWhere AreChipCells pic_carried (chip_in instance newest_set) s (shipped_set s) (chip_in instance (shipped_set s)))
+    (saved-1 set_1 instance) (saved-2 set_2 instance) (saved-2 set_3 instance)
+    (λ s four h. subst (λ d. SavedWhere AreChipCells pic_carried (chip_in instance newest_set) s (shipped_set s) d) (sym (is_chip instance s four h))
+    (λ numbers are.
+    subst (λ (origins : List Origin). IsSavedAs (shipped_set s) (i8259_at_4 instance) (i8259_at_4 instance) numbers (carried_by origins numbers))
+    (sym (chip_origins s four h)) (saved-4 (shipped_set s) instance numbers (rw (chip_kinds s four h) at are) _ refl)))
 
-each : (instance s : ℕ) → 1 ≤ s → s ≤ NEWEST → ReadyWhere AreChipCells s (shipped_set s) (chip_in instance (shipped_set s))
-each instance =
-    from_four (λ s. ReadyWhere AreChipCells s (shipped_set s) (chip_in instance (shipped_set s)))
-    (ready-1 set_1 instance) (ready-2 set_2 instance) (ready-2 set_3 instance)
-    (λ s four h. subst (λ d. ReadyWhere AreChipCells s (shipped_set s) d) (sym (is_chip instance s four h))
-    (λ numbers are. ready-4 (shipped_set s) instance numbers (subst (λ kinds. AreOf kinds numbers) (chip_kinds s four h) are)))
+pub chip_is_saved : (instance : ℕ) → InEachSet (SavedWhere AreChipCells pic_carried (chip_in instance newest_set)) (chip_in instance)
+chip_is_saved instance = record { each = chip-each instance }
 
 pub chip_is_ready : ChipIsReady
-chip_is_ready = record { chip = λ instance. record { each = each instance } }
+chip_is_ready = record { chip = λ instance. ready-in (chip_is_saved instance) }
 
--- ---- a channel of the timer chip among an image's cells, by the place of its first. Two of its cells may be absent.
-
--- ---- cells one after the other, each with whether it is present
-
-abbrev pub run_slots : ℕ → List (Bool × Cell) → List Slot → List Slot
-run_slots at [] rest = rest
-run_slots at (c ∷ cells) rest = cond c.0 (Number at c.1.kind c.1.capacities ∷ []) [] ++ run_slots (suc at) cells rest
-
--- Each is present or at its default.
-abbrev pub all_settled : List ℤ → ℕ → List (Bool × Cell) → Bool
-all_settled numbers at [] = true
-all_settled numbers at (c ∷ cells) = (c.0 || same_number (get_or numbers at (pos 0)) c.1.default) && all_settled numbers (suc at) cells
-
--- None of them is present at a place.
-abbrev pub none_at : ℕ → List (Bool × Cell) → ℕ → Bool
-none_at at [] k = true
-none_at at (c ∷ cells) k = not ((at == k) && c.0) && none_at (suc at) cells k
-
-settled : (there : Bool) (z default : ℤ) → (there ≡ false → z ≡ default) → (there || same_number z default) ≡ true
-settled true z default off = refl
-settled false z default off = is_same z default (off refl)
-
-has-first : (there : Bool) (at : ℕ) (cell : Cell) (slots : List Slot) → there ≡ true
-    → has_cell (cond there (Number at cell.kind cell.capacities ∷ []) [] ++ slots) at ≡ true
-has-first there at cell slots e = grind arith
-
-run-kept : (numbers : List ℤ) (at : ℕ) (cells : List (Bool × Cell)) (rest : List Slot) → all_settled numbers at cells ≡ true
-    → are_kept (run_slots at cells rest) numbers at (map (λ c. c.1) cells) ≡ true
-run-kept numbers at [] rest e = refl
-run-kept numbers at (c ∷ cells) rest e =
-    let p = and_parts (c.0 || same_number (get_or numbers at (pos 0)) c.1.default) (all_settled numbers (suc at) cells) e in
-    let slots = run_slots (suc at) cells rest in
-    and_from _ _ (or-lift c.0 _ _ (has-first c.0 at c.1 slots) p.0)
-    (kept-right (cond c.0 (Number at c.1.kind c.1.capacities ∷ []) []) slots numbers (suc at) (map (λ c. c.1) cells) (run-kept numbers (suc at) cells rest p.1))
-
-run-rules : (at : ℕ) (cells : List (Bool × Cell)) (rest : List Slot) → RulesHold rest → RulesHold (run_slots at cells rest)
-run-rules at [] rest h = h
-run-rules at ((true, cell) ∷ cells) rest h = run-rules (suc at) cells rest h
-run-rules at ((false, cell) ∷ cells) rest h = run-rules (suc at) cells rest h
-
-run-none : (at : ℕ) (cells : List (Bool × Cell)) (rest : List Slot) (k : ℕ) → none_at at cells k ≡ true → has_cell rest k ≡ false
-    → has_cell (run_slots at cells rest) k ≡ false
-run-none at [] rest k e out = out
-run-none at ((true, cell) ∷ cells) rest k e out =
-    let p = and_parts (not ((at == k) && true)) (none_at (suc at) cells k) e in
-    or_from _ _ (sym (and-true (at == k)) ∙ not-true _ p.0) (run-none (suc at) cells rest k p.1 out)
-run-none at ((false, cell) ∷ cells) rest k e out = run-none (suc at) cells rest k (and_parts (not ((at == k) && false)) (none_at (suc at) cells k) e).1 out
-
--- ---- a channel
-
--- The places of the first cells of the second and the third channel.
-abbrev pub second_at : ℕ
-second_at = channel_place 1
-
-abbrev pub third_at : ℕ
-third_at = channel_place 2
-
--- The place a number of cells after another.
-abbrev pub behind : ℕ → ℕ → ℕ
-behind zero at = at
-behind (suc n) at = behind n (suc at)
-
-abbrev plain : Kind → Cell
-plain kind = record { kind = kind; capacities = []; default = pos 0 }
-
--- Whether a field is in the bytes: the flag that holds it, if there is one, is set.
-abbrev is_there : List ℤ → ℕ → Option ℕ → Bool
-is_there numbers at None = true
-is_there numbers at (Some flag) = needs (get_or numbers (behind flag at) (pos 0))
-
--- Its cells, each with whether it is in the bytes.
-abbrev pub channel : List ℤ → ℕ → List (Bool × Cell)
-channel numbers at = map (λ (row : Row). (is_there numbers at row.shape.held_by, plain row.shape.kind)) channel_rows
-
--- These two are 0 if their flags are clear.
-pub record IsKeptAt (numbers : List ℤ) (at : ℕ) : Type 0 where
-  pub wlow : needs (get_or numbers (behind WLOW_HELD at) (pos 0)) ≡ false → get_or numbers (behind WLOW at) (pos 0) ≡ pos 0
-  pub latch : needs (get_or numbers (behind LATCHED at) (pos 0)) ≡ false → get_or numbers (behind LATCH at) (pos 0) ≡ pos 0
-
--- Its slots in a set.
-abbrev pub slots_in : Set → List ℤ → ℕ → List Slot
-slots_in set numbers at = (get_or (meanings set.structs 1) 0 no_meaning).slots numbers at
-
-abbrev pub channel_cells : List Cell
-channel_cells = get_or (struct_cells set_1) 0 []
-
--- These are the slots of its cells, followed by another slot.
-abbrev pub IsChannel : Set → List ℤ → ℕ → Slot → Type 0
-IsChannel set numbers at last = slots_in set numbers at ≡ run_slots at (channel numbers at) (last ∷ []) ++ Rule true ∷ []
-
--- Each of its cells is in the bytes or holds its default, and its rules hold.
-pub record IsFine (set : Set) (numbers : List ℤ) (at : ℕ) : Type 0 where
-  pub kept : are_kept (slots_in set numbers at) numbers at channel_cells ≡ true
-  pub rules : RulesHold (slots_in set numbers at)
-
-pub channel-fine : (set : Set) (numbers : List ℤ) (at : ℕ) (last : Slot) → IsChannel set numbers at last → RulesHold (last ∷ []) → IsKeptAt numbers at
-    → IsFine set numbers at
-unfolding first
-channel-fine set numbers at last is rules k =
-    let slots = run_slots at (channel numbers at) (last ∷ []) in
-    let each = and_from _ _ (settled _ _ (pos 0) k.wlow) (and_from _ _ (settled _ _ (pos 0) k.latch) refl) in
-    record {
-      kept = cc (kept-left slots (Rule true ∷ []) numbers at channel_cells (run-kept numbers at (channel numbers at) (last ∷ []) each));
-      rules = subst RulesHold (sym is) (rules_append slots (Rule true ∷ []) (run-rules at (channel numbers at) (last ∷ []) rules) (refl, tt));
-    }
-
--- It has no cell that isn't its own, nor its own absent ones.
-pub channel-none : (set : Set) (numbers : List ℤ) (at : ℕ) (last : Slot) (k : ℕ) → IsChannel set numbers at last → has_cell (last ∷ []) k ≡ false
-    → none_at at (channel numbers at) k ≡ true → has_cell (slots_in set numbers at) k ≡ false
-channel-none set numbers at last k is out none = grind (arith, has-none, run-none)
+pub chip_is_carried : ChipIsCarried
+chip_is_carried = record { chip = λ instance. carried-in (chip_is_saved instance) }

@@ -5,7 +5,7 @@ ghost use Rattle.dev_images.specs.Laws.{TimerIsCarried, ChipIsCarried, PitIsCarr
 ghost use Rattle.dev_images.specs.Places.{PlacesLaw};
 
 /// States that the image of a board's moment (`timer`) is ready in each shipped set from 1 on.
-#[tactic(auto, using(crate::proofs::BoardReady::timer_is_ready))]
+#[tactic(auto, using(crate::proofs::ShippedDevices::timer_is_ready))]
 pub fn timer_law()
     ensures { TimerIsReady }
 {}
@@ -18,14 +18,14 @@ pub fn chip_law()
 
 /// States that the image of normal cells of the timer chip (`i8254`) is ready in each shipped set
 /// from 1 on.
-#[tactic(auto, using(crate::proofs::BoardReady::pit_is_ready))]
+#[tactic(auto, using(crate::proofs::PitSaved::pit_is_ready))]
 pub fn pit_law()
     ensures { PitIsReady }
 {}
 
 /// States that the image of the cells that a serial port saves (`serial`) is ready in each shipped
 /// set from 1 on.
-#[tactic(auto, using(crate::proofs::SerialReady::serial_is_ready))]
+#[tactic(auto, using(crate::proofs::SerialSaved::serial_is_ready))]
 pub fn serial_law()
     ensures { SerialIsReady }
 {}
@@ -41,14 +41,14 @@ pub fn saved_law()
 
 /// States that the cell of `timer`, from any shipped set from 1 on, is carried unchanged to the
 /// newest.
-#[tactic(auto, using(crate::proofs::Carried::timer_is_carried))]
+#[tactic(auto, using(crate::proofs::ShippedDevices::timer_is_carried))]
 pub fn carried_timer_law()
     ensures { TimerIsCarried }
 {}
 
 /// States that the cells of an `i8259`, from any shipped set from 1 on, are carried as its table
 /// says.
-#[tactic(auto, using(crate::proofs::Carried::chip_is_carried))]
+#[tactic(auto, using(crate::proofs::ShippedDevices::chip_is_carried))]
 pub fn carried_chip_law()
     ensures { ChipIsCarried }
 {}
@@ -56,7 +56,7 @@ pub fn carried_chip_law()
 /// States that the cells of `i8254`, from any shipped set from 1 on, are carried as its table says.
 ///
 /// An absent cell must be at its default.
-#[tactic(auto, using(crate::proofs::Carried::pit_is_carried))]
+#[tactic(auto, using(crate::proofs::PitSaved::pit_is_carried))]
 pub fn carried_pit_law()
     ensures { PitIsCarried }
 {}
@@ -65,7 +65,7 @@ pub fn carried_pit_law()
 /// says.
 ///
 /// The cells are those that a serial port saves.
-#[tactic(auto, using(crate::proofs::Carried::serial_is_carried))]
+#[tactic(auto, using(crate::proofs::SerialSaved::serial_is_carried))]
 pub fn carried_serial_law()
     ensures { SerialIsCarried }
 {}

@@ -1,15 +1,16 @@
 -- The streams of both families of boards: short, of bytes, and with the laws of a family.
-use Rattle.vms_board_streams.proofs.{FamilyBytes.IsMachineName, FamilyBytes.IsSmall, FamilyBytes.family_short, FamilyBytes.family_bytes, FamilyLaws.Laws}
-use Rattle.vms_board_streams.proofs.Facade.{◌≡◌, ℕ, ◌<◌, ◌≤◌, Bool, true, list_all, refl, arith, by_number, ltb-true, nat_lt, Set}
-use Rattle.vms_board_streams.proofs.Facade.{shipped_sets, NEWEST, none_is, formed, shipped_set, devices_long, shipped_holds, first, WellFormed, isa, machine_of}
-use Rattle.vms_board_streams.proofs.Facade.{StreamsAreShort, StreamsAreBytes, zero, suc, NEWEST_CLOCK_SET, IsSound, clock_formed, clock_set, clock_holds, clock}
-use Rattle.vms_board_streams.proofs.Facade.{clock_machine, false, sym, subst, ltb-false, shipped_compatible, Compatible, first_mismatch, StreamsStand}
-use Rattle.vms_board_streams.proofs.Facade.{isa_stands, clock_stands, alike_stays, Alike, images_come_back, sets_are_compatible, saved_images}
+use Rattle.vms_board_streams.proofs.FamilyLaws as family
+use Rattle.vms_board_streams.proofs.Facade.{Alike, Bool, Compatible, IsSound, NEWEST, NEWEST_CLOCK_SET, Set, StreamsAreBytes, StreamsAreShort, StreamsStand}
+use Rattle.vms_board_streams.proofs.Facade.{WellFormed, alike_stays, arith, by_number, clock, clock_formed, clock_holds, clock_machine, clock_set, clock_stands}
+use Rattle.vms_board_streams.proofs.Facade.{devices_long, false, first, first_mismatch, formed, images_come_back, isa, isa_stands, list_all, ltb-false}
+use Rattle.vms_board_streams.proofs.Facade.{ltb-true, machine_of, nat_lt, none_is, refl, saved_images, sets_are_compatible, shipped_compatible, shipped_holds}
+use Rattle.vms_board_streams.proofs.Facade.{shipped_set, shipped_sets, suc, true, zero, ℕ, ◌<◌, ◌≡◌, ◌≤◌}
+use Rattle.vms_board_streams.proofs.FamilyBytes.{IsMachineName, IsSmall, family_bytes, family_short}
+use Rattle.vms_board_streams.proofs.FamilyLaws.{Laws}
 use Rattle.dev_board.proofs.SavedLaws.{alike_stays as isa_alike}
 use Rattle.dev_board.specs.Sound.{IsSound as IsSoundIsa, Alike as AlikeIsa}
 use Rattle.dev_images.proofs.Carried.{images_come_back as isa_images_back}
 use Rattle.dev_images.specs.Images.{saved_images as isa_images}
-use Rattle.vms_board_streams.proofs.FamilyLaws as family
 
 -- ---- the streams of the boards isa-1 to the newest are short, and are bytes
 
@@ -85,7 +86,7 @@ compatible s l h = at _ refl where
   at false e =
       let least : NEWEST ≤ s = ltb-false s NEWEST e in
       let same : s ≡ NEWEST = omega (arith, h, least) in
-      subst (λ (n : ℕ). Compatible (shipped_set n) (shipped_set NEWEST)) (sym same) newest_itself
+      rw same newest_itself
 
 isa_streams_stand : StreamsStand isa AlikeIsa IsSoundIsa
 isa_streams_stand = record {

@@ -1,28 +1,26 @@
 -- The streams of a family's boards are short, and are bytes.
-use Rattle.vms_board_streams.proofs.Facade.{◌≡◌, ℕ, List, [], ◌∷◌, length, get_or, slice_set, ap, arith, ◌+◌, ◌<◌, ℤ, Bool, true, false}
-use Rattle.vms_board_streams.proofs.Facade.{refl, sym, subst, Option, Some, None, is_some, codes, and_parts, get_or_from_slice_get, AllByRecursion, slice_get}
-use Rattle.vms_board_streams.proofs.Facade.{items_of, Kind, width, Count, One, Image, own_cells, Clean, get_none, struct_clean, device_parts, sub_clean}
-use Rattle.vms_board_streams.proofs.Facade.{no_desc, counted, desc_cells, struct_cells, is_name, Field, Desc, Sub, Device, Set, WellFormed, AllSubs, AllParts}
-use Rattle.vms_board_streams.proofs.Facade.{EachPart, all_parts, AreBytes, is_named, parts_named, What, Number, Constant, Filler, Rule, Element, index_text}
-use Rattle.vms_board_streams.proofs.Facade.{all_from, elements_each, Entry, cell_entry, sent_entry, listed_if, entry_of, entries_of, part_entries, sub_trees}
-use Rattle.vms_board_streams.proofs.Facade.{device_tree, device_trees, described_tree, described_text, HasLetters, ItemsHave, Allows, IsSpelled, AreSpelled}
-use Rattle.vms_board_streams.proofs.Facade.{all_both, decimal_good, text_good, word, kind_letters, sub_letters, device_letters, devices_letters}
-use Rattle.vms_board_streams.proofs.Facade.{StreamsAreShort, StreamsAreBytes, ◌≤◌, devices_long, stream_le, written, bytes_at, written_are_bytes, Family}
-use Rattle.vms_board_streams.proofs.Facade.{MaySaveIn, images_saved, saved_text, saved_stream, STREAM_ROOM}
+use Rattle.vms_board_streams.proofs.Facade.{AllByRecursion, AllParts, AllSubs, Allows, AreBytes, AreSpelled, Bool, Clean, Constant, Count, Desc, Device}
+use Rattle.vms_board_streams.proofs.Facade.{EachPart, Element, Entry, Family, Field, Filler, HasLetters, Image, IsSound, IsSpelled, ItemsHave, Kind, List}
+use Rattle.vms_board_streams.proofs.Facade.{MaySaveIn, None, Number, One, Option, Rule, STREAM_ROOM, Set, Some, StreamsAreBytes, StreamsAreShort, Sub}
+use Rattle.vms_board_streams.proofs.Facade.{WellFormed, What, [], all_both, all_from, all_parts, and_parts, arith, bytes_at, cell_entry, codes, counted}
+use Rattle.vms_board_streams.proofs.Facade.{decimal_good, desc_cells, described_text, described_tree, device_letters, device_parts, device_tree, device_trees}
+use Rattle.vms_board_streams.proofs.Facade.{devices_letters, devices_long, elements_each, entries_of, entry_of, false, get_none, get_or, get_or_from_slice_get}
+use Rattle.vms_board_streams.proofs.Facade.{images_saved, index_text, is_name, is_named, is_some, items_of, kind_letters, length, listed_if, no_desc, own_cells}
+use Rattle.vms_board_streams.proofs.Facade.{part_entries, parts_named, refl, saved_stream, saved_text, sent_entry, slice_get, slice_set, stream_le}
+use Rattle.vms_board_streams.proofs.Facade.{struct_cells, struct_clean, sub_clean, sub_letters, sub_trees, text_good, true, width, word, written}
+use Rattle.vms_board_streams.proofs.Facade.{written_are_bytes, ℕ, ℤ, ◌+◌, ◌<◌, ◌∷◌, ◌≡◌, ◌≤◌}
 
 -- ---- a single byte as a list
 
 -- a piece of one byte is that byte
 pub one_piece : (piece : List ℕ) (x d : ℕ) → length piece ≡ 1 → x ≡ get_or piece 0 d → (x ∷ []) ≡ piece
-one_piece [] x d one is = absurd (omega arith)
-one_piece (p ∷ []) x d one is = ap (λ y. y ∷ []) is
-one_piece (p ∷ q ∷ piece) x d one is = absurd (omega arith)
+one_piece (p ∷ []) x d one is = rw is
+one_piece _ x d one is = absurd (omega arith)
 
 -- a byte put into a list of one is that list
 pub one_copied : (to from : List ℕ) (x d : ℕ) → length to ≡ length from → length from ≡ 1 → x ≡ get_or from 0 d → slice_set to 0 x ≡ from
-one_copied [] from x d long one is = absurd (omega arith)
 one_copied (t ∷ []) from x d long one is = one_piece from x d one is
-one_copied (t ∷ u ∷ to) from x d long one is = absurd (omega arith)
+one_copied _ from x d long one is = absurd (omega arith)
 
 -- ---- the description of a set's devices is bytes: names are, and the rest is ASCII
 
@@ -117,9 +115,8 @@ clean_named k d rules c =
 
 module _ (set : Set) (well : WellFormed set) where
   struct_named : (j : ℕ) (o : Option Desc) → slice_get set.structs j ≡ o → AllByRecursion IsNamed (get_or set.structs j no_desc).fields
-  struct_named j None e = subst (λ (d : Desc). AllByRecursion IsNamed d.fields) (sym (get_none _ j _ e)) tt
-  struct_named j (Some d) e =
-      subst (λ (d : Desc). AllByRecursion IsNamed d.fields) (sym (get_or_from_slice_get _ j d _ e)) (clean_named j d _ (struct_clean set well j d e))
+  struct_named j None e = rw (get_none set.structs j no_desc e) tt
+  struct_named j (Some d) e = rw (get_or_from_slice_get set.structs j d no_desc e) (clean_named j d _ (struct_clean set well j d e))
 
   parts_told : EachPart IsTold set.devices
   parts_told k d e =

@@ -1,23 +1,13 @@
 -- The laws of the streams of any family of boards.
-use Rattle.vms_board_streams.proofs.Facade.{◌≡◌, ◌⊎◌, inl, inr, ℕ, List, [], ◌∷◌, Option, Result, Ok, Err, refl, sym, ap, ◌∙◌, Misfit}
-use Rattle.vms_board_streams.proofs.Facade.{FitsHeads, Image, IsBytes, WellFormed, Reason, one_stream_holds, one_fault_holds, never_both_holds, either_holds}
-use Rattle.vms_board_streams.proofs.Facade.{Answer, Taken, Faulty, Family, lists_in, TakesBoard, IsFaultAt, IsMisfitAt, misfit_section, misfit_reason, Restore}
-use Rattle.vms_board_streams.proofs.Facade.{Back, Refused, Restores, BytesAreOne, answers_to, trace_of, images_carried, is_among, ◌-◌, ◌≤◌, ◌||◌}
-use Rattle.vms_board_streams.proofs.Facade.{Bool, true, false, length, Some, None, IfSome, ℤ, arith, subst, append-nil, bytes_eq, bytes_eq-Decides}
-use Rattle.vms_board_streams.proofs.Facade.{answers_by, Event, Set, IsConfiguration, is_one_of, IsWholeStream, Takes, upgrade_stands, MaySaveIn, Stands}
-use Rattle.vms_board_streams.proofs.Facade.{images_saved, saved_text, saved_stream, stream_with, StreamsStand, StreamComesBack, StreamsComeBack, BoardsGoOn}
-use Rattle.vms_board_streams.proofs.Facade.{IsContinued, HasRoomFor}
+use Rattle.vms_board_streams.proofs.Facade.{Alike, Answer, Back, BoardsGoOn, BytesAreOne, Err, Event, Family, Faulty, FitsHeads, HasRoomFor, IfSome, Image}
+use Rattle.vms_board_streams.proofs.Facade.{IsBytes, IsConfiguration, IsContinued, IsFaultAt, IsMisfitAt, IsSound, IsWholeStream, List, MaySaveIn, Misfit, None}
+use Rattle.vms_board_streams.proofs.Facade.{Ok, Option, Reason, Refused, Restore, Restores, Result, Set, Some, Stands, StreamComesBack, StreamsComeBack}
+use Rattle.vms_board_streams.proofs.Facade.{StreamsStand, Taken, Takes, TakesBoard, WellFormed, [], answers_by, answers_to, ap, append-nil, arith}
+use Rattle.vms_board_streams.proofs.Facade.{bytes_eq-Decides, either_holds, images_carried, images_saved, inl, inr, is_among, is_one_of, length, lists_in}
+use Rattle.vms_board_streams.proofs.Facade.{misfit_reason, misfit_section, never_both_holds, one_fault_holds, one_stream_holds, refl, saved_stream, saved_text}
+use Rattle.vms_board_streams.proofs.Facade.{stream_with, sym, trace_of, true, upgrade_stands, ℕ, ℤ, ◌-◌, ◌∷◌, ◌≡◌, ◌≤◌, ◌⊎◌}
 
 -- ---- a restore of bytes has exactly one outcome
-
-pub same_ok : {S : Type 0} (m n : S) (r : Result S Misfit) → r ≡ Ok m → r ≡ Ok n → m ≡ n
-same_ok m n r e f = cc
-
-same_err : {S : Type 0} (m n : Misfit) (r : Result S Misfit) → r ≡ Err m → r ≡ Err n → m ≡ n
-same_err m n r e f = cc
-
-pub never_each : {S : Type 0} (m : S) (n : Misfit) (r : Result S Misfit) → r ≡ Ok m → r ≡ Err n → ⊥
-never_each m n r e f = cc
 
 module _ {S : Type 0} (f : Family S) (well : WellFormed (f.set f.newest)) (heads : FitsHeads (f.set f.newest)) where
   -- the outcome of restoring the bytes
@@ -54,7 +44,7 @@ module _ {S : Type 0} (f : Family S) (well : WellFormed (f.set f.newest)) (heads
 
     same-cells : (n k : ℕ) (images others : List Image) → TakesBoard f number bytes n images → TakesBoard f number bytes k others
         → f.restored number (lists_in images) ≡ f.restored number (lists_in others)
-    same-cells n k images others t u = ap (λ (i : List Image). f.restored number (lists_in i)) (one-stream n k images others t u).1
+    same-cells n k images others t u = rw ((one-stream n k images others t u).1)
 
     module _ (ok : IsBytes bytes) where
       pub no_fault : (n : ℕ) (images : List Image) (place : ℕ) (section : Option ℕ) (reason : Reason) → TakesBoard f number bytes n images → IsFaultAt f number bytes place section reason → ⊥
@@ -65,22 +55,18 @@ module _ {S : Type 0} (f : Family S) (well : WellFormed (f.set f.newest)) (heads
           → IsFaultAt f number bytes other section' reason' ⊎ IsMisfitAt f number bytes other section' reason' → refused place section reason ≡ refused other section' reason'
       one-refusal place other section section' reason reason' (inl d) (inl g) =
           let one = one_fault_holds (f.set f.newest) (f.machine number ∷ []) bytes ok place other section section' reason reason' d.0 g.0 d.1 g.1 in
-          ap (λ (n : ℕ). refused n section reason) one.places ∙ ap (λ (s : Option ℕ). refused other s reason) one.sections ∙ ap (refused other section') one.reasons
+          cc
       one-refusal place other section section' reason reason' (inl d) (inr g) = absurd (no_fault other _ place _ reason g.taken d)
       one-refusal place other section section' reason reason' (inr d) (inl g) = absurd (no_fault place _ other _ _ d.taken g)
       one-refusal place other section section' reason reason' (inr d) (inr g) =
-          let misfit = same_err _ _ _ (sym (same-cells place other _ _ d.taken g.taken) ∙ d.fails) g.fails in
-          ap (λ (n : ℕ). refused n section reason) (one-stream place other _ _ d.taken g.taken).0
-          ∙ ap (λ (s : Option ℕ). refused other s reason) (d.section_is ∙ ap misfit_section misfit ∙ sym g.section_is)
-          ∙ ap (refused other section') (d.reason_is ∙ ap misfit_reason misfit ∙ sym g.reason_is)
+          cc (same-cells place other _ _ d.taken g.taken, (one-stream place other _ _ d.taken g.taken).0)
 
       pub one_restore : (a b : Restore S) → Restores f number bytes a → Restores f number bytes b → a ≡ b
-      one_restore (Back m n) (Back m' k) r s =
-          ap (λ (x : S). back x n) (same_ok m m' _ (sym (same-cells n k r.0 s.0 r.1 s.1) ∙ r.2) s.2) ∙ ap (back m') (one-stream n k r.0 s.0 r.1 s.1).0
+      one_restore (Back m n) (Back m' k) r s = cc (same-cells n k r.0 s.0 r.1 s.1, (one-stream n k r.0 s.0 r.1 s.1).0)
       one_restore (Back m n) (Refused place section reason) r (inl d) = absurd (no_fault n r.0 place _ reason r.1 d)
-      one_restore (Back m n) (Refused place section reason) r (inr d) = absurd (never_each m _ _ (sym (same-cells n place r.0 _ r.1 d.taken) ∙ r.2) d.fails)
+      one_restore (Back m n) (Refused place section reason) r (inr d) = cc (same-cells n place r.0 _ r.1 d.taken)
       one_restore (Refused place section reason) (Back m n) (inl d) s = absurd (no_fault n s.0 place _ reason s.1 d)
-      one_restore (Refused place section reason) (Back m n) (inr d) s = absurd (never_each m _ _ (sym (same-cells n place s.0 _ s.1 d.taken) ∙ s.2) d.fails)
+      one_restore (Refused place section reason) (Back m n) (inr d) s = cc (same-cells n place s.0 _ s.1 d.taken)
       one_restore (Refused place section reason) (Refused other section' reason') d g = one-refusal place other _ _ reason _ d g
 
   pub bytes_are_one : BytesAreOne f
@@ -88,11 +74,8 @@ module _ {S : Type 0} (f : Family S) (well : WellFormed (f.set f.newest)) (heads
 
 -- ---- the stream of a board of a family restores a board like it: one accepted name
 
-same_bytes : (name : List ℕ) → bytes_eq name name ≡ true
-same_bytes name = (bytes_eq-Decides name name).1 refl
-
 named-alone : (name : List ℕ) → is_one_of (name ∷ []) name ≡ true
-named-alone name = ap (λ (b : Bool). b || false) (same_bytes name)
+named-alone name = rw ((bytes_eq-Decides name name).1 refl)
 
 -- a stream is read under other names too, if they include its machine
 configured_under : (names others : List (List ℕ)) (machine : Option (List ℕ)) (bytes : List ℕ) → IfSome machine (λ name. is_one_of others name ≡ true)
@@ -167,9 +150,7 @@ module _ {S : Type 0} (f : Family S) (Alike : S → S → Type 0) {IsSound : S �
         named short (stands.ready set m s may)
 
     taken-all : Takes (f.set f.newest) (f.set f.newest).machines stream (length stream) (Some (f.machine (f.number m))) images-back
-    taken-all =
-        subst (λ (input : List ℕ). Takes (f.set f.newest) (f.set f.newest).machines input (length stream) (Some (f.machine (f.number m))) images-back)
-        (append-nil stream) (whole.taken [] (λ e. refl))
+    taken-all = rw (append-nil stream) at (whole.taken [] (λ e. refl))
 
     takes : Takes (f.set f.newest) (f.machine (f.number m) ∷ []) stream (length stream) (Some (f.machine (f.number m))) images-back
     takes = alone _ _ stream _ _ _ taken-all
@@ -189,17 +170,15 @@ module _ {S : Type 0} (f : Family S) (Alike : S → S → Type 0) {IsSound : S �
         (same.states, same.lengths)
 
     same-restore : (images : List Image) (taken : ℕ) → TakesBoard f (f.number m) stream taken images → f.restored (f.number m) (lists_in images) ≡ Ok back-to
-    same-restore images taken t =
-        ap (λ (i : List Image). f.restored (f.number m) (lists_in i)) (same-images images taken t).0 ∙ images-restore
+    same-restore images taken t = rw ((same-images images taken t).0) images-restore
 
     only-back : (other : S) (taken : ℕ) → Restores f (f.number m) stream (Back other taken) → (other ≡ back-to) × (taken ≡ length stream)
-    only-back other taken r =
-        (same_ok other _ _ r.2 (same-restore r.0 taken r.1), (same-images r.0 taken r.1).1)
+    only-back other taken r = (cc (same-restore r.0 taken r.1), (same-images r.0 taken r.1).1)
 
     never-refused : IsBytes stream → (place : ℕ) (section : Option ℕ) (reason : Reason) → Restores f (f.number m) stream (Refused place section reason) → ⊥
     never-refused bytes place section reason (inl fault) =
         never_both_holds (f.set f.newest) (f.machine (f.number m) ∷ []) newest-well stands.heads stream bytes (length stream) (Some (f.machine (f.number m))) images-back place section reason fault.0 takes fault.1
-    never-refused bytes place section reason (inr misfit) = never_each _ misfit.misfit _ (same-restore _ place misfit.taken) misfit.fails
+    never-refused bytes place section reason (inr misfit) = cc (same-restore _ place misfit.taken)
 
   -- ---- the stream of a board, with its own description
 
@@ -228,7 +207,7 @@ module _ {S : Type 0} (f : Family S) (Alike : S → S → Type 0) {IsSound : S �
   alike-answers [] m n a = refl
   alike-answers (event ∷ events) m n a =
       let one = st.alike event m n a in
-      ap (λ x. x ∷ answers_to f events (f.step event n).1) one.answer ∙ ap (λ l. (f.step event m).0 ∷ l) (alike-answers events (f.step event m).1 (f.step event n).1 one.alike)
+      cc (one.answer, alike-answers events (f.step event m).1 (f.step event n).1 one.alike)
 
   goes-on : (set : ℕ) (m : S) (text : Option (List ℕ)) (events : List Event) → IsSound m → MaySaveIn f m set → HasRoomFor text → IsContinued f set m text events
   goes-on set m text events s may room =
@@ -238,7 +217,7 @@ module _ {S : Type 0} (f : Family S) (Alike : S → S → Type 0) {IsSound : S �
         there = record { board = back.back; restored = there set m text room s may; trace_is = ap trace_of (sym same) };
         only = λ taken trace goes.
             let is = only-back set m text room s may _ taken goes.restored in
-            (is.1, goes.trace_is ∙ ap (λ (n : S). trace_of (answers_to f events n)) is.0 ∙ ap trace_of same);
+            (is.1, cc (is.0, same));
       }
 
   pub laws : Laws f Alike IsSound

@@ -1,4 +1,3 @@
-use Rattle.dev_due.proofs.Facade.{ℕ, Option, ap, subst, ◌∙◌, State, Shift, Found, FoundAt, FoundSends}
 use Rattle.dev_due.proofs.DueLaws.{all_found, finds_on, keep_at, keep_found, keep_sends}
 use Rattle.dev_due.proofs.search.first_shown.Goals as goal
 
@@ -12,9 +11,7 @@ returns-clause-first c =
     let last = c.tried_at.ensures.finds in
     let second = finds_on c.tried_sends-first.ensures.finds last in
     all_found c.args.board found c.devices-devices.ensures.sound
-    (subst (λ (base : ℕ). Found c.args.board base found) (c.now.ensures.moment ∙ ap (λ (m : State). m.moment) c.devices-devices.ensures.same)
-    (keep_found (finds_on c.tried_at-first.ensures.finds second) c.tried_from-first.ensures.found))
-    (subst (λ (base : Option ℕ). FoundAt c.args.board base found) c.timeout.ensures (keep_at second c.timeout.result c.tried_at-first.ensures.found))
-    (subst (λ (shift : Option Shift). FoundSends c.args.board shift found) c.shift.ensures.shift
-    (keep_sends last c.shift.result c.tried_sends-first.ensures.sends))
+    (rw (c.now.ensures.moment, c.devices-devices.ensures.same) at (keep_found (finds_on c.tried_at-first.ensures.finds second) c.tried_from-first.ensures.found))
+    (rw (c.timeout.ensures) at (keep_at second c.timeout.result c.tried_at-first.ensures.found))
+    (rw (c.shift.ensures.shift) at (keep_sends last c.shift.result c.tried_sends-first.ensures.sends))
     c.next_end.result c.next_end.ensures c.tried_at.ensures.found

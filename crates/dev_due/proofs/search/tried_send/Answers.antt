@@ -1,4 +1,3 @@
-use Rattle.dev_due.proofs.Facade.{ℕ, ◌+◌, ◌*◌, subst, Found}
 use Rattle.dev_due.proofs.DueLaws.{finds_on, keep_found, keep_tried}
 use Rattle.dev_due.proofs.search.tried_send.Goals as goal
 
@@ -9,5 +8,5 @@ pub returns-clause-send : goal.returns-clause-send
 returns-clause-send c = record {
   tried = keep_tried c.tried_from.ensures.finds c.tried_from-first.ensures.tried;
   leaves = keep_found c.tried_from.ensures.finds c.tried_from-first.ensures.found;
-  ends = subst (λ (time : ℕ). Found c.args.board (c.args.sent + 4 * time) c.tried_from.result) c.character.ensures.time c.tried_from.ensures.found;
+  ends = rw (c.character.ensures.time) at c.tried_from.ensures.found;
 }

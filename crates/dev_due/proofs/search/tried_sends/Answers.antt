@@ -1,4 +1,4 @@
-use Rattle.dev_due.proofs.Facade.{◌≤◌, Option, sym, subst, arith, IfSome, Shift, FoundSends}
+use Rattle.dev_due.proofs.Facade.{arith}
 use Rattle.dev_due.proofs.DueLaws.{finds_on, finds_same, next_sends}
 use Rattle.dev_due.proofs.search.tried_sends.Goals as goal
 
@@ -22,14 +22,13 @@ loop-preserved c =
     }
 
 pub tried_send-first-requires : goal.tried_send-first-requires
-tried_send-first-requires c = omega (arith, subst (λ (o : Option Shift). IfSome o (λ s. s.due ≤ 4500000000000000000)) c.in-Some.is c.requires)
+tried_send-first-requires c = omega (arith, rw (c.in-Some.is) at c.requires)
 
 pub overflow_add-sent : goal.overflow_add-sent
-overflow_add-sent c = omega (arith, subst (λ (o : Option Shift). IfSome o (λ s. s.due ≤ 4500000000000000000)) c.in-Some.is c.requires)
+overflow_add-sent c = omega (arith, rw (c.in-Some.is) at c.requires)
 
 pub returns-clause-finds : goal.returns-clause-finds
 returns-clause-finds c = c.loop.invariant.finds
 
 pub returns-clause-sends : goal.returns-clause-sends
-returns-clause-sends c =
-    subst (λ (o : Option Shift). FoundSends c.args.board o c.loop.first) (sym c.in-Some.is) (λ k few. c.loop.invariant.sends k (omega arith))
+returns-clause-sends c = rw (c.in-Some.is) (λ k few. c.loop.invariant.sends k (omega arith))

@@ -1,4 +1,4 @@
-use Rattle.dev_due.proofs.Facade.{ap, subst, ◌∙◌, State, counter_of, AreTurns, Pit, devices_of}
+use Rattle.dev_due.proofs.Facade.{devices_of}
 use Rattle.dev_due.proofs.DueLaws.{loaded_later, loaded_now}
 use Rattle.dev_due.proofs.boards.Board.turns.Goals as goal
 
@@ -7,9 +7,7 @@ turns-requires-clause-loaded c =
     rw (c.pit.ensures, c.devices.ensures.same) (loaded_later (devices_of c.args.self) c.devices.ensures.sound c.args.base c.requires.from)
 
 pub returns-clause-turns : goal.returns-clause-turns
-returns-clause-turns c =
-    subst (λ (p : Pit). AreTurns c.turns.result (counter_of 0 p) c.args.base)
-    (c.pit.ensures ∙ ap (λ (m : State). m.pit) c.devices.ensures.same) c.turns.ensures
+returns-clause-turns c = rw (c.pit.ensures, c.devices.ensures.same) at c.turns.ensures
 
 pub returns-clause-loaded : goal.returns-clause-loaded
 returns-clause-loaded c = loaded_now (devices_of c.args.self) c.devices.ensures.sound
