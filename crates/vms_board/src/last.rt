@@ -12,7 +12,7 @@ use std::mem::replace;
 use vms_desc::DescSet;
 use vms_image::Image;
 use vms_io::NoMemory;
-use vms_selfdesc::{are_alike_of, describe};
+use vms_selfdesc::{are_alike, describe};
 
 /// A description with the images that it describes, and the number of their set.
 #[derive(Drop)]
@@ -85,7 +85,7 @@ pub(crate) fn describe_by<M: Machine>(
     let Some(mut last) = kept else {
         return describe_anew::<M>(alloc, number, own, images);
     };
-    if last.number == number && are_alike_of(own, &last.images, &images) {
+    if last.number == number && are_alike(own, &last.images, &images) {
         last.spare = Some(replace(&mut last.images, images));
         return Ok(last);
     }

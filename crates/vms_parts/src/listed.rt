@@ -1,5 +1,5 @@
 // Lists and texts, as contracts see them.
-ghost use Rattle.std.specs.Prelude.{◌≡◌, IfOk, IfSome, string_bytes};
+ghost use Rattle.std.specs.Prelude.{◌≡◌, ◌<◌, length, IfErr, IfNone, IfOk, IfSome, string_bytes};
 
 use arrayvec::ArrayString;
 use std::alloc::{AllocError, Global};
@@ -83,7 +83,8 @@ impl Text {
     ///
     /// - [`AllocError`]: out of memory, for a text of more than 32 bytes.
     pub fn copied(alloc: Global, text: &str) -> Result<Self, AllocError>
-        ensures { IfOk result (λ copy. copy ≡ text.now) }
+        ensures copy { IfOk result (λ copy. copy ≡ text.now) }
+        ensures long { IfErr result (λ _. 32 < length text.now) }
     {
         match short(text) {
             Some(short) => Ok(short),
@@ -113,7 +114,8 @@ impl Text {
 
 // Returns a copy of `text` without memory of its own, or `None` if it is too long for that.
 fn short(text: &str) -> Option<Text>
-    ensures { IfSome result (λ copy. copy ≡ text.now) }
+    ensures copy { IfSome result (λ copy. copy ≡ text.now) }
+    ensures long { IfNone result (32 < length text.now) }
 {
     if text.len() > LONGEST_SHORT {
         return None;

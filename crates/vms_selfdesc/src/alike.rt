@@ -27,8 +27,9 @@ struct Pair<'a> {
 
 /// Returns `true` only if `first` and `second` have the same self-description.
 ///
-/// It makes no text. It returns `true` if the same subsections have come in both and, for each part
-/// of a device, one of these is so:
+/// It makes no text. A device with the same bytes and the same subsections in both isn't walked. For
+/// any other it returns `true` if the same subsections have come in both and, for each part, one of
+/// these is so:
 ///
 /// - The part has no structures, and each of its fields is present in both or in neither, with the
 ///   same number of elements.
@@ -36,35 +37,8 @@ struct Pair<'a> {
 ///
 /// # Requires
 ///
-/// `first` and `second` are ready under `set`: they can be written.
+/// `first` and `second` are images of `set`'s devices, and are ready under it: they can be written.
 pub fn are_alike(set: &DescSet, first: &[Image], second: &[Image]) -> bool
-    requires first { AreReady (described set.now) (map state_of first.now) }
-    requires second { AreReady (described set.now) (map state_of second.now) }
-    ensures { let text = described_text (described set.now) in
-        OnTrue result (text (map state_of first.now) ≡ text (map state_of second.now)) }
-{
-    for (device, image) in first.iter().enumerate() {
-        let pair = Pair {
-            set,
-            first: image,
-            second: &second[device],
-        };
-        if !is_device_alike(&pair, device as u32) {
-            return false;
-        }
-    }
-    true
-}
-
-/// Returns `true` only if `first` and `second` have the same self-description, as [`are_alike`] does,
-/// for images of the set's devices.
-///
-/// A device with the same bytes and the same subsections in both isn't walked.
-///
-/// # Requires
-///
-/// `first` and `second` are images of `set`'s devices, and are ready under it.
-pub fn are_alike_of(set: &DescSet, first: &[Image], second: &[Image]) -> bool
     requires first { AreReady (described set.now) (map state_of first.now) }
     requires second { AreReady (described set.now) (map state_of second.now) }
     requires of_first { AreImagesOf (described set.now) first.now }
@@ -85,6 +59,7 @@ pub fn are_alike_of(set: &DescSet, first: &[Image], second: &[Image]) -> bool
     true
 }
 
+// Returns `true` only if both images of a device have the same self-description.
 fn is_kept_alike(pair: &Pair, device: u32) -> bool
     requires { AreKeptOf pair.now device }
     ensures { let tree = device_tree (set_of pair.now) (device_at (set_of pair.now) device) in

@@ -12,7 +12,7 @@ mod room;
 mod text;
 mod tree;
 
-pub use alike::{are_alike, are_alike_of};
+pub use alike::are_alike;
 pub use laws::{clock_law, shipped_law, short_law};
 pub use room::DescriptionRoom;
 pub use tree::describe;

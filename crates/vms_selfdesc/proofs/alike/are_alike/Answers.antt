@@ -1,4 +1,4 @@
-use Rattle.vms_selfdesc.proofs.{Lengths.ready_device, Trees.devices_next, Trees.devices_end}
+use Rattle.vms_selfdesc.proofs.{AlikeLemmas.have_kinds, AlikeLemmas.same_version, Lengths.ready_device, Trees.devices_next, Trees.devices_end}
 use Rattle.vms_selfdesc.proofs.Facade.{◌<◌, ◌≤◌, ◌∙◌, ◌∷◌, length, map, ap, ap₂, sym, arith, codes, OnTrue_at, described, state_of}
 use Rattle.vms_selfdesc.proofs.Facade.{states_long, state_at, array, object, put, no_members, items_of, compact_text}
 use Rattle.vms_selfdesc.proofs.alike.are_alike.Goals as goal
@@ -7,8 +7,8 @@ pub bounds-second-device : goal.bounds-second-device
 bounds-second-device c =
     omega (arith, c.loop-device-test.true, c.requires.first.one_each, c.requires.second.one_each, states_long c.args.first.now, states_long c.args.second.now)
 
-pub is_device_alike-requires : goal.is_device_alike-requires
-is_device_alike-requires c =
+pub is_kept_alike-requires : goal.is_kept_alike-requires
+is_kept_alike-requires c =
     let set = described c.args.set.now in
     let well = c.args.set.now.well_formed in
     let firsts = c.args.first.now in
@@ -21,9 +21,17 @@ is_device_alike-requires c =
     omega (arith, c.loop-device-test.true, c.requires.first.one_each, c.requires.second.one_each, states_long firsts, states_long seconds) in
     let lt' : k < length (map state_of seconds) = omega (arith, one, states_long seconds) in
     record {
-      first = ready_device set well (map state_of firsts) c.requires.first k (state_of first) lt
-          (state_at firsts k first c.loop-device-test.true c.index-first-device.is);
-      second = ready_device set well (map state_of seconds) c.requires.second k (state_of second) lt'
+      of = record {
+        first = ready_device set well (map state_of firsts) c.requires.first k (state_of first) lt
+            (state_at firsts k first c.loop-device-test.true c.index-first-device.is);
+        second = ready_device set well (map state_of seconds) c.requires.second k (state_of second) lt'
+            (state_at seconds k second one c.index-second-device.is);
+      };
+      version = same_version set firsts seconds k first second c.requires.first c.requires.second c.requires.of_first c.requires.of_second c.loop-device-test.true one
+          c.index-first-device.is c.index-second-device.is (state_at firsts k first c.loop-device-test.true c.index-first-device.is)
+          (state_at seconds k second one c.index-second-device.is);
+      kinds = have_kinds set firsts seconds k first second c.requires.first c.requires.second c.requires.of_first c.requires.of_second c.loop-device-test.true one
+          c.index-first-device.is c.index-second-device.is (state_at firsts k first c.loop-device-test.true c.index-first-device.is)
           (state_at seconds k second one c.index-second-device.is);
     }
 
@@ -41,7 +49,7 @@ loop-device-preserved c =
     let one : k < length seconds = omega (arith, lt', states_long seconds) in
     λ rest. c.loop-device.invariant
     (devices_next set (map state_of firsts) k (state_of first) there lt (state_at firsts k first c.loop-device-test.true c.index-first-device.is)
-    ∙ ap₂ (λ x l. x ∷ l) (OnTrue_at c.if-not-is_device_alike.false c.is_device_alike.ensures) rest
+    ∙ ap₂ (λ x l. x ∷ l) (OnTrue_at c.if-not-is_kept_alike.false c.is_kept_alike.ensures) rest
     ∙ sym (devices_next set (map state_of seconds) k (state_of second) there lt' (state_at seconds k second one c.index-second-device.is)))
 
 pub returns : goal.returns
