@@ -1,23 +1,21 @@
 -- Descriptions, subsections, devices and sets can be read back from their files.
 use Rattle.vms_descfile.proofs.Facade.{◌≡◌, ℕ, ◌≤◌, List, ◌∷◌, get_or, length, map, Bool, true, false, ◌&&◌, ◌==◌, nat_le, Option}
-use Rattle.vms_descfile.proofs.Facade.{Some, None, refl, sym, ap, ◌∙◌, subst, codes, arith, [], slice_get, and_parts, eqb-true, leb-true, false≢true}
-use Rattle.vms_descfile.proofs.Facade.{Data, Members, string, object, put, ◌++◌, is_one_of, get, as_str, items_of, Formula, Field, Desc, Count, Counted}
-use Rattle.vms_descfile.proofs.Facade.{nodes, is_small_test, is_small_optional, is_small_item, is_steady_in, is_earlier_in, names_well, nobody, test_names_well}
-use Rattle.vms_descfile.proofs.Facade.{count_names_well, is_counting, defaults_well, counts_well, counted, has_few, Clean, good, changed, list_of, names_of}
-use Rattle.vms_descfile.proofs.Facade.{text_or_none, member_or, at, at_or, maybe_at, u32_of, text_of, Names, Scope, names_if, number_in, DEEPEST, test_of}
-use Rattle.vms_descfile.proofs.Facade.{field_of, desc_needs, desc_allows, Head, head_of, minimum_or, rest_of, struct_in, struct_of, FitsTest, FitsOptional}
-use Rattle.vms_descfile.proofs.Facade.{FitsDesc, list_file, natural_file, own_names, counter_in, test_file, field_file, desc_members, struct_file, set_file}
-use Rattle.vms_descfile.proofs.Facade.{Sub, Device, Set, WellFormed, struct_depths, struct_rules, sub_rules, device_rules, struct_clean, device_parts}
-use Rattle.vms_descfile.proofs.Facade.{sub_clean, sub_in, sub_of, Whole, whole_in, whole_of, device_of, set_of, parts_of, FitsSub, FitsWhole, FitsDevice}
-use Rattle.vms_descfile.proofs.Facade.{FitsSet, sub_file, whole_file, device_file}
+use Rattle.vms_descfile.proofs.Facade.{Some, None, refl, sym, ◌∙◌, codes, arith, [], slice_get, and_parts, eqb-true, leb-true, false≢true, Data, string}
+use Rattle.vms_descfile.proofs.Facade.{◌++◌, is_one_of, get, as_str, items_of, Formula, Field, Desc, Count, Counted, nodes, is_small_test}
+use Rattle.vms_descfile.proofs.Facade.{is_small_optional, is_small_item, is_steady_in, is_earlier_in, names_well, nobody, test_names_well, count_names_well}
+use Rattle.vms_descfile.proofs.Facade.{is_counting, defaults_well, counts_well, counted, has_few, Clean, good, names_of, text_or_none, maybe_at, u32_of}
+use Rattle.vms_descfile.proofs.Facade.{text_of, Scope, names_if, number_in, DEEPEST, test_of, field_of, desc_needs, desc_allows, Head, head_of, minimum_or}
+use Rattle.vms_descfile.proofs.Facade.{rest_of, struct_of, FitsTest, FitsOptional, FitsDesc, list_file, natural_file, own_names, counter_in, test_file}
+use Rattle.vms_descfile.proofs.Facade.{field_file, desc_members, struct_file, set_file, Sub, Device, Set, WellFormed, struct_depths, struct_rules, sub_rules}
+use Rattle.vms_descfile.proofs.Facade.{device_rules, struct_clean, device_parts, sub_clean, sub_of, Whole, whole_of, device_of, set_of, parts_of, FitsSub}
+use Rattle.vms_descfile.proofs.Facade.{FitsWhole, FitsDevice, FitsSet, sub_file, whole_file, device_file}
 use Rattle.vms_descfile.proofs.FieldBack.{field_table, field_tabled, field_back}
-use Rattle.vms_descfile.proofs.ObjectLaws.{next_good, judged_good, at_good, list_good, list_or_good, natural_good, Table, put_if, members_in, object_of, found}
-use Rattle.vms_descfile.proofs.ObjectLaws.{found_behind, or_none, got, table_fits, kept, listed, unless_if, list_if}
+use Rattle.vms_descfile.proofs.ObjectLaws.{list_good, list_or_good, natural_good, Table, members_in, object_of, found, found_behind, or_none, got, table_fits}
+use Rattle.vms_descfile.proofs.ObjectLaws.{kept, listed, unless_if, list_if}
 use Rattle.vms_descfile.proofs.ShownLaws.{test_back, Found, all_found, earlier_found, asked, number_shown, test_shown, field_shown, desc_shown, sub_shown}
 use Rattle.vms_descfile.proofs.ShownLaws.{device_shown, set_shown, set_same, map_same}
 use Rattle.std.specs.Option.{option_and_then}
 use Rattle.vms_spec.specs.Rules.{depth}
-use Rattle.vms_json.specs.Keys.{fits as keys_fit}
 
 -- ---- descriptions, devices and sets can be read back from their files
 
@@ -29,11 +27,16 @@ own_scope asks names = record { own = asked asks names; parent = None }
 shallow : (t : Formula) → is_small_test t ≡ true → depth t ≤ DEEPEST
 shallow t small = omega (arith, leb-true (depth t) 16 (and_parts (nat_le (nodes t) 64) (nat_le (depth t) 16) small).1)
 
-own_test_back : (asks : Bool) (names : List (List ℕ)) (may : ℕ → Bool) → ((k : ℕ) → may k ≡ true → number_in (asked asks names) (get_or names k []) ≡ good (number_shown asks k))
+own_test_back : (asks : Bool) (names : List (List ℕ)) (may : ℕ → Bool)
+    → ((k : ℕ) → may k ≡ true → number_in (asked asks names) (get_or names k []) ≡ good (number_shown asks k))
     → (t : Formula) → is_small_test t ≡ true → FitsTest t → names_well may nobody t ≡ true
     → test_of (own_scope asks names) (test_file names [] t) ≡ good (test_shown asks t)
 own_test_back asks names may found t small fits well =
-    test_back asks names [] may nobody (own_scope asks names) (record { found = found; found_above = λ k e. absurd (false≢true e) }) DEEPEST t (shallow t small) fits well
+    test_back asks names [] may nobody (own_scope asks names) (record {
+      found =
+          found;
+      found_above = λ k e. absurd (false≢true e);
+    }) DEEPEST t (shallow t small) fits well
 
 -- ---- the fields of a description
 
@@ -41,17 +44,14 @@ counter_back : (asks : Bool) (d : Desc) (i : ℕ) (c : Count) → Found asks d �
     → number_in (asked asks (own_names d.fields)) (get_or (own_names d.fields) k []) ≡ good (number_shown asks k)
 counter_back asks d i (Counted by capacity) found well k is =
     let same : by ≡ k = cc in
-    subst (λ (j : ℕ). number_in (asked asks (own_names d.fields)) (get_or (own_names d.fields) j []) ≡ good (number_shown asks j)) same
-    (earlier_found asks d i by found (and_parts (is_earlier_in d i by) (is_counting (slice_get d.fields by)) well).0)
+    rw same at (earlier_found asks d i by found (and_parts (is_earlier_in d i by) (is_counting (slice_get d.fields by)) well).0)
 counter_back asks d i _ found well k is = cc
 
-field_test_back : (asks : Bool) (d : Desc) (i : ℕ) (o : Option Formula) → Found asks d → test_names_well d i o ≡ true → is_small_optional o ≡ true → FitsOptional o
+field_test_back : (asks : Bool) (d : Desc) (i : ℕ) (o : Option Formula) → Found asks d → test_names_well d i o ≡ true → is_small_optional o ≡ true
+    → FitsOptional o
     → (t : Formula) → o ≡ Some t → test_of (own_scope asks (own_names d.fields)) (test_file (own_names d.fields) [] t) ≡ good (test_shown asks t)
-field_test_back asks d i None found well small fits t is = cc
-field_test_back asks d i (Some s) found well small fits t is =
-    let same : s ≡ t = cc in
-    subst (λ (u : Formula). test_of (own_scope asks (own_names d.fields)) (test_file (own_names d.fields) [] u) ≡ good (test_shown asks u)) same
-    (own_test_back asks (own_names d.fields) (is_earlier_in d i) (λ k e. earlier_found asks d i k found e) s small fits well)
+field_test_back asks d i o found well small fits t is =
+    own_test_back asks (own_names d.fields) (is_earlier_in d i) (λ k e. earlier_found asks d i k found e) t (rw is at small) (rw is at fits) (rw is at well)
 
 module _ (asks : Bool) (n : ℕ) (d : Desc) (rules : List Bool) (c : Clean n d rules) (found : Found asks d) (fits : FitsDesc d) where
   fields_back : (i : ℕ) (f : Field) → slice_get d.fields i ≡ Some f
@@ -95,17 +95,18 @@ desc_table d =
 
 pub desc_tabled : (d : Desc) → desc_members d ≡ members_in (desc_table d)
 desc_tabled d =
-    let tests = test_file (own_names d.fields) [] in
-    ap (put (codes "version") (natural_file d.version)) (list_if (codes "validate") tests d.validate _
-    ∙ ap (put_if (codes "validate") (listed tests d.validate))
-    (ap (put (codes "name") (string d.name)) (unless_if (d.minimum == d.version) (codes "minimum") (natural_file d.minimum) _)))
+    rw (
+      list_if (codes "validate") (test_file (own_names d.fields) []) d.validate _,
+      unless_if (d.minimum == d.version) (codes "minimum") (natural_file d.minimum) _,
+    )
 
 -- the object has what the table has, under each key of a description
 abbrev pub HasDesc : Desc → Data → Type 0
 HasDesc d o = (k : List ℕ) → is_one_of (desc_needs ++ desc_allows) k ≡ true → get k o ≡ found k (desc_table d)
 
 -- one more entry, with another key
-pub has_behind : (d : Desc) (j : List ℕ) (e : Option Data) → is_one_of (desc_needs ++ desc_allows) j ≡ false → HasDesc d (object_of ((j, e) ∷ desc_table d))
+pub has_behind : (d : Desc) (j : List ℕ) (e : Option Data) → is_one_of (desc_needs ++ desc_allows) j ≡ false
+    → HasDesc d (object_of ((j, e) ∷ desc_table d))
 has_behind d j e other k known = got k ((j, e) ∷ desc_table d) _ (found_behind (desc_needs ++ desc_allows) k j e (desc_table d) known other)
 
 pub names_asked : (asks : Bool) (d : Desc) (o : Data) → HasDesc d o → names_if asks o ≡ asked asks (own_names d.fields)
@@ -120,8 +121,8 @@ minimum_kept false n = Some n
 
 minimum_back : (b : Bool) (o : Data) (n : ℕ) → get (codes "minimum") o ≡ kept b (natural_file n) → n ≤ 4294967295
     → maybe_at u32_of (codes "minimum") o ≡ good (minimum_kept b n)
-minimum_back true o n there le = ap (member_or None (λ e. changed Some (u32_of e)) (codes "minimum")) there
-minimum_back false o n there le = cc (natural_good 4294967295 n le)
+minimum_back true o n there le = rw there
+minimum_back false o n there le = rw (there, natural_good 4294967295 n le)
 
 minimum_made : (version n : ℕ) (b : Bool) → (n == version) ≡ b → minimum_or version (minimum_kept b n) ≡ n
 minimum_made version n true e = sym (eqb-true n version e)
@@ -130,40 +131,42 @@ minimum_made version n false e = refl
 abbrev pub head_shown : Bool → Desc → Head
 head_shown asks d = record { fields = map (field_shown asks) d.fields; minimum = minimum_kept (d.minimum == d.version) d.minimum; name = d.name }
 
-module _ (asks : Bool) (n : ℕ) (d : Desc) (rules : List Bool) (c : Clean n d rules) (found : Found asks d) (fits : FitsDesc d) (o : Data) (has : HasDesc d o) where
+module _ (asks : Bool) (n : ℕ) (d : Desc) (rules : List Bool) (c : Clean n d rules) (found : Found asks d) (fits : FitsDesc d) (o : Data)
+    (has : HasDesc d o) where
   pub head_back : head_of (asked asks (own_names d.fields)) o ≡ good (head_shown asks d)
   head_back =
-      let names = asked asks (own_names d.fields) in
-      next_good (at (list_of (field_of names)) (codes "fields") o) (map (field_shown asks) d.fields) _ _
-      (at_good (list_of (field_of names)) (codes "fields") o _ _ (has (codes "fields") refl)
-      (list_good (field_of names) (field_file (own_names d.fields)) (field_shown asks) d.fields (fields_back asks n d rules c found fits)))
-      (next_good (maybe_at u32_of (codes "minimum") o) (minimum_kept (d.minimum == d.version) d.minimum) _ _
-      (minimum_back (d.minimum == d.version) o d.minimum (has (codes "minimum") refl ∙ or_none _) fits.minimum)
-      (next_good (at text_of (codes "name") o) d.name _ _ (at_good text_of (codes "name") o (string d.name) d.name (has (codes "name") refl) refl) refl))
+      rw (
+        has (codes "fields") refl,
+        list_good _ (field_file (own_names d.fields)) (field_shown asks) d.fields (fields_back asks n d rules c found fits),
+        minimum_back (d.minimum == d.version) o d.minimum (has (codes "minimum") refl ∙ or_none _) fits.minimum,
+        has (codes "name") refl,
+      )
 
   pub rest_back : rest_of (asked asks (own_names d.fields)) (head_shown asks d) o ≡ good (desc_shown asks d)
   rest_back =
-      let scope = own_scope asks (own_names d.fields) in
-      next_good (at_or [] (list_of (test_of scope)) (codes "validate") o) (map (test_shown asks) d.validate) _ _
-      (list_or_good (test_of scope) (test_file (own_names d.fields) []) (test_shown asks) (codes "validate") o d.validate (has (codes "validate") refl ∙ or_none _)
-      (validate_back asks n d rules c found fits))
-      (next_good (at u32_of (codes "version") o) d.version _ _
-      (at_good u32_of (codes "version") o (natural_file d.version) d.version (has (codes "version") refl) (natural_good 4294967295 d.version fits.version))
-      (ap (λ (m : ℕ). good (record { name = d.name; version = d.version; minimum = m; fields = map (field_shown asks) d.fields; validate = map (test_shown asks) d.validate }))
-      (minimum_made d.version d.minimum (d.minimum == d.version) refl)))
+      rw (
+        list_or_good _ (test_file (own_names d.fields) []) (test_shown asks) (codes "validate") o d.validate (has (codes "validate") refl ∙ or_none _)
+            (validate_back asks n d rules c found fits),
+        has (codes "version") refl,
+        natural_good 4294967295 d.version fits.version,
+        minimum_made d.version d.minimum (d.minimum == d.version) refl,
+      )
 
 -- ---- structures
 
-pub struct_back : (asks : Bool) (n : ℕ) (d : Desc) (rules : List Bool) → Clean n d rules → has_few d ≡ true → FitsDesc d → struct_of asks (struct_file d) ≡ good (desc_shown asks d)
+pub struct_back : (asks : Bool) (n : ℕ) (d : Desc) (rules : List Bool) → Clean n d rules → has_few d ≡ true → FitsDesc d
+    → struct_of asks (struct_file d) ≡ good (desc_shown asks d)
 struct_back asks n d rules c few fits =
     let o = object_of (desc_table d) in
     let found = all_found asks n d rules c few in
     let has : HasDesc d o = λ k known. got k (desc_table d) _ refl in
-    ap (λ (ms : Members). struct_of asks (object ms)) (desc_tabled d)
-    ∙ judged_good (keys_fit desc_needs desc_allows o) (struct_in (names_if asks o) o) (good (desc_shown asks d)) (table_fits desc_needs desc_allows (desc_table d) refl refl)
-    (ap (λ (names : Names). struct_in names o) (names_asked asks d o has)
-    ∙ next_good (head_of (asked asks (own_names d.fields)) o) (head_shown asks d) _ _ (head_back asks n d rules c found fits o has)
-    (rest_back asks n d rules c found fits o has))
+    rw (
+      desc_tabled d,
+      table_fits desc_needs desc_allows (desc_table d) refl refl,
+      names_asked asks d o has,
+      head_back asks n d rules c found fits o has,
+      rest_back asks n d rules c found fits o has,
+    )
 
 -- ---- subsections, devices and sets can be read back from their files: subsections
 
@@ -188,20 +191,19 @@ sub_back asks n j d s found_above c fits =
     let own = own_names s.desc.fields in
     let parent = own_names d.desc.fields in
     let o = object_of (sub_table parent s) in
-    let scope = sub_scope asks own parent in
     let rules = sub_rules d j s in
     let few = and_parts (has_few s.desc) (is_small_test s.needed) c.own.1.1.1.1.1.1.0 in
     let found = all_found asks n s.desc rules c few.0 in
     let has : HasDesc s.desc o = has_behind s.desc (codes "needed") (Some (test_file own parent s.needed)) refl in
-    ap (λ (ms : Members). sub_of asks (asked asks parent) (object (put (codes "needed") (test_file own parent s.needed) ms))) (desc_tabled s.desc)
-    ∙ judged_good (keys_fit (codes "needed" ∷ desc_needs) desc_allows o) _ (good (sub_shown asks s))
-    (table_fits (codes "needed" ∷ desc_needs) desc_allows (sub_table parent s) refl refl)
-    (ap (λ (names : Names). sub_in (record { own = names; parent = Some (asked asks parent) }) o) (names_asked asks s.desc o has)
-    ∙ next_good (head_of (asked asks own) o) (head_shown asks s.desc) _ _ (head_back asks n s.desc rules c found fits.desc o has)
-    (next_good (at (test_of scope) (codes "needed") o) (test_shown asks s.needed) _ _
-    (at_good (test_of scope) (codes "needed") o _ _ (got (codes "needed") (sub_table parent s) _ refl)
-    (needed_back asks s.desc d.desc s.needed found found_above few.1 fits.needed c.own.1.1.1.0))
-    (ap (changed (λ desc. record { desc = desc; needed = test_shown asks s.needed })) (rest_back asks n s.desc rules c found fits.desc o has))))
+    rw (
+      desc_tabled s.desc,
+      table_fits (codes "needed" ∷ desc_needs) desc_allows (sub_table parent s) refl refl,
+      names_asked asks s.desc o has,
+      head_back asks n s.desc rules c found fits.desc o has,
+      got (codes "needed") (sub_table parent s) _ refl,
+      needed_back asks s.desc d.desc s.needed found found_above few.1 fits.needed c.own.1.1.1.0,
+      rest_back asks n s.desc rules c found fits.desc o has,
+    )
 
 -- ---- devices
 
@@ -220,25 +222,20 @@ module _ (asks : Bool) (n : ℕ) (d : Device) (rules : List Bool) (c : Clean n d
       let found = all_found asks n d.desc rules c few in
       let subs = sub_file own in
       let has : HasDesc d.desc o = has_behind d.desc (codes "subsections") (listed subs d.subs) refl in
-      let tabled : whole_file d ≡ o =
-      ap object (list_if (codes "subsections") subs d.subs (desc_members d.desc) ∙ ap (put_if (codes "subsections") (listed subs d.subs)) (desc_tabled d.desc)) in
-      ap (whole_of asks) tabled
-      ∙ judged_good (keys_fit desc_needs (codes "subsections" ∷ desc_allows) o) _ (good (whole_shown asks d))
-      (table_fits desc_needs (codes "subsections" ∷ desc_allows) (whole_table d) refl refl)
-      (ap (λ (names : Names). whole_in asks names o) (names_asked asks d.desc o has)
-      ∙ next_good (head_of (asked asks own) o) (head_shown asks d.desc) _ _ (head_back asks n d.desc rules c found fits.desc o has)
-      (next_good (at_or [] (list_of (sub_of asks (asked asks own))) (codes "subsections") o) (map (sub_shown asks) d.subs) _ _
-      (list_or_good (sub_of asks (asked asks own)) subs (sub_shown asks) (codes "subsections") o d.subs (got (codes "subsections") (whole_table d) _ (or_none _))
-      (λ j s there. sub_back asks n j d s found (subs_clean j s there) (fits.subs j s there)))
-      (ap (changed (λ desc. record { desc = desc; subs = map (sub_shown asks) d.subs })) (rest_back asks n d.desc rules c found fits.desc o has))))
+      rw (
+        list_if (codes "subsections") subs d.subs (desc_members d.desc),
+        desc_tabled d.desc,
+        table_fits desc_needs (codes "subsections" ∷ desc_allows) (whole_table d) refl refl,
+        names_asked asks d.desc o has,
+        head_back asks n d.desc rules c found fits.desc o has,
+        list_or_good (sub_of asks (asked asks own)) subs (sub_shown asks) (codes "subsections") o d.subs
+            (got (codes "subsections") (whole_table d) _ (or_none _))
+            (λ j s there. sub_back asks n j d s found (subs_clean j s there) (fits.subs j s there)),
+        rest_back asks n d.desc rules c found fits.desc o has,
+      )
 
   device_back : FitsDevice d → device_of asks (device_file d) ≡ good (device_shown asks d)
-  device_back fits =
-      let o = device_file d in
-      next_good (at (whole_of asks) (codes "desc") o) (whole_shown asks d) _ _
-      (at_good (whole_of asks) (codes "desc") o (whole_file d) (whole_shown asks d) refl (whole_back fits.whole))
-      (ap (changed (λ instance. record { instance = instance; desc = desc_shown asks d.desc; subs = map (sub_shown asks) d.subs }))
-      (at_good u32_of (codes "instance") o (natural_file d.instance) d.instance refl (natural_good 4294967295 d.instance fits.instance)))
+  device_back fits = rw (whole_back fits.whole, natural_good 4294967295 d.instance fits.instance)
 
 -- ---- sets
 
@@ -257,17 +254,13 @@ module _ (set : Set) (well : WellFormed set) (fits : FitsSet set) where
 
   walk_back : (asks : Bool) → set_of asks (set_file set) ≡ good (set_shown asks set)
   walk_back asks =
-      let o = set_file set in
-      next_good (at (list_of (device_of asks)) (codes "devices") o) (map (device_shown asks) set.devices) _ _
-      (at_good (list_of (device_of asks)) (codes "devices") o _ _ refl (list_good (device_of asks) device_file (device_shown asks) set.devices (devices_back asks)))
-      (next_good (at (list_of text_of) (codes "machines") o) (map (λ t. t) set.machines) _ _
-      (at_good (list_of text_of) (codes "machines") o _ _ refl (list_good text_of string (λ t. t) set.machines (λ k t e. refl)))
-      (next_good (at (list_of (struct_of asks)) (codes "structs") o) (map (desc_shown asks) set.structs) _ _
-      (at_good (list_of (struct_of asks)) (codes "structs") o _ _ refl (list_good (struct_of asks) struct_file (desc_shown asks) set.structs (structs_back asks)))
-      (ap (λ (l : List (List ℕ)). good (record { machines = l; structs = map (desc_shown asks) set.structs; devices = map (device_shown asks) set.devices }))
-      (map_same (λ t. t) set.machines (λ t. refl)))))
+      rw (
+        list_good (device_of asks) device_file (device_shown asks) set.devices (devices_back asks),
+        list_good text_of string (λ t. t) set.machines (λ k t e. refl),
+        list_good (struct_of asks) struct_file (desc_shown asks) set.structs (structs_back asks),
+        map_same (λ t. t) set.machines (λ t. refl),
+      )
 
   pub set_back : parts_of (set_file set) ≡ good set
   unfolding parts_of
-  set_back =
-      next_good (set_of false (set_file set)) (set_shown false set) _ _ (walk_back false) (walk_back true ∙ ap good (set_same set))
+  set_back = rw (walk_back false, walk_back true, set_same set)

@@ -1,14 +1,14 @@
 -- The names of other crates, and of this crate's `specs`, that the proofs use.
-pub use Rattle.std.proofs.{lemmas.Int.ints, lemmas.Slice.Eq.bytes_eq-Decides, lemmas.Str.IsUtf8-string_bytes}
-pub use Rattle.std.proofs.Common.{Bool, Equal, Err, Global, Greater, IfSome, Less, List, None, Option, Ordering, Result, Some, String, [], ap, append_assoc}
-pub use Rattle.std.proofs.Common.{ap₂, arith, below_more, codes, cond, decimal, drop, false, get_or, if◌then◌else◌, int_le, int_lt, is_none, is_some, length}
-pub use Rattle.std.proofs.Common.{map, max, min, nat_le, nat_lt, negsuc, not, option_and_then, option_map, pos, refl, rules, string_bytes, subst, suc, sym}
-pub use Rattle.std.proofs.Common.{take, true, zero, ℕ, ℤ, ◌&&◌, ◌++◌, ◌+◌, ◌-◌, ◌<◌, ◌==◌, ◌||◌, ◌∙◌, ◌∷◌, ◌≡◌, ◌≤◌}
-pub use Rattle.std.proofs.lemmas.Bool.{and_from, and_parts, eqb-true, false≢true, le-leb, leb-true, lt-ltb, not-true, or_from, or_parts, true≢false}
+pub use Rattle.std.proofs.{lemmas.Int.ints, lemmas.Slice.Eq.bytes_eq-Decides, lemmas.Str.IsUtf8-string_bytes, Common.◌∙◌, Common.◌∷◌}
+pub use Rattle.std.proofs.Common.{◌≡◌, ◌≤◌, Bool, Equal, Err, Global, Greater, IfSome, Less, List, None, Option, Ordering, Result, Some, String, []}
+pub use Rattle.std.proofs.Common.{ap, append_assoc, arith, below_more, codes, decimal, drop, false, get_or, if◌then◌else◌, int_le, int_lt}
+pub use Rattle.std.proofs.Common.{is_none, is_some, length, map, max, min, nat_le, nat_lt, negsuc, not, option_and_then, option_map, pos, refl, rules}
+pub use Rattle.std.proofs.Common.{string_bytes, subst, suc, sym, take, true, zero, ℕ, ℤ, ◌&&◌, ◌++◌, ◌+◌, ◌-◌, ◌<◌, ◌==◌, ◌||◌}
+pub use Rattle.std.proofs.lemmas.Bool.{and_from, and_parts, eqb-true, false≢true, le-leb, leb-true, lt-ltb, not-true, or_parts, true≢false}
 pub use Rattle.std.proofs.lemmas.List.{append-nil, drop_all, length-map, map-append}
 pub use Rattle.std.proofs.lemmas.Option.{same_Some, slice_get_within}
-pub use Rattle.std.specs.{Cmp.Lexicographic.slice_cmp, Str.bytes_eq, List.position, List.position_or_len, List.slice_get}
-pub use Rattle.std.specs.Ordering.{match_ordering, nat_cmp}
+pub use Rattle.std.specs.{Cmp.Lexicographic.slice_cmp, Str.bytes_eq, Ordering.match_ordering, Ordering.nat_cmp}
+pub use Rattle.std.specs.List.{position, position_or_len, slice_get}
 unfoldable pub use Rattle.std.specs.{Fmt.digits, Str.chars, Str.is_utf8}
 pub use Rattle.vms_kinds.specs.{declared.Item.Item, declared.Kind.Kind}
 pub use Rattle.vms_spec.proofs.Examples.{counted_set, tested_set}
@@ -23,17 +23,18 @@ pub use Rattle.vms_spec.specs.declared.Whose.TheVariants.{Own, Parent}
 unfoldable pub use Rattle.vms_spec.specs.WellFormed.{first_fault}
 pub use Rattle.vms_words.specs.Words.{TellsKind, kind_word}
 pub use Rattle.vms_desc.specs.Described.{described}
-pub use Rattle.vms_descfile.specs.{Depths.DepthLaw, Descs.set_of, Descs.struct_in, Descs.struct_of, Descs.sub_in, Given.Gives, Given.GivesValue}
-pub use Rattle.vms_descfile.specs.{Given.IsFileFault, Tests.test_of, Tests.test_within, declared.file_fault.FileFault.FileFault, declared.read.cells.Form.Form}
+pub use Rattle.vms_descfile.specs.{Depths.DepthLaw, Tests.own_cell, Tests.pair_seen, declared.file_fault.FileFault.FileFault, declared.read.cells.Form.Form}
 pub use Rattle.vms_descfile.specs.{declared.read.cells.Leaf.Leaf, declared.read.sort.Sort.Sort, declared.read.sort.Sort.TheVariants.Number}
-pub use Rattle.vms_descfile.specs.Descs.{sub_of, whole_in, whole_of, whole_seen, Head, Whole, desc_allows, desc_needs, device_of, head_of, minimum_or, rest_of}
+pub use Rattle.vms_descfile.specs.Descs.{set_of, struct_in, struct_of, sub_of, whole_in, whole_of, whole_seen, Head, Whole, desc_allows, desc_needs}
+pub use Rattle.vms_descfile.specs.Descs.{device_of, head_of, minimum_or, rest_of}
 pub use Rattle.vms_descfile.specs.Fields.{Front, IsPlain, count_as, count_of, counts_fit, field_after, field_allows, field_fits, field_in, field_needs}
-pub use Rattle.vms_descfile.specs.Fields.{field_of, front_of, item_as, plain_field, plain_members, presence_of, sort_fits, sort_named, sort_of, values_fit}
+pub use Rattle.vms_descfile.specs.Fields.{field_of, front_of, item_as, plain_field, plain_members, sort_fits, sort_named, sort_of, values_fit}
 pub use Rattle.vms_descfile.specs.Files.{IllFormed, Parts, Said, Shape, Syntax, judged_said, parts_said, value_in, value_said}
 pub use Rattle.vms_descfile.specs.Fitting.{FitsDesc, FitsDevice, FitsField, FitsOptional, FitsSet, FitsSub, FitsTest, FitsWhole}
-pub use Rattle.vms_descfile.specs.Tests.{two_of, with_parent, Pair, both, form_of, joined, key_of, leaf_as, own_cell, pair_seen, parent_cell, rel_of, test_as}
+pub use Rattle.vms_descfile.specs.Given.{Gives, GivesValue, IsFileFault}
+pub use Rattle.vms_descfile.specs.Tests.{parent_cell, rel_of, test_as, test_of, test_within, two_of, with_parent, Pair, both, form_of, joined, key_of, leaf_as}
 pub use Rattle.vms_descfile.specs.Written.{capacity_in, compared_file, counter_in, desc_members, device_file, equal_in, field_file, front_file, given_as}
-pub use Rattle.vms_descfile.specs.Written.{integer_file, is_zero, item_word, length_in, list_as, list_file, natural_file, only, own_names, pair_file, rel_file}
+pub use Rattle.vms_descfile.specs.Written.{integer_file, is_zero, item_word, length_in, list_as, list_file, natural_file, own_names, rel_file}
 pub use Rattle.vms_descfile.specs.Written.{set_file, size_in, struct_file, sub_file, test_file, unless, whole_file}
 unfoldable pub use Rattle.vms_descfile.specs.{Descs.parts_of, Files.file_said}
 pub use Rattle.vms_json.proofs.KeyLaws.{has_value, none_left, object_is}
@@ -42,13 +43,13 @@ pub use Rattle.vms_json.specs.{Index.first_of, Index.names_of, Index.text_or_non
 pub use Rattle.vms_json.specs.Answers.{Answer, Answers, Refuses, bad, changed, each_from, each_of, given, good, list_of, next, under}
 pub use Rattle.vms_json.specs.Asked.{asks_a_name, asks_in, asks_names, some_ask}
 pub use Rattle.vms_json.specs.Members.{at, at_or, integer_of, judged, maybe_at, member_of, member_or, natural, text_of, u16_of, u32_of, u64_of}
-pub use Rattle.vms_json.specs.Names.{Names, Scope, name_in, names_if, names_seen, number_in, numbered, scope_seen}
+pub use Rattle.vms_json.specs.Names.{Names, Scope, name_in, names_if, number_in, scope_seen}
 pub use Rattle.vms_parts.proofs.{Items.drop_is}
 pub use Rattle.vms_parts.specs.{Views.desc_of, Views.formula, declared.types.Test.Test}
 unfoldable pub use Rattle.serde_json.proofs.OnLiterals.{serde_json_on_literals}
 pub use Rattle.serde_json.proofs.Views.{get_member-put, get_member-put_other}
-pub use Rattle.serde_json.specs.{Data.null, Data.number, Read.max_depth, Read.read, View.items_of, View.members_view, declared.value.Value.Value}
-pub use Rattle.serde_json.specs.Data.{object, put, string, Data, Items, Members, array, depth, item, items_depth, member, members_depth, no_items, no_members}
+pub use Rattle.serde_json.specs.{Read.max_depth, Read.read, View.items_of, View.members_view, declared.value.Value.Value}
+pub use Rattle.serde_json.specs.Data.{null, number, object, put, string, Data, Items, Members, array, depth, item, member, members_depth, no_items, no_members}
 pub use Rattle.serde_json.specs.Find.{as_array, as_str, get, get_member, of_integer}
-pub use Rattle.serde_json.specs.Written.{compact_text, has_float, items_have_float, members_have_float}
+pub use Rattle.serde_json.specs.Written.{compact_text, has_float, members_have_float}
 pub use native.Mathlib.Numerals.{unary_clauses}

@@ -1,16 +1,16 @@
 -- A field can be read back from its file.
-use Rattle.vms_descfile.proofs.Facade.{test_file, front_file, field_file, ◌≡◌, ℕ, ◌≤◌, List, [], ◌∷◌, get_or, map, Bool, true, false, not}
-use Rattle.vms_descfile.proofs.Facade.{◌&&◌, ◌==◌, if◌then◌else◌, Option, Some, None, option_map, is_some, ℤ, pos, negsuc, int_le, int_lt}
-use Rattle.vms_descfile.proofs.Facade.{IfSome, refl, sym, ap, ◌∙◌, subst, codes, arith, and_parts, and_from, eqb-true, false≢true, ints, Data, Members}
-use Rattle.vms_descfile.proofs.Facade.{string, object, get, as_str, Kind, Item, Count, One, Formula, Field, in_range, defaults_well, same_number, ranges, Sort}
-use Rattle.vms_descfile.proofs.Facade.{good, given, list_of, fits, at, at_or, maybe_at, u16_of, u32_of, integer_of, text_of, Names, number_in, name_in, test_of}
-use Rattle.vms_descfile.proofs.Facade.{sort_named, sort_of, counts_fit, values_fit, sort_fits, field_needs, field_allows, field_fits, count_as, count_of}
-use Rattle.vms_descfile.proofs.Facade.{item_as, front_of, field_after, field_in, field_of, FitsField, natural_file, integer_file, is_zero, item_word}
-use Rattle.vms_descfile.proofs.Facade.{capacity_in, length_in, counter_in, equal_in, size_in}
-use Rattle.vms_descfile.proofs.ObjectLaws.{number_named, next_good, judged_good, at_good, maybe_good, default_good, list_or_good, natural_good, integer_good}
-use Rattle.vms_descfile.proofs.ObjectLaws.{Table, put_if, members_in, object_of, or_none, got, table_fits, kept, listed, given_if, unless_if, list_if}
+use Rattle.vms_descfile.proofs.Facade.{item_word, capacity_in, length_in, counter_in, equal_in, size_in, Answer, Front, test_file, front_file, field_file}
+use Rattle.vms_descfile.proofs.Facade.{◌≡◌, ℕ, ◌≤◌, List, [], ◌∷◌, get_or, map, Bool, true, false, not, ◌&&◌, ◌==◌}
+use Rattle.vms_descfile.proofs.Facade.{if◌then◌else◌, Option, Some, None, option_map, is_some, ℤ, pos, negsuc, int_le, int_lt, IfSome, refl, sym, ap}
+use Rattle.vms_descfile.proofs.Facade.{◌∙◌, codes, arith, and_parts, eqb-true, false≢true, ints, Data, string, get}
+use Rattle.vms_descfile.proofs.Facade.{as_str, Kind, Item, Count, One, Formula, Field, in_range, defaults_well, same_number, ranges, Sort, good}
+use Rattle.vms_descfile.proofs.Facade.{fits, maybe_at, u16_of, u32_of, integer_of, text_of, Names, number_in, name_in, test_of, sort_named}
+use Rattle.vms_descfile.proofs.Facade.{counts_fit, values_fit, sort_fits, field_needs, field_allows, field_fits, count_as, count_of, item_as, front_of}
+use Rattle.vms_descfile.proofs.Facade.{field_after, field_in, field_of, FitsField, natural_file, integer_file, is_zero}
+use Rattle.vms_descfile.proofs.ObjectLaws.{list_if, found, number_named, judged_good, maybe_good, default_good, list_or_good, natural_good}
+use Rattle.vms_descfile.proofs.ObjectLaws.{integer_good, Table, members_in, object_of, or_none, got, table_fits, kept, listed, given_if, unless_if}
 use Rattle.vms_descfile.proofs.ShownLaws.{number_shown, test_shown, count_shown, field_shown, map_same}
-use Rattle.vms_descfile.specs.{Written.struct_in}
+use Rattle.vms_descfile.specs.Written.{struct_in}
 use Rattle.std.specs.Option.{option_and_then}
 use Rattle.vms_kinds.specs.declared.Kind.TheVariants as kinds
 use Rattle.vms_kinds.specs.declared.Item.TheVariants as items
@@ -40,28 +40,34 @@ field_table own f =
 
 front_tabled : (own : List (List ℕ)) (f : Field) → front_file own f ≡ members_in (front_table own f)
 front_tabled own f =
-    cc (list_if (codes "former") string f.former _, given_if (codes "equal") integer_file (equal_in f.item) _, unless_if (is_zero f.default) (codes "default") (integer_file f.default) _, given_if (codes "counted") (λ k. string (get_or own k [])) (counter_in f.count) _, given_if (codes "count") natural_file (length_in f.count) _, given_if (codes "capacity") natural_file (capacity_in f.count) _)
+    rw (
+      list_if (codes "former") string f.former _,
+      given_if (codes "equal") integer_file (equal_in f.item) _,
+      unless_if (is_zero f.default) (codes "default") (integer_file f.default) _,
+      given_if (codes "counted") (λ k. string (get_or own k [])) (counter_in f.count) _,
+      given_if (codes "count") natural_file (length_in f.count) _,
+      given_if (codes "capacity") natural_file (capacity_in f.count) _,
+    )
 
 pub field_tabled : (own : List (List ℕ)) (f : Field) → field_file own f ≡ object_of (field_table own f)
 field_tabled own f =
-    let kinded = λ (ms : Members). put_if (codes "name") (Some (string f.name)) (put_if (codes "kind") (Some (string (item_word f.item))) ms) in
-    ap object (given_if (codes "test") (test_file own []) f.test _
-    ∙ ap (put_if (codes "test") (option_map (test_file own []) f.test)) (given_if (codes "struct") natural_file (struct_in f.item) _
-    ∙ ap (put_if (codes "struct") (option_map natural_file (struct_in f.item))) (given_if (codes "size") natural_file (size_in f.item) _
-    ∙ ap (put_if (codes "size") (option_map natural_file (size_in f.item))) (unless_if (f.since == 0) (codes "since") (natural_file f.since) _
-    ∙ ap (put_if (codes "since") (kept (f.since == 0) (natural_file f.since))) (ap kinded (front_tabled own f))))))
+    rw (
+      given_if (codes "test") (test_file own []) f.test _,
+      given_if (codes "struct") natural_file (struct_in f.item) _,
+      given_if (codes "size") natural_file (size_in f.item) _,
+      unless_if (f.since == 0) (codes "since") (natural_file f.since) _,
+      front_tabled own f,
+    )
 
 -- ---- its keys
-
-ap3 : {A B C D : Type 0} (f : A → B → C → D) (a a' : A) (b b' : B) (c c' : C) → a ≡ a' → b ≡ b' → c ≡ c' → f a b c ≡ f a' b' c'
-ap3 f a a' b b' c c' e1 e2 e3 = cc
 
 -- counted, capacity and count
 abbrev counts_by : Option Data → Option Data → Option Data → Bool
 counts_by counted capacity count = if is_some counted then is_some capacity && not (is_some count) else not (is_some capacity)
 
 count_keys : (own : List (List ℕ)) (c : Count)
-    → counts_by (option_map (λ k. string (get_or own k [])) (counter_in c)) (option_map natural_file (capacity_in c)) (option_map natural_file (length_in c)) ≡ true
+    → counts_by (option_map (λ k. string (get_or own k [])) (counter_in c)) (option_map natural_file (capacity_in c)) (option_map natural_file (length_in c))
+    ≡ true
 count_keys own One = refl
 count_keys own _ = refl
 
@@ -92,22 +98,22 @@ zero_is (pos n) same = same
 zero_is (negsuc n) same = cc
 
 no_default : (z : ℤ) → same_number z (pos 0) ≡ true → kept (is_zero z) (integer_file z) ≡ None
-no_default z same = ap (λ (b : Bool). kept b (integer_file z)) (zero_is z same)
+no_default z same = rw (zero_is z same)
 
 item_keys : (item : Item) (z : ℤ) → defaults_well item z ≡ true
     → sort_by (item_sort item) (option_map natural_file (size_in item)) (option_map natural_file (struct_in item)) (option_map integer_file (equal_in item))
     (kept (is_zero z) (integer_file z)) ≡ true
-item_keys (items.Unused n) z well = ap (λ (o : Option Data). not (is_some o)) (no_default z well)
-item_keys (items.Struct j) z well = ap (λ (o : Option Data). not (is_some o)) (no_default z well)
+item_keys (items.Unused n) z well = rw (no_default z well)
+item_keys (items.Struct j) z well = rw (no_default z well)
 item_keys _ z well = refl
 
 -- equal and default
 abbrev values_by : Option Data → Option Data → Bool
 values_by equal default = not (is_some equal && is_some default)
 
-value_keys : (item : Item) (z : ℤ) → defaults_well item z ≡ true → values_by (option_map integer_file (equal_in item)) (kept (is_zero z) (integer_file z)) ≡ true
-value_keys (items.Equal kind y) z well =
-    ap (λ (o : Option Data). not (is_some o)) (no_default z (and_parts (in_range kind y) (same_number z (pos 0)) well).1)
+value_keys : (item : Item) (z : ℤ) → defaults_well item z ≡ true
+    → values_by (option_map integer_file (equal_in item)) (kept (is_zero z) (integer_file z)) ≡ true
+value_keys (items.Equal kind y) z well = rw (no_default z (and_parts (in_range kind y) (same_number z (pos 0)) well).1)
 value_keys _ z well = refl
 
 -- ---- numbers of 64 bits
@@ -128,14 +134,13 @@ not_zero _ z well other = absurd (false≢true (sym other ∙ zero_is z well))
 constant_good : (item : Item) (z : ℤ) → defaults_well item z ≡ true → (y : ℤ) → equal_in item ≡ Some y → integer_of (integer_file y) ≡ good y
 constant_good (items.Equal kind v) z well y is =
     let same : v ≡ y = cc in
-    subst (λ (u : ℤ). integer_of (integer_file u) ≡ good u) same (integer_good v (in_64 kind v (and_parts (in_range kind v) (same_number z (pos 0)) well).0))
+    rw same at (integer_good v (in_64 kind v (and_parts (in_range kind v) (same_number z (pos 0)) well).0))
 constant_good _ z well y is = cc
 
 -- ---- the parts of a field
 
 most_of : (most : ℕ) (o : Option ℕ) → IfSome o (λ n. n ≤ most) → (n : ℕ) → o ≡ Some n → n ≤ most
-most_of most None fits n is = cc
-most_of most (Some m) fits n is = let same : m ≡ n = cc in subst (λ (k : ℕ). k ≤ most) same fits
+most_of most o fits n is = rw is at fits
 
 size_good : (o : Option ℕ) → IfSome o (λ n. n ≤ 65535) → (n : ℕ) → o ≡ Some n → u16_of (natural_file n) ≡ good n
 size_good o fits n is = natural_good 65535 n (most_of 65535 o fits n is)
@@ -144,11 +149,13 @@ number_good : (o : Option ℕ) → IfSome o (λ n. n ≤ 4294967295) → (n : �
 number_good o fits n is = natural_good 4294967295 n (most_of 4294967295 o fits n is)
 
 count_made : (asks : Bool) (c : Count)
-    → count_as (option_map (λ n. n) (capacity_in c)) (option_map (λ n. n) (length_in c)) (option_map (number_shown asks) (counter_in c)) ≡ count_shown asks c
+    → count_as (option_map (λ n. n) (capacity_in c)) (option_map (λ n. n) (length_in c)) (option_map (number_shown asks) (counter_in c))
+    ≡ count_shown asks c
 count_made asks One = refl
 count_made asks _ = refl
 
-item_made : (item : Item) → item_as (item_sort item) (option_map (λ z. z) (equal_in item)) (option_map (λ n. n) (size_in item)) (option_map (λ n. n) (struct_in item)) ≡ item
+item_made : (item : Item)
+    → item_as (item_sort item) (option_map (λ z. z) (equal_in item)) (option_map (λ n. n) (size_in item)) (option_map (λ n. n) (struct_in item)) ≡ item
 item_made (items.Num kind) = refl
 item_made _ = refl
 
@@ -176,73 +183,86 @@ module _ (asks : Bool) (own : List (List ℕ)) (names : Names) (may : ℕ → Bo
     pub counter : (k : ℕ) → counter_in f.count ≡ Some k → number_in names (get_or own k []) ≡ good (number_shown asks k)
     pub test : (t : Formula) → f.test ≡ Some t → test_of (record { own = names; parent = None }) (test_file own [] t) ≡ good (test_shown asks t)
 
-  count_back : (f : Field) → FitsField f → Named f → count_of names (object_of (field_table own f)) ≡ good (count_shown asks f.count)
-  count_back f fits named =
-      let table = field_table own f in
-      let d = object_of table in
-      next_good (maybe_at u32_of (codes "capacity") d) (option_map (λ n. n) (capacity_in f.count)) _ _
-      (maybe_good u32_of natural_file (λ n. n) (codes "capacity") d (capacity_in f.count) (got (codes "capacity") table _ (or_none _)) (number_good (capacity_in f.count) fits.count.capacity))
-      (next_good (maybe_at u32_of (codes "count") d) (option_map (λ n. n) (length_in f.count)) _ _
-      (maybe_good u32_of natural_file (λ n. n) (codes "count") d (length_in f.count) (got (codes "count") table _ (or_none _)) (number_good (length_in f.count) fits.count.length))
-      (next_good (maybe_at (name_in names) (codes "counted") d) (option_map (number_shown asks) (counter_in f.count)) _ _
-      (maybe_good (name_in names) (λ k. string (get_or own k [])) (number_shown asks) (codes "counted") d (counter_in f.count) (got (codes "counted") table _ (or_none _)) named.counter)
-      (ap good (count_made asks f.count))))
+  module _ (f : Field) where
+    abbrev table : Table
+    table = field_table own f
 
-  front_back : (f : Field) → FitsField f → defaults_well f.item f.default ≡ true → Named f
-      → front_of names (object_of (field_table own f))
-      ≡ good (record { count = count_shown asks f.count; default = f.default; equal = option_map (λ z. z) (equal_in f.item); former = map (λ t. t) f.former })
-  front_back f fits well named =
-      let table = field_table own f in
-      let d = object_of table in
-      next_good (count_of names d) (count_shown asks f.count) _ _ (count_back f fits named)
-      (next_good (at_or (pos 0) integer_of (codes "default") d) f.default _ _
-      (default_good integer_of (codes "default") d (integer_file f.default) (pos 0) f.default (is_zero f.default) (got (codes "default") table _ (or_none _))
-      (zero_is_0 f.default) (not_zero f.item f.default well))
-      (next_good (maybe_at integer_of (codes "equal") d) (option_map (λ z. z) (equal_in f.item)) _ _
-      (maybe_good integer_of integer_file (λ z. z) (codes "equal") d (equal_in f.item) (got (codes "equal") table _ (or_none _)) (constant_good f.item f.default well))
-      (next_good (at_or [] (list_of text_of) (codes "former") d) (map (λ t. t) f.former) _ _
-      (list_or_good text_of string (λ t. t) (codes "former") d f.former (got (codes "former") table _ (or_none _)) (λ k t e. refl))
-      refl)))
+    abbrev d : Data
+    d = object_of table
 
-  after_back : (f : Field) → FitsField f → Named f
-      → field_after names (record { count = count_shown asks f.count; default = f.default; equal = option_map (λ z. z) (equal_in f.item); former = map (λ t. t) f.former }) (object_of (field_table own f))
-      ≡ good (field_shown asks f)
-  after_back f fits named =
-      let table = field_table own f in
-      let d = object_of table in
-      next_good (at sort_of (codes "kind") d) (item_sort f.item) _ _
-      (at_good sort_of (codes "kind") d (string (item_word f.item)) (item_sort f.item) (got (codes "kind") table _ refl) (ap given (item_named f.item)))
-      (next_good (at text_of (codes "name") d) f.name _ _ (at_good text_of (codes "name") d (string f.name) f.name (got (codes "name") table _ refl) refl)
-      (next_good (at_or 0 u32_of (codes "since") d) f.since _ _
-      (default_good u32_of (codes "since") d (natural_file f.since) 0 f.since (f.since == 0) (got (codes "since") table _ (or_none _))
-      (λ e. sym (eqb-true f.since 0 e)) (λ e. natural_good 4294967295 f.since fits.since))
-      (next_good (maybe_at u16_of (codes "size") d) (option_map (λ n. n) (size_in f.item)) _ _
-      (maybe_good u16_of natural_file (λ n. n) (codes "size") d (size_in f.item) (got (codes "size") table _ (or_none _)) (size_good (size_in f.item) fits.item.bytes))
-      (next_good (maybe_at u32_of (codes "struct") d) (option_map (λ n. n) (struct_in f.item)) _ _
-      (maybe_good u32_of natural_file (λ n. n) (codes "struct") d (struct_in f.item) (got (codes "struct") table _ (or_none _)) (number_good (struct_in f.item) fits.item.number))
-      (next_good (maybe_at (test_of (record { own = names; parent = None })) (codes "test") d) (option_map (test_shown asks) f.test) _ _
-      (maybe_good (test_of (record { own = names; parent = None })) (test_file own []) (test_shown asks) (codes "test") d f.test (got (codes "test") table _ (or_none _)) named.test)
-      (ap good (field_made asks f)))))))
+    -- a member that may be missing
+    optional : {A B : Type 0} (says : Data → Answer B) (file : A → Data) (shown : A → B) (key : List ℕ) (o : Option A)
+        → found key table ≡ option_map file o
+        → ((a : A) → o ≡ Some a → says (file a) ≡ good (shown a)) → maybe_at says key d ≡ good (option_map shown o)
+    optional says file shown key o is = maybe_good says file shown key d o (got key table _ is)
+
+    count_back : FitsField f → Named f → count_of names d ≡ good (count_shown asks f.count)
+    count_back fits named =
+        rw (
+          optional u32_of natural_file (λ n. n) (codes "capacity") (capacity_in f.count) (or_none _) (number_good (capacity_in f.count) fits.count.capacity),
+          optional u32_of natural_file (λ n. n) (codes "count") (length_in f.count) (or_none _) (number_good (length_in f.count) fits.count.length),
+          optional (name_in names) (λ k. string (get_or own k [])) (number_shown asks) (codes "counted") (counter_in f.count) (or_none _) named.counter,
+          count_made asks f.count,
+        )
+
+    abbrev front_shown : Front
+    front_shown = record {
+      count = count_shown asks f.count;
+      default = f.default;
+      equal = option_map (λ z. z) (equal_in f.item);
+      former = map (λ t. t) f.former;
+    }
+
+    front_back : FitsField f → defaults_well f.item f.default ≡ true → Named f → front_of names d ≡ good front_shown
+    front_back fits well named =
+        rw (
+          count_back fits named,
+          default_good integer_of (codes "default") d (integer_file f.default) (pos 0) f.default (is_zero f.default)
+              (got (codes "default") table _ (or_none _)) (zero_is_0 f.default) (not_zero f.item f.default well),
+          optional integer_of integer_file (λ z. z) (codes "equal") (equal_in f.item) (or_none _) (constant_good f.item f.default well),
+          list_or_good text_of string (λ t. t) (codes "former") d f.former (got (codes "former") table _ (or_none _)) (λ k t e. refl),
+        )
+
+    after_back : FitsField f → Named f → field_after names front_shown d ≡ good (field_shown asks f)
+    after_back fits named =
+        rw (
+          got (codes "kind") table _ refl,
+          item_named f.item,
+          got (codes "name") table _ refl,
+          default_good u32_of (codes "since") d (natural_file f.since) 0 f.since (f.since == 0) (got (codes "since") table _ (or_none _))
+              (λ e. sym (eqb-true f.since 0 e)) (λ e. natural_good 4294967295 f.since fits.since),
+          optional u16_of natural_file (λ n. n) (codes "size") (size_in f.item) (or_none _) (size_good (size_in f.item) fits.item.bytes),
+          optional u32_of natural_file (λ n. n) (codes "struct") (struct_in f.item) (or_none _) (number_good (struct_in f.item) fits.item.number),
+          optional (test_of (record { own = names; parent = None })) (test_file own []) (test_shown asks) (codes "test") f.test (or_none _) named.test,
+        )
+        (ap good (field_made asks f))
 
   keys_fit : (f : Field) → defaults_well f.item f.default ≡ true → field_fits (object_of (field_table own f)) ≡ true
   keys_fit f well =
       let table = field_table own f in
       let d = object_of table in
-      let kind : option_and_then sort_named (option_and_then as_str (get (codes "kind") d)) ≡ Some (item_sort f.item) =
-      cc (got (codes "kind") table _ refl, item_named f.item) in
       let counts : counts_fit d ≡ true =
-      cc (ap3 counts_by _ _ _ _ _ _ (got (codes "counted") table _ (or_none _)) (got (codes "capacity") table _ (or_none _)) (got (codes "count") table _ (or_none _)), count_keys own f.count) in
+      rw (got (codes "counted") table _ (or_none _), got (codes "capacity") table _ (or_none _), got (codes "count") table _ (or_none _))
+      (count_keys own f.count) in
       let sorts : sort_fits (option_and_then sort_named (option_and_then as_str (get (codes "kind") d))) d ≡ true =
-      cc (sort_by_keys (item_sort f.item) d, got (codes "size") table _ (or_none _), ap3 (sort_by (item_sort f.item) (option_map natural_file (size_in f.item))) _ _ _ _ _ _ (got (codes "struct") table _ (or_none _)) (got (codes "equal") table _ (or_none _)) (got (codes "default") table _ (or_none _)), item_keys f.item f.default well) in
+      rw (
+        got (codes "kind") table _ refl,
+        item_named f.item,
+        sort_by_keys (item_sort f.item) d,
+        got (codes "size") table _ (or_none _),
+        got (codes "struct") table _ (or_none _),
+        got (codes "equal") table _ (or_none _),
+        got (codes "default") table _ (or_none _),
+      )
+      (item_keys f.item f.default well) in
       let values : values_fit d ≡ true =
-      cc (got (codes "equal") table _ (or_none _), got (codes "default") table _ (or_none _), value_keys f.item f.default well) in
-      and_from (fits field_needs field_allows d && counts_fit d && values_fit d) _
-      (and_from (fits field_needs field_allows d && counts_fit d) (values_fit d)
-      (and_from (fits field_needs field_allows d) (counts_fit d) (table_fits field_needs field_allows table refl refl) counts) values) sorts
+      rw (got (codes "equal") table _ (or_none _), got (codes "default") table _ (or_none _)) (value_keys f.item f.default well) in
+      rw (table_fits field_needs field_allows table refl refl, counts, values, sorts)
 
-  pub field_back : (f : Field) → FitsField f → defaults_well f.item f.default ≡ true → Named f → field_of names (field_file own f) ≡ good (field_shown asks f)
+  pub field_back : (f : Field) → FitsField f → defaults_well f.item f.default ≡ true → Named f
+      → field_of names (field_file own f) ≡ good (field_shown asks f)
   field_back f fits well named =
       let d = object_of (field_table own f) in
       ap (field_of names) (field_tabled own f)
       ∙ judged_good (field_fits d) (field_in names d) (good (field_shown asks f)) (keys_fit f well)
-      (next_good (front_of names d) _ _ _ (front_back f fits well named) (after_back f fits named))
+      (rw (front_back f fits well named) (after_back f fits named))

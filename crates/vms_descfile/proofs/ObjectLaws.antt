@@ -1,46 +1,46 @@
 -- Values of a file: lists, objects whose members may be missing, good answers, and plain fields.
 use Rattle.vms_descfile.proofs.Facade.{◌≡◌, ℕ, ◌+◌, ◌<◌, List, [], ◌∷◌, ◌++◌, length, get_or, map, refl, ap, sym, ◌∙◌, drop}
-use Rattle.vms_descfile.proofs.Facade.{append_assoc, zero, suc, arith, map-append, Data, Members, array, item, put, items_of, Value, own_names, list_file}
-use Rattle.vms_descfile.proofs.Facade.{list_as, drop_is, Bool, true, false, ◌&&◌, if◌then◌else◌, Option, Some, None, is_some, option_map, Ordering}
-use Rattle.vms_descfile.proofs.Facade.{Less, Equal, Greater, nat_cmp, match_ordering, slice_cmp, bytes_eq, false≢true, and_parts, and_from, bytes_eq-Decides}
-use Rattle.vms_descfile.proofs.Facade.{no_members, member, object, get, get_member, get_member-put, get_member-put_other, is_one_of, has, has_no_others}
-use Rattle.vms_descfile.proofs.Facade.{has_all, fits, given_as, unless, natural_file, integer_file, ◌≤◌, ℤ, pos, negsuc, decimal, int_le, int_lt}
-use Rattle.vms_descfile.proofs.Facade.{slice_get, le-leb, number, of_integer, Answer, good, bad, under, next, changed, each_from, list_of, member_or, at, at_or}
-use Rattle.vms_descfile.proofs.Facade.{maybe_at, natural, integer_of, judged, IfSome, option_and_then, codes, as_str, given, Names, Kind, One, TellsKind}
-use Rattle.vms_descfile.proofs.Facade.{kind_word, Sort, Number, Front, IsPlain, field_after, field_fits, field_in, plain_field, plain_members, sort_fits}
-use Rattle.vms_descfile.proofs.Facade.{sort_named, sort_of, subst}
+use Rattle.vms_descfile.proofs.Facade.{append_assoc, zero, suc, arith, map-append, Data, Members, put, items_of, Value, own_names, list_file, list_as, drop_is}
+use Rattle.vms_descfile.proofs.Facade.{Bool, true, false, ◌&&◌, if◌then◌else◌, Option, Some, None, is_some, option_map, Ordering, Less, Equal}
+use Rattle.vms_descfile.proofs.Facade.{Greater, nat_cmp, match_ordering, slice_cmp, bytes_eq, false≢true, and_parts, and_from, bytes_eq-Decides, no_members}
+use Rattle.vms_descfile.proofs.Facade.{member, object, get, get_member, get_member-put, get_member-put_other, is_one_of, has, has_no_others, has_all, fits}
+use Rattle.vms_descfile.proofs.Facade.{given_as, unless, natural_file, integer_file, ◌≤◌, ℤ, pos, negsuc, int_le, int_lt, slice_get, le-leb, number}
+use Rattle.vms_descfile.proofs.Facade.{of_integer, Answer, good, bad, under, next, each_from, list_of, at, at_or, maybe_at, natural, integer_of, judged, IfSome}
+use Rattle.vms_descfile.proofs.Facade.{option_and_then, codes, as_str, given, Names, Kind, One, TellsKind, kind_word, Number, Front, IsPlain, field_after}
+use Rattle.vms_descfile.proofs.Facade.{field_fits, plain_field, plain_members, sort_named, sort_of}
 use Rattle.serde_json.specs.View.{view}
 use Rattle.vms_parts.specs.{Views.field_of, declared.types.Field.Field}
 use Rattle.vms_kinds.specs.declared.Kind.TheVariants as kinds
 
 -- ---- lists of values
 
-pub listed_on : {T : Type 0} (f : T → Data) (xs : List T) (i : ℕ) (x : T) (done more : List Value) (v : Value) → i < length xs → x ≡ get_or xs i x → view v ≡ f x
+pub listed_on : {T : Type 0} (f : T → Data) (xs : List T) (i : ℕ) (x : T) (done more : List Value) (v : Value) → i < length xs → x ≡ get_or xs i x
+    → view v ≡ f x
     → more ≡ done ++ v ∷ [] → map f xs ≡ map view done ++ map f (drop i xs) → map f xs ≡ map view more ++ map f (drop (i + 1) xs)
 listed_on f xs i x done more v lt is written pushed so =
     let rest = map f (drop (i + 1) xs) in
-    so ∙ ap (λ l. map view done ++ map f l) (drop_is xs i x lt is) ∙ ap (λ y. map view done ++ y ∷ rest) (sym written)
-    ∙ sym (append_assoc (map view done) (view v ∷ []) rest) ∙ ap (λ l. l ++ rest) (sym (ap (map view) pushed ∙ map-append view done (v ∷ [])))
+    rw (so, drop_is xs i x lt is, pushed, map-append view done (v ∷ []), written, append_assoc (map view done) (f x ∷ []) rest)
 
 -- the name of a field by its number
-pub name_at : (fields : List Field) (k : ℕ) (f : Field) → k < length fields → f ≡ get_or fields k f → get_or (own_names (map field_of fields)) k [] ≡ f.name
+pub name_at : (fields : List Field) (k : ℕ) (f : Field) → k < length fields → f ≡ get_or fields k f
+    → get_or (own_names (map field_of fields)) k [] ≡ f.name
 name_at [] k f lt is = absurd (omega arith)
-name_at (g ∷ fields) zero f lt is = ap (λ (h : Field). h.name) (sym is)
+name_at (g ∷ fields) zero f lt is = rw is
 name_at (g ∷ fields) (suc k) f lt is = name_at fields k f (omega arith) is
 
 -- ---- lists of parts, written item by item
 
 map_seen : {A B : Type 0} (g : B → Data) (h : A → B) (xs : List A) → map (λ x. g (h x)) xs ≡ map g (map h xs)
 map_seen g h [] = refl
-map_seen g h (x ∷ xs) = ap (λ l. g (h x) ∷ l) (map_seen g h xs)
+map_seen g h (x ∷ xs) = rw (map_seen g h xs)
 
 pub list_seen : {A B : Type 0} (g : B → Data) (h : A → B) (xs : List A) → list_file (λ x. g (h x)) xs ≡ list_file g (map h xs)
-list_seen g h xs = ap (λ l. array (items_of l)) (map_seen g h xs)
+list_seen g h xs = rw (map_seen g h xs)
 
 pub list_as_seen : {A B : Type 0} (key : List ℕ) (g : B → Data) (h : A → B) (xs : List A) (ms : Members)
     → list_as key (λ x. g (h x)) xs ms ≡ list_as key g (map h xs) ms
 list_as_seen key g h [] ms = refl
-list_as_seen key g h (x ∷ xs) ms = ap (λ l. put key (array (item (g (h x)) (items_of l))) ms) (map_seen g h xs)
+list_as_seen key g h (x ∷ xs) ms = rw (map_seen g h xs)
 
 -- ---- objects whose members may be missing, and the values under their keys
 
@@ -73,8 +73,9 @@ found_by : (k j : List ℕ) (o : Option Data) (ms : Members) (rest : Option Data
     → get_member k (put_if j o ms) ≡ (if same then or o rest else rest)
 found_by k j None ms rest true is there = there
 found_by k j None ms rest false is there = there
-found_by k j (Some d) ms rest true is there = ap (λ i. get_member i (put j d ms)) ((bytes_eq-Decides k j).0 is) ∙ get_member-put j d ms
-found_by k j (Some d) ms rest false is there = get_member-put_other k j d ms (λ (same : k ≡ j). false≢true (sym is ∙ (bytes_eq-Decides k j).1 same)) ∙ there
+found_by k j (Some d) ms rest true is there = rw ((bytes_eq-Decides k j).0 is) (get_member-put j d ms)
+found_by k j (Some d) ms rest false is there =
+    get_member-put_other k j d ms (λ (same : k ≡ j). false≢true (sym is ∙ (bytes_eq-Decides k j).1 same)) ∙ there
 
 found_is : (k : List ℕ) (table : Table) → get_member k (members_in table) ≡ found k table
 found_is k [] = refl
@@ -94,7 +95,7 @@ found_behind keys k j o table known other = by (bytes_eq k j) refl
   where
     by : (same : Bool) → bytes_eq k j ≡ same → found k ((j, o) ∷ table) ≡ found k table
     by true is = absurd (false≢true (sym other ∙ ap (is_one_of keys) (sym ((bytes_eq-Decides k j).0 is)) ∙ known))
-    by false is = ap (λ b. if b then or o (found k table) else found k table) is
+    by false is = rw is
 
 pub has_is : (k : List ℕ) (table : Table) (o : Option Data) → found k table ≡ o → has k (object_of table) ≡ is_some o
 has_is k table o is = ap is_some (got k table o is)
@@ -181,12 +182,14 @@ judged_good b x r e h = cc
 
 -- ---- members
 
-pub at_good : {A : Type 0} (says : Data → Answer A) (key : List ℕ) (d e : Data) (a : A) → get key d ≡ Some e → says e ≡ good a → at says key d ≡ good a
+pub at_good : {A : Type 0} (says : Data → Answer A) (key : List ℕ) (d e : Data) (a : A) → get key d ≡ Some e → says e ≡ good a
+    → at says key d ≡ good a
 at_good says key d e a there said = cc
 
 pub maybe_good : {A B : Type 0} (says : Data → Answer B) (file : A → Data) (shown : A → B) (key : List ℕ) (d : Data) (o : Option A)
-    → get key d ≡ option_map file o → ((a : A) → o ≡ Some a → says (file a) ≡ good (shown a)) → maybe_at says key d ≡ good (option_map shown o)
-maybe_good says file shown key d None there said = ap (member_or None (λ e. changed Some (says e)) key) there
+    → get key d ≡ option_map file o → ((a : A) → o ≡ Some a → says (file a) ≡ good (shown a))
+    → maybe_at says key d ≡ good (option_map shown o)
+maybe_good says file shown key d None there said = rw there
 maybe_good says file shown key d (Some a) there said = cc (said a refl)
 
 pub default_good : {A : Type 0} (says : Data → Answer A) (key : List ℕ) (d e : Data) (default a : A) (b : Bool)
@@ -197,11 +200,11 @@ default_good says key d e default a false there is said = cc (said refl)
 -- ---- lists
 
 pub each_good : {A B : Type 0} (says : Data → Answer B) (file : A → Data) (shown : A → B) (i : ℕ) (xs : List A)
-    → ((k : ℕ) (x : A) → slice_get xs k ≡ Some x → says (file x) ≡ good (shown x)) → each_from says i (items_of (map file xs)) ≡ good (map shown xs)
+    → ((k : ℕ) (x : A) → slice_get xs k ≡ Some x → says (file x) ≡ good (shown x))
+    → each_from says i (items_of (map file xs)) ≡ good (map shown xs)
 each_good says file shown i [] said = refl
 each_good says file shown i (x ∷ xs) said =
-    next_good (under (decimal i) (says (file x))) (shown x) _ _ (ap (under (decimal i)) (said 0 x refl))
-    (ap (changed (λ list. shown x ∷ list)) (each_good says file shown (i + 1) xs (λ k y e. said (suc k) y e)))
+    rw (said 0 x refl, each_good says file shown (i + 1) xs (λ k y e. said (suc k) y e))
 
 pub list_good : {A B : Type 0} (says : Data → Answer B) (file : A → Data) (shown : A → B) (xs : List A)
     → ((k : ℕ) (x : A) → slice_get xs k ≡ Some x → says (file x) ≡ good (shown x)) → list_of says (list_file file xs) ≡ good (map shown xs)
@@ -210,15 +213,16 @@ list_good says file shown xs said = each_good says file shown 0 xs said
 pub list_or_good : {A B : Type 0} (says : Data → Answer B) (file : A → Data) (shown : A → B) (key : List ℕ) (d : Data) (xs : List A)
     → get key d ≡ listed file xs → ((k : ℕ) (x : A) → slice_get xs k ≡ Some x → says (file x) ≡ good (shown x))
     → at_or [] (list_of says) key d ≡ good (map shown xs)
-list_or_good says file shown key d [] there said = ap (member_or [] (list_of says) key) there
+list_or_good says file shown key d [] there said = rw there
 list_or_good says file shown key d (x ∷ xs) there said = cc (list_good says file shown (x ∷ xs) said)
 
 -- ---- numbers
 
 pub natural_good : (most n : ℕ) → n ≤ most → natural most (natural_file n) ≡ good n
-natural_good most n le = ap (λ (b : Bool). if b then good n else bad []) (le-leb n most le)
+natural_good most n le = rw (le-leb n most le)
 
-pub integer_good : (z : ℤ) → (int_le (negsuc 9223372036854775807) z && int_lt z (pos 18446744073709551616)) ≡ true → integer_of (integer_file z) ≡ good z
+pub integer_good : (z : ℤ) → (int_le (negsuc 9223372036854775807) z && int_lt z (pos 18446744073709551616)) ≡ true
+    → integer_of (integer_file z) ≡ good z
 integer_good z fits = cc (by_sign z)
   where
     by_sign : (z : ℤ) → integer_of (number (of_integer z)) ≡ good z
@@ -231,7 +235,8 @@ integer_good z fits = cc (by_sign z)
 abbrev fronted : List (List ℕ) → Front
 fronted names = record { count = One; default = pos 0; equal = None; former = names }
 
-module _ (kind : Kind) (k n : Data) (name : List ℕ) (named : option_and_then sort_named (as_str k) ≡ Some (Number kind)) (called : Some name ≡ as_str n) where
+module _ (kind : Kind) (k n : Data) (name : List ℕ) (named : option_and_then sort_named (as_str k) ≡ Some (Number kind))
+    (called : Some name ≡ as_str n) where
   sort_told : sort_of k ≡ good (Number kind)
   sort_told = cc (by (as_str k))
     where
@@ -243,10 +248,11 @@ module _ (kind : Kind) (k n : Data) (name : List ℕ) (named : option_and_then s
   whole former = object (plain_members former (Some k) (Some n))
 
   fits_plain : (former : Option Data) → field_fits (whole former) ≡ true
-  fits_plain None = ap (λ (s : Option Sort). sort_fits s (whole None)) named
-  fits_plain (Some f) = ap (λ (s : Option Sort). sort_fits s (whole (Some f))) named
+  fits_plain None = rw named
+  fits_plain (Some f) = rw named
 
-  after_plain : (names : Names) (former : Option Data) (fs : List (List ℕ)) → field_after names (fronted fs) (whole former) ≡ good (plain_field kind name fs)
+  after_plain : (names : Names) (former : Option Data) (fs : List (List ℕ))
+      → field_after names (fronted fs) (whole former) ≡ good (plain_field kind name fs)
   after_plain names None fs = rw (sort_told, ← called)
   after_plain names (Some f) fs = rw (sort_told, ← called)
 
@@ -258,10 +264,9 @@ module _ (kind : Kind) (k n : Data) (name : List ℕ) (named : option_and_then s
   then_after names d (bad path) after = refl
 
   pub field_plain : (former : Option Data) → IsPlain former kind name (whole former)
-  field_plain None names = ap (λ b. judged b (field_in names (whole None))) (fits_plain None) ∙ after_plain names None []
+  field_plain None names = rw (fits_plain None) (after_plain names None [])
   field_plain (Some f) names =
-      ap (λ b. judged b (field_in names (whole (Some f)))) (fits_plain (Some f))
-      ∙ then_after names (whole (Some f)) _ (after_plain names (Some f))
+      rw (fits_plain (Some f)) (then_after names (whole (Some f)) _ (after_plain names (Some f)))
 
 -- ---- words
 
@@ -286,10 +291,10 @@ at_is (z ∷ xs) (suc i) x y is there = at_is xs i x y is there
 pub mapped : {A B : Type 0} (g : A → B) (P : B → Type 0) (xs : List A) → ((i : ℕ) (x : A) → slice_get xs i ≡ Some x → P (g x))
     → (i : ℕ) (y : B) → slice_get (map g xs) i ≡ Some y → P y
 mapped g P [] all i y there = cc
-mapped g P (x ∷ xs) all zero y there = let same : g x ≡ y = cc in subst P same (all 0 x refl)
+mapped g P (x ∷ xs) all zero y there = let same : g x ≡ y = cc in rw same at (all 0 x refl)
 mapped g P (x ∷ xs) all (suc i) y there = mapped g P xs (λ j z e. all (suc j) z e) i y there
 
 -- the same for an equal list
 pub mapped_of : {A B : Type 0} (g : A → B) (P : B → Type 0) (ys xs : List A) → ys ≡ xs → ((i : ℕ) (x : A) → slice_get ys i ≡ Some x → P (g x))
     → (i : ℕ) (y : B) → slice_get (map g xs) i ≡ Some y → P y
-mapped_of g P ys xs is all = mapped g P xs (λ i x there. all i x (ap (λ l. slice_get l i) is ∙ there))
+mapped_of g P ys xs is all = mapped g P xs (rw is at all)

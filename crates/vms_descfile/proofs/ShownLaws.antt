@@ -1,15 +1,15 @@
 -- What a walk over a file finds, and tests that are read back.
-use Rattle.vms_descfile.proofs.{Facade.compared_file, Facade.test_file, Facade.FitsTest, ObjectLaws.next_good, ObjectLaws.at_good, ObjectLaws.natural_good}
-use Rattle.vms_descfile.proofs.Facade.{◌≡◌, ℕ, List, [], ◌∷◌, map, Bool, true, false, Option, Some, None, option_map, refl, ap, ◌∙◌, Count}
-use Rattle.vms_descfile.proofs.Facade.{One, Fixed, Counted, Formula, AtLeast, Below, Cell, Not, And, Or, Field, Desc, Sub, Device, Set, first_of, Names, zero}
-use Rattle.vms_descfile.proofs.Facade.{suc, ◌+◌, ◌≤◌, ◌++◌, length, get_or, take, min, not, cond, nat_lt, nat_le, arith, position}
-use Rattle.vms_descfile.proofs.Facade.{position_or_len, slice_get, bytes_eq, and_parts, or_parts, not-true, leb-true, lt-ltb, length-map, bytes_eq-Decides}
-use Rattle.vms_descfile.proofs.Facade.{slice_get_within, all_names, are_new, is_one_of, is_steady, is_steady_in, is_earlier_in, has_few, Clean, good, number_in}
-use Rattle.vms_descfile.proofs.Facade.{numbered, own_names, ◌-◌, ◌<◌, subst, Result, unary_clauses, Data, formula, Test, Form, Fault, Answer, next}
-use Rattle.vms_descfile.proofs.Facade.{Refuses, Answers, Scope, test_within, test_as, form_of, max, Ordering, Equal, sym, ap₂, codes, same_Some, nat_cmp}
-use Rattle.vms_descfile.proofs.Facade.{match_ordering, slice_cmp, array, object, no_items, item, Members, no_members, member, depth, members_depth, get}
-use Rattle.vms_descfile.proofs.Facade.{get_member, DEEPEST, bad, under, changed, member_of, Pair, key_of, joined, two_of, both, DepthLaw, string, put, Rel, Own}
-use Rattle.vms_descfile.proofs.Facade.{Parent, names_well, at, u32_of, u64_of, name_in, rel_of, own_cell, parent_cell, with_parent, natural_file, rel_file}
+use Rattle.vms_descfile.proofs.Facade.{compared_file, test_file, FitsTest, ◌≡◌, ℕ, List, [], ◌∷◌, map, Bool, true, false, Option, Some, None}
+use Rattle.vms_descfile.proofs.Facade.{option_map, refl, ap, ◌∙◌, Count, One, Fixed, Counted, Formula, AtLeast, Below, Cell, Not, And, Or, Field, Desc}
+use Rattle.vms_descfile.proofs.Facade.{Sub, Device, Set, first_of, Names, zero, suc, ◌+◌, ◌≤◌, ◌++◌, length, get_or, take, min, not, nat_lt}
+use Rattle.vms_descfile.proofs.Facade.{nat_le, arith, position, position_or_len, slice_get, bytes_eq, and_parts, or_parts, not-true, leb-true, lt-ltb}
+use Rattle.vms_descfile.proofs.Facade.{length-map, bytes_eq-Decides, slice_get_within, all_names, are_new, is_one_of, is_steady, is_steady_in, is_earlier_in}
+use Rattle.vms_descfile.proofs.Facade.{has_few, Clean, good, number_in, own_names, ◌-◌, ◌<◌, subst, Result, unary_clauses, Data, formula, Test, Form}
+use Rattle.vms_descfile.proofs.Facade.{Fault, Answer, next, Refuses, Answers, Scope, test_within, test_as, form_of, max, Ordering, Equal, sym, codes, same_Some}
+use Rattle.vms_descfile.proofs.Facade.{nat_cmp, match_ordering, slice_cmp, array, object, no_items, item, Members, no_members, member, depth, members_depth}
+use Rattle.vms_descfile.proofs.Facade.{get, get_member, DEEPEST, bad, under, changed, member_of, Pair, key_of, joined, two_of, both, DepthLaw, string, put, Rel}
+use Rattle.vms_descfile.proofs.Facade.{Own, Parent, names_well, u32_of, u64_of, rel_of, own_cell, parent_cell, with_parent, natural_file, rel_file}
+use Rattle.vms_descfile.proofs.ObjectLaws.{natural_good}
 use Rattle.vms_spec.specs.Rules.{depth as test_depth}
 use Rattle.vms_json.specs.declared.fault.Fault.TheVariants as faults
 use Rattle.vms_descfile.specs.declared.read.cells.Form.TheVariants as forms
@@ -92,35 +92,19 @@ optional_same None = refl
 optional_same (Some t) = ap Some (test_same t)
 
 field_same : (f : Field) → field_shown true f ≡ f
-field_same f =
-    ap (λ (c : Count). record { name = f.name; former = f.former; item = f.item; count = c; since = f.since; test = option_map (test_shown true) f.test; default = f.default })
-    (count_same f.count)
-    ∙ ap (λ (t : Option Formula). record { name = f.name; former = f.former; item = f.item; count = f.count; since = f.since; test = t; default = f.default })
-    (optional_same f.test)
+field_same f = rw (count_same f.count, optional_same f.test)
 
 desc_same : (d : Desc) → desc_shown true d ≡ d
-desc_same d =
-    ap (λ (fs : List Field). record { name = d.name; version = d.version; minimum = d.minimum; fields = fs; validate = map (test_shown true) d.validate })
-    (map_same (field_shown true) d.fields field_same)
-    ∙ ap (λ (ts : List Formula). record { name = d.name; version = d.version; minimum = d.minimum; fields = d.fields; validate = ts })
-    (map_same (test_shown true) d.validate test_same)
+desc_same d = rw (map_same (field_shown true) d.fields field_same, map_same (test_shown true) d.validate test_same)
 
 sub_same : (s : Sub) → sub_shown true s ≡ s
-sub_same s =
-    ap (λ (d : Desc). record { desc = d; needed = test_shown true s.needed }) (desc_same s.desc)
-    ∙ ap (λ (t : Formula). record { desc = s.desc; needed = t }) (test_same s.needed)
+sub_same s = rw (desc_same s.desc, test_same s.needed)
 
 device_same : (d : Device) → device_shown true d ≡ d
-device_same d =
-    ap (λ (e : Desc). record { instance = d.instance; desc = e; subs = map (sub_shown true) d.subs }) (desc_same d.desc)
-    ∙ ap (λ (l : List Sub). record { instance = d.instance; desc = d.desc; subs = l }) (map_same (sub_shown true) d.subs sub_same)
+device_same d = rw (desc_same d.desc, map_same (sub_shown true) d.subs sub_same)
 
 pub set_same : (set : Set) → set_shown true set ≡ set
-set_same set =
-    ap (λ (l : List Desc). record { machines = set.machines; structs = l; devices = map (device_shown true) set.devices })
-    (map_same (desc_shown true) set.structs desc_same)
-    ∙ ap (λ (l : List Device). record { machines = set.machines; structs = set.structs; devices = l })
-    (map_same (device_shown true) set.devices device_same)
+set_same set = rw (map_same (desc_shown true) set.structs desc_same, map_same (device_shown true) set.devices device_same)
 
 -- ---- the fields that a test or a count may name are found by their names
 
@@ -129,10 +113,10 @@ neither [] ms n none = none
 neither (x ∷ ns) ms n none = neither ns ms n (or_parts (bytes_eq x n) (is_one_of (ns ++ ms) n) none).1
 
 here : (p : List ℕ → Bool) (n : List ℕ) (names : List (List ℕ)) → p n ≡ true → position_or_len p (n ∷ names) ≡ 0
-here p n names passes = ap (λ (b : Bool). cond (not b) (1 + position_or_len p names) 0) passes
+here p n names passes = rw passes
 
 later : (p : List ℕ → Bool) (n : List ℕ) (names : List (List ℕ)) → p n ≡ false → position_or_len p (n ∷ names) ≡ 1 + position_or_len p names
-later p n names fails = ap (λ (b : Bool). cond (not b) (1 + position_or_len p names) 0) fails
+later p n names fails = rw fails
 
 one_more : {i k : ℕ} → i ≡ k → 1 + i ≡ suc k
 one_more e = omega arith
@@ -164,13 +148,14 @@ number_found true fields k f few there none =
     let least : min k 4294967295 ≡ k = omega (arith, slice_get_within fields k f there) in
     let is_position : position (λ n. bytes_eq n f.name) names ≡ Some k =
     cc (lt-ltb k (length names) (omega (arith, slice_get_within fields k f there, length-map fields (λ (g : Field). g.name)))) in
-    ap (λ n. numbered (position (λ m. bytes_eq m n) names)) (name_got fields k f there) ∙ ap numbered is_position ∙ ap good least
+    rw (name_got fields k f there, is_position, least)
 
 -- ---- of a description without a fault
 
 -- the number of such a field is found by its name
 pub record Found (asks : Bool) (d : Desc) : Type 0 where
-  pub number : (k : ℕ) → is_steady_in d k ≡ true → number_in (asked asks (own_names d.fields)) (get_or (own_names d.fields) k []) ≡ good (number_shown asks k)
+  pub number : (k : ℕ) → is_steady_in d k ≡ true
+      → number_in (asked asks (own_names d.fields)) (get_or (own_names d.fields) k []) ≡ good (number_shown asks k)
 
 pub all_found : (asks : Bool) (n : ℕ) (d : Desc) (rules : List Bool) → Clean n d rules → has_few d ≡ true → Found asks d
 all_found asks n d rules c few = record { number = λ k steady. by_field k (slice_get d.fields k) refl steady }
@@ -195,10 +180,10 @@ pub by_form : (n : ℕ) (scope : Scope) (d : Data) (form : Form) (r : Result Tes
     → Answers formula (test_as form (test_within (n - 1) scope) scope d) r → Answers formula (test_within n scope d) r
 by_form zero scope d form r more is said = absurd (omega arith)
 by_form (suc n) scope d form r more is said =
-    subst (λ (f : Form). Answers formula (test_as f (test_within n scope) scope d) r) is (simp unary_clauses at said)
+    rw is at (simp unary_clauses at said)
 
 pub refused_next : {A B : Type 0} (x : Answer A) (f : A → Answer B) (fault : Fault) → Refuses x fault → Refuses (next x f) fault
-refused_next x f (faults.Shape path) said = ap (λ a. next a f) said
+refused_next x f (faults.Shape path) said = rw said
 refused_next x f faults.NoMemory said = tt
 
 -- ---- a test says the same within each bound that is at least its value's number of levels
@@ -209,7 +194,8 @@ member_nests : (k : List ℕ) (ms : Members) (e : Data) → get_member k ms ≡ 
 member_nests k no_members e is = absurd (cc)
 member_nests k (member l f ms) e is = go (slice_cmp nat_cmp k l) (member_nests k ms e) is
   where
-    go : (o : Ordering) → (get_member k ms ≡ Some e → depth e ≤ members_depth ms) → match_ordering o (get_member k ms) (Some f) (get_member k ms) ≡ Some e → depth e ≤ max (depth f) (members_depth ms)
+    go : (o : Ordering) → (get_member k ms ≡ Some e → depth e ≤ members_depth ms)
+        → match_ordering o (get_member k ms) (Some f) (get_member k ms) ≡ Some e → depth e ≤ max (depth f) (members_depth ms)
     go Equal inside is = subst (λ (x : Data). depth x ≤ max (depth f) (members_depth ms)) (same_Some f e is) (omega arith)
     go _ inside is = omega (arith, inside is)
 
@@ -230,26 +216,29 @@ pair_nests _ p is = absurd (cc)
 
 -- ---- what a value says depends on what its parts say
 
-of_same : (inner other : Data → Answer Formula) (key : List ℕ) (o : Option Data) → ((e : Data) → o ≡ Some e → inner e ≡ other e) → member_of inner key o ≡ member_of other key o
+of_same : (inner other : Data → Answer Formula) (key : List ℕ) (o : Option Data) → ((e : Data) → o ≡ Some e → inner e ≡ other e)
+    → member_of inner key o ≡ member_of other key o
 of_same inner other key None same = refl
 of_same inner other key (Some e) same = ap (under key) (same e refl)
 
 two_same : (inner other : Data → Answer Formula) (key : List ℕ) (join : Formula → Formula → Formula) (x : Answer Pair)
     → ((p : Pair) → x ≡ good p → (inner p.first ≡ other p.first) × (inner p.second ≡ other p.second))
-    → next (under key x) (λ p. under key (both join (inner p.first) (inner p.second))) ≡ next (under key x) (λ p. under key (both join (other p.first) (other p.second)))
+    → next (under key x) (λ p. under key (both join (inner p.first) (inner p.second))) ≡ next (under key x)
+    (λ p. under key (both join (other p.first) (other p.second)))
 two_same inner other key join (good p) same =
-    let both_same = same p refl in
-    ap₂ (λ (y z : Answer Formula). under key (both join y z)) both_same.0 both_same.1
+    let both_same = same p refl in rw (both_same.0, both_same.1)
 two_same inner other key join (bad path) same = refl
 
 pair_same : (inner other : Data → Answer Formula) (key : List ℕ) (join : Formula → Formula → Formula) (o : Option Data)
     → ((e : Data) → o ≡ Some e → (f : Data) → depth f ≤ depth e → inner f ≡ other f)
-    → next (member_of two_of key o) (λ p. under key (both join (inner p.first) (inner p.second))) ≡ next (member_of two_of key o) (λ p. under key (both join (other p.first) (other p.second)))
+    → next (member_of two_of key o) (λ p. under key (both join (inner p.first) (inner p.second))) ≡ next (member_of two_of key o)
+    (λ p. under key (both join (other p.first) (other p.second)))
 pair_same inner other key join None same = refl
 pair_same inner other key join (Some e) same =
     two_same inner other key join (two_of e) (λ p is. let nest = pair_nests e p is in (same e refl p.first nest.0, same e refl p.second nest.1))
 
-as_same : (form : Form) (inner other : Data → Answer Formula) (scope : Scope) (d : Data) → ((e : Data) → suc (depth e) ≤ depth d → inner e ≡ other e)
+as_same : (form : Form) (inner other : Data → Answer Formula) (scope : Scope) (d : Data)
+    → ((e : Data) → suc (depth e) ≤ depth d → inner e ≡ other e)
     → test_as form inner scope d ≡ test_as form other scope d
 as_same forms.Not inner other scope d same =
     ap (changed _) (of_same inner other (codes "not") (get (codes "not") d) (λ e is. same e (get_nests (codes "not") d e is)))
@@ -291,51 +280,39 @@ u32_good n le = natural_good 4294967295 n le
 u64_good : (n : ℕ) → n ≤ 18446744073709551615 → u64_of (natural_file n) ≡ good n
 u64_good n le = natural_good 18446744073709551615 n le
 
-own_good : (scope : Scope) (name : List ℕ) (k m mask : ℕ) (rel : Rel) (value : ℕ) → number_in scope.own name ≡ good m → mask ≤ 18446744073709551615 → value ≤ 18446744073709551615
+own_good : (scope : Scope) (name : List ℕ) (k m mask : ℕ) (rel : Rel) (value : ℕ) → number_in scope.own name ≡ good m
+    → mask ≤ 18446744073709551615 → value ≤ 18446744073709551615
     → own_cell scope (object (put (codes "field") (string name) (compared_file mask rel value))) ≡ good (Cell Own m mask rel value)
-own_good scope name k m mask rel value found fits_mask fits_value =
-    let d = object (put (codes "field") (string name) (compared_file mask rel value)) in
-    next_good (at (name_in scope.own) (codes "field") d) m _ _ (at_good (name_in scope.own) (codes "field") d (string name) m refl found)
-    (next_good (at rel_of (codes "is") d) rel _ _ (at_good rel_of (codes "is") d (rel_file rel) rel refl (rel_good rel))
-    (next_good (at u64_of (codes "mask") d) mask _ _ (at_good u64_of (codes "mask") d (natural_file mask) mask refl (u64_good mask fits_mask))
-    (next_good (at u64_of (codes "value") d) value _ _ (at_good u64_of (codes "value") d (natural_file value) value refl (u64_good value fits_value)) refl)))
+own_good scope name k m mask rel value found fits_mask fits_value = rw (found, rel_good rel, u64_good mask fits_mask, u64_good value fits_value)
 
-parent_good : (names : Names) (name : List ℕ) (m mask : ℕ) (rel : Rel) (value : ℕ) → number_in names name ≡ good m → mask ≤ 18446744073709551615 → value ≤ 18446744073709551615
+parent_good : (names : Names) (name : List ℕ) (m mask : ℕ) (rel : Rel) (value : ℕ) → number_in names name ≡ good m → mask ≤ 18446744073709551615
+    → value ≤ 18446744073709551615
     → parent_cell names (object (put (codes "parent") (string name) (compared_file mask rel value))) ≡ good (Cell Parent m mask rel value)
-parent_good names name m mask rel value found fits_mask fits_value =
-    let d = object (put (codes "parent") (string name) (compared_file mask rel value)) in
-    next_good (at rel_of (codes "is") d) rel _ _ (at_good rel_of (codes "is") d (rel_file rel) rel refl (rel_good rel))
-    (next_good (at u64_of (codes "mask") d) mask _ _ (at_good u64_of (codes "mask") d (natural_file mask) mask refl (u64_good mask fits_mask))
-    (next_good (at (name_in names) (codes "parent") d) m _ _ (at_good (name_in names) (codes "parent") d (string name) m refl found)
-    (next_good (at u64_of (codes "value") d) value _ _ (at_good u64_of (codes "value") d (natural_file value) value refl (u64_good value fits_value)) refl)))
+parent_good names name m mask rel value found fits_mask fits_value = rw (rel_good rel, u64_good mask fits_mask, found, u64_good value fits_value)
 
-with_good : (o : Option Names) (name : List ℕ) (m mask : ℕ) (rel : Rel) (value : ℕ) → with_parent (λ names. number_in names name) o ≡ good m → mask ≤ 18446744073709551615 → value ≤ 18446744073709551615
-    → with_parent (λ names. parent_cell names (object (put (codes "parent") (string name) (compared_file mask rel value)))) o ≡ good (Cell Parent m mask rel value)
+with_good : (o : Option Names) (name : List ℕ) (m mask : ℕ) (rel : Rel) (value : ℕ) → with_parent (λ names. number_in names name) o ≡ good m
+    → mask ≤ 18446744073709551615 → value ≤ 18446744073709551615
+    → with_parent (λ names. parent_cell names (object (put (codes "parent") (string name) (compared_file mask rel value)))) o ≡ good
+    (Cell Parent m mask rel value)
 with_good None name m mask rel value found fits_mask fits_value = cc
 with_good (Some names) name m mask rel value found fits_mask fits_value = parent_good names name m mask rel value found fits_mask fits_value
 
-both_good : (join : Formula → Formula → Formula) (x y : Answer Formula) (s t : Formula) → x ≡ good s → y ≡ good t → both join x y ≡ good (join s t)
-both_good join x y s t e f =
-    next_good (under (codes "0") x) s _ _ (ap (under (codes "0")) e) (ap (λ z. changed (join s) (under (codes "1") z)) f)
-
-module _ (asks : Bool) (own parent : List (List ℕ)) (may may_parent : ℕ → Bool) (scope : Scope) (scoped : Scoped asks own parent may may_parent scope) where
+module _ (asks : Bool) (own parent : List (List ℕ)) (may may_parent : ℕ → Bool) (scope : Scope)
+    (scoped : Scoped asks own parent may may_parent scope) where
   pub test_back : (n : ℕ) (t : Formula) → test_depth t ≤ n → FitsTest t → names_well may may_parent t ≡ true
       → test_within n scope (test_file own parent t) ≡ good (test_shown asks t)
   test_back zero (AtLeast m) deep fits well = absurd (omega arith)
   test_back zero _ deep fits well = absurd (omega arith)
-  test_back (suc n) (AtLeast m) deep fits well = ap (λ x. changed AtLeast (under (codes "at_least") x)) (u32_good m fits)
-  test_back (suc n) (Below m) deep fits well = ap (λ x. changed Below (under (codes "below") x)) (u32_good m fits)
+  test_back (suc n) (AtLeast m) deep fits well = rw (u32_good m fits)
+  test_back (suc n) (Below m) deep fits well = rw (u32_good m fits)
   test_back (suc n) (Cell Own k mask rel value) deep fits well =
       own_good scope (get_or own k []) k (number_shown asks k) mask rel value (scoped.found k well) fits.0 fits.1
   test_back (suc n) (Cell Parent k mask rel value) deep fits well =
       with_good scope.parent (get_or parent k []) (number_shown asks k) mask rel value (scoped.found_above k well) fits.0 fits.1
-  test_back (suc n) (Not t) deep fits well =
-      ap (λ x. changed Not (under (codes "not") x)) (test_back n t (omega arith) fits well)
+  test_back (suc n) (Not t) deep fits well = rw (test_back n t (omega arith) fits well)
   test_back (suc n) (And s t) deep fits well =
       let parts = and_parts (names_well may may_parent s) (names_well may may_parent t) well in
-      ap (under (codes "and")) (both_good And _ _ (test_shown asks s) (test_shown asks t)
-      (test_back n s (omega arith) fits.0 parts.0) (test_back n t (omega arith) fits.1 parts.1))
+      rw (test_back n s (omega arith) fits.0 parts.0, test_back n t (omega arith) fits.1 parts.1)
   test_back (suc n) (Or s t) deep fits well =
       let parts = and_parts (names_well may may_parent s) (names_well may may_parent t) well in
-      ap (under (codes "or")) (both_good Or _ _ (test_shown asks s) (test_shown asks t)
-      (test_back n s (omega arith) fits.0 parts.0) (test_back n t (omega arith) fits.1 parts.1))
+      rw (test_back n s (omega arith) fits.0 parts.0, test_back n t (omega arith) fits.1 parts.1)

@@ -1,12 +1,11 @@
 -- The walk that looks up names, and what a description says if it names no field.
-use Rattle.vms_descfile.proofs.Facade.{◌≡◌, ℕ, ◌+◌, Bool, true, false, ◌&&◌, ◌||◌, List, [], ◌∷◌, Option, Some, None, is_some}
-use Rattle.vms_descfile.proofs.Facade.{option_and_then, refl, ap, sym, ◌∙◌, codes, decimal, false≢true, or_parts, Data, Items, no_items, item, get}
-use Rattle.vms_descfile.proofs.Facade.{as_array, Answer, good, bad, under, next, changed, each_from, each_of, list_of, has, judged, member_of, member_or, at}
-use Rattle.vms_descfile.proofs.Facade.{at_or, maybe_at, u16_of, u32_of, text_of, Names, names_if, name_in, Front, sort_of, count_as, count_of, front_of}
-use Rattle.vms_descfile.proofs.Facade.{presence_of, field_after, field_of, field_fits, Head, head_of, rest_of, struct_in, sub_of, whole_in, asks_a_name}
-use Rattle.vms_descfile.proofs.Facade.{some_ask, asks_in, asks_names, zero, suc, subst, pos, Formula, Set, DEEPEST, Form, Leaf, Fault, Refuses, integer_of}
-use Rattle.vms_descfile.proofs.Facade.{u64_of, Scope, key_of, rel_of, two_of, own_cell, parent_cell, with_parent, leaf_as, both, test_as, test_within, test_of}
-use Rattle.vms_descfile.proofs.Facade.{struct_of, whole_of, device_of, set_of, parts_of}
+use Rattle.vms_descfile.proofs.Facade.{◌≡◌, ℕ, ◌+◌, Bool, true, false, ◌&&◌, ◌||◌, List, [], Option, Some, None, is_some, option_and_then}
+use Rattle.vms_descfile.proofs.Facade.{refl, sym, ◌∙◌, codes, decimal, false≢true, or_parts, Data, Items, no_items, item, get, as_array, Answer, good}
+use Rattle.vms_descfile.proofs.Facade.{bad, under, next, changed, each_from, each_of, list_of, has, judged, member_of, member_or, at, at_or, maybe_at, u16_of}
+use Rattle.vms_descfile.proofs.Facade.{u32_of, text_of, Names, names_if, name_in, Front, sort_of, count_of, front_of, field_after, field_of, Head, head_of}
+use Rattle.vms_descfile.proofs.Facade.{rest_of, struct_in, sub_of, whole_in, asks_a_name, some_ask, asks_in, asks_names, zero, suc, pos, Formula, Set, DEEPEST}
+use Rattle.vms_descfile.proofs.Facade.{Form, Leaf, Fault, Refuses, integer_of, u64_of, Scope, key_of, rel_of, two_of, own_cell, parent_cell, with_parent}
+use Rattle.vms_descfile.proofs.Facade.{leaf_as, both, test_as, test_within, test_of, struct_of, whole_of, device_of, set_of, parts_of}
 use Rattle.std.specs.Option.{option_map}
 use Rattle.vms_descfile.specs.declared.read.cells.Form.TheVariants as forms
 use Rattle.vms_descfile.specs.declared.read.cells.Leaf.TheVariants as leaves
@@ -18,85 +17,50 @@ missing : {A : Type 0} (o : Option A) → is_some o ≡ false → o ≡ None
 missing None e = refl
 missing (Some a) e = absurd (false≢true (sym e))
 
-next_equal : {A B : Type 0} (x : Answer A) (f g : A → Answer B) → ((a : A) → f a ≡ g a) → next x f ≡ next x g
-next_equal (good a) f g same = same a
-next_equal (bad path) f g same = refl
-
-first_same : {A B : Type 0} (x y : Answer A) (f : A → Answer B) → x ≡ y → next x f ≡ next y f
-first_same x y f e = ap (λ a. next a f) e
-
-module _ {A : Type 0} (key : List ℕ) (d : Data) (none : has key d ≡ false) where
-  or_default : (a : A) (says others : Data → Answer A) → at_or a says key d ≡ at_or a others key d
-  or_default a says others =
-      let default : (reads : Data → Answer A) → at_or a reads key d ≡ good a = λ reads. ap (λ o. member_or a reads key o) (missing (get key d) none) in
-      default says ∙ sym (default others)
-
--- ---- fields
-
 module _ (names : Names) where
-  count_same : (d : Data) → has (codes "counted") d ≡ false → count_of names d ≡ count_of None d
-  count_same d none =
-      next_equal (maybe_at u32_of (codes "capacity") d) _ _ (λ capacity. next_equal (maybe_at u32_of (codes "count") d) _ _ (λ count.
-      ap (λ o. next o (λ counted. good (count_as capacity count counted))) (or_default (codes "counted") d none None (λ e. changed Some (name_in names e)) (λ e. changed Some (name_in None e)))))
-
-  presence_same : (d : Data) → has (codes "test") d ≡ false → presence_of names d ≡ presence_of None d
-  presence_same d none = or_default (codes "test") d none None _ _
-
-  after_same : (front : Front) (d : Data) → has (codes "test") d ≡ false → field_after names front d ≡ field_after None front d
-  after_same front d none =
-      next_equal (at sort_of (codes "kind") d) _ _ (λ sort. next_equal (at text_of (codes "name") d) _ _ (λ name.
-      next_equal (at_or 0 u32_of (codes "since") d) _ _ (λ since. next_equal (maybe_at u16_of (codes "size") d) _ _ (λ size.
-      next_equal (maybe_at u32_of (codes "struct") d) _ _ (λ struct. first_same _ _ _ (presence_same d none))))))
-
   field_same : (d : Data) → asks_a_name d ≡ false → field_of names d ≡ field_of None d
   field_same d none =
       let parts = or_parts (has (codes "test") d) (has (codes "counted") d) none in
-      ap (judged (field_fits d))
-      (first_same _ _ _ (first_same _ _ _ (count_same d parts.1))
-      ∙ next_equal (front_of None d) _ _ (λ front. after_same front d parts.0))
+      simp (missing (get (codes "test") d) parts.0, missing (get (codes "counted") d) parts.1)
 
   fields_same : (i : ℕ) (ds : Items) → some_ask ds ≡ false → each_from (field_of names) i ds ≡ each_from (field_of None) i ds
   fields_same i no_items none = refl
   fields_same i (item d ds) none =
       let parts = or_parts (asks_a_name d) (some_ask ds) none in
-      ap (λ x. next (under (decimal i) x) (λ a. changed (λ list. a ∷ list) (each_from (field_of names) (i + 1) ds))) (field_same d parts.0)
-      ∙ next_equal (under (decimal i) (field_of None d)) _ _ (λ a. ap (changed (λ list. a ∷ list)) (fields_same (i + 1) ds parts.1))
-
-  listed_same : (o : Option Items) → asks_in o ≡ false → each_of (field_of names) o ≡ each_of (field_of None) o
-  listed_same None none = refl
-  listed_same (Some ds) none = fields_same 0 ds none
+      simp (field_same d parts.0, fields_same (i + 1) ds parts.1)
 
   members_same : (o : Option Data) → asks_in (option_and_then as_array o) ≡ false
       → member_of (list_of (field_of names)) (codes "fields") o ≡ member_of (list_of (field_of None)) (codes "fields") o
   members_same None none = refl
-  members_same (Some d) none = ap (under (codes "fields")) (listed_same (as_array d) none)
+  members_same (Some d) none = by_items (as_array d) none
+    where
+      by_items : (o : Option Items) → asks_in o ≡ false
+          → under (codes "fields") (each_of (field_of names) o) ≡ under (codes "fields") (each_of (field_of None) o)
+      by_items None none = refl
+      by_items (Some ds) none = rw (fields_same 0 ds none)
 
   -- ---- descriptions
 
   head_same : (d : Data) → asks_in (option_and_then as_array (get (codes "fields") d)) ≡ false → head_of names d ≡ head_of None d
-  head_same d none = first_same _ _ _ (members_same (get (codes "fields") d) none)
-
-  rest_same : (head : Head) (d : Data) → has (codes "validate") d ≡ false → rest_of names head d ≡ rest_of None head d
-  rest_same head d none = first_same _ _ _ (or_default (codes "validate") d none [] _ _)
+  head_same d none = rw (members_same (get (codes "fields") d) none)
 
   struct_same : (d : Data) → asks_names d ≡ false → struct_in None d ≡ struct_in names d
   struct_same d none =
       let parts = or_parts (has (codes "validate") d) (has (codes "subsections") d || asks_in (option_and_then as_array (get (codes "fields") d))) none in
       let more = or_parts (has (codes "subsections") d) (asks_in (option_and_then as_array (get (codes "fields") d))) parts.1 in
-      sym (ap (λ x. next x (λ head. rest_of names head d)) (head_same d more.1) ∙ next_equal (head_of None d) _ _ (λ head. rest_same head d parts.0))
+      simp (head_same d more.1, missing (get (codes "validate") d) parts.0)
 
   whole_same : (asks : Bool) (d : Data) → asks_names d ≡ false → whole_in asks None d ≡ whole_in asks names d
   whole_same asks d none =
       let parts = or_parts (has (codes "validate") d) (has (codes "subsections") d || asks_in (option_and_then as_array (get (codes "fields") d))) none in
       let more = or_parts (has (codes "subsections") d) (asks_in (option_and_then as_array (get (codes "fields") d))) parts.1 in
-      sym (first_same _ _ _ (head_same d more.1)
-      ∙ next_equal (head_of None d) _ _ (λ head. first_same _ _ _ (or_default (codes "subsections") d more.0 [] _ _)
-      ∙ next_equal (at_or [] (list_of (sub_of asks None)) (codes "subsections") d) _ _ (λ subs. ap (changed _) (rest_same head d parts.0))))
+      simp (head_same d more.1, missing (get (codes "subsections") d) more.0, missing (get (codes "validate") d) parts.0)
 
 -- ---- a walk that looks up no names
 
 -- a walk that does has the names of the fields
-pub names_looked_up : (asks asked : Bool) (d : Data) (o : Names) → asked ≡ (asks && asks_names d) → asked ≡ true → o ≡ names_if true d → o ≡ names_if asks d
+pub names_looked_up : (asks asked : Bool) (d : Data) (o : Names) → asked ≡ (asks && asks_names d) → asked ≡ true → o ≡ names_if true d
+    → o ≡ names_if asks d
 names_looked_up true asked d o is true_is same = same
 names_looked_up false asked d o is true_is same = absurd (cc)
 
@@ -127,7 +91,8 @@ itself x = record { holds = λ h. h }
 never : {A B : Type 0} (path : List ℕ) (y : Answer B) → let x : Answer A = bad path in Then x y
 never path y = record { holds = λ h. absurd h }
 
-next_then : {A B C D : Type 0} (x : Answer A) (y : Answer B) (f : A → Answer C) (g : B → Answer D) → Then x y → ((a : A) (b : B) → Then (f a) (g b)) → Then (next x f) (next y g)
+next_then : {A B C D : Type 0} (x : Answer A) (y : Answer B) (f : A → Answer C) (g : B → Answer D) → Then x y → ((a : A) (b : B) → Then (f a) (g b))
+    → Then (next x f) (next y g)
 next_then (good a) (good b) f g t c = c a b
 next_then (good a) (bad path) f g t c = record { holds = λ h. absurd (t.holds tt) }
 next_then (bad path) y f g t c = never path _
@@ -156,31 +121,39 @@ judged_then false x y t = never [] _
 abbrev Thens : {A B : Type 0} → (Data → Answer A) → (Data → Answer B) → Type 0
 Thens says others = (d : Data) → Then (says d) (others d)
 
-of_then : {A B : Type 0} (says : Data → Answer A) (others : Data → Answer B) (key : List ℕ) (o : Option Data) → Thens says others → Then (member_of says key o) (member_of others key o)
+of_then : {A B : Type 0} (says : Data → Answer A) (others : Data → Answer B) (key : List ℕ) (o : Option Data) → Thens says others
+    → Then (member_of says key o) (member_of others key o)
 of_then says others key None t = never [] _
 of_then says others key (Some d) t = under_then key (says d) (others d) (t d)
 
 at_then : {A B : Type 0} (says : Data → Answer A) (others : Data → Answer B) (key : List ℕ) → Thens says others → Thens (at says key) (at others key)
 at_then says others key t = λ d. of_then says others key (get key d) t
 
-else_then : {A B : Type 0} (x : A) (y : B) (says : Data → Answer A) (others : Data → Answer B) (key : List ℕ) (o : Option Data) → Thens says others → Then (member_or x says key o) (member_or y others key o)
+else_then : {A B : Type 0} (x : A) (y : B) (says : Data → Answer A) (others : Data → Answer B) (key : List ℕ) (o : Option Data) → Thens says others
+    → Then (member_or x says key o) (member_or y others key o)
 else_then x y says others key None t = always _ _
 else_then x y says others key (Some d) t = under_then key (says d) (others d) (t d)
 
-or_then : {A B : Type 0} (x : A) (y : B) (says : Data → Answer A) (others : Data → Answer B) (key : List ℕ) → Thens says others → Thens (at_or x says key) (at_or y others key)
+or_then : {A B : Type 0} (x : A) (y : B) (says : Data → Answer A) (others : Data → Answer B) (key : List ℕ) → Thens says others
+    → Thens (at_or x says key) (at_or y others key)
 or_then x y says others key t = λ d. else_then x y says others key (get key d) t
 
-maybe_then : {A B : Type 0} (says : Data → Answer A) (others : Data → Answer B) (key : List ℕ) → Thens says others → Thens (maybe_at says key) (maybe_at others key)
+maybe_then : {A B : Type 0} (says : Data → Answer A) (others : Data → Answer B) (key : List ℕ) → Thens says others
+    → Thens (maybe_at says key) (maybe_at others key)
 maybe_then {A = A} {B = B} says others key t =
-    or_then {A = Option A} {B = Option B} None None (λ d. changed Some (says d)) (λ d. changed Some (others d)) key (λ d. changed_then Some Some (says d) (others d) (t d))
+    or_then {A =
+    Option A} {B =
+    Option B} None None (λ d. changed Some (says d)) (λ d. changed Some (others d)) key (λ d. changed_then Some Some (says d) (others d) (t d))
 
-each_then : {A B : Type 0} (says : Data → Answer A) (others : Data → Answer B) (i : ℕ) (ds : Items) → Thens says others → Then (each_from says i ds) (each_from others i ds)
+each_then : {A B : Type 0} (says : Data → Answer A) (others : Data → Answer B) (i : ℕ) (ds : Items) → Thens says others
+    → Then (each_from says i ds) (each_from others i ds)
 each_then says others i no_items t = always _ _
 each_then says others i (item d ds) t =
     next_then (under (decimal i) (says d)) (under (decimal i) (others d)) _ _ (under_then (decimal i) (says d) (others d) (t d))
     (λ a b. changed_then _ _ (each_from says (i + 1) ds) (each_from others (i + 1) ds) (each_then says others (i + 1) ds t))
 
-all_then : {A B : Type 0} (says : Data → Answer A) (others : Data → Answer B) (o : Option Items) → Thens says others → Then (each_of says o) (each_of others o)
+all_then : {A B : Type 0} (says : Data → Answer A) (others : Data → Answer B) (o : Option Items) → Thens says others
+    → Then (each_of says o) (each_of others o)
 all_then says others None t = never [] _
 all_then says others (Some ds) t = each_then says others 0 ds t
 
@@ -206,7 +179,8 @@ parent_then names = λ d.
     next_same (at rel_of (codes "is") d) _ _ (λ rel. next_same (at u64_of (codes "mask") d) _ _ (λ mask.
     next_then _ _ _ _ (at_then _ _ (codes "parent") (name_then names) d) (λ k l. next_same (at u64_of (codes "value") d) _ _ (λ value. always _ _))))
 
-device_names_then : (o : Option Names) (d : Data) → Then (with_parent (λ names. parent_cell names d) o) (with_parent (λ names. parent_cell names d) (option_map (λ names. None) o))
+device_names_then : (o : Option Names) (d : Data)
+    → Then (with_parent (λ names. parent_cell names d) o) (with_parent (λ names. parent_cell names d) (option_map (λ names. None) o))
 device_names_then None d = never [] _
 device_names_then (Some names) d = parent_then names d
 
@@ -219,10 +193,12 @@ both_then : (join : Formula → Formula → Formula) (x y z w : Answer Formula) 
 both_then join x y z w t u =
     next_then _ _ _ _ (under_then (codes "0") x z t) (λ s r. changed_then (join s) (join r) _ _ (under_then (codes "1") y w u))
 
-as_then : (form : Form) (inner others : Data → Answer Formula) (scope : Scope) → Thens inner others → Thens (test_as form inner scope) (test_as form others (blind scope))
+as_then : (form : Form) (inner others : Data → Answer Formula) (scope : Scope) → Thens inner others
+    → Thens (test_as form inner scope) (test_as form others (blind scope))
 as_then forms.Not inner others scope t = λ d. changed_then _ _ _ _ (at_then inner others (codes "not") t d)
 as_then (forms.Two join) inner others scope t = λ d.
-    next_same (at two_of (key_of join) d) _ _ (λ p. under_then (key_of join) _ _ (both_then _ (inner p.first) (inner p.second) (others p.first) (others p.second) (t p.first) (t p.second)))
+    next_same (at two_of (key_of join) d) _ _
+    (λ p. under_then (key_of join) _ _ (both_then _ (inner p.first) (inner p.second) (others p.first) (others p.second) (t p.first) (t p.second)))
 as_then (forms.Leaf leaf) inner others scope t = leaf_then leaf scope
 
 within_then : (depth : ℕ) (scope : Scope) (d : Data) → Then (test_within depth scope d) (test_within depth (blind scope) d)
@@ -236,7 +212,8 @@ test_then scope = within_then DEEPEST scope
 
 count_then : (names : Names) → Thens (count_of names) (count_of None)
 count_then names = λ d.
-    next_same (maybe_at u32_of (codes "capacity") d) _ _ (λ capacity. next_same (maybe_at u32_of (codes "count") d) _ _ (λ count. next_then _ _ _ _ (maybe_then _ _ (codes "counted") (name_then names) d) (λ a b. always _ _)))
+    next_same (maybe_at u32_of (codes "capacity") d) _ _
+    (λ capacity. next_same (maybe_at u32_of (codes "count") d) _ _ (λ count. next_then _ _ _ _ (maybe_then _ _ (codes "counted") (name_then names) d) (λ a b. always _ _)))
 
 front_then : (names : Names) → Thens (front_of names) (front_of None)
 front_then names = λ d.
@@ -257,7 +234,8 @@ field_then names = λ d. judged_then _ _ _ (next_then _ _ _ _ (front_then names 
 
 head_then : (names : Names) → Thens (head_of names) (head_of None)
 head_then names = λ d.
-    next_then _ _ _ _ (at_then _ _ (codes "fields") (list_then _ _ (field_then names)) d) (λ a b. next_same (maybe_at u32_of (codes "minimum") d) _ _ (λ minimum. next_same (at text_of (codes "name") d) _ _ (λ name. always _ _)))
+    next_then _ _ _ _ (at_then _ _ (codes "fields") (list_then _ _ (field_then names)) d)
+    (λ a b. next_same (maybe_at u32_of (codes "minimum") d) _ _ (λ minimum. next_same (at text_of (codes "name") d) _ _ (λ name. always _ _)))
 
 rest_then : (names : Names) (head other : Head) → Thens (rest_of names head) (rest_of None other)
 rest_then names head other = λ d.
@@ -290,7 +268,8 @@ device_then = λ d.
 set_then : Thens (set_of true) (set_of false)
 set_then = λ d.
     judged_then _ _ _ (next_then _ _ _ _ (at_then _ _ (codes "devices") (list_then _ _ device_then) d) (λ a b.
-    next_same (at (list_of text_of) (codes "machines") d) _ _ (λ machines. next_then _ _ _ _ (at_then _ _ (codes "structs") (list_then _ _ struct_then) d) (λ s r. always _ _))))
+    next_same (at (list_of text_of) (codes "machines") d) _ _
+    (λ machines. next_then _ _ _ _ (at_then _ _ (codes "structs") (list_then _ _ struct_then) d) (λ s r. always _ _))))
 
 -- ---- what a value says, by the walk that looks up names
 
@@ -300,13 +279,13 @@ passes (bad path) y h = absurd h
 
 pub asked_is : (d : Data) (set : Set) → set_of true d ≡ good set → parts_of d ≡ good set
 unfolding parts_of
-asked_is d set e = passes (set_of false d) (set_of true d) ((set_then d).holds (subst (λ (x : Answer Set). IsGood x) (sym e) tt)) ∙ e
+asked_is d set e = passes (set_of false d) (set_of true d) ((set_then d).holds (rw e tt)) ∙ e
 
 pub later_is : (d : Data) (unasked : Set) (fault : Fault) → set_of false d ≡ good unasked → Refuses (set_of true d) fault → Refuses (parts_of d) fault
 unfolding parts_of
-later_is d unasked fault e h = subst (λ (x : Answer Set). Refuses (next x (λ u. set_of true d)) fault) (sym e) h
+later_is d unasked fault e h = rw e h
 
 pub first_is : (d : Data) (fault : Fault) → Refuses (set_of false d) fault → Refuses (parts_of d) fault
 unfolding parts_of
-first_is d (faults.Shape path) h = ap (λ (x : Answer Set). next x (λ u. set_of true d)) h
+first_is d (faults.Shape path) h = rw h
 first_is d faults.NoMemory h = tt

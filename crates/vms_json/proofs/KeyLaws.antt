@@ -1,13 +1,14 @@
 -- Lists of keys, lists of answers of items, the value of bytes, and members one after the other.
-use Rattle.vms_json.proofs.Facade.{MatchOption, same_Some, ◌≡◌, ℕ, zero, suc, take, drop, false, List, ◌∷◌, ◌++◌, ◌&&◌, Bool, map, Ordering, Less, Equal}
-use Rattle.vms_json.proofs.Facade.{Greater, is_eq, refl, ap, ap₂, true, sym, ◌∙◌, [], ◌||◌, ◌+◌, decimal, append_assoc, if◌then◌else◌, Option, Some, None}
-use Rattle.vms_json.proofs.Facade.{is_some, Result, Ok, Err, IfOk, IsUtf8, is_eq-slice_cmp, bytes_eq-Decides, slice_cmp, nat_cmp, match_ordering, list_all}
-use Rattle.vms_json.proofs.Facade.{list_any, bytes_eq, is_utf8, and-false, and_assoc, and_comm, and_self_left, Bor, append-nil, map-append, IsUtf8-from_is_utf8}
-use Rattle.vms_json.proofs.Facade.{is_utf8-from_IsUtf8, Data, object, Members, no_members, member, put, Items, no_items, item, as_object, Row, front, data_in}
-use Rattle.vms_json.proofs.Facade.{members_in, tree_view, is_one_of, one_of_both, has, has_all, has_no_others, Fault, Answer, good, bad, under, next, changed}
-use Rattle.vms_json.proofs.Facade.{each_from, Refuses, read, value_in, Tree, NoNode, ◌<◌, ◌≤◌, cond, eqb, ltb, option_and_then, length, codes, arith, ⊎_elim}
-use Rattle.vms_json.proofs.Facade.{position, position_or_len, cases_lt, lt-ltb, le-ltb, eq-eqb, ne_eqb, false≢true, length-append, position_or_len_push}
-use Rattle.vms_json.proofs.Facade.{prefix_len-le-length, get, as_str, or_else, at_name, text_or_none, names_of, first_of}
+use Rattle.vms_json.proofs.Facade.{MatchOption, same_Some, ◌≡◌, ℕ, zero, suc, take, drop, false, List, ◌∷◌, ◌++◌, ◌&&◌, Bool, map}
+use Rattle.vms_json.proofs.Facade.{Ordering, Less, Equal, Greater, is_eq, refl, ap, true, sym, ◌∙◌, [], ◌||◌, ◌+◌, decimal, append_assoc}
+use Rattle.vms_json.proofs.Facade.{if◌then◌else◌, Option, Some, None, is_some, Result, Ok, Err, IfOk, IsUtf8, is_eq-slice_cmp, bytes_eq-Decides}
+use Rattle.vms_json.proofs.Facade.{slice_cmp, nat_cmp, match_ordering, list_all, list_any, bytes_eq, is_utf8, and-false, and_self_left, Bor, append-nil}
+use Rattle.vms_json.proofs.Facade.{map-append, IsUtf8-from_is_utf8, is_utf8-from_IsUtf8, Data, object, Members, no_members, member, put, Items, no_items, item}
+use Rattle.vms_json.proofs.Facade.{as_object, Row, front, data_in, members_in, tree_view, is_one_of, one_of_both, has, has_all, has_no_others, Fault, Answer}
+use Rattle.vms_json.proofs.Facade.{good, bad, under, next, changed, each_from, Refuses, read, value_in, Tree, NoNode, ◌<◌, ◌≤◌, cond, eqb, ltb}
+use Rattle.vms_json.proofs.Facade.{option_and_then, length, codes, arith, ⊎_elim, position, position_or_len, cases_lt, lt-ltb, le-ltb, eq-eqb, ne_eqb}
+use Rattle.vms_json.proofs.Facade.{false≢true, length-append, position_or_len_push, prefix_len-le-length, get, as_str, or_else, at_name, text_or_none}
+use Rattle.vms_json.proofs.Facade.{names_of, first_of}
 use Rattle.vms_json.specs.Answers.{IsUnder}
 use Rattle.vms_json.specs.declared.node.Row.TheVariants as rows
 use Rattle.vms_json.specs.declared.fault.Fault.TheVariants as faults
@@ -24,8 +25,9 @@ any_is key (k ∷ ks) = rw (any_is key ks)
 
 -- ---- the keys of members that are added in order
 
-turned : (a b c : Bool) → (a && (b && c)) ≡ ((b && a) && c)
-turned a b c = sym (and_assoc a b c) ∙ ap (λ t. t && c) (and_comm a b)
+turned : (a b c : Bool) → (a && (b && c)) ≡ (b && (a && c))
+turned true b c = refl
+turned false b c = sym (and-false b)
 
 put_key : (keys : List (List ℕ)) (k : List ℕ) (d : Data) (ms : Members) → has_no_others keys (put k d ms) ≡ (is_one_of keys k && has_no_others keys ms)
 put_key keys k d no_members = refl
@@ -37,35 +39,24 @@ put_key keys k d (member l e ms) = by_order (put_key keys k d ms) (slice_cmp nat
     by_order h Less is = refl
     by_order h Equal is =
         let same : k ≡ l = (bytes_eq-Decides k l).0 (sym (is_eq-slice_cmp k l) ∙ ap is_eq is) in
-        sym (and_self_left (is_one_of keys l) (has_no_others keys ms)) ∙ ap (λ n. is_one_of keys n && (is_one_of keys l && has_no_others keys ms)) (sym same)
-    by_order h Greater is = rw h (turned (is_one_of keys l) (is_one_of keys k) (has_no_others keys ms) ∙ and_assoc (is_one_of keys k) (is_one_of keys l) (has_no_others keys ms))
+        rw same (sym (and_self_left (is_one_of keys l) (has_no_others keys ms)))
+    by_order h Greater is = rw h (turned (is_one_of keys l) (is_one_of keys k) (has_no_others keys ms))
 
 -- a key that isn't among them remains
-pub others_stay : (keys : List (List ℕ)) (n : ℕ) (rs : List Row) (found : Members) → has_no_others keys found ≡ false → has_no_others keys (members_in n rs found) ≡ false
+pub others_stay : (keys : List (List ℕ)) (n : ℕ) (rs : List Row) (found : Members) → has_no_others keys found ≡ false
+    → has_no_others keys (members_in n rs found) ≡ false
 unfolding members_in
 others_stay keys zero rs found e = e
 others_stay keys (suc n) [] found e = e
 others_stay keys (suc n) (rows.Key s ∷ rs) found e =
     let d = data_in n (take (front rs) rs) in
-    others_stay keys n (drop (front rs) rs) (put s.now d found) (put_key keys s.now d found ∙ ap (λ (r : Bool). is_one_of keys s.now && r) e ∙ and-false (is_one_of keys s.now))
+    others_stay keys n (drop (front rs) rs) (put s.now d found) (rw (put_key keys s.now d found, e, and-false (is_one_of keys s.now)))
 others_stay keys (suc n) _ found e = e
 
 -- one of the first keys or of the others
-key_more : (needed allowed : List (List ℕ)) (k : List ℕ) (d : Data) (ms : Members)
+pub key_more : (needed allowed : List (List ℕ)) (k : List ℕ) (d : Data) (ms : Members)
     → has_no_others (needed ++ allowed) (put k d ms) ≡ ((is_one_of needed k || is_one_of allowed k) && has_no_others (needed ++ allowed) ms)
-key_more needed allowed k d ms = put_key (needed ++ allowed) k d ms ∙ ap (λ b. b && has_no_others (needed ++ allowed) ms) (one_of_both needed allowed k)
-
-pub one_other : (needed allowed : List (List ℕ)) (k : List ℕ) (d : Data) (ms : Members) → is_one_of needed k ≡ false → is_one_of allowed k ≡ false
-    → has_no_others (needed ++ allowed) (put k d ms) ≡ false
-one_other needed allowed k d ms a b = key_more needed allowed k d ms ∙ ap₂ (λ (x y : Bool). (x || y) && has_no_others (needed ++ allowed) ms) a b
-
-pub one_needed : (needed allowed : List (List ℕ)) (k : List ℕ) (d : Data) (ms : Members) → is_one_of needed k ≡ true → has_no_others (needed ++ allowed) ms ≡ true
-    → has_no_others (needed ++ allowed) (put k d ms) ≡ true
-one_needed needed allowed k d ms a e = key_more needed allowed k d ms ∙ ap₂ (λ (x h : Bool). (x || is_one_of allowed k) && h) a e
-
-pub one_allowed : (needed allowed : List (List ℕ)) (k : List ℕ) (d : Data) (ms : Members) → is_one_of needed k ≡ false → is_one_of allowed k ≡ true
-    → has_no_others (needed ++ allowed) ms ≡ true → has_no_others (needed ++ allowed) (put k d ms) ≡ true
-one_allowed needed allowed k d ms a b e = key_more needed allowed k d ms ∙ ap₂ (λ (x y : Bool). (x || y) && has_no_others (needed ++ allowed) ms) a b ∙ e
+key_more needed allowed k d ms = rw (put_key (needed ++ allowed) k d ms, one_of_both needed allowed k)
 
 -- ---- Lists of answers of items.
 
@@ -73,7 +64,8 @@ one_allowed needed allowed k d ms a b e = key_more needed allowed k d ms ∙ ap�
 abbrev pub before : {A : Type 0} → List A → Answer (List A) → Answer (List A)
 before done answer = changed (λ rest. done ++ rest) answer
 
-pub before_one : {A : Type 0} (done : List A) (a : A) (answer : Answer (List A)) → before done (changed (λ list. a ∷ list) answer) ≡ before (done ++ a ∷ []) answer
+pub before_one : {A : Type 0} (done : List A) (a : A) (answer : Answer (List A))
+    → before done (changed (λ list. a ∷ list) answer) ≡ before (done ++ a ∷ []) answer
 before_one done a (good rest) = ap good (sym (append_assoc done (a ∷ []) rest))
 before_one done a (bad path) = refl
 
@@ -81,13 +73,12 @@ pub before_none : {A : Type 0} (answer : Answer (List A)) → answer ≡ before 
 before_none (good rest) = refl
 before_none (bad path) = refl
 
-pub goes_on : {A T : Type 0} (m : T → A) (says : Data → Answer A) (i : ℕ) (now rest : Items) (d : Data) (whole : Answer (List A)) (done : List T) (t : T)
+pub goes_on : {A T : Type 0} (m : T → A) (says : Data → Answer A) (i : ℕ) {now : Items} (rest : Items) {d : Data} {whole : Answer (List A)}
+    (done : List T) (t : T)
     → whole ≡ before (map m done) (each_from says i now) → now ≡ item d rest → says d ≡ good (m t)
     → whole ≡ before (map m (done ++ t ∷ [])) (each_from says (i + 1) rest)
-goes_on m says i now rest d whole done t e is said =
-    e ∙ ap (λ l. before (map m done) (each_from says i l)) is
-    ∙ ap (λ a. before (map m done) (next (under (decimal i) a) (λ a. changed (λ list. a ∷ list) (each_from says (i + 1) rest)))) said
-    ∙ before_one (map m done) (m t) (each_from says (i + 1) rest) ∙ ap (λ l. before l (each_from says (i + 1) rest)) (sym (map-append m done (t ∷ [])))
+goes_on m says i rest done t e is said =
+    rw (e, is, said, map-append m done (t ∷ [])) (before_one (map m done) (m t) (each_from says (i + 1) rest))
 
 refused : {A B : Type 0} (done : List B) (key : List ℕ) (answer : Answer A) (f : A → Answer (List B)) (fault result : Fault)
     → Refuses answer fault → IsUnder key fault result → Refuses (before done (next (under key answer) f)) result
@@ -96,19 +87,21 @@ refused done key answer f (faults.Shape path) faults.NoMemory said is = tt
 refused done key answer f faults.NoMemory (faults.Shape p) said is = absurd is
 refused done key answer f faults.NoMemory faults.NoMemory said is = tt
 
-pub stops : {A : Type 0} (says : Data → Answer A) (i : ℕ) (now rest : Items) (d : Data) (whole : Answer (List A)) (done : List A) (fault result : Fault)
-    → whole ≡ before done (each_from says i now) → now ≡ item d rest → Refuses (says d) fault → IsUnder (decimal i) fault result → Refuses whole result
-stops says i now rest d whole done fault result e is said under_it =
-    rw (e ∙ ap (λ l. before done (each_from says i l)) is) (refused done (decimal i) (says d) (λ a. changed (λ list. a ∷ list) (each_from says (i + 1) rest)) fault result said under_it)
+pub stops : {A : Type 0} (says : Data → Answer A) (i : ℕ) {now : Items} (rest : Items) (d : Data) {whole : Answer (List A)} (done : List A)
+    (fault result : Fault)
+    → whole ≡ before done (each_from says i now) → now ≡ item d rest → Refuses (says d) fault → IsUnder (decimal i) fault result
+    → Refuses whole result
+stops says i rest d done fault result e is said under_it =
+    rw (e, is) (refused done (decimal i) (says d) (λ a. changed (λ list. a ∷ list) (each_from says (i + 1) rest)) fault result said under_it)
 
-pub ends : {A : Type 0} (says : Data → Answer A) (i : ℕ) (now : Items) (whole : Answer (List A)) (done : List A)
+pub ends : {A : Type 0} (says : Data → Answer A) (i : ℕ) {now : Items} {whole : Answer (List A)} (done : List A)
     → whole ≡ before done (each_from says i now) → now ≡ no_items → whole ≡ good done
-ends says i now whole done e none = e ∙ ap (λ l. before done (each_from says i l)) none ∙ ap good (append-nil done)
+ends says i done e none = rw (e, none, append-nil done)
 
 -- ---- The value of bytes, whether or not they are UTF-8.
 
 pub has_value : (text : List ℕ) (d : Data) → IsUtf8 text → read text ≡ Some d → value_in text ≡ Some d
-has_value text d utf8 e = rw (is_utf8-from_IsUtf8 text utf8) (e)
+has_value text d utf8 e = rw (is_utf8-from_IsUtf8 text utf8) e
 
 no_value_if : (text : List ℕ) (b : Bool) → is_utf8 text ≡ b → (IsUtf8 text → read text ≡ None) → (if b then read text else None) ≡ None
 no_value_if text true e no_read = no_read (IsUtf8-from_is_utf8 text e)
@@ -119,8 +112,9 @@ has_none text no_read = no_value_if text (is_utf8 text) refl no_read
 
 -- ---- the result of reading a text
 
-pub if_read : (bytes text : List ℕ) → text ≡ bytes → IsUtf8 bytes → (r : Result Tree NoNode) → IfOk r (λ v. read text ≡ Some (tree_view v)) → IfOk r (λ v. value_in bytes ≡ Some (tree_view v))
-if_read bytes text same utf8 (Ok v) e = has_value bytes (tree_view v) utf8 (ap read (sym same) ∙ e)
+pub if_read : (bytes text : List ℕ) → text ≡ bytes → IsUtf8 bytes → (r : Result Tree NoNode) → IfOk r (λ v. read text ≡ Some (tree_view v))
+    → IfOk r (λ v. value_in bytes ≡ Some (tree_view v))
+if_read bytes text same utf8 (Ok v) e = has_value bytes (tree_view v) utf8 (rw same at e)
 if_read bytes text same utf8 (Err why) e = e
 
 -- ---- Members that are read one after the other.
@@ -164,16 +158,18 @@ position_push p xs y =
 -- ---- the names of fields
 
 -- one more name
-pub one_named : (before : List (List ℕ)) (name q : List ℕ) (i : ℕ) → length before ≡ i → first_of (before ++ name ∷ []) q ≡ or_else (first_of before q) (at_name name i q)
-one_named before name q i long = position_push (λ n. bytes_eq n q) before name ∙ ap (λ k. or_else (first_of before q) (at_name name k q)) long
+pub one_named : (before : List (List ℕ)) (name q : List ℕ) (i : ℕ) → length before ≡ i
+    → first_of (before ++ name ∷ []) q ≡ or_else (first_of before q) (at_name name i q)
+one_named before name q i long = rw (← long) (position_push (λ n. bytes_eq n q) before name)
 
-pub names_on : (before whole : List (List ℕ)) (name : List ℕ) (now rest : Items) (d : Data) → whole ≡ before ++ names_of now → now ≡ item d rest
+pub names_on : (before : List (List ℕ)) {whole : List (List ℕ)} {name : List ℕ} {now rest : Items} {d : Data} → whole ≡ before ++ names_of now
+    → now ≡ item d rest
     → name ≡ text_or_none (option_and_then as_str (get (codes "name") d)) → whole ≡ (before ++ name ∷ []) ++ names_of rest
-names_on before whole name now rest d e is named =
-    e ∙ ap (λ l. before ++ names_of l) is ∙ ap (λ n. before ++ n ∷ names_of rest) (sym named) ∙ sym (append_assoc before (name ∷ []) (names_of rest))
+names_on before {name = name} {rest = rest} e is named = rw (e, is, ← named, append_assoc before (name ∷ []) (names_of rest))
 
-pub names_end : (before whole : List (List ℕ)) (now : Items) → whole ≡ before ++ names_of now → now ≡ no_items → before ≡ whole
-names_end before whole now e none = sym (e ∙ ap (λ l. before ++ names_of l) none ∙ append-nil before)
+pub names_end : (before : List (List ℕ)) {whole : List (List ℕ)} {now : Items} → whole ≡ before ++ names_of now → now ≡ no_items
+    → before ≡ whole
+names_end before e none = rw (e, none, append-nil before)
 
 -- ---- one more in the index
 
@@ -181,14 +177,17 @@ or_else_none : {A : Type 0} (o : Option A) → or_else o None ≡ o
 or_else_none None = refl
 or_else_none (Some a) = refl
 
-by_name : (same : Bool) (number : ℕ) (old : Option ℕ) → (same ≡ true → old ≡ None) → cond same (Some number) old ≡ or_else old (if same then Some number else None)
+by_name : (same : Bool) (number : ℕ) (old : Option ℕ) → (same ≡ true → old ≡ None)
+    → cond same (Some number) old ≡ or_else old (if same then Some number else None)
 by_name true number old none = ap (λ o. or_else o (Some number)) (sym (none refl))
 by_name false number old none = sym (or_else_none old)
 
 -- a name that wasn't in the index
-pub put_one : (name q : List ℕ) (number : ℕ) (old : List ℕ → Option ℕ) (new : Option ℕ) → old name ≡ None → new ≡ cond (bytes_eq name q) (Some number) (old q)
+pub put_one : (name q : List ℕ) (number : ℕ) (old : List ℕ → Option ℕ) (new : Option ℕ) → old name ≡ None
+    → new ≡ cond (bytes_eq name q) (Some number) (old q)
     → new ≡ or_else (old q) (if bytes_eq name q then Some number else None)
-put_one name q number old new none is = is ∙ by_name (bytes_eq name q) number (old q) (λ same. ap old (sym ((bytes_eq-Decides name q).0 same)) ∙ none)
+put_one name q number old new none is =
+    is ∙ by_name (bytes_eq name q) number (old q) (λ same. ap old (sym ((bytes_eq-Decides name q).0 same)) ∙ none)
 
 pub is_none_of : (o : Option ℕ) → is_some o ≡ false → o ≡ None
 is_none_of None e = refl

@@ -1,14 +1,14 @@
 -- The value of rows, and rows that are laid in order.
-use Rattle.vms_json.proofs.Facade.{◌≡◌, Bool, true, false, cond, if◌then◌else◌, Option, Some, None, ℕ, zero, suc, ◌+◌, ◌*◌, ◌<◌, ◌≤◌, List, [], ◌∷◌, length}
-use Rattle.vms_json.proofs.Facade.{take, drop, refl, sym, ap, ap₂, subst, ◌∙◌, arith, length-take, length-drop, ◌++◌, option_map, append_assoc, ◌||◌, is_some}
-use Rattle.vms_json.proofs.Facade.{Bor, bytes_eq, false≢true, bytes_eq-Decides, append-nil, length-append, or-false, or-true, set, take-append_seam}
-use Rattle.vms_json.proofs.Facade.{drop-append_seam, set-append_seam, Data, null, array, object, Members, no_members, put, no_items, item, number}
+use Rattle.vms_json.proofs.Facade.{◌≡◌, Bool, true, false, cond, if◌then◌else◌, Option, Some, None, ℕ, zero, suc, ◌+◌, ◌*◌, ◌<◌}
+use Rattle.vms_json.proofs.Facade.{◌≤◌, List, [], ◌∷◌, length, take, drop, refl, sym, ap, ap₂, ◌∙◌, arith, length-take, length-drop}
+use Rattle.vms_json.proofs.Facade.{◌++◌, append_assoc, ◌||◌, is_some, Bor, bytes_eq, false≢true, bytes_eq-Decides, append-nil, length-append}
+use Rattle.vms_json.proofs.Facade.{or-false, or-true, take-append_seam, drop-append_seam, Data, null, array, object, Members, no_members, put, no_items, item}
 use Rattle.vms_json.proofs.Facade.{get_member-put, get_member-put_other, get_member, as_number, as_str, as_bool, as_array, as_object, Row, flag_at, is_list}
 use Rattle.vms_json.proofs.Facade.{is_object, key_at, number_at, text_at, front, data_in, items_in, members_in, rows_view, count_at, Token, token_of, value}
 use Rattle.vms_json.proofs.Facade.{value_is, number_view, Number, number_of, of_json, converted, Frame, in_list, in_object, before, has_one, AreBelow, IsRowOf}
-use Rattle.vms_json.proofs.Facade.{items_of, members_of, IsRun, AreItems, AreMembers, InList, InObject, IsLaid, HasValue}
-use Rattle.json.specs.declared.token.Token.{Token as TokenRead}
+use Rattle.vms_json.proofs.Facade.{items_of, IsOpen, IsRun, AreItems, AreMembers, InList, InObject, IsLaid, HasValue}
 use Rattle.vms_json.proofs.FrameLaws.{before_one}
+use Rattle.json.specs.declared.token.Token.{Token as TokenRead}
 use Rattle.vms_json.specs.declared.node.Row.TheVariants as rows
 use Rattle.json.specs.declared.token.Token.TheVariants as reads
 
@@ -47,12 +47,13 @@ mutual
       ap₂ item (data_enough n m _ (omega (arith, taken_few (r ∷ rs))) (omega (arith, taken_few (r ∷ rs))))
       (items_enough n m _ (omega (arith, dropped_fewer r rs)) (omega (arith, dropped_fewer r rs)))
 
-  pub members_enough : (n m : ℕ) (rs : List Row) (found : Members) → 2 * length rs + 1 ≤ n → 2 * length rs + 1 ≤ m → members_in n rs found ≡ members_in m rs found
+  pub members_enough : (n m : ℕ) (rs : List Row) (found : Members) → 2 * length rs + 1 ≤ n → 2 * length rs + 1 ≤ m
+      → members_in n rs found ≡ members_in m rs found
   members_enough zero m rs found a b = absurd (omega arith)
   members_enough (suc n) zero rs found a b = absurd (omega arith)
   members_enough (suc n) (suc m) (rows.Key x ∷ rs) found a b =
-      ap (λ d. members_in n (drop (front rs) rs) (put x.now d found)) (data_enough n m _ (omega (arith, taken_few rs)) (omega (arith, taken_few rs)))
-      ∙ members_enough n m _ _ (omega (arith, dropped_few rs)) (omega (arith, dropped_few rs))
+      rw (data_enough n m (take (front rs) rs) (omega (arith, taken_few rs)) (omega (arith, taken_few rs)))
+      (members_enough n m _ _ (omega (arith, dropped_few rs)) (omega (arith, dropped_few rs)))
   members_enough (suc n) (suc m) _ found a b = refl
 
 pub no_items_left : (rs : List Row) → length rs ≡ 0 → items_in (2 * length rs + 1) rs ≡ no_items
@@ -65,30 +66,30 @@ pub an_item_left : (rs first rest : List Row) → 0 < length rs → first ≡ ta
 unfolding items_in
 an_item_left [] first rest some a b = absurd (omega arith)
 an_item_left (r ∷ rs) first rest some a b =
-    let n = 2 * length (r ∷ rs) in
-    let one : n + 1 ≡ suc n = omega arith in
     let xs = r ∷ rs in
-    ap (λ k. items_in k xs) one
-    ∙ ap₂ item (data_enough n (2 * length first) (take (front xs) xs) (omega (arith, taken_few xs)) (omega (arith, ap length a)) ∙ ap (data_in (2 * length first)) (sym a))
-    (items_enough n (2 * length rest + 1) (drop (front xs) xs) (omega (arith, dropped_fewer r rs)) (omega (arith, ap length b)) ∙ ap (items_in (2 * length rest + 1)) (sym b))
+    let one : 2 * length xs + 1 ≡ suc (2 * length xs) = omega arith in
+    rw (one, a, b)
+    (ap₂ item (data_enough _ _ _ (omega (arith, taken_few xs)) (omega arith)) (items_enough _ _ _ (omega (arith, dropped_fewer r rs)) (omega arith)))
 
-pub a_member_left : (rs inside first rest : List Row) (k : Bor (List ℕ)) (found : Members) → rs ≡ rows.Key k ∷ inside → first ≡ take (front inside) inside → rest ≡ drop (front inside) inside
+pub a_member_left : (rs inside first rest : List Row) (k : Bor (List ℕ)) (found : Members) → rs ≡ rows.Key k ∷ inside
+    → first ≡ take (front inside) inside → rest ≡ drop (front inside) inside
     → members_in (2 * length rs + 1) rs found ≡ members_in (2 * length rest + 1) rest (put k.now (rows_view first) found)
 unfolding members_in
 a_member_left rs inside first rest k found is a b =
     let n = 2 * length (rows.Key k ∷ inside) in
     let one : n + 1 ≡ suc n = omega arith in
-    ap (λ l. members_in (2 * length l + 1) l found) is ∙ ap (λ m. members_in m (rows.Key k ∷ inside) found) one
-    ∙ ap (λ d. members_in n (drop (front inside) inside) (put k.now d found)) (data_enough n (2 * length first) (take (front inside) inside) (omega (arith, taken_few inside)) (omega (arith, ap length a)) ∙ ap (data_in (2 * length first)) (sym a))
-    ∙ members_enough n (2 * length rest + 1) (drop (front inside) inside) _ (omega (arith, dropped_few inside)) (omega (arith, ap length b))
-    ∙ ap (λ l. members_in (2 * length rest + 1) l (put k.now (rows_view first) found)) (sym b)
+    rw (is, one, a, b)
+    (ap (λ d. members_in n (drop (front inside) inside) (put k.now d found))
+    (data_enough n (2 * length (take (front inside) inside)) (take (front inside) inside) (omega (arith, taken_few inside)) (omega arith))
+    ∙ members_enough n (2 * length (drop (front inside) inside) + 1) (drop (front inside) inside) _ (omega (arith, dropped_few inside)) (omega arith))
 
 -- a row that isn't a key ends the members
-pub no_member_at : (rs inside : List Row) (r : Row) (found : Members) → rs ≡ r ∷ inside → key_at r ≡ None → members_in (2 * length rs + 1) rs found ≡ found
+pub no_member_at : (rs inside : List Row) (r : Row) (found : Members) → rs ≡ r ∷ inside → key_at r ≡ None
+    → members_in (2 * length rs + 1) rs found ≡ found
 unfolding members_in
 no_member_at rs inside r found is none =
     let one : 2 * length (r ∷ inside) + 1 ≡ suc (2 * length (r ∷ inside)) = omega arith in
-    ap (λ l. members_in (2 * length l + 1) l found) is ∙ ap (λ n. members_in n (r ∷ inside) found) one ∙ at r none
+    rw (is, one) (at r none)
   where
     at : (r : Row) → key_at r ≡ None → members_in (suc (2 * length (r ∷ inside))) (r ∷ inside) found ≡ found
     at (rows.Key x) none = absurd (cc)
@@ -136,19 +137,20 @@ pub put_found : (b : Bool) (q k : List ℕ) (d : Data) (ms : Members) → bytes_
 put_found true q k d ms e = rw (sym ((bytes_eq-Decides k q).0 e)) (get_member-put k d ms)
 put_found false q k d ms e = get_member-put_other q k d ms (λ same. false≢true (sym e ∙ (bytes_eq-Decides k q).1 (sym same)))
 
-has_put : (q k : List ℕ) (d : Data) (ms : Members) (b : Bool) → bytes_eq k q ≡ b → is_some (get_member q (put k d ms)) ≡ (is_some (get_member q ms) || b)
-has_put q k d ms true e = ap is_some (put_found true q k d ms e) ∙ sym (or-true (is_some (get_member q ms)))
-has_put q k d ms false e = ap is_some (put_found false q k d ms e) ∙ sym (or-false (is_some (get_member q ms)))
+has_put : (q k : List ℕ) (d : Data) (ms : Members) (b : Bool) → bytes_eq k q ≡ b
+    → is_some (get_member q (put k d ms)) ≡ (is_some (get_member q ms) || b)
+has_put q k d ms true e = rw (put_found true q k d ms e, or-true (is_some (get_member q ms)))
+has_put q k d ms false e = rw (put_found false q k d ms e, or-false (is_some (get_member q ms)))
 
 both_or : (x y a b : Bool) → ((x || a) || (y || b)) ≡ ((x || y) || (a || b))
 both_or false true true b = refl
 both_or _ _ _ b = refl
 
 -- one of two keys
-pub one_put : (q r k : List ℕ) (d : Data) (ms : Members) (b : Bool) → b ≡ (bytes_eq k q || bytes_eq k r) → has_one q r (put k d ms) ≡ (has_one q r ms || b)
+pub one_put : (q r k : List ℕ) (d : Data) (ms : Members) (b : Bool) → b ≡ (bytes_eq k q || bytes_eq k r)
+    → has_one q r (put k d ms) ≡ (has_one q r ms || b)
 one_put q r k d ms b e =
-    ap₂ (λ x y. x || y) (has_put q k d ms (bytes_eq k q) refl) (has_put r k d ms (bytes_eq k r) refl)
-    ∙ both_or (is_some (get_member q ms)) (is_some (get_member r ms)) (bytes_eq k q) (bytes_eq k r) ∙ ap (λ c. has_one q r ms || c) (sym e)
+    rw (has_put q k d ms _ refl, has_put r k d ms _ refl, e) (both_or (is_some (get_member q ms)) (is_some (get_member r ms)) (bytes_eq k q) (bytes_eq k r))
 
 -- ---- Rows that are laid in order: of a value, of the items of a list, of the members of an object.
 
@@ -167,17 +169,16 @@ dropped run more d is = sym (rw (is.all more) (drop-append_seam run more))
 pub one_item_laid : (rs run : List Row) (done : List Data) (d : Data) → AreItems rs done → IsRun run d → AreItems (rs ++ run) (done ++ d ∷ [])
 one_item_laid rs run done d are is = record {
   first = λ more.
-      ap items_of (append_assoc rs run more) ∙ are.first (run ++ more) ∙ ap (before done)
-      (an_item_left (run ++ more) run more (omega (arith, length-append run more)) (taken run more d is) (dropped run more d is)
-      ∙ ap (λ e. item e (items_of more)) is.says) ∙ sym (before_one done d (items_of more));
+      let one = an_item_left (run ++ more) run more (omega (arith, length-append run more)) (taken run more d is) (dropped run more d is) in
+      rw (append_assoc rs run more, are.first (run ++ more), one, is.says, before_one done d (items_of more));
 }
 
-pub one_member_laid : (rs run : List Row) (k : Bor (List ℕ)) (found : Members) (d : Data) → AreMembers rs found → IsRun run d → AreMembers (rs ++ rows.Key k ∷ run) (put k.now d found)
+pub one_member_laid : (rs run : List Row) (k : Bor (List ℕ)) (found : Members) (d : Data) → AreMembers rs found → IsRun run d
+    → AreMembers (rs ++ rows.Key k ∷ run) (put k.now d found)
 one_member_laid rs run k found d are is = record {
   first = λ more.
-      ap (λ l. members_of l no_members) (append_assoc rs (rows.Key k ∷ run) more) ∙ are.first (rows.Key k ∷ run ++ more)
-      ∙ a_member_left (rows.Key k ∷ run ++ more) (run ++ more) run more k found refl (taken run more d is) (dropped run more d is)
-      ∙ ap (λ e. members_of more (put k.now e found)) is.says;
+      let one = a_member_left (rows.Key k ∷ run ++ more) (run ++ more) run more k found refl (taken run more d is) (dropped run more d is) in
+      rw (append_assoc rs (rows.Key k ∷ run) more, are.first (rows.Key k ∷ run ++ more), one, is.says);
 }
 
 -- ---- a list and an object that end
@@ -186,7 +187,8 @@ all_of : (r : Row) (rs : List Row) → count_at r ≡ length (r ∷ rs) → (mor
 all_of r rs count more = omega (arith, length-append rs more)
 
 -- a row with the number of all, before the rows of its contents
-counted_run : (r : Row) (rs : List Row) (d : Data) → count_at r ≡ length rs + 1 → data_in (suc (2 * length rs + 1)) (r ∷ rs) ≡ d → IsRun (r ∷ rs) d
+counted_run : (r : Row) (rs : List Row) (d : Data) → count_at r ≡ length rs + 1 → data_in (suc (2 * length rs + 1)) (r ∷ rs) ≡ d
+    → IsRun (r ∷ rs) d
 counted_run r rs d count says =
     let double : 2 * length (r ∷ rs) ≡ suc (2 * length rs + 1) = omega arith in
     record { some = omega arith; all = all_of r rs (omega (arith, count)); says = ap (λ n. data_in n (r ∷ rs)) double ∙ says }
@@ -195,33 +197,34 @@ pub list_laid : (rs : List Row) (done : List Data) → AreItems rs done → IsRu
 unfolding data_in
 list_laid rs done are =
     counted_run (rows.List (length rs + 1)) rs (array (before done no_items)) refl
-    (ap array (ap items_of (sym (append-nil rs)) ∙ are.first [] ∙ ap (before done) (no_items_left [] refl)))
+    (ap array (rw (← append-nil rs) (rw (are.first [], no_items_left [] refl))))
 
 pub object_laid : (rs : List Row) (found : Members) → AreMembers rs found → IsRun (rows.Object (length rs + 1) ∷ rs) (object found)
 unfolding data_in
 object_laid rs found are =
-    counted_run (rows.Object (length rs + 1)) rs (object found) refl (ap object (rw (sym (append-nil rs)) (are.first [] ∙ no_member_left [] found refl)))
+    counted_run (rows.Object (length rs + 1)) rs (object found) refl (ap object (rw (← append-nil rs) (are.first [] ∙ no_member_left [] found refl)))
 
 -- ---- a value within open ones
 
-pub value_in_list : (n : ℕ) (done : List Data) (fs : List Frame) (rs : List Row) (starts : List ℕ) (d : Data) → HasValue (in_list n done ∷ fs) rs starts d
+pub value_in_list : (n : ℕ) (done : List Data) (fs : List Frame) {rs : List Row} {starts : List ℕ} {d : Data}
+    → HasValue (in_list n done ∷ fs) rs starts d
     → InList (IsLaid fs) (done ++ d ∷ []) rs starts
-value_in_list n done fs rs starts d has =
+value_in_list n done fs {d = d} has =
     let l = has.laid in
     record {
       below = l.below;
       own = l.own ++ has.run;
       places = l.places;
       count = l.count;
-      are = has.are ∙ ap (λ b. b ++ has.run) l.are ∙ append_assoc l.below (rows.List l.count ∷ l.own) has.run;
+      are = rw (has.are, l.are, append_assoc l.below (rows.List l.count ∷ l.own) has.run);
       begins = l.begins;
       inside = one_item_laid l.own has.run done d l.inside has.value;
       laid = l.laid;
     }
 
-pub value_in_object : (n : ℕ) (found : Members) (k : List ℕ) (fs : List Frame) (rs : List Row) (starts : List ℕ) (d : Data) → HasValue (in_object n found k ∷ fs) rs starts d
-    → InObject (IsLaid fs) (put k d found) rs starts
-value_in_object n found k fs rs starts d has =
+pub value_in_object : (n : ℕ) (found : Members) (k : List ℕ) (fs : List Frame) {rs : List Row} {starts : List ℕ} {d : Data}
+    → HasValue (in_object n found k ∷ fs) rs starts d → InObject (IsLaid fs) (put k d found) rs starts
+value_in_object n found k fs {d = d} has =
     let at = has.laid in
     let l = at.laid in
     record {
@@ -230,11 +233,10 @@ value_in_object n found k fs rs starts d has =
       places = l.places;
       count = l.count;
       are =
-          has.are ∙ ap (λ b. b ++ has.run) (at.are ∙ ap (λ b. b ++ rows.Key at.key ∷ []) l.are)
-          ∙ append_assoc (l.below ++ rows.Object l.count ∷ l.own) (rows.Key at.key ∷ []) has.run
-          ∙ append_assoc l.below (rows.Object l.count ∷ l.own) (rows.Key at.key ∷ has.run);
+          rw (has.are, at.are, l.are, append_assoc (l.below ++ rows.Object l.count ∷ l.own) (rows.Key at.key ∷ []) has.run)
+          (append_assoc l.below (rows.Object l.count ∷ l.own) (rows.Key at.key ∷ has.run));
       begins = l.begins;
-      inside = subst (λ q. AreMembers (l.own ++ rows.Key at.key ∷ has.run) (put q d found)) at.name (one_member_laid l.own has.run at.key found d l.inside has.value);
+      inside = rw (← at.name) (one_member_laid l.own has.run at.key found d l.inside has.value);
       laid = l.laid;
     }
 
@@ -242,72 +244,53 @@ value_in_object n found k fs rs starts d has =
 
 pub text_row : (s : Bor (List ℕ)) → IsRowOf (Token.string s.now) (rows.Text s)
 unfolding data_in
-text_row s = record {
-  says = λ n ts. ap (converted of_json) (value_is n (Token.string s.now ∷ ts));
-  one = refl;
-}
+text_row s = record { says = λ n ts. rw (value_is n (Token.string s.now ∷ ts)); one = refl }
 
 pub flag_row : (b : Bool) → IsRowOf (Token.boolean b) (rows.Bool b)
 unfolding data_in
-flag_row b = record {
-  says = λ n ts. ap (converted of_json) (value_is n (Token.boolean b ∷ ts));
-  one = refl;
-}
+flag_row b = record { says = λ n ts. rw (value_is n (Token.boolean b ∷ ts)); one = refl }
 
 pub null_row : IsRowOf Token.null rows.Null
 unfolding data_in
-null_row = record {
-  says = λ n ts. ap (converted of_json) (value_is n (Token.null ∷ ts));
-  one = refl;
-}
+null_row = record { says = λ n ts. rw (value_is n (Token.null ∷ ts)); one = refl }
 
 pub number_row : (s : List ℕ) (k : Number) → Some (number_view k) ≡ number_of s → IsRowOf (Token.number s) (rows.Number k)
 unfolding data_in
-number_row s k is = record {
-  says = λ n ts. ap (converted of_json) (value_is n (Token.number s ∷ ts)) ∙ ap (λ o. option_map (λ d. (d, ts)) (option_map number o)) (sym is);
-  one = refl;
-}
+number_row s k is = record { says = λ n ts. rw (value_is n (Token.number s ∷ ts), ← is); one = refl }
 
 pub no_number : (s : List ℕ) (n : ℕ) (ts : List Token) → None ≡ number_of s → converted of_json (value n (Token.number s ∷ ts)) ≡ None
-no_number s n ts is = ap (converted of_json) (value_is n (Token.number s ∷ ts)) ∙ ap (λ o. option_map (λ d. (d, ts)) (option_map number o)) (sym is)
+no_number s n ts is = rw (value_is n (Token.number s ∷ ts), ← is)
 
 pub row_laid : (t : Token) (r : Row) → IsRowOf t r → IsRun (r ∷ []) (rows_view (r ∷ []))
-row_laid t r is = record {
-  some = omega arith;
-  all = all_of r [] is.one;
-  says = refl;
-}
+row_laid t r is = record { some = omega arith; all = all_of r [] is.one; says = refl }
 
 -- ---- a list or an object that begins, a key, and an end
 
-pub list_begun : (fs : List Frame) (rs : List Row) (starts : List ℕ) (n : ℕ) → IsLaid fs rs starts → InList (IsLaid fs) [] (rs ++ rows.List n ∷ []) (starts ++ length rs ∷ [])
-list_begun fs rs starts n laid = record { below = rs; own = []; places = starts; count = n; are = refl; begins = refl; inside = no_items_laid; laid = laid }
+pub begun : (fs : List Frame) (rs : List Row) (starts : List ℕ) {Own : List Row → Type 0} (row : ℕ → Row) (n : ℕ) → Own [] → IsLaid fs rs starts
+    → IsOpen (IsLaid fs) row Own (rs ++ row n ∷ []) (starts ++ length rs ∷ [])
+begun fs rs starts row n none laid = record {
+  below = rs;
+  own = [];
+  places = starts;
+  count = n;
+  are = refl;
+  begins = refl;
+  inside = none;
+  laid = laid;
+}
 
-pub object_begun : (fs : List Frame) (rs : List Row) (starts : List ℕ) (n : ℕ) → IsLaid fs rs starts → InObject (IsLaid fs) no_members (rs ++ rows.Object n ∷ []) (starts ++ length rs ∷ [])
-object_begun fs rs starts n laid = record { below = rs; own = []; places = starts; count = n; are = refl; begins = refl; inside = no_members_laid; laid = laid }
-
-pub key_laid : (n : ℕ) (found : Members) (fs : List Frame) (rs : List Row) (starts : List ℕ) (k : Bor (List ℕ)) → InObject (IsLaid fs) found rs starts
+pub key_laid : (n : ℕ) {found : Members} (fs : List Frame) {rs : List Row} {starts : List ℕ} (k : Bor (List ℕ)) → InObject (IsLaid fs) found rs starts
     → IsLaid (in_object n found k.now ∷ fs) (rs ++ rows.Key k ∷ []) starts
-key_laid n found fs rs starts k laid = record { first = rs; key = k; are = refl; name = refl; laid = laid }
+key_laid n fs {rs = rs} k laid = record { first = rs; key = k; are = refl; name = refl; laid = laid }
 
-pub run_laid : (fs : List Frame) (rs run : List Row) (starts : List ℕ) (d : Data) → IsLaid fs rs starts → IsRun run d → HasValue fs (rs ++ run) starts d
-run_laid fs rs run starts d laid is = record { below = rs; run = run; are = refl; value = is; laid = laid }
-
-pub list_closed : (fs : List Frame) (done : List Data) (rs : List Row) (starts : List ℕ) (l : InList (IsLaid fs) done rs starts)
-    → HasValue fs (l.below ++ rows.List (length l.own + 1) ∷ l.own) l.places (array (before done no_items))
-list_closed fs done rs starts l = run_laid fs l.below (rows.List (length l.own + 1) ∷ l.own) l.places (array (before done no_items)) l.laid (list_laid l.own done l.inside)
-
-pub object_closed : (fs : List Frame) (found : Members) (rs : List Row) (starts : List ℕ) (l : InObject (IsLaid fs) found rs starts)
-    → HasValue fs (l.below ++ rows.Object (length l.own + 1) ∷ l.own) l.places (object found)
-object_closed fs found rs starts l = run_laid fs l.below (rows.Object (length l.own + 1) ∷ l.own) l.places (object found) l.laid (object_laid l.own found l.inside)
-
--- the count is put where the list or object began
-pub ended : (below own : List Row) (r s : Row) → set (below ++ r ∷ own) (length below) s ≡ below ++ s ∷ own
-ended below own r s = set-append_seam below r own s
+pub run_laid : (fs : List Frame) (rs : List Row) {run : List Row} {starts : List ℕ} {d : Data} → IsLaid fs rs starts → IsRun run d
+    → HasValue fs (rs ++ run) starts d
+run_laid fs rs {run} laid is = record { below = rs; run = run; are = refl; value = is; laid = laid }
 
 -- any other token is no value where no more levels are allowed
-pub no_row : (k : TokenRead) → ((s : Bor (List ℕ)) → k ≡ reads.String s → ⊥) → ((s : Bor (List ℕ)) → k ≡ reads.Number s → ⊥) → ((b : Bool) → k ≡ reads.Bool b → ⊥) → (k ≡ reads.Null → ⊥)
-    → (ts : List Token) → converted of_json (value 0 (token_of k ∷ ts)) ≡ None
+pub no_row : (k : TokenRead) → ((s : Bor (List ℕ)) → k ≡ reads.String s → ⊥) → ((s : Bor (List ℕ)) → k ≡ reads.Number s → ⊥)
+    → ((b : Bool) → k ≡ reads.Bool b → ⊥) → (k ≡ reads.Null → ⊥) → (ts : List Token)
+    → converted of_json (value 0 (token_of k ∷ ts)) ≡ None
 no_row (reads.String k) s n b u ts = absurd (s k refl)
 no_row (reads.Number k) s n b u ts = absurd (n k refl)
 no_row (reads.Bool k) s n b u ts = absurd (b k refl)
@@ -324,16 +307,16 @@ below_push : (ss : List ℕ) (s m : ℕ) → AreBelow ss m → s < m → AreBelo
 below_push [] s m are lt = (lt, tt)
 below_push (r ∷ ss) s m are lt = (are.0, below_push ss s m are.1 lt)
 
-one_below : (below own rs : List Row) (r : Row) (places starts : List ℕ) → rs ≡ below ++ r ∷ own → starts ≡ places ++ length below ∷ [] → AreBelow places (length below) → AreBelow starts (length rs)
-one_below below own rs r places starts are begins lower =
-    let long : length rs ≡ length below + length (r ∷ own) = ap length are ∙ length-append below (r ∷ own) in
-    rw begins (below_push places (length below) (length rs) (below_more places (length below) (length rs) (omega arith) lower) (omega arith))
+one_below : {Below : List Row → List ℕ → Type 0} {row : ℕ → Row} {Own : List Row → Type 0} {rs : List Row} {starts : List ℕ}
+    (l : IsOpen Below row Own rs starts) → AreBelow l.places (length l.below) → AreBelow starts (length rs)
+one_below {row = row} {rs = rs} l lower =
+    let long = ap length l.are ∙ length-append l.below (row l.count ∷ l.own) in
+    rw l.begins (below_push l.places (length l.below) (length rs) (below_more l.places (length l.below) (length rs) (omega arith) lower) (omega arith))
 
 pub starts_below : (fs : List Frame) (rs : List Row) (starts : List ℕ) → IsLaid fs rs starts → AreBelow starts (length rs)
 starts_below [] rs starts laid = rw laid.1 tt
-starts_below (in_list n done ∷ fs) rs starts laid =
-    one_below laid.below laid.own rs (rows.List laid.count) laid.places starts laid.are laid.begins (starts_below fs laid.below laid.places laid.laid)
+starts_below (in_list n done ∷ fs) rs starts laid = one_below laid (starts_below fs laid.below laid.places laid.laid)
 starts_below (in_object n found k ∷ fs) rs starts laid =
     let l = laid.laid in
     below_more starts (length laid.first) (length rs) (omega (arith, ap length laid.are, length-append laid.first (rows.Key laid.key ∷ [])))
-    (one_below l.below l.own laid.first (rows.Object l.count) l.places starts l.are l.begins (starts_below fs l.below l.places l.laid))
+    (one_below l (starts_below fs l.below l.places l.laid))

@@ -1,4 +1,4 @@
-use Rattle.vms_descfile.proofs.Facade.{Err, sym, subst, ap, ◌∙◌, view, tree_view, parts_of, Said, parts_said, Gives}
+use Rattle.vms_descfile.proofs.Facade.{Err, subst, view, tree_view, parts_of, Said, Gives}
 use Rattle.vms_descfile.proofs.FileLaws.{no_json, said_by, shape_said}
 use Rattle.vms_descfile.proofs.read.read_file.Goals as goal
 
@@ -7,9 +7,9 @@ returns-in-Err c = no_json c.args.text.now c.in-Err.fault c.in-Err.ensures
 
 pub returns-in-Ok-read_parts : goal.returns-in-Ok-read_parts
 returns-in-Ok-read_parts c =
-    sym (said_by c.args.text.now (tree_view c.in-Ok.value) c.in-Ok.ensures) ∙ ap (λ d. parts_said (parts_of d)) (sym c.root.ensures) ∙ ap parts_said c.in-Ok-read_parts.ensures
+    rw (← said_by c.args.text.now (tree_view c.in-Ok.value) c.in-Ok.ensures, ← c.root.ensures, c.in-Ok-read_parts.ensures)
 
 pub returns : goal.returns
 returns c =
-    subst (λ (s : Said). Gives s (Err c.of.result)) (ap (λ e. parts_said (parts_of e)) c.root.ensures ∙ said_by c.args.text.now (tree_view c.in-Ok.value) c.in-Ok.ensures)
+    subst (λ (s : Said). Gives s (Err c.of.result)) (rw c.root.ensures (said_by c.args.text.now (tree_view c.in-Ok.value) c.in-Ok.ensures))
     (shape_said (parts_of (view c.root.result)) c.in-Err-read_parts.fault c.of.result c.in-Err-read_parts.ensures c.of.ensures)

@@ -1,4 +1,4 @@
-use Rattle.vms_json.proofs.Facade.{◌++◌, [], ◌∷◌, refl, ap, sym, ◌∙◌, arith, rules, length-append, or_else, view, items_left, at_name, names_of}
+use Rattle.vms_json.proofs.Facade.{◌++◌, [], ◌∷◌, refl, arith, rules, length-append}
 use Rattle.vms_json.proofs.KeyLaws.{one_named, names_on, names_end}
 use Rattle.vms_json.proofs.field_names.index_of.Goals as goal
 
@@ -12,9 +12,9 @@ loop-field-preserved c =
     let name = c.name_of.result.now in (
       l.0 ++ name ∷ [],
       record {
-        first = λ q. c.in_ok-put_first.ensures q ∙ ap (λ o. or_else o (at_name name i q)) (l.1.first q) ∙ sym (one_named l.0 name q i l.3);
+        first = λ q. rw (one_named l.0 name q i l.3, ← l.1.first q) (c.in_ok-put_first.ensures q);
       },
-      names_on l.0 (names_of (items_left c.args.fields)) name (items_left c.loop-field.fields) (items_left c.next.new.self) (view c.in-Some.field) l.2 c.in-Some.ensures.value c.name_of.ensures,
+      names_on l.0 l.2 c.in-Some.ensures.value c.name_of.ensures,
       omega (arith, length-append l.0 (name ∷ [])),
       omega (arith, l.4, c.in-Some.ensures.fewer),
     )
@@ -22,4 +22,4 @@ loop-field-preserved c =
 pub returns : goal.returns
 returns c =
     let l = c.loop-field.invariant in
-    rw (names_end l.0 (names_of (items_left c.args.fields)) (items_left c.loop-field.fields) l.2 c.in_default.ensures.value) at l.1
+    rw (names_end l.0 l.2 c.in_default.ensures.value) at l.1

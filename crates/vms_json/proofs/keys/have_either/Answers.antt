@@ -1,4 +1,4 @@
-use Rattle.vms_json.proofs.Facade.{true, false, refl, sym, ◌∙◌, or-false, or-true, no_members, put, has_one, view}
+use Rattle.vms_json.proofs.Facade.{true, false, refl, sym, ◌∙◌, or-false, or-true, no_members, put, view}
 use Rattle.vms_json.proofs.LaidLaws.{one_put}
 use Rattle.vms_json.proofs.keys.have_either.Goals as goal
 

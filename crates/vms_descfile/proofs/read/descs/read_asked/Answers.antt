@@ -1,4 +1,4 @@
-use Rattle.vms_descfile.proofs.Facade.{Some, sym, subst, ap, ◌∙◌, Desc, view, Answer, Answers, struct_in}
+use Rattle.vms_descfile.proofs.Facade.{Some, sym, subst, ap, ◌∙◌, view, Answers, struct_in}
 use Rattle.vms_descfile.proofs.WalkLaws.{names_looked_up, struct_unasked}
 use Rattle.vms_parts.specs.Views.{desc_of as desc_seen}
 use Rattle.vms_descfile.proofs.read.descs.read_asked.Goals as goal
@@ -10,5 +10,4 @@ returns-in_ok-names c =
 
 pub returns-else-is_asked : goal.returns-else-is_asked
 returns-else-is_asked c =
-    subst (λ (a : Answer Desc). Answers desc_seen a c.read_struct-else-is_asked.result)
-    (struct_unasked c.args.asks (view c.args.value.now) (sym c.is_asked.ensures ∙ c.if-is_asked.false)) c.read_struct-else-is_asked.ensures
+    rw (struct_unasked c.args.asks (view c.args.value.now) (sym c.is_asked.ensures ∙ c.if-is_asked.false)) at c.read_struct-else-is_asked.ensures

@@ -1,4 +1,4 @@
-use Rattle.vms_descfile.proofs.Facade.{whole_seen, Some, sym, subst, ap, ◌∙◌, view, Answer, Answers, Whole, whole_in}
+use Rattle.vms_descfile.proofs.Facade.{whole_seen, Some, sym, subst, ap, ◌∙◌, view, Answers, whole_in}
 use Rattle.vms_descfile.proofs.WalkLaws.{names_looked_up, whole_unasked}
 use Rattle.vms_descfile.proofs.read.devices.read_whole_asked.Goals as goal
 
@@ -9,5 +9,4 @@ returns-in_ok-names c =
 
 pub returns-else-is_asked : goal.returns-else-is_asked
 returns-else-is_asked c =
-    subst (λ (a : Answer Whole). Answers whole_seen a c.read_whole-else-is_asked.result)
-    (whole_unasked c.args.asks (view c.args.value.now) (sym c.is_asked.ensures ∙ c.if-is_asked.false)) c.read_whole-else-is_asked.ensures
+    rw (whole_unasked c.args.asks (view c.args.value.now) (sym c.is_asked.ensures ∙ c.if-is_asked.false)) at c.read_whole-else-is_asked.ensures

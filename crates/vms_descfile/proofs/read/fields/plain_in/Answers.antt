@@ -1,4 +1,4 @@
-use Rattle.vms_descfile.proofs.Facade.{◌≡◌, Some, option_map, rules, sym, subst, ◌∙◌, ap, ap₂, object, view, object_is, IsPlain, plain_members}
+use Rattle.vms_descfile.proofs.Facade.{◌≡◌, Some, option_map, rules, view, object_is}
 use Rattle.vms_descfile.proofs.ObjectLaws.{field_plain}
 use Rattle.vms_descfile.proofs.read.fields.plain_in.Goals as goal
 
@@ -12,5 +12,5 @@ returns c =
     let text = c.in_ok-text.text.now in
     let kind : option_map view seen.kind ≡ Some k = search rules in
     let name : option_map view seen.name ≡ Some n = search rules in
-    subst (IsPlain former number text) (sym (object_is _ _ c.in_ok-members.ensures ∙ ap object (c.in_ok-seen.ensures ∙ ap₂ (plain_members former) kind name)))
+    rw (object_is _ _ c.in_ok-members.ensures, c.in_ok-seen.ensures, kind, name)
     (field_plain number k n text c.in_ok-number.ensures c.in_ok-text.ensures former)

@@ -1,6 +1,5 @@
-use Rattle.vms_descfile.proofs.Facade.{◌≡◌, ◌-◌, [], refl, sym, subst, ap, arith, codes, Err, view, Not, formula, Answers, good, bad, next, changed}
-use Rattle.vms_descfile.proofs.Facade.{under, Refuses, at, member_of, scope_seen, form_of, test_within, own_cell, two_of, key_of, joined, both, pair_seen}
-use Rattle.vms_descfile.proofs.ShownLaws.{by_form, refused_next}
+use Rattle.vms_descfile.proofs.{Facade.joined, Facade.both, Facade.pair_seen, ShownLaws.by_form, ShownLaws.refused_next}
+use Rattle.vms_descfile.proofs.Facade.{◌≡◌, ◌-◌, refl, sym, ap, arith, Err, view, good, under, at, scope_seen, form_of, test_within, two_of, key_of}
 use Rattle.vms_descfile.specs.declared.read.cells.Form.TheVariants as forms
 use Rattle.vms_descfile.specs.declared.read.cells.Leaf.TheVariants as leaves
 use Rattle.vms_descfile.proofs.read.tests.+read_test.Goals as goal
@@ -9,7 +8,7 @@ pub returns-in-Some : goal.returns-in-Some
 returns-in-Some t c =
     let scope = scope_seen c.args.scope in
     by_form c.args.depth scope (view c.args.value.now) (forms.Leaf leaves.Own) c.read_own_cell.result (omega arith) (sym (ap form_of c.in-Some.ensures))
-    (subst (λ d. Answers formula (own_cell scope d) c.read_own_cell.result) (sym c.in-Some.ensures) c.read_own_cell.ensures)
+    (rw c.in-Some.ensures c.read_own_cell.ensures)
 
 pub returns-in-Leaf : goal.returns-in-Leaf
 returns-in-Leaf t c =
@@ -21,15 +20,13 @@ returns-in-Some-get t c =
     let scope = scope_seen c.args.scope in
     let inner = test_within (c.args.depth - 1) scope in
     by_form c.args.depth scope (view c.args.value.now) forms.Not c.negated.result (omega arith) c.in-Not.ensures
-    (subst (λ o. Answers formula (changed Not (member_of inner (codes "not") o)) c.negated.result) c.in-Some-get.ensures
-    (c.negated.ensures (inner (view c.in-Some-get.inner)) c.read_test.ensures))
+    (rw (← c.in-Some-get.ensures) (c.negated.ensures (inner (view c.in-Some-get.inner)) c.read_test.ensures))
 
 pub returns-in-None : goal.returns-in-None
 returns-in-None t c =
     let scope = scope_seen c.args.scope in
     by_form c.args.depth scope (view c.args.value.now) forms.Not (Err c.here-in-None.result) (omega arith) c.in-Not.ensures
-    (subst (λ o. Refuses (changed Not (member_of (test_within (c.args.depth - 1) scope) (codes "not") o)) c.here-in-None.result) c.in-None.ensures
-    (subst (λ f. Refuses (bad []) f) (sym c.here-in-None.ensures) refl))
+    (rw (← c.in-None.ensures, c.here-in-None.ensures) refl)
 
 pub returns-in-Ok : goal.returns-in-Ok
 returns-in-Ok t c =
@@ -40,8 +37,7 @@ returns-in-Ok t c =
     let pair = pair_seen (c.in-Ok.first, c.in-Ok.second) in
     let two : at two_of (key_of join) d ≡ good pair = cc (c.key.ensures, c.in-Ok.ensures) in
     by_form c.args.depth scope d (forms.Two join) c.both.result (omega arith) c.in-Two.ensures
-    (subst (λ a. Answers formula (next a (λ p. under (key_of join) (both (joined join) (inner p.first) (inner p.second)))) c.both.result) (sym two)
-    (c.both.ensures (inner pair.first) (inner pair.second) c.read_test-first.ensures c.read_test-second.ensures))
+    (rw two (c.both.ensures (inner pair.first) (inner pair.second) c.read_test-first.ensures c.read_test-second.ensures))
 
 pub returns-in-Err : goal.returns-in-Err
 returns-in-Err t c =
@@ -49,4 +45,4 @@ returns-in-Err t c =
     let inner = test_within (c.args.depth - 1) (scope_seen c.args.scope) in
     by_form c.args.depth (scope_seen c.args.scope) (view c.args.value.now) (forms.Two join) (Err c.in-Err.fault) (omega arith) c.in-Two.ensures
     (refused_next (at two_of (key_of join) (view c.args.value.now)) (λ p. under (key_of join) (both (joined join) (inner p.first) (inner p.second)))
-    c.in-Err.fault (subst (λ k. Refuses (at two_of k (view c.args.value.now)) c.in-Err.fault) c.key.ensures c.in-Err.ensures))
+    c.in-Err.fault (rw c.key.ensures at c.in-Err.ensures))

@@ -1,5 +1,5 @@
-use Rattle.vms_descfile.proofs.{ObjectLaws.listed_on, ObjectLaws.at_is, Facade.slice_get_within}
-use Rattle.vms_descfile.proofs.Facade.{◌≡◌, ◌++◌, ℕ, Some, map, ap, sym, subst, ◌∙◌, below_more, arith, slice_get, drop_all, append-nil}
+use Rattle.vms_descfile.proofs.Facade.{slice_get_within, ◌≡◌, ℕ, Some, map, below_more, arith, slice_get, drop_all, append-nil}
+use Rattle.vms_descfile.proofs.ObjectLaws.{listed_on, at_is}
 use Rattle.serde_json.specs.View.{view}
 use Rattle.vms_descfile.proofs.write.values.written.Goals as goal
 
@@ -12,14 +12,12 @@ loop-item-preserved g c =
       file = listed_on f xs i c.item-item.result c.loop-item.list.items c.push.new.list.items c.in_ok-value.value c.loop-item-test.true c.item-item.is
           c.in_ok-value.ensures.file c.in_ok-push.ensures c.loop-item.invariant.file;
       fits = below_more (λ (k : ℕ). (x : g.row.T.Denot) → slice_get xs k ≡ Some x → g.W.Writes.fits c.args.writer.now x) i c.loop-item.invariant.fits
-          (λ x there. subst (g.W.Writes.fits c.args.writer.now) (at_is xs i c.item-item.result x c.item-item.is there) c.in_ok-value.ensures.fits);
+          (λ x there. rw (at_is xs i c.item-item.result x c.item-item.is there) at c.in_ok-value.ensures.fits);
     }
 
 pub returns-clause-file : goal.returns-clause-file
 returns-clause-file g c =
-    let f = g.W.Writes.file c.args.writer.now in
-    let done = map view c.loop-item.list.items in
-    sym (c.loop-item.invariant.file ∙ ap (λ l. done ++ map f l) (drop_all c.loop-item.item-index c.args.items.now c.loop-item-test.false) ∙ append-nil done)
+    rw (c.loop-item.invariant.file, drop_all c.loop-item.item-index c.args.items.now c.loop-item-test.false, append-nil (map view c.loop-item.list.items))
 
 pub returns-clause-fits : goal.returns-clause-fits
 returns-clause-fits g c = λ i x there. c.loop-item.invariant.fits i (omega (arith, slice_get_within c.args.items.now i x there)) x there

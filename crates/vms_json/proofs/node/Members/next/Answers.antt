@@ -14,4 +14,5 @@ returns-clause-value c found =
     let cut = c.cut-parted.ensures in
     let at : c.args.self.now.rows.now ≡ c.in-Some.row.now ∷ c.in-Some.rows.now = grind arith in
     let named : c.in-Some.row.now ≡ rows.Key c.in-Some-key.key = key_is c.in-Some.row.now c.in-Some-key.key (sym c.in-Some-key.ensures) in
-    a_member_left _ c.in-Some.rows.now c.cut-parted.result.first.now c.cut-parted.result.rest.now _ found (at ∙ ap (λ r. r ∷ c.in-Some.rows.now) named) cut.first cut.rest
+    a_member_left _ c.in-Some.rows.now c.cut-parted.result.first.now c.cut-parted.result.rest.now _ found
+    (at ∙ ap (λ r. r ∷ c.in-Some.rows.now) named) cut.first cut.rest

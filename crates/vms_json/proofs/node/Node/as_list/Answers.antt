@@ -1,4 +1,4 @@
-use Rattle.vms_json.proofs.Facade.{true, false, refl, sym, ◌∙◌, arith, as_array, is_list}
+use Rattle.vms_json.proofs.Facade.{refl, sym, ◌∙◌, arith, as_array}
 use Rattle.vms_json.proofs.LaidLaws.{none_in, says}
 use Rattle.vms_json.proofs.node.Node.as_list.Goals as goal
 use Rattle.vms_json.proofs.node.Node.as_list.Goals.{in_default-via-in-Some+else-is_list, in_default-via-in_default}

@@ -1,4 +1,4 @@
-use Rattle.vms_json.proofs.Facade.{true, false, refl, sym, ◌∙◌, arith, as_object, is_object}
+use Rattle.vms_json.proofs.Facade.{refl, sym, ◌∙◌, arith, as_object}
 use Rattle.vms_json.proofs.LaidLaws.{none_in, says}
 use Rattle.vms_json.proofs.node.Node.as_members.Goals as goal
 use Rattle.vms_json.proofs.node.Node.as_members.Goals.{in_default-via-in-Some+else-is_object, in_default-via-in_default}

@@ -1,7 +1,7 @@
-use Rattle.vms_json.proofs.Facade.{◌≡◌, ◌-◌, ◌<◌, length, slice_set, ap, ◌∙◌, arith, length-set, Row, AreBelow}
-use Rattle.vms_json.proofs.DueLaws.{below_front, IsTold, list_ended, object_ended}
-use Rattle.vms_json.proofs.parse.Laid.end.Goals as goal
+use Rattle.vms_json.proofs.{DueLaws.below_front, DueLaws.IsTold, DueLaws.ended, LaidLaws.list_laid, LaidLaws.object_laid}
+use Rattle.vms_json.proofs.Facade.{◌≡◌, ◌-◌, ◌<◌, length, slice_set, ◌∙◌, arith, length-set, Row, AreBelow}
 use Rattle.vms_json.proofs.parse.Laid.end.Goals.{then-self, else-self, In-Some, After-len, After-is_in_list-self}
+use Rattle.vms_json.proofs.parse.Laid.end.Goals as goal
 
 -- the remaining open ones begin below the innermost, which begins below the end
 below : (c : goal.In-Some) → AreBelow c.pop.new.self.items (length c.args.self.now.rows.items) × (c.in-Some.at < length c.args.self.now.rows.items)
@@ -13,7 +13,8 @@ within c r = rw (length-set c.args.self.now.rows.items c.in-Some.at r) (below c)
 own : (c : goal.After-len) → c.len.result - c.in-Some.at ≡ length c.args.self.now.rows.items - c.in-Some.at
 own c = rw (c.len.ensures ∙ c.args.self.now.rows.ok.0)
 
-told : (c : goal.After-is_in_list-self) → IsTold (slice_set c.args.self.now.rows.items c.in-Some.at c.if-self.row) c.pop.new.self.items c.is_in_list-self.result
+told : (c : goal.After-is_in_list-self)
+    → IsTold (slice_set c.args.self.now.rows.items c.in-Some.at c.if-self.row) c.pop.new.self.items c.is_in_list-self.result
 told c = record { none = c.is_in_list-self.ensures.none; some = c.is_in_list-self.ensures.some }
 
 pub overflow_sub-count : goal.overflow_sub-count
@@ -32,7 +33,7 @@ pub returns-clause-list : goal.returns-clause-list
 returns-clause-list c fs done laid inner = elim c.if-self.branch [
   | then-self w ↦
       let at = goal.at.returns-clause-list c in
-      list_ended fs done _ _ _ _ _ _ _ laid c.in-Some.ensures.items (own at.After-len) (ap (slice_set c.args.self.now.rows.items c.in-Some.at) w.row-is) (told at.After-is_in_list-self)
+      ended _ (λ own are. list_laid own done are) laid c.in-Some.ensures.items (own at.After-len) (rw w.row-is) (told at.After-is_in_list-self)
   | else-self w ↦ absurd (cc)
 ]
 
@@ -41,5 +42,5 @@ returns-clause-object c fs found laid inner = elim c.if-self.branch [
   | then-self w ↦ absurd (cc)
   | else-self w ↦
       let at = goal.at.returns-clause-object c in
-      object_ended fs found _ _ _ _ _ _ _ laid c.in-Some.ensures.items (own at.After-len) (ap (slice_set c.args.self.now.rows.items c.in-Some.at) w.row-is) (told at.After-is_in_list-self)
+      ended _ (λ own are. object_laid own found are) laid c.in-Some.ensures.items (own at.After-len) (rw w.row-is) (told at.After-is_in_list-self)
 ]
