@@ -1,10 +1,10 @@
 -- Ports that are alike answer each call alike.
-use Rattle.dev_serial.proofs.Facade.{arith, ◌≡◌, ℕ, ℤ, Bool, true, false, not, ◌&&◌, cond, refl, pos, negsuc, ◌||◌, ◌==◌, Option, Some}
-use Rattle.dev_serial.proofs.Facade.{None, ap, ◌∙◌, int_eq, bit_and, bit_or, is_some, nat_le, is_empty, lsr_of, iir_of, read_of, id_read, thr_written}
-use Rattle.dev_serial.proofs.Facade.{ier_written, switch_of, fcr_cleared, fcr_written, receiver_cleared, transmitter_cleared, written, came_in, advanced, has}
-use Rattle.dev_serial.proofs.Facade.{bits_where, ipending_of, latch_of, saved, Port, id_number, is_thr_empty, interrupt, line_of, Interrupt, LineStatus}
-use Rattle.dev_serial.proofs.Facade.{ReceivedData, CharacterTimeout, ThrEmpty, NonePending, AlikeItself, AlikeBack, AlikeOn, AnswersAlike, ReadsAlike}
-use Rattle.dev_serial.proofs.Facade.{WritesAlike, BytesInAlike, AdvancesAlike, SavesAlike, LinesAlike, Alike, Trigger}
+use Rattle.dev_serial.proofs.Facade.{arith, ◌≡◌, ℕ, ℤ, Bool, true, false, not, ◌&&◌, cond, refl, pos, negsuc, ◌||◌, Option, Some, None}
+use Rattle.dev_serial.proofs.Facade.{◌∙◌, int_eq, bit_and, bit_or, is_some, is_empty, lsr_of, iir_of, read_of, id_read, thr_written, ier_written}
+use Rattle.dev_serial.proofs.Facade.{switch_of, fcr_cleared, fcr_written, receiver_cleared, transmitter_cleared, written, came_in, advanced, has, bits_where}
+use Rattle.dev_serial.proofs.Facade.{ipending_of, latch_of, saved, Port, id_number, is_thr_empty, interrupt, line_of, Interrupt, LineStatus, ReceivedData}
+use Rattle.dev_serial.proofs.Facade.{CharacterTimeout, ThrEmpty, NonePending, AlikeItself, AlikeBack, AlikeOn, AnswersAlike, ReadsAlike, nat_tests, WritesAlike}
+use Rattle.dev_serial.proofs.Facade.{BytesInAlike, AdvancesAlike, SavesAlike, LinesAlike, Alike, Trigger}
 
 -- ---- the line status and the saved latch, as tables of truth
 
@@ -20,8 +20,7 @@ pub record IsStatus (lsr : ℕ) (ready overrun empty idle : Bool) : Type 0 where
   pub mask : bit_and lsr 0x63 ≡ lsr
 
 pub status : (ready overrun empty idle : Bool) → IsStatus (status_of ready overrun empty idle) ready overrun empty idle
-status ready overrun empty idle =
-    record { ready_bit = grind arith; overrun_bit = grind arith; empty_bit = grind arith; idle_bit = grind arith; mask = grind arith }
+status ready overrun empty idle = search arith
 
 -- the line status of a port
 pub lsr-status : (port : Port) → IsStatus (lsr_of port) (not (is_empty port.receiver.held)) port.receiver.overrun (is_empty port.transmitter.waiting) (is_empty port.transmitter.waiting && not (is_some port.transmitter.shift))
@@ -48,15 +47,9 @@ pub record IsLatchBack (status ready timeout enabled latch : Bool) : Type 0 wher
   pub known : (int_eq (ipending_at status ready timeout enabled latch) (negsuc 0) || (int_eq (ipending_at status ready timeout enabled latch) (pos 0) || int_eq (ipending_at status ready timeout enabled latch) (pos 1))) ≡ true
 
 pub latch_comes_back : (status ready timeout enabled latch : Bool) → IsLatchBack status ready timeout enabled latch
-latch_comes_back status ready timeout enabled latch =
-    record { same_id = grind arith; while_enabled = grind arith; was_set = grind arith; known = grind arith }
+latch_comes_back status ready timeout enabled latch = search arith
 
 -- ---- calls
-
--- a relation of two choices by the same test
-both : {A : Type 0} (P : A → A → Type 0) (b : Bool) (x x' y y' : A) → P x x' → P y y' → P (cond b x y) (cond b x' y')
-both P true x x' y y' p q = p
-both P false x x' y y' p q = q
 
 same_identified : (status ready timeout enabled first second : Bool) → (enabled ≡ true → second ≡ first)
     → identified status ready timeout enabled second ≡ identified status ready timeout enabled first
@@ -94,21 +87,9 @@ module _ (port : Port) (latch : Bool) (h : has port.ier 1 ≡ true → latch ≡
   unfolding saved lsr_of
   same_saved set now = rw (same_interrupt now, same_ipending (has port.ier 1) (is_thr_empty (interrupt now port)) port.thr_empty latch h)
 
-  -- an answer that is the same, with the port as it was
-  kept : (answer : ℕ) → AnswersAlike (answer, port) (answer, other)
-  kept answer = record { value = refl; alike = alike }
-
   read-alike : (offset now : ℕ) → AnswersAlike (read_of offset now port) (read_of offset now other)
   unfolding read_of lsr_of
-  read-alike offset now =
-      both AnswersAlike (offset == 0) _ _ _ _
-      (both AnswersAlike (has port.lcr 7) _ _ _ _ (kept _) (record { value = refl; alike = record { same = refl; enabled = h } }))
-      (both AnswersAlike (offset == 1) _ _ _ _ (both AnswersAlike (has port.lcr 7) _ _ _ _ (kept _) (kept _))
-      (both AnswersAlike (offset == 2) _ _ _ _ (id-alike now)
-      (both AnswersAlike (offset == 3) _ _ _ _ (kept _)
-      (both AnswersAlike (offset == 4) _ _ _ _ (kept _)
-      (both AnswersAlike (offset == 5) _ _ _ _ (record { value = refl; alike = record { same = refl; enabled = h } })
-      (both AnswersAlike (offset == 6) _ _ _ _ (kept _) (kept _)))))))
+  read-alike offset now = search (arith, nat_tests, id-alike)
 
   thr-alike : (byte now : ℕ) → Alike (thr_written byte now port) (thr_written byte now other)
   unfolding thr_written
@@ -120,18 +101,15 @@ module _ (port : Port) (latch : Bool) (h : has port.ier 1 ≡ true → latch ≡
       record { same = refl; enabled = sampled (has port.ier 1) (has (bit_and value 0x0f) 1) (is_empty port.transmitter.waiting) port.thr_empty latch h }
 
   cleared-alike : (clears_sent clears_held : Bool) (fifos : Option Trigger) → Alike (record (transmitter_cleared clears_sent (receiver_cleared clears_held port)) { fifos = fifos }) (record (transmitter_cleared clears_sent (receiver_cleared clears_held other)) { fifos = fifos })
-  cleared-alike true true fifos = record { same = refl; enabled = λ e. ap (λ b. cond (is_empty port.transmitter.waiting) b true) (h e) }
-  cleared-alike true false fifos = record { same = refl; enabled = λ e. ap (λ b. cond (is_empty port.transmitter.waiting) b true) (h e) }
-  cleared-alike false true fifos = record { same = refl; enabled = h }
-  cleared-alike false false fifos = record { same = refl; enabled = h }
+  cleared-alike true _ fifos = record { same = grind arith; enabled = λ e. grind arith }
+  cleared-alike false _ fifos = record { same = grind arith; enabled = λ e. grind arith }
 
   switched-alike : (value : ℕ) (before after : Option Trigger)
       → Alike (record (fcr_cleared before after value port) { fifos = after }) (record (fcr_cleared before after value other) { fifos = after })
   unfolding fcr_cleared
   switched-alike value None None = cleared-alike false false None
-  switched-alike value None (Some trigger) = cleared-alike true true (Some trigger)
-  switched-alike value (Some before) None = cleared-alike true true None
   switched-alike value (Some before) (Some after) = cleared-alike (has value 2) (has value 1) (Some after)
+  switched-alike value _ after = cleared-alike true true after
 
   fcr-alike : (value : ℕ) → Alike (fcr_written value port) (fcr_written value other)
   unfolding fcr_written
@@ -139,18 +117,11 @@ module _ (port : Port) (latch : Bool) (h : has port.ier 1 ≡ true → latch ≡
 
   write-alike : (offset value now : ℕ) → Alike (written offset value now port) (written offset value now other)
   unfolding written
-  write-alike offset value now =
-      both Alike (offset == 0) _ _ _ _ (both Alike (has port.lcr 7) _ _ _ _ (record { same = refl; enabled = h }) (thr-alike value now))
-      (both Alike (offset == 1) _ _ _ _ (both Alike (has port.lcr 7) _ _ _ _ (record { same = refl; enabled = h }) (ier-alike value))
-      (both Alike (offset == 2) _ _ _ _ (both Alike (nat_le 2 port.level) _ _ _ _ (fcr-alike value) alike)
-      (both Alike (offset == 3) _ _ _ _ (record { same = refl; enabled = h })
-      (both Alike (offset == 4) _ _ _ _ (record { same = refl; enabled = h })
-      (both Alike (offset == 5) _ _ _ _ alike
-      (both Alike (offset == 6) _ _ _ _ alike (record { same = refl; enabled = h })))))))
+  write-alike offset value now = search (arith, nat_tests, thr-alike, ier-alike, fcr-alike)
 
   in-alike : (byte now : ℕ) → Alike (came_in byte now port) (came_in byte now other)
   unfolding came_in
-  in-alike byte now = both Alike (has port.mcr 4) _ _ _ _ alike (record { same = refl; enabled = h })
+  in-alike byte now = search (arith, nat_tests)
 
   advance-alike : (to : ℕ) → AnswersAlike (advanced to port) (advanced to other)
   unfolding advanced

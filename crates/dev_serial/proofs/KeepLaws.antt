@@ -1,11 +1,10 @@
 -- Each call keeps a port sound.
 use Rattle.dev_serial.proofs.{WaitLaws.character-positive, SoundLaws.emptied-sound, SoundLaws.thr-sound}
-use Rattle.dev_serial.proofs.Facade.{Trigger, ◌≡◌, ℕ, ◌+◌, ◌*◌, ◌<◌, ◌≤◌, ◌==◌, Bool, true, false, not, ◌&&◌, cond, Option}
-use Rattle.dev_serial.proofs.Facade.{Some, None, refl, arith, ◌⊎◌, ◌/◌, ◌%◌, inl, inr, cond_both, leb-true, nat_le, is_some, bit_and, and_le_r}
-use Rattle.dev_serial.proofs.Facade.{and-false, is_empty, with_taken, read_of, id_read, lsr_read, thr_written, ier_written, switch_of, fcr_cleared, fcr_written}
-use Rattle.dev_serial.proofs.Facade.{receiver_cleared, transmitter_cleared, written, came_in, advanced, has, character_time, received, taken, IsSound}
-use Rattle.dev_serial.proofs.Facade.{HasRegisters, LONGEST_CHARACTER, either, PowerOnIsSound, ReadsKeepSound, WritesKeepSound, BytesInKeepSound}
-use Rattle.dev_serial.proofs.Facade.{AdvancesKeepSound, Port, power_on, mode_of, interrupt, is_thr_empty}
+use Rattle.dev_serial.proofs.Facade.{Trigger, ◌≡◌, ℕ, ◌+◌, ◌*◌, ◌<◌, ◌≤◌, ◌==◌, Bool, true, false, Option, Some, None, refl}
+use Rattle.dev_serial.proofs.Facade.{arith, ◌/◌, ◌%◌, inl, cond_both, leb-true, nat_le, is_some, and_le_r, and-false, with_taken, read_of, id_read}
+use Rattle.dev_serial.proofs.Facade.{lsr_read, thr_written, ier_written, switch_of, fcr_cleared, fcr_written, receiver_cleared, transmitter_cleared, written}
+use Rattle.dev_serial.proofs.Facade.{came_in, advanced, has, character_time, received, taken, IsSound, nat_tests, HasRegisters, LONGEST_CHARACTER, either}
+use Rattle.dev_serial.proofs.Facade.{PowerOnIsSound, ReadsKeepSound, WritesKeepSound, BytesInKeepSound, AdvancesKeepSound, Port, power_on, mode_of}
 use Rattle.dev_serial.proofs.SoundLaws.{latched-sound, cleared-sound, advance-transmitter, advance-receiver, character-longest, received-sound, taken-held}
 
 pub power_on_is_sound : PowerOnIsSound
@@ -21,45 +20,22 @@ module _ (now : ℕ) (port : Port) (sound : IsSound now port) where
   longest = grind (arith, character-longest)
 
   id-kept : Kept (id_read now port)
-  id-kept = record {
-    registers = sound.registers;
-    receiver = sound.receiver;
-    transmitter = latched-sound now (is_some port.fifos) port.thr_empty _ port.transmitter
-        (λ e. inl (was (is_thr_empty (interrupt now port)) port.thr_empty e)) sound.transmitter;
-  } where
-    was : (identified latch : Bool) → cond identified false latch ≡ true → latch ≡ true
-    was true latch e = cc
-    was false latch e = e
+  id-kept = search (arith, latched-sound, inl)
 
   byte-kept : Kept (with_taken port (taken (mode_of port) now port.receiver))
-  byte-kept = record {
-    registers = sound.registers;
-    receiver = taken-held now now (character_time port.divisor port.lcr) (has port.mcr 4) (omega arith) longest port.level
-        (is_some port.fifos) port.receiver.held port.receiver refl sound.receiver;
-    transmitter = sound.transmitter;
-  }
+  byte-kept =
+      let receiver = taken-held now now _ (has port.mcr 4) (omega arith) longest port.level (is_some port.fifos) _ port.receiver refl sound.receiver in search
 
   status-kept : Kept (lsr_read port)
   status-kept = search
 
   read-kept : (offset : ℕ) → Kept (read_of offset now port)
   unfolding read_of
-  read-kept offset =
-      either Kept (offset == 0) _ _ (either Kept (has port.lcr 7) _ _ sound byte-kept)
-      (either Kept (offset == 1) _ _ (either Kept (has port.lcr 7) _ _ sound sound)
-      (either Kept (offset == 2) _ _ id-kept
-      (either Kept (offset == 3) _ _ sound
-      (either Kept (offset == 4) _ _ sound
-      (either Kept (offset == 5) _ _ status-kept
-      (either Kept (offset == 6) _ _ sound sound))))))
+  read-kept offset = search (arith, nat_tests, byte-kept, id-kept, status-kept)
 
   came-kept : (byte : ℕ) → byte < 256 → IsSound now (record port { receiver = received (mode_of port) byte now port.receiver })
-  came-kept byte b = record {
-    registers = sound.registers;
-    receiver = received-sound now now (character_time port.divisor port.lcr) byte (has port.mcr 4) port.receiver (omega arith) longest port.level
-        (is_some port.fifos) b sound.receiver;
-    transmitter = sound.transmitter;
-  }
+  came-kept byte b =
+      let receiver = received-sound now now _ byte (has port.mcr 4) _ (omega arith) longest port.level (is_some port.fifos) b sound.receiver in search
 
   in-kept : (byte : ℕ) → byte < 256 → IsSound now (came_in byte now port)
   unfolding came_in
@@ -78,15 +54,7 @@ module _ (now : ℕ) (port : Port) (sound : IsSound now port) where
 
   ier-kept : (value : ℕ) → IsSound now (ier_written value port)
   unfolding ier_written
-  ier-kept value = record {
-    registers = let range = and_le_r value 0x0f in search;
-    receiver = sound.receiver;
-    transmitter = latched-sound now (is_some port.fifos) port.thr_empty _ port.transmitter
-        (sampled (not (has port.ier 1) && has (bit_and value 0x0f) 1) (is_empty port.transmitter.waiting) port.thr_empty) sound.transmitter;
-  } where
-    sampled : (samples empty latch : Bool) → cond samples empty latch ≡ true → (latch ≡ true) ⊎ (empty ≡ true)
-    sampled true empty latch e = inr e
-    sampled false empty latch e = inl e
+  ier-kept value = let range = and_le_r value 0x0f in search (arith, latched-sound, nat_tests)
 
   switched-registers : (fifos : Option Trigger) → (is_some fifos ≡ true → 2 ≤ port.level)
       → HasRegisters port.level port.divisor port.ier port.lcr port.mcr port.scr (is_some fifos)
@@ -100,9 +68,8 @@ module _ (now : ℕ) (port : Port) (sound : IsSound now port) where
       → IsSound now (record (fcr_cleared before after value port) { fifos = after })
   unfolding fcr_cleared
   fcr-kept-at value None None h e = switched false false None (λ _. h) (λ _. rw e) (λ _. rw e)
-  fcr-kept-at value None (Some trigger) h e = switched true true (Some trigger) (λ _. h) (λ f. cc) (λ f. cc)
-  fcr-kept-at value (Some before) None h e = switched true true None (λ _. h) (λ f. cc) (λ f. cc)
   fcr-kept-at value (Some before) (Some after) h e = switched (has value 2) (has value 1) (Some after) (λ _. h) (λ _. rw e) (λ _. rw e)
+  fcr-kept-at value _ after h e = switched true true after (λ _. h) (λ f. cc) (λ f. cc)
 
   fcr-kept : (value : ℕ) → 2 ≤ port.level → IsSound now (fcr_written value port)
   unfolding fcr_written

@@ -1,14 +1,13 @@
 -- Registers as the data sheet has them, the divisor latch, loop mode, and bytes that come in while
 -- there is room.
 use Rattle.dev_serial.proofs.Facade.{refl, NumbersAre, ◌≡◌, ℕ, Bool, true, false, not, ◌&&◌, cond, List, [], ◌∷◌, ◌++◌, Option, Some}
-use Rattle.dev_serial.proofs.Facade.{None, sym, ap, ◌∙◌, ◌/◌, arith, ◌==◌, is_some, nat_le, is_empty, switch_of, fcr_cleared, fcr_written}
-use Rattle.dev_serial.proofs.Facade.{receiver_cleared, transmitter_cleared, read_of, thr_written, ier_written, written, came_in, advanced, has}
-use Rattle.dev_serial.proofs.Facade.{Port, asks, interrupt, is_pending, line_of, IsFirstAsking, IdentifiesFirst, SomeAsks, LineTellsAsking, HasNoBytes}
-use Rattle.dev_serial.proofs.Facade.{SwitchClearsBoth, IsResetBy, ResetsByBits, StaysOff, IsSwitched, WritesSwitch, Interrupt, LineStatus, ReceivedData}
-use Rattle.dev_serial.proofs.Facade.{CharacterTimeout, ThrEmpty, NonePending, Trigger, either, ReadsKeepLevel, WritesKeepLevel, BytesInKeepLevel}
-use Rattle.dev_serial.proofs.Facade.{AdvancesKeepLevel, cond_both, first_asking, priorities, All-cons, All-nil, LoopsModem, ◌+◌, ◌*◌, ◌%◌, ◌<◌}
-use Rattle.dev_serial.proofs.Facade.{if◌then◌else◌, bit_or, bits_where, msr_of, ReachesDivisor, ◌≤◌, length, append_assoc, append-nil}
-use Rattle.dev_serial.proofs.Facade.{common_steps, room_of, received, all_came, RoomIsHeld}
+use Rattle.dev_serial.proofs.Facade.{None, sym, ap, ◌∙◌, ◌/◌, arith, is_some, is_empty, switch_of, fcr_cleared, fcr_written, nat_tests}
+use Rattle.dev_serial.proofs.Facade.{receiver_cleared, transmitter_cleared, read_of, thr_written, ier_written, written, came_in, advanced, has, Port, asks}
+use Rattle.dev_serial.proofs.Facade.{interrupt, is_pending, line_of, IsFirstAsking, IdentifiesFirst, SomeAsks, LineTellsAsking, HasNoBytes, SwitchClearsBoth}
+use Rattle.dev_serial.proofs.Facade.{IsResetBy, ResetsByBits, StaysOff, IsSwitched, WritesSwitch, Interrupt, LineStatus, NonePending, Trigger, ReadsKeepLevel}
+use Rattle.dev_serial.proofs.Facade.{WritesKeepLevel, BytesInKeepLevel, AdvancesKeepLevel, cond_both, first_asking, priorities, All-cons, All-nil, LoopsModem}
+use Rattle.dev_serial.proofs.Facade.{◌+◌, ◌*◌, ◌%◌, ◌<◌, bit_or, bits_where, msr_of, ReachesDivisor, ◌≤◌, length, append_assoc}
+use Rattle.dev_serial.proofs.Facade.{append-nil, common_steps, room_of, received, all_came, RoomIsHeld}
 
 -- ---- the numbers are the constants' by their definition
 
@@ -43,12 +42,8 @@ module _ (now : ℕ) (port : Port) where
   -- if one is requested, that of highest priority isn't NonePending
   pending : (some : Interrupt) → Pending some → asks now port some ≡ true → Pending (first_asking now port priorities)
   pending LineStatus p h = rw h
-  pending ReceivedData p h = either Pending (asks now port LineStatus) _ _ refl (rw h)
-  pending CharacterTimeout p h = either Pending (asks now port LineStatus) _ _ refl (either Pending (asks now port ReceivedData) _ _ refl (rw h))
-  pending ThrEmpty p h =
-      either Pending (asks now port LineStatus) _ _ refl (either Pending (asks now port ReceivedData) _ _ refl
-      (either Pending (asks now port CharacterTimeout) _ _ refl (rw h)))
   pending NonePending p h = cc
+  pending _ p h = grind (arith, nat_tests)
 
   line : (line_of now port ≡ true → SomeAsks now port) × (SomeAsks now port → line_of now port ≡ true)
   unfolding line_of interrupt
@@ -68,8 +63,8 @@ switched_to value = grind (arith, has, is_some)
 module _ (value : ℕ) (port : Port) where
   both : (before after : Option Trigger) → is_some after ≡ not (is_some before) → HasNoBytes (record (fcr_cleared before after value port) { fifos = after })
   unfolding fcr_cleared
-  both None (Some after) e = record { held = refl; timeout = refl; waiting = refl }
-  both (Some before) None e = record { held = refl; timeout = refl; waiting = refl }
+  both None (Some after) e = search
+  both (Some before) None e = search
   both _ _ e = cc
 
   flags : (second first : Bool) (fifos : Option Trigger) → (second ≡ has value 2) → (first ≡ has value 1)
@@ -122,113 +117,50 @@ writes_switch value port = switched value port port.fifos (switch_of value) refl
 -- ---- each call keeps the level
 
 module _ (port : Port) where
-  abbrev Keeps : Port → Type 0
-  Keeps after = after.level ≡ port.level
-
-  abbrev Answers : ℕ × Port → Type 0
-  Answers answer = answer.1.level ≡ port.level
-
-  read : (offset now : ℕ) → Answers (read_of offset now port)
-  unfolding read_of
-  read offset now =
-      either Answers (offset == 0) _ _ (either Answers (has port.lcr 7) _ _ refl refl)
-      (either Answers (offset == 1) _ _ (either Answers (has port.lcr 7) _ _ refl refl)
-      (either Answers (offset == 2) _ _ refl
-      (either Answers (offset == 3) _ _ refl
-      (either Answers (offset == 4) _ _ refl
-      (either Answers (offset == 5) _ _ refl
-      (either Answers (offset == 6) _ _ refl refl))))))
-
   -- clearing by the FIFO control register changes neither the level nor the divisor
   abbrev Stays : Port → Type 0
-  Stays after = Keeps after × (after.divisor ≡ port.divisor)
+  Stays after = (after.level ≡ port.level) × (after.divisor ≡ port.divisor)
 
   cleared : (second first : Bool) → Stays (transmitter_cleared second (receiver_cleared first port))
   cleared second first = grind arith
 
   pub switch_stays : (value : ℕ) (before after : Option Trigger) → Stays (fcr_cleared before after value port)
   unfolding fcr_cleared
-  switch_stays value None None = (refl, refl)
-  switch_stays value (Some before) (Some after) = cleared (has value 2) (has value 1)
-  switch_stays value _ _ = cleared true true
-
-  write : (offset value now : ℕ) → Keeps (written offset value now port)
-  unfolding written thr_written ier_written fcr_written
-  write offset value now =
-      either Keeps (offset == 0) _ _ (either Keeps (has port.lcr 7) _ _ refl refl)
-      (either Keeps (offset == 1) _ _ (either Keeps (has port.lcr 7) _ _ refl refl)
-      (either Keeps (offset == 2) _ _ (either Keeps (nat_le 2 port.level) _ _ (switch_stays value port.fifos (switch_of value)).0 refl)
-      (either Keeps (offset == 3) _ _ refl
-      (either Keeps (offset == 4) _ _ refl
-      (either Keeps (offset == 5) _ _ refl
-      (either Keeps (offset == 6) _ _ refl refl))))))
-
-  comes : (byte now : ℕ) → Keeps (came_in byte now port)
-  unfolding came_in
-  comes byte now = either Keeps (has port.mcr 4) _ _ refl refl
-
-  advances : (to : ℕ) → Keeps (advanced to port).1
-  unfolding advanced
-  advances to = refl
+  switch_stays value before after = grind (arith, cleared)
 
 pub reads_keep_level : ReadsKeepLevel
-reads_keep_level offset now port = read port offset now
+unfolding read_of
+reads_keep_level offset now port = grind (arith, nat_tests)
 
 pub writes_keep_level : WritesKeepLevel
-writes_keep_level offset value now port = write port offset value now
+unfolding written thr_written ier_written fcr_written
+writes_keep_level offset value now port = let stays = switch_stays port value port.fifos (switch_of value) in grind (arith, nat_tests)
 
 pub bytes_in_keep_level : BytesInKeepLevel
-bytes_in_keep_level byte now port = comes port byte now
+unfolding came_in
+bytes_in_keep_level byte now port = grind (arith, nat_tests)
 
 pub advances_keep_level : AdvancesKeepLevel
-advances_keep_level to port = advances port to
+unfolding advanced
+advances_keep_level to port = refl
 
 -- ---- the divisor latch
 
-low_read : (now : ℕ) (port : Port) → has port.lcr 7 ≡ true → read_of 0 now port ≡ (port.divisor % 256, port)
-unfolding read_of
-low_read now port set = rw set
-
-high_read : (now : ℕ) (port : Port) → has port.lcr 7 ≡ true → read_of 1 now port ≡ (port.divisor / 256, port)
-unfolding read_of
-high_read now port set = rw set
-
-low_written : (value now : ℕ) (port : Port) → has port.lcr 7 ≡ true → written 0 value now port ≡ record port { divisor = port.divisor / 256 * 256 + value }
-unfolding written
-low_written value now port set = rw set
-
-high_written : (value now : ℕ) (port : Port) → has port.lcr 7 ≡ true → written 1 value now port ≡ record port { divisor = value * 256 + port.divisor % 256 }
-unfolding written
-high_written value now port set = rw set
-
-low_stays : (high low value : ℕ) → value < 256 → high * 256 + (low * 256 + value) % 256 ≡ 256 * high + value
-low_stays high low value byte = omega arith
+low_stays : (divisor low high : ℕ) → low < 256 → high * 256 + (divisor / 256 * 256 + low) % 256 ≡ 256 * high + low
+low_stays divisor low high byte = omega arith
 
 both_written : (low high now later : ℕ) (port : Port) → low < 256 → has port.lcr 7 ≡ true
     → written 1 high later (written 0 low now port) ≡ record port { divisor = 256 * high + low }
-both_written low high now later port byte set = rw (low_written low now port set, high_written high later _ set, low_stays high _ low byte)
+unfolding written
+both_written low high now later port byte set = let e = low_stays port.divisor low high byte in grind (arith, nat_tests)
 
-module _ (port : Port) where
-  abbrev KeepsDivisor : Port → Type 0
-  KeepsDivisor after = after.divisor ≡ port.divisor
-
-  -- a port is what a choice gives where its condition doesn't hold
-  chosen : (b : Bool) (first second : Port) → b ≡ false → KeepsDivisor second → KeepsDivisor (if b then first else second)
-  chosen b first second e k = grind arith
-
-  hidden : (offset value now : ℕ) → has port.lcr 7 ≡ false → KeepsDivisor (written offset value now port)
-  unfolding written thr_written ier_written fcr_written
-  hidden offset value now clear =
-      either KeepsDivisor (offset == 0) _ _ (chosen (has port.lcr 7) _ _ clear refl)
-      (either KeepsDivisor (offset == 1) _ _ (chosen (has port.lcr 7) _ _ clear refl)
-      (either KeepsDivisor (offset == 2) _ _ (either KeepsDivisor (nat_le 2 port.level) _ _ (switch_stays port value port.fifos (switch_of value)).1 refl)
-      (either KeepsDivisor (offset == 3) _ _ refl
-      (either KeepsDivisor (offset == 4) _ _ refl
-      (either KeepsDivisor (offset == 5) _ _ refl
-      (either KeepsDivisor (offset == 6) _ _ refl refl))))))
+hidden : (offset value now : ℕ) (port : Port) → has port.lcr 7 ≡ false → (written offset value now port).divisor ≡ port.divisor
+unfolding written thr_written ier_written fcr_written
+hidden offset value now port clear = let stays = switch_stays port value port.fifos (switch_of value) in grind (arith, nat_tests)
 
 pub reaches_divisor : ReachesDivisor
-reaches_divisor = search (low_read, high_read, both_written, hidden)
+unfolding read_of
+reaches_divisor = record { low = λ now port set. rw set; high = λ now port set. rw set; both = both_written; hidden = hidden }
 
 -- ---- the modem status in loop mode
 
@@ -244,18 +176,14 @@ record HasBits (rts dtr out1 out2 : Bool) (msr : ℕ) : Type 0 where
   changes : msr % 16 ≡ 0
 
 looped_of : (rts dtr out1 out2 : Bool) → HasBits rts dtr out1 out2 (status_by rts dtr out1 out2)
-looped_of rts dtr out1 out2 = record { cts = grind arith; dsr = grind arith; ri = grind arith; dcd = grind arith; changes = grind arith }
-
-msr_looped : (mcr : ℕ) → has mcr 4 ≡ true → msr_of mcr ≡ status_by (has mcr 1) (has mcr 0) (has mcr 2) (has mcr 3)
-unfolding msr_of
-msr_looped mcr loop = rw loop
-
-modem_read : (now : ℕ) (port : Port) → read_of 6 now port ≡ (msr_of port.mcr, port)
-unfolding read_of
-modem_read now port = refl
+looped_of rts dtr out1 out2 = search arith
 
 pub loops_modem : LoopsModem
-loops_modem = record { read = modem_read; looped = (λ mcr loop. search (arith, looped_of, msr_looped)) }
+unfolding read_of msr_of
+loops_modem = record {
+  read = λ now port. refl;
+  looped = λ mcr loop. let bits = looped_of (has mcr 1) (has mcr 0) (has mcr 2) (has mcr 3) in rw loop (search);
+}
 
 -- ---- bytes that come in while there is room
 
@@ -267,11 +195,7 @@ record Held (byte : ℕ) (old new : Port) : Type 0 where
 
 one_held : (now byte : ℕ) (port : Port) → 1 ≤ room_of port → Held byte port (came_in byte now port)
 unfolding came_in received
-one_held now byte port h = record {
-  held = grind (arith, common_steps);
-  overrun = grind (arith, common_steps);
-  room = grind (arith, common_steps);
-}
+one_held now byte port h = search (arith, common_steps)
 
 -- the port after all bytes came
 record AreHeld (bytes : List ℕ) (port after : Port) : Type 0 where

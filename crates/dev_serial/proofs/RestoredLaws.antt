@@ -1,14 +1,14 @@
 -- A restored port is sound, and the rules hold of a sound port alone.
 use Rattle.dev_serial.proofs.{SavedLaws.runs-same, AlikeLaws.IsStatus, AlikeLaws.lsr-status, Facade.IsTold, Facade.IsByte, Facade.Shift}
 use Rattle.dev_serial.proofs.Facade.{◌≡◌, ℕ, true, Ok, ◌≤◌, Bool, List, [], ◌∷◌, length, Option, Some, refl, subst, ◌+◌, ◌<◌}
-use Rattle.dev_serial.proofs.Facade.{◌==◌, false, not, ◌&&◌, ◌||◌, cond, None, sym, arith, ◌%◌, ℤ, false≢true, leb-true, ltb-true}
-use Rattle.dev_serial.proofs.Facade.{and_parts, not-true, nat_le, nat_lt, is_some, judged-ok, first_failing_is_first, hook-ok, Port, port_of, moment_of}
-use Rattle.dev_serial.proofs.Facade.{shift_of, fifos_of, stored_bytes, registers_hold, fcr_holds, status_holds, shift_holds, timeout_holds, latch_holds, rules}
-use Rattle.dev_serial.proofs.Facade.{restored, unused_hold, id_holds, once_holds, rings_hold, longest_timeout, is_unused, PortNumbers, first_failing, judged_by}
-use Rattle.dev_serial.proofs.Facade.{IsFirstFailing, is_empty, IsShort, same, has, AreBytes, IsShift, IsTimeout, IsSound, HasRegisters, IsReceiver}
-use Rattle.dev_serial.proofs.Facade.{IsTransmitter, Trigger, LONGEST_CHARACTER, NEVER, cell_at, number_at, IsLevel, U8, U16, number-lt, IsPortCells, bytes_at}
-use Rattle.dev_serial.proofs.Facade.{array_at, ring_at, numbers_of, IsSoundAt, RestoredIsSound, DIVISOR, THR_IPENDING, RX_COUNT, RX, TX_COUNT, TX, TIMEOUT_AT}
-use Rattle.dev_serial.proofs.Facade.{RX_DATA, TX_DATA, eqb-true, LAST_MOMENT, lsr_of, SoundMeetsRules, saved, fcr_number, moment_number, due_number, IsHeld}
+use Rattle.dev_serial.proofs.Facade.{◌==◌, false, not, ◌&&◌, ◌||◌, cond, None, arith, ◌%◌, ℤ, leb-true, ltb-true, and_parts, not-true, nat_le}
+use Rattle.dev_serial.proofs.Facade.{nat_lt, is_some, judged-ok, first_failing_is_first, hook-ok, Port, port_of, moment_of, shift_of, fifos_of, stored_bytes}
+use Rattle.dev_serial.proofs.Facade.{registers_hold, fcr_holds, status_holds, shift_holds, timeout_holds, latch_holds, rules, restored, unused_hold, id_holds}
+use Rattle.dev_serial.proofs.Facade.{once_holds, rings_hold, longest_timeout, is_unused, PortNumbers, first_failing, judged_by, IsFirstFailing, is_empty}
+use Rattle.dev_serial.proofs.Facade.{IsShort, same, has, AreBytes, IsShift, IsTimeout, IsSound, HasRegisters, IsReceiver, IsTransmitter, Trigger}
+use Rattle.dev_serial.proofs.Facade.{LONGEST_CHARACTER, NEVER, cell_at, number_at, IsLevel, U8, U16, number-lt, IsPortCells, bytes_at, array_at, ring_at}
+use Rattle.dev_serial.proofs.Facade.{numbers_of, IsSoundAt, RestoredIsSound, DIVISOR, THR_IPENDING, RX_COUNT, RX, TX_COUNT, TX, TIMEOUT_AT, RX_DATA, TX_DATA}
+use Rattle.dev_serial.proofs.Facade.{eqb-true, LAST_MOMENT, lsr_of, SoundMeetsRules, saved, fcr_number, moment_number, due_number, IsHeld}
 use Rattle.dev_serial.proofs.SavedLaws.{unused-at, in_arrays, ring-bytes, stored-empty, stored-short, stored-bytes, firsts-bytes, byte-at, restored-saved, on}
 
 -- ---- every rule holds for numbers that are restored
@@ -57,9 +57,7 @@ pub level-on : (level fcr : ℕ) → ((fcr == 0) || (nat_le 2 level && (fcr % 64
 level-on level fcr h n = grind (arith, on_at, is_on)
 
 pub short : (off is_held : Bool) (byte : ℕ) (bytes : List ℕ) → length bytes ≤ 16 → IsShort (not off) (cond off (cond is_held (byte ∷ []) []) bytes)
-short true true byte bytes h = record { short = omega arith; one = λ _. omega arith }
-short true false byte bytes h = record { short = omega arith; one = λ _. omega arith }
-short false is_held byte bytes h = record { short = h; one = λ e. cc }
+short off is_held byte bytes h = record { short = grind arith; one = λ e. grind arith }
 
 pub are_bytes : (off is_held : Bool) (byte : ℕ) (bytes : List ℕ) → byte < 256 → AreBytes bytes → AreBytes (cond off (cond is_held (byte ∷ []) []) bytes)
 are_bytes off is_held byte bytes b h = grind arith
@@ -105,11 +103,8 @@ module _ (level now : ℕ) (n : PortNumbers) (is_level : IsLevel level) (ranges 
   registers : HasRegisters level n.divisor n.ier n.lcr n.mcr n.scr (is_some (fifos_of n.fcr))
   unfolding registers_hold fcr_holds
   registers =
-      let low = and_parts _ _ rules.registers in
-      let ier : n.ier ≤ 15 = leb-true _ _ low.0 in
-      let mcr : n.mcr ≤ 31 = leb-true _ _ (and_parts _ _ low.1).0 in
       let fifos = level-on level n.fcr rules.fcr in
-      search
+      search (arith, and_parts, leb-true)
 
   receiver : IsReceiver now level (is_some (fifos_of n.fcr)) (port_of level n).receiver
   unfolding port_of timeout_holds
@@ -186,29 +181,21 @@ held now port h s =
 
 -- and back, by the rules
 fifos-level : (level : ℕ) (fifos : Option Trigger) (rest : Bool) → ((fcr_number fifos == 0) || (nat_le 2 level && rest)) ≡ true → is_some fifos ≡ true → 2 ≤ level
-fifos-level level None rest h e = cc
-fifos-level level (Some trigger) rest h e = grind (arith, on)
+fifos-level level fifos rest h e = grind (arith, on)
 
 shift-from : (now : ℕ) (shift : Option Shift) (idle empty five : Bool) → idle ≡ (empty && not (is_some shift)) → IsByte shift
     → (same idle (due_number shift == NEVER) && cond idle five (nat_lt now (due_number shift) && nat_le (due_number shift) (now + LONGEST_CHARACTER))) ≡ true
     → IsShift now shift
 shift-from now None idle empty five e b h = tt
-shift-from now (Some shift) true true five e b h = absurd (false≢true (sym e))
-shift-from now (Some shift) true false five e b h = cc
-shift-from now (Some shift) false empty five e b h =
-    let p = and_parts _ _ (and_parts _ _ h).1 in
-    record { byte = b; later = ltb-true _ _ p.0; in_time = leb-true _ _ p.1 }
+shift-from now (Some shift) idle empty five e b h = search (arith, and_parts, ltb-true, leb-true)
 
 idle-from : (shift : Option Shift) (idle empty rest : Bool) → idle ≡ (empty && not (is_some shift)) → (same idle (due_number shift == NEVER) && rest) ≡ true
     → is_some shift ≡ false → empty ≡ true
-idle-from None idle true rest e h n = refl
-idle-from _ _ _ rest e h n = cc
+idle-from shift idle empty rest e h n = grind (arith, and_parts)
 
 timeout-from : (now : ℕ) (runs : Bool) (timeout : Option ℕ) → IsTold timeout → cond runs (not (moment_number timeout == NEVER) && nat_le (moment_number timeout) (now + longest_timeout)) (moment_number timeout == NEVER) ≡ true → IsTimeout now runs timeout
-timeout-from now true None t h = cc
-timeout-from now false None t h = refl
-timeout-from now true (Some moment) t h = record { runs_now = refl; in_time = leb-true _ _ (and_parts _ _ h).1 }
-timeout-from now false (Some moment) t h = absurd (let e = eqb-true moment NEVER h in omega arith)
+timeout-from now runs None t h = grind arith
+timeout-from now runs (Some moment) t h = search (arith, and_parts, leb-true, eqb-true)
 
 module _ (now : ℕ) (port : Port) (is : IsHeld port) (rules : Hold port.level now (saved 4 now port)) where
   abbrev lsr : IsStatus (lsr_of port) (not (is_empty port.receiver.held)) port.receiver.overrun (is_empty port.transmitter.waiting)
@@ -218,11 +205,8 @@ module _ (now : ℕ) (port : Port) (is : IsHeld port) (rules : Hold port.level n
   port-registers : HasRegisters port.level port.divisor port.ier port.lcr port.mcr port.scr (is_some port.fifos)
   unfolding registers_hold fcr_holds saved
   port-registers =
-      let low = and_parts _ _ rules.registers in
-      let ier : port.ier ≤ 15 = leb-true _ _ low.0 in
-      let mcr : port.mcr ≤ 31 = leb-true _ _ (and_parts _ _ low.1).0 in
       let fifos = fifos-level port.level port.fifos _ rules.fcr in
-      search
+      search (arith, and_parts, leb-true)
 
   port-timeout : IsTimeout now (nat_le 3 port.level && (is_some port.fifos && not (is_empty port.receiver.held))) port.receiver.timeout
   unfolding timeout_holds saved

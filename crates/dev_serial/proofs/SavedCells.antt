@@ -1,16 +1,15 @@
 -- The saved cells of a port, of its own set and carried to the newest one.
 use Rattle.dev_serial.proofs.AlikeLaws.{lsr-status}
 use Rattle.dev_serial.proofs.Facade.{PlacesAre, IsArray, ◌≡◌, ℕ, zero, suc, ◌+◌, ◌<◌, ◌≤◌, ◌^◌, Bool, true, false, cond, List}
-use Rattle.dev_serial.proofs.Facade.{◌∷◌, ◌++◌, map, replicate, ℤ, pos, refl, ap, ◌∙◌, [], arith, append_assoc, length, take, drop, Option}
-use Rattle.dev_serial.proofs.Facade.{Some, None, ⊎_elim, range_with_len, nat_le, is_some, cases_lt, get_or-append-add, get_or_append_left, get_or-map}
-use Rattle.dev_serial.proofs.Facade.{get_or_past, and_le_r, nil_from_length, serial_rows, InRange, U8, I8, of_none, of_more, byte, word, timer, AllHold}
-use Rattle.dev_serial.proofs.Facade.{one_holds, of_rows, AreOf, firsts, cell_at, since, named, field_cells, array_cells, ring_cells, cells_of, kinds}
-use Rattle.dev_serial.proofs.Facade.{IsPortCells, FIFOS_SINCE, TIMEOUT_SINCE, RINGS_SINCE, PortNumbers, Counted, Ring, NEWEST, LAST_MOMENT, lsr_of, has}
-use Rattle.dev_serial.proofs.Facade.{AreSaved, SavedAreCells, IsShort, Port, interrupt, id_number, saved, ipending_of, single_byte, fifo_bytes, in_array}
-use Rattle.dev_serial.proofs.Facade.{in_ring, fcr_number, shift_number, due_number, moment_number, IsSound, AreBytes, IsShift, IsTimeout, byte_of, padded}
-use Rattle.dev_serial.proofs.Facade.{counted_of, ring_of, Interrupt, LineStatus, Shift, Trigger, One, RX, TX_COUNT, TX, TIMEOUT_AT, number_at, RX_COUNT}
-use Rattle.dev_serial.proofs.Facade.{cells_at, hook_restored, ◌&&◌, not, Ok, nat_tests, AllLack, none_lacks, carried_rows, carried}
-use Rattle.dev_serial.proofs.Facade.{numbers_of, is_empty, SavedComesBack, Alike, Numbers, hook_result, CanSave, CanRestore}
+use Rattle.dev_serial.proofs.Facade.{◌∷◌, ◌++◌, map, replicate, ℤ, pos, refl, [], arith, append_assoc, length, take, drop, Option, Some, None}
+use Rattle.dev_serial.proofs.Facade.{⊎_elim, range_with_len, nat_le, is_some, cases_lt, get_or-append-add, get_or_append_left, get_or-map, get_or_past}
+use Rattle.dev_serial.proofs.Facade.{and_le_r, nil_from_length, serial_rows, InRange, U8, I8, of_none, of_more, byte, word, timer, AllHold, one_holds, of_rows}
+use Rattle.dev_serial.proofs.Facade.{AreOf, firsts, cell_at, since, named, field_cells, array_cells, ring_cells, cells_of, kinds, IsPortCells, FIFOS_SINCE}
+use Rattle.dev_serial.proofs.Facade.{TIMEOUT_SINCE, RINGS_SINCE, PortNumbers, Counted, Ring, NEWEST, LAST_MOMENT, lsr_of, AreSaved, SavedAreCells, IsShort}
+use Rattle.dev_serial.proofs.Facade.{Port, interrupt, id_number, saved, ipending_of, single_byte, fifo_bytes, in_array, in_ring, fcr_number, shift_number}
+use Rattle.dev_serial.proofs.Facade.{due_number, moment_number, IsSound, AreBytes, IsShift, IsTimeout, byte_of, padded, counted_of, ring_of, Interrupt, Shift}
+use Rattle.dev_serial.proofs.Facade.{Trigger, RX, TX_COUNT, TX, TIMEOUT_AT, number_at, RX_COUNT, cells_at, hook_restored, Ok, nat_tests, AllLack, none_lacks}
+use Rattle.dev_serial.proofs.Facade.{carried_rows, carried, numbers_of, SavedComesBack, Alike, Numbers, hook_result, CanSave, CanRestore}
 use Rattle.dev_serial.proofs.SavedLaws.{byte_of-lt, byte_of-padded, array-short, ring-short, restored-saved}
 
 -- ---- the places are the constants' by their definition
@@ -86,21 +85,6 @@ of_kinds set n r = of_rows (named n) set serial_rows (holds n r)
 
 -- ---- parts
 
--- A counted array is two rows, and a ring three.
-array_rows : (has : Bool) (count : ℤ) (bytes rest : List ℤ) → cond has (count ∷ bytes) [] ++ rest ≡ cond has (count ∷ []) [] ++ (cond has bytes [] ++ rest)
-array_rows has count bytes rest = grind (arith, nat_tests)
-
-ring_rows : (has : Bool) (elements : List ℤ) (head number : ℤ) (rest : List ℤ)
-    → cond has (elements ++ head ∷ number ∷ []) [] ++ rest ≡ cond has elements [] ++ (cond has (head ∷ []) [] ++ (cond has (number ∷ []) [] ++ rest))
-ring_rows has elements head number rest = grind (arith, nat_tests, append_assoc)
-
-last_rows : (has : Bool) (elements : List ℤ) (head number : ℤ)
-    → cond has (elements ++ head ∷ number ∷ []) [] ≡ cond has elements [] ++ (cond has (head ∷ []) [] ++ (cond has (number ∷ []) [] ++ []))
-last_rows has elements head number = grind (arith, nat_tests)
-
-to_right : (a b c d e f g h : List ℤ) → a ++ b ++ c ++ d ++ e ++ f ++ g ++ h ≡ a ++ (b ++ (c ++ (d ++ (e ++ (f ++ (g ++ h))))))
-to_right a b c d e f g h = simp append_assoc refl
-
 -- The cells in the order in which code appends them.
 abbrev pub parts : ℕ → PortNumbers → List ℤ
 parts set n =
@@ -111,31 +95,17 @@ parts set n =
 
 pub parts_are : (set : ℕ) (n : PortNumbers) → parts set n ≡ cells_of set n
 unfolding field_cells array_cells ring_cells cells_of
-parts_are set n =
-    let arrays = nat_le 2 set in
-    let rings = nat_le 4 set in
-    let fcr = cond arrays (pos n.fcr ∷ []) [] in
-    let tx = cond arrays (pos n.tx.count ∷ map pos n.tx.bytes) [] in
-    let timeout = cond (nat_le 3 set) (pos n.timeout_at ∷ []) [] in
-    let rx_ring = cond rings (map pos n.rx_ring.elements ++ pos n.rx_ring.head ∷ pos n.rx_ring.number ∷ []) [] in
-    let tx_ring = cond rings (map pos n.tx_ring.elements ++ pos n.tx_ring.head ∷ pos n.tx_ring.number ∷ []) [] in
-    let both = ap (λ l. rx_ring ++ l) (last_rows rings (map pos n.tx_ring.elements) (pos n.tx_ring.head) (pos n.tx_ring.number))
-    ∙ ring_rows rings (map pos n.rx_ring.elements) (pos n.rx_ring.head) (pos n.rx_ring.number) _ in
-    to_right (field_cells n) fcr (n.thr_ipending ∷ []) (cond arrays (pos n.rx.count ∷ map pos n.rx.bytes) []) tx timeout rx_ring tx_ring
-    ∙ ap (λ l. field_cells n ++ (fcr ++ (n.thr_ipending ∷ l)))
-    (rw (both, array_rows arrays (pos n.tx.count) (map pos n.tx.bytes) _) (array_rows arrays (pos n.rx.count) (map pos n.rx.bytes) _))
+parts_are set n = grind (arith, nat_tests, append_assoc)
 
 -- ---- saved cells
 
 -- the numbers of a sound port are in their kinds' ranges
 id-range : (interrupt : Interrupt) → id_number interrupt < 256
-id-range LineStatus = omega arith
-id-range _ = omega arith
+id-range interrupt = grind arith
 
 single-range : (fifos : Option Trigger) (bytes : List ℕ) → AreBytes bytes → single_byte fifos bytes < 256
-single-range None [] b = omega arith
 single-range None (byte ∷ bytes) b = b.0
-single-range (Some trigger) bytes b = omega arith
+single-range _ _ b = grind arith
 
 fifo-range : (fifos : Option Trigger) (bytes : List ℕ) → AreBytes bytes → AreBytes (fifo_bytes fifos bytes)
 fifo-range None bytes b = tt
@@ -154,8 +124,7 @@ moment-range now runs None h t = omega arith
 moment-range now runs (Some timeout) h t = omega arith
 
 fcr-range : (fifos : Option Trigger) → fcr_number fifos < 256
-fcr-range (Some One) = omega arith
-fcr-range _ = omega arith
+fcr-range fifos = grind arith
 
 ipending-range : (enabled latch identified : Bool) → InRange I8 (ipending_of enabled latch identified)
 ipending-range enabled latch identified = grind (arith, nat_tests)
@@ -191,13 +160,11 @@ module _ (set now : ℕ) (port : Port) (early : now ≤ LAST_MOMENT) (sound : Is
   in-ranges =
       search (arith, id-range, lsr-range, single-range, shift-range, due-range, fcr-range, ipending-range, array-part, moment-range, ring-part)
 
--- a number from 1 to 4 is one of these
-each_set : (P : ℕ → Type 0) (set : ℕ) → 1 ≤ set → set ≤ NEWEST → P 1 → P 2 → P 3 → P 4 → P set
-each_set P set low high a b c d =
-    ⊎_elim (λ below. let e : set ≡ 1 = omega arith in rw e a) (λ from2.
+-- a number from 2 to 4 is one of these
+from_two : (P : ℕ → Type 0) (set : ℕ) → FIFOS_SINCE ≤ set → set ≤ NEWEST → P 2 → P 3 → P 4 → P set
+from_two P set low high b c d =
     ⊎_elim (λ below. let e : set ≡ 2 = omega arith in rw e b) (λ from3.
-    ⊎_elim (λ below. let e : set ≡ 3 = omega arith in rw e c) (λ from4. let e : set ≡ 4 = omega arith in rw e d)
-    (cases_lt set 4)) (cases_lt set 3)) (cases_lt set 2)
+    ⊎_elim (λ below. let e : set ≡ 3 = omega arith in rw e c) (λ from4. let e : set ≡ 4 = omega arith in rw e d) (cases_lt set 4)) (cases_lt set 3)
 
 -- a counted array by its index: the elements after the count are 0 from the count on
 zero-from : (front back : List ℤ) (bytes : List ℕ) (i : ℕ) → length bytes ≤ i → i < 16
@@ -245,13 +212,13 @@ module _ (now : ℕ) (port : Port) (early : now ≤ LAST_MOMENT) (sound : IsSoun
   unfolding cells_of saved
   are-saved set low high = record {
     of_kinds = of_kinds set _ (in-ranges set now port early sound);
-    rx = each_set (λ n. FIFOS_SINCE ≤ n → IsArray (cells n) RX_COUNT) set low high (λ h. absurd (omega arith)) (λ h. rx-in 2 (cells 2) refl refl refl)
-        (λ h. rx-in 3 (cells 3) refl refl refl) (λ h. rx-in 4 (cells 4) refl refl refl);
-    tx = each_set (λ n. FIFOS_SINCE ≤ n → IsArray (cells n) TX_COUNT) set low high (λ h. absurd (omega arith)) (λ h. tx-in 2 (cells 2) refl refl refl)
-        (λ h. tx-in 3 (cells 3) refl refl refl) (λ h. tx-in 4 (cells 4) refl refl refl);
-    no_fifo = each_set (λ n. FIFOS_SINCE ≤ n → number_at (cells n) RX_COUNT ≡ 0 → number_at (cells n) TX_COUNT ≡ 0
-        → take 34 (drop RX_COUNT (cells n)) ≡ replicate 34 (pos 0)) set low high
-        (λ h. absurd (omega arith)) (λ h. no-arrays (first 2) (second 2)) (λ h. no-arrays (first 3) (second 3)) (λ h. no-arrays (first 4) (second 4));
+    rx = λ h. from_two (λ n. IsArray (cells n) RX_COUNT) set h high (rx-in 2 (cells 2) refl refl refl) (rx-in 3 (cells 3) refl refl refl)
+        (rx-in 4 (cells 4) refl refl refl);
+    tx = λ h. from_two (λ n. IsArray (cells n) TX_COUNT) set h high (tx-in 2 (cells 2) refl refl refl) (tx-in 3 (cells 3) refl refl refl)
+        (tx-in 4 (cells 4) refl refl refl);
+    no_fifo = λ h. from_two (λ n. number_at (cells n) RX_COUNT ≡ 0 → number_at (cells n) TX_COUNT ≡ 0
+        → take 34 (drop RX_COUNT (cells n)) ≡ replicate 34 (pos 0)) set h high
+        (no-arrays (first 2) (second 2)) (no-arrays (first 3) (second 3)) (no-arrays (first 4) (second 4));
     no_ring = λ h. let e : set ≡ 4 = omega arith in
         rw e (λ a b. rw (nil_from_length (in_ring 4 port.fifos port.receiver.held) a, nil_from_length (in_ring 4 port.fifos port.transmitter.waiting) b));
   }
@@ -273,17 +240,14 @@ off-early : (now : ℕ) (port : Port) → IsSound now port → port.level < 2 �
 off-early now port s early = grind (arith, is_some)
 
 no-timeout : (now : ℕ) (port : Port) → IsSound now port → port.level < 3 → port.receiver.timeout ≡ None
-no-timeout now port s early = none_at port.receiver.timeout s.receiver.timeout where
-  none_at : (timeout : Option ℕ) → IsTimeout now (nat_le 3 port.level && (is_some port.fifos && not (is_empty port.receiver.held))) timeout → timeout ≡ None
-  none_at None t = refl
-  none_at (Some moment) t = grind arith
+no-timeout now port s early = let t = s.receiver.timeout in grind (arith, nat_tests)
 
 module _ (set now : ℕ) (port : Port) (early : now ≤ LAST_MOMENT) (s : IsSound now port) (le : port.level ≤ set) where
   off : nat_le 2 set ≡ false → port.fifos ≡ None
   off e = grind (arith, off-early)
 
   empty : (bytes : List ℕ) → nat_le 2 set ≡ false → in_array set port.fifos bytes ≡ []
-  empty bytes e = rw (off e) (grind arith)
+  empty bytes e = grind (arith, off)
 
   no-ring : (bytes : List ℕ) → nat_le 4 set ≡ false → in_ring set port.fifos bytes ≡ []
   no-ring bytes e = rw e
@@ -303,31 +267,8 @@ module _ (set now : ℕ) (port : Port) (early : now ≤ LAST_MOMENT) (s : IsSoun
       let waiting = port.transmitter.waiting in
       none_lacks n set (take 11 serial_rows) (drop 11 serial_rows) refl (
         λ e. rw (off e),
-        none_lacks n set (take 1 (drop 12 serial_rows)) (drop 13 serial_rows) refl (
-          λ e. no_count _ (empty held e),
-          (
-            λ e. no_bytes _ (empty held e),
-            (
-              λ e. no_count _ (empty waiting e),
-              (
-                λ e. no_bytes _ (empty waiting e),
-                (
-                  λ e. rw (no-timeout now port s (grind (arith, nat_tests))),
-                  (
-                    λ e. no_bytes _ (no-ring held e),
-                    (
-                      λ e. refl,
-                      (
-                        λ e. no_count _ (no-ring held e),
-                        (λ e. no_bytes _ (no-ring waiting e), (λ e. refl, (λ e. no_count _ (no-ring waiting e), tt))),
-                      ),
-                    ),
-                  ),
-                ),
-              ),
-            ),
-          ),
-        ),
+        none_lacks n set (take 1 (drop 12 serial_rows)) (drop 13 serial_rows) refl
+            (search (arith, no_count, no_bytes, empty, no-ring, no-timeout, nat_tests)),
       )
 
   -- under every set from the port's level on, the cells are carried to those of the newest set

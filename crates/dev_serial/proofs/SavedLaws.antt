@@ -2,17 +2,17 @@
 use Rattle.dev_serial.proofs.{Facade.AllTrue, SoundLaws.not_empty}
 use Rattle.dev_serial.proofs.AlikeLaws.{IsStatus, lsr-status, latch_back, IsLatchBack, latch_comes_back}
 use Rattle.dev_serial.proofs.Facade.{◌≡◌, ℕ, ◌+◌, ◌<◌, Bool, true, false, take, ap, ◌∙◌, arith, zero, suc, ◌-◌, ◌%◌, ◌≤◌}
-use Rattle.dev_serial.proofs.Facade.{◌==◌, not, ◌&&◌, cond, List, [], ◌∷◌, length, map, refl, sym, ⊎_elim, ◌++◌, ℤ, replicate, subst}
-use Rattle.dev_serial.proofs.Facade.{and_from, cases_lt, lt-ltb, le-leb, ne_eqb, eq-eqb, or_right, get_or-range_with_len, length-map-range_with_len}
-use Rattle.dev_serial.proofs.Facade.{get_or-map-range_with_len, list_all_at, list_all_more, range_with_len, list_all, get_or_past, nat_lt, cond_both, is_empty}
-use Rattle.dev_serial.proofs.Facade.{ListsComeBack, HoldsWhatItGives, stored_bytes, is_unused, AreBytes, firsts, cell_at, kind_at, number_at, AreOf, byte_of}
-use Rattle.dev_serial.proofs.Facade.{padded, counted_of, counted_bytes, ring_of, ring_bytes, behind_head, is_held_or_zero, ring_holds, Counted, Ring, all_set}
+use Rattle.dev_serial.proofs.Facade.{◌==◌, not, ◌&&◌, cond, List, [], ◌∷◌, length, map, refl, sym, ◌++◌, ℤ, replicate, subst, nat_tests}
+use Rattle.dev_serial.proofs.Facade.{and_from, le-leb, eq-eqb, or_right, get_or-range_with_len, length-map-range_with_len, get_or-map-range_with_len}
+use Rattle.dev_serial.proofs.Facade.{list_all_at, list_all_more, range_with_len, list_all, get_or_past, nat_lt, cond_both, is_empty, ListsComeBack}
+use Rattle.dev_serial.proofs.Facade.{HoldsWhatItGives, stored_bytes, is_unused, AreBytes, firsts, cell_at, kind_at, number_at, AreOf, byte_of, padded}
+use Rattle.dev_serial.proofs.Facade.{counted_of, counted_bytes, ring_of, ring_bytes, behind_head, is_held_or_zero, ring_holds, Counted, Ring, all_set}
 use Rattle.dev_serial.proofs.Facade.{bytes_within, InRange, U8, I8, Timer, field_kinds, kinds, AreBytesIn, bytes_at, number-lt, RX_COUNT, TIMEOUT_AT, RX_DATA}
 use Rattle.dev_serial.proofs.Facade.{judged-all, Port, is_data_ready, has_come, interrupt, id_number, ◌||◌, Option, Some, None, Ok, and-true, and-false}
 use Rattle.dev_serial.proofs.Facade.{or-true, nat_le, is_some, lsr_of, LAST_MOMENT, moment_number, due_number, shift_number, single_byte, fifo_bytes, in_array}
 use Rattle.dev_serial.proofs.Facade.{in_ring, fcr_number, moment_of, shift_of, fifos_of, bytes_held, saved, port_of, IsShort, same, has, is_stored_once}
 use Rattle.dev_serial.proofs.Facade.{longest_timeout, registers_hold, fcr_holds, unused_hold, status_holds, shift_holds, timeout_holds, latch_holds, id_holds}
-use Rattle.dev_serial.proofs.Facade.{once_holds, rings_hold, rules, restored, IsShift, IsTimeout, IsSound, Alike, Shift, Trigger, One, LONGEST_CHARACTER, NEVER}
+use Rattle.dev_serial.proofs.Facade.{once_holds, rings_hold, rules, restored, IsShift, IsTimeout, IsSound, Alike, Shift, Trigger, LONGEST_CHARACTER, NEVER}
 use Rattle.std.specs.Prelude.{min}
 
 -- ---- a test of each of the sixteen elements of a ring
@@ -55,21 +55,17 @@ back-round : (k : ℕ) → k < 16 → (k + 16 - 0) % 16 ≡ k
 back-round k l = omega arith
 
 held-or-zero : (bytes : List ℕ) (k : ℕ) → k < 16 → is_held_or_zero (ring_of bytes) k ≡ true
-held-or-zero bytes k l = rw (back-round k l, byte_of-padded bytes k l) (
-    ⊎_elim (λ held. rw (lt-ltb k (length bytes) held)) (λ past. or_right (nat_lt k (length bytes)) _ (eq-eqb _ _ (get_or_past bytes k 0 past)))
-    (cases_lt k (length bytes)))
+held-or-zero bytes k l = rw (back-round k l, byte_of-padded bytes k l) (let past = get_or_past bytes k 0 in grind (arith, nat_tests, or_right))
 
 pub ring_of-holds : (bytes : List ℕ) → length bytes ≤ 16 → ring_holds (ring_of bytes) ≡ true
 unfolding ring_holds
 ring_of-holds bytes h =
-    and_from _ _ (le-leb (length bytes) 16 h)
-    (and_from _ _ (or_right (not (length bytes == 0)) _ refl)
-    (all-range (is_held_or_zero (ring_of bytes)) 0 16 (λ k low high. held-or-zero bytes k (omega arith))))
+    let all = all-range (is_held_or_zero (ring_of bytes)) 0 16 (λ k low high. held-or-zero bytes k (omega arith)) in
+    grind (arith, nat_tests, and_from)
 
 -- whether there are any
 none : (n : ℕ) → (min n 16 == 0) ≡ (n == 0)
-none zero = refl
-none (suc n) = grind arith
+none n = grind (arith, nat_tests)
 
 firsts-empty : (n : ℕ) (f : ℕ → ℕ) → is_empty (firsts (min n 16) f) ≡ (n == 0)
 firsts-empty n f = cc (length-map-range_with_len f 0 (min n 16), none n)
@@ -146,25 +142,20 @@ ring-bytes cells of_kinds place low high =
 
 -- FIFOs that are on have a number of their own
 pub on : (trigger : Trigger) → (fcr_number (Some trigger) == 0) ≡ false
-on One = refl
-on _ = refl
+on trigger = grind arith
 
 on_bit : (trigger : Trigger) → (fcr_number (Some trigger) % 64 == 1) ≡ true
-on_bit One = refl
-on_bit _ = refl
+on_bit trigger = grind arith
 
 pub fifos-back : (fifos : Option Trigger) → fifos_of (fcr_number fifos) ≡ fifos
-fifos-back (Some One) = refl
-fifos-back _ = refl
+fifos-back fifos = grind arith
 
 pub fcr-saved : (level : ℕ) (fifos : Option Trigger) → (is_some fifos ≡ true → 2 ≤ level)
     → ((fcr_number fifos == 0) || (nat_le 2 level && (fcr_number fifos % 64 == 1))) ≡ true
-fcr-saved level None h = refl
-fcr-saved level (Some trigger) h = grind (arith, or_right, and_from, on_bit)
+fcr-saved level fifos h = grind (arith, or_right, and_from, on_bit)
 
 pub unused-saved : (fifos : Option Trigger) (held waiting : List ℕ) → cond (fcr_number fifos == 0) (is_empty (fifo_bytes fifos held) && is_empty (fifo_bytes fifos waiting)) ((single_byte fifos held == 0) && (single_byte fifos waiting == 0)) ≡ true
-unused-saved None held waiting = refl
-unused-saved (Some trigger) held waiting = rw (on trigger)
+unused-saved fifos held waiting = grind (arith, on)
 
 -- the bytes held, if the line status says whether there are any
 pub bytes-back : (fifos : Option Trigger) (bytes : List ℕ) (is_held : Bool) → IsShort (is_some fifos) bytes → is_held ≡ not (is_empty bytes)
@@ -174,9 +165,7 @@ bytes-back (Some trigger) bytes is_held s e = rw (on trigger)
 bytes-back None _ is_held s e = rw e
 
 single-none : (fifos : Option Trigger) (bytes : List ℕ) → (not (is_empty bytes) || (single_byte fifos bytes == 0)) ≡ true
-single-none None [] = refl
-single-none (Some trigger) [] = refl
-single-none _ (x ∷ bytes) = rw (not_empty x bytes)
+single-none fifos bytes = grind (arith, not_empty)
 
 same-self : (b : Bool) → same b b ≡ true
 same-self b = grind arith
@@ -184,34 +173,28 @@ same-self b = grind arith
 pub status-saved : (fifos : Option Trigger) (held waiting : List ℕ) (ready empty : Bool) → ready ≡ not (is_empty held) → empty ≡ is_empty waiting
     → cond (fcr_number fifos == 0) ((ready || (single_byte fifos held == 0)) && (not empty || (single_byte fifos waiting == 0)))
     (same ready (not (is_empty (fifo_bytes fifos held))) && same empty (is_empty (fifo_bytes fifos waiting))) ≡ true
-status-saved None held waiting ready empty r e = grind (arith, and_from, single-none)
-status-saved (Some trigger) held waiting ready empty r e = grind (arith, on, and_from, same-self, is_empty)
+status-saved fifos held waiting ready empty r e = grind (arith, on, and_from, single-none, same-self, is_empty)
 
 pub moment-back : (now : ℕ) (runs : Bool) (timeout : Option ℕ) → now ≤ LAST_MOMENT → IsTimeout now runs timeout → moment_of (moment_number timeout) ≡ timeout
-moment-back now runs None h t = refl
-moment-back now runs (Some moment) h t = rw (ne_eqb moment NEVER (λ e. omega arith))
+moment-back now runs timeout h t = grind (arith, nat_tests)
 
 pub shift-back : (now : ℕ) (shift : Option Shift) → now ≤ LAST_MOMENT → IsShift now shift → shift_of (shift_number shift) (due_number shift) ≡ shift
-shift-back now None h s = refl
-shift-back now (Some shift) h s = grind arith
+shift-back now shift h s = grind (arith, nat_tests)
 
 pub shift-saved : (now : ℕ) (shift : Option Shift) (idle empty : Bool) → now ≤ LAST_MOMENT → IsShift now shift → (is_some shift ≡ false → empty ≡ true)
     → idle ≡ (empty && not (is_some shift))
     → (same idle (due_number shift == NEVER) && cond idle (empty && (shift_number shift == 0))
     (nat_lt now (due_number shift) && nat_le (due_number shift) (now + LONGEST_CHARACTER))) ≡ true
-shift-saved now None idle empty h s i e = rw (e, i refl)
-shift-saved now (Some shift) idle empty h s i e = grind (arith, and-false, and_from)
+shift-saved now shift idle empty h s i e = grind (arith, and-false, and_from, nat_tests)
 
 -- a timeout that runs exactly when it may
 timeout_at : (now : ℕ) (runs : Bool) (timeout : Option ℕ) → now ≤ LAST_MOMENT → IsTimeout now runs timeout
     → cond runs (not (moment_number timeout == NEVER) && nat_le (moment_number timeout) (now + longest_timeout)) (moment_number timeout == NEVER) ≡ true
-timeout_at now runs None h t = rw t
-timeout_at now runs (Some moment) h t = grind arith
+timeout_at now runs timeout h t = grind (arith, nat_tests)
 
 pub runs-same : (fifos : Option Trigger) (held : List ℕ)
     → (not (fcr_number fifos == 0) && not (is_empty (fifo_bytes fifos held))) ≡ (is_some fifos && not (is_empty held))
-runs-same None held = refl
-runs-same (Some trigger) held = rw (on trigger)
+runs-same fifos held = grind (arith, on)
 
 pub timeout-saved : (level now : ℕ) (fifos : Option Trigger) (held : List ℕ) (timeout : Option ℕ) → now ≤ LAST_MOMENT
     → IsTimeout now (nat_le 3 level && (is_some fifos && not (is_empty held))) timeout

@@ -1,10 +1,10 @@
 -- The bytes that leave, and their order.
 use Rattle.dev_serial.proofs.Facade.{◌≡◌, ℕ, ◌+◌, ◌<◌, ◌≤◌, Bool, true, false, cond, List, ◌∷◌, ◌++◌, length, Some, None, refl}
 use Rattle.dev_serial.proofs.Facade.{sym, ap, ◌∙◌, arith, [], append_assoc, append-nil, get_or, suc, ◌-◌, Option, not, ◌&&◌, nat_tests, nat_le}
-use Rattle.dev_serial.proofs.Facade.{remove, nat_lt, is_some, leb-true, le-leb, not-false, map-append, length-map, ReceiverState, timetable, departures, gone}
-use Rattle.dev_serial.proofs.Facade.{staying, holding, arrived, on_line, looped_in, bytes_of, run_until, gone_by, pending_of, queued, loaded, Mode, Shift}
-use Rattle.dev_serial.proofs.Facade.{is_empty, thr_written, advanced, character_time, Port, Event, Writes, Advances, after, after_all, left_in, left_in_all}
-use Rattle.dev_serial.proofs.Facade.{accepted_in, accepted_in_all, replaces, pending, SendsInOrder, ReplacesOne, LeavesForLine}
+use Rattle.dev_serial.proofs.Facade.{remove, nat_lt, is_some, not-false, map-append, length-map, ReceiverState, timetable, departures, gone, staying, holding}
+use Rattle.dev_serial.proofs.Facade.{arrived, on_line, looped_in, bytes_of, run_until, gone_by, pending_of, queued, loaded, Mode, Shift, is_empty, thr_written}
+use Rattle.dev_serial.proofs.Facade.{advanced, character_time, Port, Event, Writes, Advances, after, after_all, left_in, left_in_all, accepted_in}
+use Rattle.dev_serial.proofs.Facade.{accepted_in_all, replaces, pending, SendsInOrder, ReplacesOne, LeavesForLine}
 use Rattle.dev_serial.specs.Transmit.{byte_of}
 
 -- ---- one byte at a time
@@ -100,31 +100,18 @@ module _ (mode : Mode) (to : ℕ) (shift : Shift) where
 pub gone-staying : (to : ℕ) (shifts : List Shift) → gone to shifts ++ staying to shifts ≡ shifts
 unfolding gone staying
 gone-staying to [] = refl
-gone-staying to (shift ∷ later) = by_test (gone-staying to later) (nat_le shift.due to) where
-  by_test : gone to later ++ staying to later ≡ later → (b : Bool)
-      → cond b (shift ∷ gone to later) [] ++ cond b (staying to later) (shift ∷ later) ≡ shift ∷ later
-  by_test rest true = rw rest
-  by_test rest false = refl
-
-staying-step : (a b : ℕ) (shift : Shift) (later : List Shift) (t : Bool) → nat_le shift.due a ≡ t → a ≤ b → staying b (staying a later) ≡ staying b later
-    → staying b (cond t (staying a later) (shift ∷ later)) ≡ cond (nat_le shift.due b) (staying b later) (shift ∷ later)
-unfolding staying
-staying-step a b shift later t e h rest = grind (arith, nat_tests, leb-true, le-leb)
+gone-staying to (shift ∷ later) = grind (arith, nat_tests, gone-staying to later)
 
 -- up to one moment and then up to a later one is up to the later one
 pub staying-twice : (a b : ℕ) (shifts : List Shift) → a ≤ b → staying b (staying a shifts) ≡ staying b shifts
 unfolding staying
 staying-twice a b [] h = refl
-staying-twice a b (shift ∷ later) h = staying-step a b shift later (nat_le shift.due a) refl h (staying-twice a b later h)
-
-gone-step : (a b : ℕ) (shift : Shift) (later : List Shift) (t : Bool) → nat_le shift.due a ≡ t → a ≤ b → gone a later ++ gone b (staying a later) ≡ gone b later → cond t (shift ∷ gone a later) [] ++ gone b (cond t (staying a later) (shift ∷ later)) ≡ cond (nat_le shift.due b) (shift ∷ gone b later) []
-unfolding gone
-gone-step a b shift later t e h rest = grind (arith, nat_tests, leb-true, le-leb)
+staying-twice a b (shift ∷ later) h = grind (arith, nat_tests, staying-twice a b later h)
 
 pub gone-twice : (a b : ℕ) (shifts : List Shift) → a ≤ b → gone a shifts ++ gone b (staying a shifts) ≡ gone b shifts
 unfolding gone staying
 gone-twice a b [] h = refl
-gone-twice a b (shift ∷ later) h = gone-step a b shift later (nat_le shift.due a) refl h (gone-twice a b later h)
+gone-twice a b (shift ∷ later) h = grind (arith, nat_tests, gone-twice a b later h)
 
 -- the rest of a timetable is one
 record IsTable (character : ℕ) (shifts : List Shift) : Type 0 where
@@ -179,10 +166,7 @@ gone_by-twice character a b shift waiting h = grind (arith, departures-later, go
 length-staying : (to : ℕ) (shifts : List Shift) → length (staying to shifts) ≤ length shifts
 unfolding staying
 length-staying to [] = omega arith
-length-staying to (shift ∷ later) = by_test (length-staying to later) (nat_le shift.due to) where
-  by_test : length (staying to later) ≤ length later → (b : Bool) → length (cond b (staying to later) (shift ∷ later)) ≤ length (shift ∷ later)
-  by_test rest true = omega arith
-  by_test rest false = omega arith
+length-staying to (shift ∷ later) = grind (arith, nat_tests, length-staying to later)
 
 length-holding : (shifts : List Shift) → length (holding shifts).waiting ≤ length shifts - 1
 unfolding holding
@@ -235,10 +219,7 @@ none_left (byte ∷ bytes) e = grind arith
 queued-accepted : (has_fifos : Bool) (byte : ℕ) (waiting : List ℕ) → (not has_fifos && not (is_empty waiting)) ≡ false
     → queued has_fifos byte waiting ≡ waiting ++ cond (has_fifos && not (nat_lt (length waiting) 16)) [] (byte ∷ [])
 unfolding queued
-queued-accepted true byte waiting e = by_room (nat_lt (length waiting) 16) where
-  by_room : (room : Bool) → cond room (waiting ++ byte ∷ []) waiting ≡ waiting ++ cond (not room) [] (byte ∷ [])
-  by_room true = refl
-  by_room false = sym (append-nil waiting)
+queued-accepted true byte waiting e = grind (arith, nat_tests, append-nil)
 queued-accepted false byte waiting e = rw (none_left waiting (not-false (is_empty waiting) e))
 
 one-event : (event : Event) (port : Port) → replaces event port ≡ false
@@ -251,11 +232,7 @@ one-event (Advances to) port e = cc (in-order (character_time port.divisor port.
 pub sends_in_order : SendsInOrder
 unfolding after_all left_in_all accepted_in_all
 sends_in_order [] port r = sym (append-nil (pending port))
-sends_in_order (event ∷ events) port r =
-    append_assoc (left_in event port) (left_in_all events (after event port)) _
-    ∙ ap (λ xs. left_in event port ++ xs) (sends_in_order events (after event port) r.1)
-    ∙ sym (append_assoc (left_in event port) (pending (after event port)) _)
-    ∙ ap (λ xs. xs ++ accepted_in_all events (after event port)) (one-event event port r.0) ∙ append_assoc (pending port) (accepted_in event port) _
+sends_in_order (event ∷ events) port r = grind (arith, append_assoc, one-event event port, sends_in_order events (after event port))
 
 pub replaces_one : ReplacesOne
 unfolding thr_written queued

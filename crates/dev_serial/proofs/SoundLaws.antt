@@ -1,13 +1,11 @@
 -- Each step of a part keeps it sound, also a byte that waits while the shift register is busy.
 use Rattle.dev_serial.proofs.{SendingLaws.bytes_of-timetable, SendingLaws.fewer, WaitLaws.stays_empty}
-use Rattle.dev_serial.proofs.Facade.{◌≡◌, ℕ, ◌+◌, ◌*◌, ◌<◌, ◌≤◌, ◌==◌, Bool, true, false, not, ◌&&◌, cond, List, ◌∷◌}
-use Rattle.dev_serial.proofs.Facade.{◌++◌, length, Option, Some, None, refl, arith, length-append, ◌⊎◌, ⊎_elim, mul-le-mul, ltb-true, ltb-false}
-use Rattle.dev_serial.proofs.Facade.{ne_eqb, cond_both, leb-true, leb-false, nat_le, nat_lt, max, is_some, is_empty, has, bits_where, character_time}
-use Rattle.dev_serial.proofs.Facade.{character_bits, ReceiverState, TransmitterState, IsShort, [], received, taken_at, emptied, longest_timeout}
-use Rattle.dev_serial.proofs.Facade.{LongestCharacter, AreBytes, IsTimeout, IsReceiver, IsShift, IsTransmitter, queued, loaded, timetable, departures, gone}
-use Rattle.dev_serial.proofs.Facade.{staying, holding, arrived, run_until, gone_by, Mode, Shift, LONGEST_CHARACTER, ap, ◌∙◌, ◌||◌, thr_written}
-use Rattle.dev_serial.proofs.Facade.{written, Port, either, queues, interrupt, line_of}
-use Rattle.dev_serial.specs.{declared.fifo.TheConstants.FIFO_BYTES}
+use Rattle.dev_serial.proofs.Facade.{◌≡◌, ℕ, ◌+◌, ◌*◌, ◌<◌, ◌≤◌, Bool, true, false, not, ◌&&◌, cond, List, ◌∷◌, ◌++◌}
+use Rattle.dev_serial.proofs.Facade.{length, Option, Some, None, refl, arith, length-append, ◌⊎◌, mul-le-mul, nat_tests, ne_eqb, leb-true, nat_le, max}
+use Rattle.dev_serial.proofs.Facade.{is_some, is_empty, has, bits_where, character_time, character_bits, ReceiverState, TransmitterState, IsShort, [], received}
+use Rattle.dev_serial.proofs.Facade.{taken_at, emptied, longest_timeout, LongestCharacter, AreBytes, IsTimeout, IsReceiver, IsShift, IsTransmitter, queued}
+use Rattle.dev_serial.proofs.Facade.{loaded, timetable, departures, gone, staying, holding, arrived, run_until, gone_by, Mode, Shift, LONGEST_CHARACTER, ap}
+use Rattle.dev_serial.proofs.Facade.{◌∙◌, ◌||◌, thr_written, written, Port, queues, interrupt, line_of}
 
 -- ---- each step of a part
 
@@ -50,30 +48,16 @@ module _ (now at character byte : ℕ) (looped : Bool) (receiver : ReceiverState
 
   received-short : (on has_timeout : Bool) → IsShort on receiver.held → IsShort on (received (mode_at character on has_timeout looped) byte at receiver).held
   unfolding received
-  received-short true has_timeout s =
-      cond_both (nat_lt (length receiver.held) 16) _ _ (λ (r : ReceiverState). IsShort true r.held)
-      (λ e. let l = ltb-true (length receiver.held) 16 e in record { short = simp length-append (omega arith); one = λ f. cc })
-      (λ e. record { short = s.short; one = λ f. cc })
-  received-short false has_timeout s =
-      cond_both (length receiver.held == 0) _ _ (λ (r : ReceiverState). IsShort false r.held)
-      (λ e. record { short = omega arith; one = λ f. omega arith }) (λ e. record { short = omega arith; one = λ f. omega arith })
+  received-short on has_timeout s = search (arith, nat_tests, length-append)
 
   received-bytes : (on has_timeout : Bool) → byte < 256 → AreBytes receiver.held
       → AreBytes (received (mode_at character on has_timeout looped) byte at receiver).held
   unfolding received
-  received-bytes true has_timeout b s =
-      cond_both (nat_lt (length receiver.held) 16) _ _ (λ (r : ReceiverState). AreBytes r.held) (λ e. AreBytes-push receiver.held byte s b) (λ e. s)
-  received-bytes false has_timeout b s = cond_both (length receiver.held == 0) _ _ (λ (r : ReceiverState). AreBytes r.held) (λ e. (b, tt)) (λ e. (b, tt))
+  received-bytes on has_timeout b s = grind (arith, nat_tests, AreBytes-push)
 
   received-timeout : (on has_timeout : Bool) → IsTimeout now (has_timeout && (on && not (is_empty receiver.held))) receiver.timeout → IsTimeout now (has_timeout && (on && not (is_empty (received (mode_at character on has_timeout looped) byte at receiver).held))) (received (mode_at character on has_timeout looped) byte at receiver).timeout
   unfolding received
-  received-timeout true true s =
-      cond_both (nat_lt (length receiver.held) 16) _ _ (λ (r : ReceiverState). IsTimeout now (not (is_empty r.held)) r.timeout)
-      (λ e. record { runs_now = rw (pushed-full receiver.held byte); in_time = in_time })
-      (λ e. record { runs_now = rw (many-full receiver.held (ltb-false (length receiver.held) 16 e)); in_time = in_time })
-  received-timeout true false s = cond_both (nat_lt (length receiver.held) 16) _ _ (λ (r : ReceiverState). IsTimeout now false r.timeout) (λ e. s) (λ e. s)
-  received-timeout false true s = cond_both (length receiver.held == 0) _ _ (λ (r : ReceiverState). IsTimeout now false r.timeout) (λ e. s) (λ e. s)
-  received-timeout false false s = cond_both (length receiver.held == 0) _ _ (λ (r : ReceiverState). IsTimeout now false r.timeout) (λ e. s) (λ e. s)
+  received-timeout on has_timeout s = search (arith, nat_tests, pushed-full, many-full, in_time)
 
   pub received-sound : (level : ℕ) (on : Bool) → byte < 256 → IsReceiver now level on receiver
       → IsReceiver now level on (received (mode_at character on (nat_le 3 level) looped) byte at receiver)
@@ -82,11 +66,7 @@ module _ (now at character byte : ℕ) (looped : Bool) (receiver : ReceiverState
 -- the first byte leaves
 module _ (now at character : ℕ) (looped : Bool) (early : at ≤ now) (quick : character ≤ LONGEST_CHARACTER) where
   taken-timeout : (on has_timeout : Bool) (byte : ℕ) (rest : List ℕ) (timeout : Option ℕ) → IsTimeout now (has_timeout && (on && not (is_empty (byte ∷ rest)))) timeout → IsTimeout now (has_timeout && (on && not (is_empty rest))) (cond (has_timeout && on) (cond (is_empty rest) None (Some (at + 4 * character))) timeout)
-  taken-timeout true true byte rest timeout s =
-      cond_both (is_empty rest) None (Some (at + 4 * character)) (λ (t : Option ℕ). IsTimeout now (not (is_empty rest)) t)
-      (λ e. rw e) (λ e. record { runs_now = rw e; in_time = omega arith })
-  taken-timeout false false byte rest timeout s = s
-  taken-timeout _ _ byte rest timeout s = s
+  taken-timeout on has_timeout byte rest timeout s = search (arith, nat_tests)
 
   pub taken-held : (level : ℕ) (on : Bool) (held : List ℕ) (receiver : ReceiverState) → receiver.held ≡ held → IsReceiver now level on receiver
       → IsReceiver now level on (taken_at (mode_at character on (nat_le 3 level) looped) at held receiver).1
@@ -96,32 +76,21 @@ module _ (now at character : ℕ) (looped : Bool) (early : at ≤ now) (quick : 
 
 -- the receiver without its bytes, with FIFOs or not
 pub emptied-sound : (now level : ℕ) (on : Bool) (receiver : ReceiverState) → IsReceiver now level on (emptied receiver)
-emptied-sound now level on receiver = record {
-  short = record { short = omega arith; one = λ _. omega arith };
-  bytes = tt;
-  timeout = none (nat_le 3 level) on;
-} where
-  none : (has_timeout on : Bool) → (has_timeout && (on && false)) ≡ false
-  none true true = refl
-  none _ _ = refl
+emptied-sound now level on receiver = search (arith, nat_tests)
 
 -- a later moment
 pub later-timeout : (now to : ℕ) (runs : Bool) (timeout : Option ℕ) → now ≤ to → IsTimeout now runs timeout → IsTimeout to runs timeout
 later-timeout now to runs None h t = t
-later-timeout now to runs (Some timeout) h t = record { runs_now = t.runs_now; in_time = omega arith }
+later-timeout now to runs (Some timeout) h t = search arith
 
 -- a byte is written
 queued-short : (on : Bool) (byte : ℕ) (waiting : List ℕ) → IsShort on waiting → IsShort on (queued on byte waiting)
 unfolding queued
-queued-short true byte waiting s =
-    cond_both (nat_lt (length waiting) 16) _ _ (λ (xs : List ℕ). IsShort true xs)
-    (λ e. let l = ltb-true (length waiting) 16 e in record { short = simp length-append (omega arith); one = λ f. cc }) (λ e. s)
-queued-short false byte waiting s = record { short = omega arith; one = λ _. omega arith }
+queued-short on byte waiting s = search (arith, nat_tests, length-append)
 
 queued-bytes : (on : Bool) (byte : ℕ) (waiting : List ℕ) → byte < 256 → AreBytes waiting → AreBytes (queued on byte waiting)
 unfolding queued
-queued-bytes true byte waiting b s = cond_both (nat_lt (length waiting) 16) _ _ (λ (xs : List ℕ). AreBytes xs) (λ e. AreBytes-push waiting byte s b) (λ e. s)
-queued-bytes false byte waiting b s = (b, tt)
+queued-bytes on byte waiting b s = grind (arith, nat_tests, AreBytes-push)
 
 loaded-sound : (now due : ℕ) (on : Bool) (shift : Option Shift) (waiting : List ℕ) → now < due → due ≤ now + LONGEST_CHARACTER → IsShort on waiting
     → AreBytes waiting → IsShift now shift → IsTransmitter now on (loaded due shift waiting) (is_empty (loaded due shift waiting).waiting)
@@ -138,19 +107,12 @@ thr-sound now character byte on latch transmitter p q b s =
 -- another latch
 pub latched-sound : (now : ℕ) (on first second : Bool) (transmitter : TransmitterState) → (second ≡ true → (first ≡ true) ⊎ (is_empty transmitter.waiting ≡ true)) → IsTransmitter now on transmitter first → IsTransmitter now on transmitter second
 latched-sound now on first second transmitter h s =
-    let latched : second ≡ true → is_empty transmitter.waiting ≡ true = λ e. ⊎_elim s.latched (λ f. f) (h e) in
-    search
+    search arith
 
 -- no byte waits any more, with FIFOs or not
 pub cleared-sound : (now : ℕ) (on other latch new_latch : Bool) (transmitter : TransmitterState) → IsTransmitter now on transmitter latch
     → IsTransmitter now other (record { waiting = []; shift = transmitter.shift }) new_latch
-cleared-sound now on other latch new_latch transmitter s = record {
-  short = record { short = omega arith; one = λ _. omega arith };
-  bytes = tt;
-  shift = s.shift;
-  idle = λ _. refl;
-  latched = λ _. refl;
-}
+cleared-sound now on other latch new_latch transmitter s = search arith
 
 -- ---- the passing of time
 
@@ -165,13 +127,8 @@ holding-sound : (character to due : ℕ) (bytes : List ℕ) → character ≤ LO
 unfolding timetable staying holding
 holding-sound character to due [] q h b = record { shift = tt; bytes = tt; idle = λ _. refl }
 holding-sound character to due (byte ∷ bytes) q h b =
-    cond_both (nat_le due to) _ _ (λ (shifts : List Shift). HoldsSound to (holding shifts))
-    (λ e. let l = leb-true due to e in holding-sound character to (due + character) bytes q (omega arith) b.1)
-    (λ e. record {
-      shift = record { byte = b.0; later = leb-false due to e; in_time = h };
-      bytes = rw (bytes_of-timetable character (due + character) bytes) b.1;
-      idle = λ n. cc;
-    })
+    let later = λ (l : due ≤ to). holding-sound character to (due + character) bytes q (omega arith) b.1 in
+    search (arith, nat_tests, bytes_of-timetable, leb-true)
 
 run-sound : (character now to : ℕ) (shift : Option Shift) (waiting : List ℕ) → character ≤ LONGEST_CHARACTER → now ≤ to → IsShift now shift → AreBytes waiting
     → (is_some shift ≡ false → is_empty waiting ≡ true) → HoldsSound to (run_until character to shift waiting)
@@ -186,13 +143,7 @@ pub advance-transmitter : (character now to : ℕ) (on latch : Bool) (transmitte
 advance-transmitter character now to on latch transmitter q l s =
     let few = fewer character to transmitter.shift transmitter.waiting in
     let holds = run-sound character now to transmitter.shift transmitter.waiting q l s.shift s.bytes s.idle in
-    record {
-      short = record { short = let k = s.short.short in omega arith; one = λ f. let k = s.short.one f in omega arith };
-      bytes = holds.bytes;
-      shift = holds.shift;
-      idle = holds.idle;
-      latched = latched _ (is_empty transmitter.waiting) latch (λ e. stays_empty _ transmitter.waiting few (s.latched e));
-    }
+    search (arith, latched, stays_empty)
 
 -- the bytes that leave are bytes, and left by the moment
 AreGone : ℕ → List Shift → Type 0
@@ -202,8 +153,7 @@ AreGone to (shift ∷ later) = (shift.due ≤ to) × (shift.byte < 256) × AreGo
 gone-are : (character to due : ℕ) (bytes : List ℕ) → AreBytes bytes → AreGone to (gone to (timetable character due bytes))
 unfolding timetable gone AreGone
 gone-are character to due [] b = tt
-gone-are character to due (byte ∷ bytes) b =
-    cond_both (nat_le due to) _ _ (AreGone to) (λ e. (leb-true due to e, b.0, gone-are character to (due + character) bytes b.1)) (λ e. tt)
+gone-are character to due (byte ∷ bytes) b = grind (arith, nat_tests, gone-are character to (due + character) bytes b.1)
 
 gone_by-are : (character now to : ℕ) (shift : Option Shift) (waiting : List ℕ) → IsShift now shift → AreBytes waiting
     → AreGone to (gone_by character to shift waiting)
@@ -219,7 +169,7 @@ arrived-sound character to level on looped (shift ∷ later) receiver q g s =
     arrived-sound character to level on looped later _ q g.2 (received-sound to shift.due character shift.byte looped receiver g.0 q level on g.1 s)
 
 later-receiver : (now to level : ℕ) (on : Bool) (receiver : ReceiverState) → now ≤ to → IsReceiver now level on receiver → IsReceiver to level on receiver
-later-receiver now to level on receiver l s = record { short = s.short; bytes = s.bytes; timeout = later-timeout now to _ receiver.timeout l s.timeout }
+later-receiver now to level on receiver l s = search (arith, later-timeout)
 
 pub advance-receiver : (character now to level : ℕ) (on looped : Bool) (shift : Option Shift) (waiting : List ℕ) (receiver : ReceiverState) → character ≤ LONGEST_CHARACTER → now ≤ to → IsShift now shift → AreBytes waiting → IsReceiver now level on receiver → IsReceiver to level on (cond looped (arrived (mode_at character on (nat_le 3 level) looped) (gone_by character to shift waiting) receiver) receiver)
 advance-receiver character now to level on true shift waiting receiver q l h b s =
@@ -231,9 +181,7 @@ advance-receiver character now to level on false shift waiting receiver q l h b 
 -- a byte waits then
 queued-filled : (has_fifos : Bool) (byte : ℕ) (waiting : List ℕ) → is_empty (queued has_fifos byte waiting) ≡ false
 unfolding queued
-queued-filled true byte (first ∷ rest) =
-    either (λ bytes. is_empty bytes ≡ false) (nat_lt (length (first ∷ rest)) FIFO_BYTES) _ _ (not_empty first (rest ++ byte ∷ [])) (not_empty first rest)
-queued-filled _ byte _ = refl
+queued-filled has_fifos byte waiting = grind (arith, nat_tests, length-append)
 
 loaded-busy : (due : ℕ) (shift : Option Shift) (waiting : List ℕ) → is_some shift ≡ true
     → loaded due shift waiting ≡ record { waiting = waiting; shift = shift }

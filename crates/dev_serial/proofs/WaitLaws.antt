@@ -84,25 +84,22 @@ no_line looped = grind arith
 no_change : (empty latch : Bool) → cond (empty && not empty) true latch ≡ latch
 no_change empty latch = grind arith
 
-pub waits_until_due : WaitsUntilDue
+nothing-leaves : (to : ℕ) (port : Port) → leaving to port ≡ []
+    → run_until (character_time port.divisor port.lcr) to port.transmitter.shift port.transmitter.waiting ≡ port.transmitter
+    → advanced to port ≡ ([], port)
 unfolding advanced arrived outcome
-waits_until_due to port shift e h =
-    let none : leaving to port ≡ [] = rw e (waits to shift (character_time port.divisor port.lcr) port.transmitter.waiting h) in
-    let still : run_until (character_time port.divisor port.lcr) to port.transmitter.shift port.transmitter.waiting ≡ port.transmitter =
-    grind (arith, stays) in
+nothing-leaves to port none still =
     same_outcome port _ [] _ port.receiver _ port.transmitter _ port.thr_empty (rw none (no_line (has port.mcr 4)))
     (rw none (looped_none (has port.mcr 4) (mode_of port) port.receiver))
     still (rw still (no_change (is_empty port.transmitter.waiting) port.thr_empty))
 
+pub waits_until_due : WaitsUntilDue
+waits_until_due to port shift e h =
+    nothing-leaves to port (rw e (waits to shift (character_time port.divisor port.lcr) port.transmitter.waiting h)) (grind (arith, stays))
+
 idle : (to : ℕ) (port : Port) → port.transmitter.shift ≡ None → advanced to port ≡ ([], port)
-unfolding advanced departures gone run_until arrived outcome
-idle to port e =
-    let character = character_time port.divisor port.lcr in
-    let none : leaving to port ≡ [] = rw e in
-    let same : run_until character to port.transmitter.shift port.transmitter.waiting ≡ port.transmitter = rw (e, sym e) in
-    same_outcome port _ [] _ port.receiver _ port.transmitter _ port.thr_empty (rw none (no_line (has port.mcr 4)))
-    (rw none (looped_none (has port.mcr 4) (mode_of port) port.receiver))
-    same (rw same (no_change (is_empty port.transmitter.waiting) port.thr_empty))
+unfolding departures gone run_until
+idle to port e = nothing-leaves to port (rw e) (rw (e, sym e))
 
 still-by : (shift : Option Shift) (to : ℕ) (port : Port) → port.transmitter.shift ≡ shift → IsSentAfter to shift → advanced to port ≡ ([], port)
 still-by None to port e h = idle to port e
