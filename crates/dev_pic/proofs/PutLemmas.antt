@@ -1,9 +1,8 @@
 -- The cells that are appended for a chip.
-use Rattle.std.proofs.Common.{◌≡◌, ℕ, List, [], ◌∷◌, ◌++◌, ℤ, pos, if◌then◌else◌, nat_le, ap, sym, ◌∙◌, append_assoc, append-nil}
+use Rattle.std.proofs.Common.{◌≡◌, ℕ, List, [], ◌∷◌, ◌++◌, ℤ, pos, if◌then◌else◌, nat_le, ap, sym, ◌∙◌, append_assoc}
+use Rattle.std.proofs.Common.{append-nil}
 use Rattle.dev_base.specs.Cells.{flag_number}
-use Rattle.dev_pic.specs.Cells.{saved_cells}
-use Rattle.dev_pic.specs.declared.chip.Chip.{Chip}
-use Rattle.dev_pic.specs.declared.levels.TheConstants.{ELCR_SINCE, LTIM_SINCE}
+use Rattle.dev_pic.specs.{Cells.saved_cells, declared.chip.Chip.Chip, declared.levels.TheConstants.ELCR_SINCE, declared.levels.TheConstants.LTIM_SINCE}
 
 -- Those of set 1, and then each cell that a set has since it is there.
 pub put : (old first second third : List ℤ) (set : ℕ) (chip : Chip) → first ≡ old ++ saved_cells 1 chip

@@ -1,9 +1,9 @@
 -- What is saved of a pair and restored from it, and what its hooks return.
-use Rattle.dev_pic.proofs.Facade.{◌≡◌, ℕ, ◌≤◌, ◌%◌, true, List, ℤ, take, drop, Result, Ok, Err, arith, nat_tests, IsLevel, IRR, ISR, IMR}
-use Rattle.dev_pic.proofs.Facade.{LINES, BASE, ELCR, U8, number-lt, AllTrue, judged-ok, hook-ok, cell_count, IsChipCells, chip_of, registers_hold, rules}
+use Rattle.dev_pic.proofs.Facade.{◌≡◌, ℕ, ◌≤◌, ◌%◌, true, List, ℤ, take, drop, Result, Ok, Err, arith, nat_tests, IsLevel}
+use Rattle.dev_pic.proofs.Facade.{U8, number-lt, AllTrue, judged-ok, hook-ok, cell_count, IsChipCells, chip_of, registers_hold, rules}
 use Rattle.dev_pic.proofs.Facade.{restored, RestoredIsSound, pair_of, restored_pair, by_number, IsSoundChip, IsSoundPair, Chip, Role, Master, Slave, ChipFault}
 use Rattle.dev_pic.proofs.Facade.{PicPair, ◌++◌, length, subst, ◌∙◌, sym, ap, zero, suc, ◌+◌, ◌-◌, ◌<◌, ◌==◌, Bool, false, cond, []}
-use Rattle.dev_pic.proofs.Facade.{◌∷◌, refl, pos, codes, Option, Some, None, take-append_seam, drop-append_seam, false≢true, nat_le, kinds, cell_in}
+use Rattle.dev_pic.proofs.Facade.{◌∷◌, refl, pos, codes, Option, Some, None, take-append_seam, drop-append_seam, nat_le, kinds, cell_in}
 use Rattle.dev_pic.proofs.Facade.{flag_in, state_number, state_of, named, saved_cells, carried, levels_hold, mode_holds, cells_under, i8259_rows, Numbers}
 use Rattle.dev_pic.proofs.Facade.{flag_number, AreOf, MayRestore, NEWEST, either, byte, flag, flag-back, AllHold, one_holds, none_lacks, of_rows, carried_rows}
 use Rattle.dev_pic.proofs.Facade.{none_failing, all_true, judged-all, ok-hook, first_failing_is_first, SoundMeetsRules, SavedAreCells, SavedIsRestored}

@@ -1,13 +1,13 @@
 -- What the data sheet says of initialization, modes, polls and rotation.
-use Rattle.dev_pic.proofs.{Facade.RotatesAtOnce, WinnerLaws.winner_of-means, WinnerLaws.highest_at, WinnerLaws.highest_none}
 use Rattle.dev_pic.proofs.BitLaws.{level_inputs-lt, has-and, has-or, has-but_not, has-without_same, has-without_other, has-with_same, and_not_true}
-use Rattle.dev_pic.proofs.Facade.{refl, NumbersAre, ◌≡◌, ℕ, ◌<◌, ◌≤◌, true, false, arith, nat_tests, nat_le, has, ltim_after, started}
+use Rattle.dev_pic.proofs.Facade.{RotatesAtOnce, refl, NumbersAre, ◌≡◌, ℕ, ◌<◌, ◌≤◌, true, false, arith, has, ltim_after, started}
 use Rattle.dev_pic.proofs.Facade.{written_even, written_odd, written_odd_in, IsInitialized, InitializesByWords, Chip, LTIM_SINCE, ◌+◌, Bool, not, cond}
-use Rattle.dev_pic.proofs.Facade.{◌&&◌, Some, None, sym, ◌∙◌, ap, ◌||◌, false≢true, bit_and, but_not, with_input, without_input, cascade_input}
+use Rattle.dev_pic.proofs.Facade.{◌&&◌, Some, None, sym, ◌∙◌, ◌||◌, false≢true, bit_and, but_not, with_input, without_input, cascade_input}
 use Rattle.dev_pic.proofs.Facade.{level_inputs_of, requests_of, in_service_of, served_of, winner_at, taken, rising, settled, ended, ended_lowest}
 use Rattle.dev_pic.proofs.Facade.{highest_served, commanded, vector_of, answered, MaskedNeverWins, ServedBlocksLower, IsHighestServed, EndsService}
 use Rattle.dev_pic.proofs.Facade.{EoiEndsHighest, AckWithoutWinner, TakesWinner, TakesLinesOver, acked, acked_for, HasRegisters, PairHasRegisters, input_at}
 use Rattle.dev_pic.proofs.Facade.{IsWinner, Role, Master, Slave, PicPair, if◌then◌else◌, Option, selected, polled_by, read_of, PollsOnce, NestsSpecially}
+use Rattle.dev_pic.proofs.WinnerLaws.{winner_of-means, highest_at, highest_none}
 use Rattle.std.specs.Prelude.{bit_or}
 
 -- ---- the numbers are the constants' by their definition
@@ -58,8 +58,8 @@ won role chip input e = rw e at (winner_of-means chip.lowest (requests_of chip) 
 
 pub masked_never_wins : MaskedNeverWins
 masked_never_wins role chip input bound within masked e =
-    let unmasked = has-but_not chip.irr chip.imr input bound within ∙ ap (λ t. has chip.irr input && not t) masked ∙ and_not_true (has chip.irr input) in
-    false≢true (sym unmasked ∙ ((won role chip input e).requested))
+    let requested = rw (has-but_not chip.irr chip.imr input bound within, masked, and_not_true (has chip.irr input)) at (won role chip input e).requested in
+    false≢true requested
 
 -- Except in special mask and special fully nested mode, all of `isr` counts.
 plain_service : (role : Role) (chip : Chip) → chip.special_mask ≡ false → chip.nested ≡ false → served_of role chip ≡ chip.isr
@@ -132,15 +132,15 @@ pub takes_lines_over : TakesLinesOver
 unfolding settled
 takes_lines_over inputs edges chip input lines elcr within =
     let levels = level_inputs-lt chip.ltim chip.elcr elcr in
-    let rises = has-or (but_not inputs chip.lines) edges input ∙ ap (λ t. t || has edges input) (has-but_not inputs chip.lines input lines within) in
-    let kept = has-or chip.irr (rising inputs edges chip) input ∙ ap (λ t. has chip.irr input || t) rises in
-    let edge = has-but_not (bit_or chip.irr (rising inputs edges chip)) (level_inputs_of chip) input levels within ∙ ap (λ t. t && not (has (level_inputs_of chip) input)) kept in
-    has-or (but_not (bit_or chip.irr (rising inputs edges chip)) (level_inputs_of chip)) (bit_and inputs (level_inputs_of chip)) input
-    ∙ ap (λ t. t || has (bit_and inputs (level_inputs_of chip)) input) edge
-    ∙ ap (λ t. ((has chip.irr input || ((has inputs input && not (has chip.lines input)) || has edges input)) && not (has (level_inputs_of chip) input)) || t)
-    (has-and inputs (level_inputs_of chip) input)
-    ∙ by_mode (has chip.irr input || ((has inputs input && not (has chip.lines input)) || has edges input)) (has inputs input)
-    (has (level_inputs_of chip) input)
+    rw (
+      has-or (but_not (bit_or chip.irr (rising inputs edges chip)) (level_inputs_of chip)) (bit_and inputs (level_inputs_of chip)) input,
+      has-but_not (bit_or chip.irr (rising inputs edges chip)) (level_inputs_of chip) input levels within,
+      has-or chip.irr (rising inputs edges chip) input,
+      has-or (but_not inputs chip.lines) edges input,
+      has-but_not inputs chip.lines input lines within,
+      has-and inputs (level_inputs_of chip) input,
+    )
+    (by_mode (has chip.irr input || ((has inputs input && not (has chip.lines input)) || has edges input)) (has inputs input) (has (level_inputs_of chip) input))
 
 -- ---- polls
 
@@ -208,12 +208,7 @@ taken_is winner chip = refl
 pub rotates_at_once : RotatesAtOnce
 rotates_at_once = record {
   words = rotate_words;
-  ended = λ chip winner auto. let level = has (level_inputs_of chip) winner in
-      ap (λ c. c.isr) (taken_is winner chip) ∙ ap (λ b. (taken_in b chip.rotate level winner chip).isr) auto ∙ (grind arith);
-  rotated = λ chip winner auto rotate. let level = has (level_inputs_of chip) winner in
-      ap (λ c. c.lowest) (taken_is winner chip) ∙ ap (λ b. (taken_in b chip.rotate level winner chip).lowest) auto
-      ∙ ap (λ b. (taken_in true b level winner chip).lowest) rotate ∙ (grind arith);
-  kept = λ chip winner auto rotate. let level = has (level_inputs_of chip) winner in
-      ap (λ c. c.lowest) (taken_is winner chip) ∙ ap (λ b. (taken_in b chip.rotate level winner chip).lowest) auto
-      ∙ ap (λ b. (taken_in true b level winner chip).lowest) rotate ∙ (grind arith);
+  ended = λ chip winner auto. rw (taken_is winner chip, auto) (grind arith);
+  rotated = λ chip winner auto rotate. rw (taken_is winner chip, auto, rotate) (grind arith);
+  kept = λ chip winner auto rotate. rw (taken_is winner chip, auto, rotate) (grind arith);
 }

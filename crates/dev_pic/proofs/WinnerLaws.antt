@@ -1,6 +1,6 @@
 -- The priority order: its places, the searches through it, and the winner that they find.
 use Rattle.dev_pic.proofs.Facade.{◌≡◌, ℕ, zero, suc, ◌<◌, ◌≤◌, Bool, true, false, cond, List, [], ◌∷◌, Option, Some, None, refl, arith}
-use Rattle.dev_pic.proofs.Facade.{find, length, get_or, sym, MatchOption, subst, ◌∙◌, ap, ⊎_elim, cases_lt, false≢true, get_or-map-range_with_len}
+use Rattle.dev_pic.proofs.Facade.{find, length, get_or, sym, MatchOption, ◌∙◌, ap, ⊎_elim, cases_lt, false≢true, get_or-map-range_with_len}
 use Rattle.dev_pic.proofs.Facade.{has, WinnerIsLeastRequest, input_at, order, before, ready_among, winner_of, highest_of, IsWinner, MeansWinner, ◌+◌}
 use Rattle.dev_pic.proofs.Facade.{◌==◌, drop, at_drop_more, bit_at-zero, IsFirstPlace, ◌-◌, ◌*◌, ◌/◌, ◌%◌, ◌^◌, max, bit_or, inl, inr}
 use Rattle.dev_pic.proofs.Facade.{◌⊎◌, div-add-mod', pow_pos, bit_at_or, bit_at_above, bit_at_cat_low, bit_at_cat_high, bit_at-trailing_zeros, mod-lt}
@@ -71,13 +71,13 @@ at lowest place h = grind (arith, get_or-map-range_with_len)
 turned : (lowest requests served : ℕ) (o : Option ℕ) → Means (has served) (has requests) (order lowest) o → MeansWinner lowest requests served o
 turned lowest requests served None m = λ k h e.
     let r = m k h (rw (at lowest k h) e) in
-    (r.0, r.1, subst (λ (i : ℕ). has served i ≡ true) (at lowest r.0 (omega arith)) r.2)
+    (r.0, r.1, rw (← at lowest r.0 (omega arith)) r.2)
 turned lowest requests served (Some w) m = record {
   place = m.place;
   in_order = (m.within, m.there ∙ at lowest m.place m.within);
   requested = m.passes;
-  least = λ k h. subst (λ (i : ℕ). has requests i ≡ false) (at lowest k (omega arith)) (m.least k h);
-  before_served = λ k h. subst (λ (i : ℕ). has served i ≡ false) (at lowest k (omega arith)) (m.clear k h);
+  least = λ k h. rw (← at lowest k (omega arith)) (m.least k h);
+  before_served = λ k h. rw (← at lowest k (omega arith)) (m.clear k h);
 }
 
 pub winner_of-means : (lowest requests served : ℕ) → MeansWinner lowest requests served (winner_of lowest requests served)
@@ -108,7 +108,7 @@ pub highest_at : (lowest inputs place : ℕ) → place < 8 → has inputs (input
     → ((other : ℕ) → other < place → has inputs (input_at lowest other) ≡ false) → highest_of lowest inputs ≡ Some (input_at lowest place)
 unfolding highest_of
 highest_at lowest inputs place h passes others =
-    cc (find_at (has inputs) (order lowest) place h (rw (at lowest place h) passes) (λ j l. subst (λ (i : ℕ). has inputs i ≡ false) (sym (at lowest j (omega arith))) (others j l)), at lowest place h)
+    cc (find_at (has inputs) (order lowest) place h (rw (at lowest place h) passes) (λ j l. rw (at lowest j (omega arith)) (others j l)), at lowest place h)
 
 pub highest_none : (lowest inputs : ℕ) → ((input : ℕ) → input < 8 → has inputs input ≡ false) → highest_of lowest inputs ≡ None
 unfolding highest_of
