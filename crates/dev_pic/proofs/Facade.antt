@@ -15,8 +15,8 @@ pub use Rattle.vms_fields.specs.{Fields.cells_under, Pic.i8259_rows}
 pub use Rattle.vms_hooks.specs.{Numbers.Numbers, declared.fault.HookFault.HookFault}
 pub use Rattle.dev_base.proofs.CellLaws.{byte, flag, flag-back, number-lt, AllHold, carried_rows, none_lacks, of_rows, one_holds}
 pub use Rattle.dev_base.proofs.RuleLaws.{either, AllTrue, all_true, first_failing_is_first, hook-ok, judged-all, judged-ok, none_failing, ok-hook}
-pub use Rattle.dev_base.specs.{Bits.has, Rules.first_failing, declared.limits.TheConstants.NEWEST, Cells.AreOf, Cells.flag_number}
-pub use Rattle.dev_base.specs.Levels.{IsLevel, MayRestore}
+pub use Rattle.dev_base.specs.{Bits.has, Rules.first_failing, declared.limits.TheConstants.NEWEST, Levels.IsLevel, Levels.MayRestore}
+pub use Rattle.dev_base.specs.Cells.{AreOf, flag_number}
 unfoldable pub use Rattle.dev_base.specs.{Hooks.hook_result, Rules.judged_by}
 unfoldable pub use Rattle.dev_pic.specs.{Bits.but_not, Bits.with_input, Bits.without_input, Saved.by_number, Saved.pair_of}
 unfoldable pub use Rattle.dev_pic.specs.Cells.{chip_of, levels_hold, mode_holds, registers_hold, requests_hold, saved_cells}
@@ -24,19 +24,19 @@ unfoldable pub use Rattle.dev_pic.specs.Chip.{answered, cascaded, commanded, elc
 unfoldable pub use Rattle.dev_pic.specs.Chip.{served_of, settled, started, taken, winner_at, written_even, written_odd_in}
 unfoldable pub use Rattle.dev_pic.specs.Pair.{acked_for, chip_on, lines_of, power_on, read_pair, settled_pair, slave_int_of, written_pair}
 unfoldable pub use Rattle.dev_pic.specs.Winner.{highest_of, ready_among, winner_of}
-pub use Rattle.dev_pic.specs.{Chip.vector_of, Laws.StepsKeepRegisters, Laws.TakesLinesOver, Ocw2.HasInput, Ocw2.command_of, SheetNumbers.NumbersAre}
-pub use Rattle.dev_pic.specs.{declared.chip.Chip.Chip, declared.chip.InitState.InitState, declared.chip.Role.Role, declared.fault.ChipFault.ChipFault}
-pub use Rattle.dev_pic.specs.{declared.ocw2.Ocw2.Ocw2, declared.pair.PicPair.PicPair, declared.chip.InitState.TheVariants.Icw2}
-pub use Rattle.dev_pic.specs.{declared.chip.InitState.TheVariants.Ready, declared.levels.TheConstants.ELCR_SINCE, declared.levels.TheConstants.LTIM_SINCE}
+pub use Rattle.dev_pic.specs.{Chip.rising, Ocw2.HasInput, Ocw2.command_of, SheetNumbers.NumbersAre, declared.chip.Chip.Chip, declared.chip.InitState.InitState}
+pub use Rattle.dev_pic.specs.{declared.chip.Role.Role, declared.fault.ChipFault.ChipFault, declared.ocw2.Ocw2.Ocw2, declared.pair.PicPair.PicPair, Pair.acked}
+pub use Rattle.dev_pic.specs.{Pair.is_port, Pair.with_cascade, declared.ocw2.Ocw2.TheVariants.SetPriority, declared.ocw2.Ocw2.TheVariants.SpecificEoi}
 pub use Rattle.dev_pic.specs.Cells.{IsChipCells, carried, cell_count, cell_in, flag_in, kinds, named, restored, rules, state_number, state_of}
-pub use Rattle.dev_pic.specs.Chip.{written_odd, cascade_input, elcr_mask, highest_served, in_service_of, level_inputs_of, ltim_after, requests_of, rising}
-pub use Rattle.dev_pic.specs.Laws.{TakesWinner, WinnerIsLeastRequest, AckWithoutWinner, EndsService, EoiEndsHighest, FaultsAreTold, InitializesByWords}
-pub use Rattle.dev_pic.specs.Laws.{IsHighestServed, IsInitialized, LevelInputsAre, LinesAreKept, LinesAreTaken, MaskedNeverWins, NestsSpecially, PollsOnce}
-pub use Rattle.dev_pic.specs.Laws.{RestoredIsSound, RotatesAtOnce, SavedAreCells, SavedIsRestored, ServedBlocksLower, SoundMeetsRules, StepsKeepLevel}
-pub use Rattle.dev_pic.specs.Pair.{acked, is_port, with_cascade}
+pub use Rattle.dev_pic.specs.Chip.{vector_of, written_odd, cascade_input, elcr_mask, highest_served, in_service_of, level_inputs_of, ltim_after, requests_of}
+pub use Rattle.dev_pic.specs.Laws.{StepsKeepRegisters, TakesLinesOver, TakesWinner, WinnerIsLeastRequest, AckWithoutWinner, EndsService, EoiEndsHighest}
+pub use Rattle.dev_pic.specs.Laws.{FaultsAreTold, InitializesByWords, IsHighestServed, IsInitialized, LevelInputsAre, LinesAreKept, LinesAreTaken}
+pub use Rattle.dev_pic.specs.Laws.{MaskedNeverWins, NestsSpecially, PollsOnce, RestoredIsSound, RotatesAtOnce, SavedAreCells, SavedIsRestored}
+pub use Rattle.dev_pic.specs.Laws.{ServedBlocksLower, SoundMeetsRules, StepsKeepLevel}
 pub use Rattle.dev_pic.specs.Saved.{CanRestore, CanSave, fault_of, hook_restored, hook_rule, pair_carried, pair_cells, restored_pair}
 pub use Rattle.dev_pic.specs.Sound.{HasRegisters, IsSoundChip, IsSoundPair, MeetsRules, PairHasRegisters}
 pub use Rattle.dev_pic.specs.Winner.{IsFirstPlace, IsWinner, MeansWinner, before, input_at, order}
+pub use Rattle.dev_pic.specs.declared.chip.InitState.TheVariants.{Icw2, Ready}
 pub use Rattle.dev_pic.specs.declared.chip.Role.TheVariants.{Master, Slave}
+pub use Rattle.dev_pic.specs.declared.levels.TheConstants.{ELCR_SINCE, LTIM_SINCE}
 pub use Rattle.dev_pic.specs.declared.ocw2.Ocw2.TheVariants.{NoOperation, NonSpecificEoi, RotateInAutomaticEoi, RotateOnNonSpecificEoi, RotateOnSpecificEoi}
-pub use Rattle.dev_pic.specs.declared.ocw2.Ocw2.TheVariants.{SetPriority, SpecificEoi}

@@ -1,7 +1,7 @@
 -- The remembered lines.
 use Rattle.dev_pic.proofs.BitLaws.{each_input, has-or, has-one_other, has-without_same, has-without_other, without_input-lt}
 use Rattle.dev_pic.proofs.Facade.{◌≡◌, ◌≢◌, ℕ, ◌+◌, ◌-◌, ◌*◌, ◌/◌, ◌%◌, ◌<◌, ◌≤◌, ◌^◌, ◌==◌, Bool, true}
-use Rattle.dev_pic.proofs.Facade.{false, not, ◌&&◌, cond, Option, Some, None, refl, ap, sym, ◌∙◌, arith, ⊎_elim, cases_lt, cond_both, nat_tests}
+use Rattle.dev_pic.proofs.Facade.{false, not, ◌&&◌, cond, Option, Some, None, refl, ap, ◌∙◌, arith, ⊎_elim, cases_lt, cond_both, nat_tests}
 use Rattle.dev_pic.proofs.Facade.{and-true, and-false, or-false, has, without_input, winner_at, taken, settled, started, selected, written_even, elcr_written}
 use Rattle.dev_pic.proofs.Facade.{polled_by, read_of, answered, cascaded, LinesAreTaken, LinesAreKept, command_of, slave_int_of, lines_of, acked, acked_for}
 use Rattle.dev_pic.proofs.Facade.{with_cascade, settled_pair, read_pair, written_pair, PairHasRegisters, Chip, Role, Master, Slave, PicPair, either}
@@ -71,14 +71,11 @@ Same chip after = after.lines ≡ chip.lines
 
 taken-lines : (w : ℕ) (chip : Chip) → Same chip (taken w chip)
 unfolding taken
-taken-lines w chip =
-    either (Same chip) _ _ _ (either (Same chip) chip.auto_eoi _ _ (either (Same chip) chip.rotate _ _ refl refl) refl)
-    (either (Same chip) chip.auto_eoi _ _ (either (Same chip) chip.rotate _ _ refl refl) refl)
+taken-lines w chip = grind (arith, nat_tests)
 
 even-lines : (level value : ℕ) (chip : Chip) → Same chip (written_even level value chip)
 unfolding written_even started selected
-even-lines level value chip =
-    either (Same chip) (has value 4) _ _ refl (either (Same chip) (has value 3) _ _ refl (commanded-keeps (command_of value) chip).lines)
+even-lines level value chip = let kept = (commanded-keeps (command_of value) chip).lines in grind (arith, nat_tests)
 
 elcr-lines : (role : Role) (value : ℕ) (chip : Chip) → Same chip (elcr_written role value chip)
 unfolding elcr_written
@@ -86,20 +83,15 @@ elcr-lines role value chip = refl
 
 polled-lines : (o : Option ℕ) (chip : Chip) → Same chip (polled_by o chip).1
 unfolding polled_by
-polled-lines None chip = refl
-polled-lines (Some w) chip = taken-lines w (record chip { poll = false })
+polled-lines o chip = grind (arith, taken-lines)
 
 read-lines : (role : Role) (is_odd : Bool) (chip : Chip) → Same chip (read_of role is_odd chip).1
 unfolding read_of
-read-lines role is_odd chip = by_poll chip.poll where
-  by_poll : (poll : Bool) → Same chip (cond poll (polled_by (winner_at role chip) chip) (cond is_odd chip.imr (cond chip.read_isr chip.isr chip.irr), chip)).1
-  by_poll true = polled-lines (winner_at role chip) chip
-  by_poll false = refl
+read-lines role is_odd chip = grind (arith, polled-lines)
 
 answered-lines : (o : Option ℕ) (chip : Chip) → Same chip (answered o chip).1
 unfolding answered
-answered-lines None chip = refl
-answered-lines (Some w) chip = taken-lines w chip
+answered-lines o chip = grind (arith, taken-lines)
 
 cascaded-lines : (chip : Chip) → (cascaded chip).lines ≡ without_input chip.lines 2
 unfolding cascaded
@@ -120,17 +112,8 @@ abbrev Kept : (lines : ℕ) → ℕ × PicPair → Type 0
 Kept lines answer = lines_of answer.1 ≡ lines
 
 read-kept : (port : ℕ) (pair : PicPair) → Kept (lines_of pair) (read_pair port pair)
-unfolding read_pair
-read-kept port pair =
-    let master : (is_odd : Bool) → lines_of (record pair { master = (read_of Master is_odd pair.master).1 }) ≡ lines_of pair =
-    λ is_odd. with-master pair (read_of Master is_odd pair.master).1 (read-lines Master is_odd pair.master) in
-    let slave : (is_odd : Bool) → lines_of (record pair { slave = (read_of Slave is_odd pair.slave).1 }) ≡ lines_of pair =
-    λ is_odd. with-slave pair (read_of Slave is_odd pair.slave).1 (read-lines Slave is_odd pair.slave) in
-    either (Kept (lines_of pair)) (port == 0x20) _ _ (master false)
-    (either (Kept (lines_of pair)) (port == 0x21) _ _ (master true)
-    (either (Kept (lines_of pair)) (port == 0xa0) _ _ (slave false)
-    (either (Kept (lines_of pair)) (port == 0xa1) _ _ (slave true)
-    (either (Kept (lines_of pair)) (port == 0x4d0) _ _ refl refl))))
+unfolding read_pair lines_of
+read-kept port pair = grind (arith, nat_tests, read-lines)
 
 written-kept : (port value : ℕ) (pair : PicPair) → lines_of (written_pair port value pair) ≡ lines_of pair
 unfolding written_pair
@@ -166,9 +149,7 @@ high-acked slave master i bound least l =
     let place : i ≡ 8 + (i - 8) = omega arith in
     let within : i - 8 < 8 = omega arith in
     let other : (i == 2) ≡ false = grind (arith, nat_tests) in
-    ap (has (slave * 256 + without_input master 2)) place ∙ high-bit slave (without_input master 2) (i - 8) (without_input-lt master 2 bound) within
-    ∙ sym (high-bit slave master (i - 8) bound within) ∙ ap (has (slave * 256 + master)) (sym place)
-    ∙ sym (ap (λ t. has (slave * 256 + master) i && not t) other ∙ and-true (has (slave * 256 + master) i))
+    rw (other, and-true, place, high-bit slave (without_input master 2) (i - 8) (without_input-lt master 2 bound) within, high-bit slave master (i - 8) bound within)
 
 acked-bit : (pair : PicPair) → PairHasRegisters pair → (i : ℕ) → i < 16
     → has (pair.slave.lines * 256 + without_input pair.master.lines 2) i ≡ (has (lines_of pair) i && not (i == 2))

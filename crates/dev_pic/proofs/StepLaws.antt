@@ -1,10 +1,10 @@
 -- What each step of a chip and of the pair keeps.
 use Rattle.dev_pic.proofs.BitLaws.{level-lines, level_inputs-lt, but_not-lt, without_input-lt, with_input-lt, and-twice}
-use Rattle.dev_pic.proofs.Facade.{◌≡◌, ℕ, Option, Some, None, false, refl, ◌-◌, ◌/◌, ◌%◌, ◌<◌, ◌≤◌, ◌==◌, Bool, true, cond}
-use Rattle.dev_pic.proofs.Facade.{not, ◌||◌, List, [], ◌∷◌, IfSome, find, arith, nat_tests, or_of_8, and_le_l, bit_and, nat_le, either, has, ended}
+use Rattle.dev_pic.proofs.Facade.{◌≡◌, ℕ, Option, Some, None, false, ◌-◌, ◌%◌, ◌<◌, ◌≤◌, ◌==◌, Bool, true}
+use Rattle.dev_pic.proofs.Facade.{List, [], ◌∷◌, IfSome, find, arith, nat_tests, or_of_8, and_le_l, bit_and, nat_le, either, has, ended}
 use Rattle.dev_pic.proofs.Facade.{ended_lowest, highest_served, commanded, selected, written_even, written_odd_in, level_inputs, level_inputs_of, ltim_after}
 use Rattle.dev_pic.proofs.Facade.{in_service_of, requests_of, served_of, winner_at, taken, settled, started, polled_by, read_of, answered, cascaded, command_of}
-use Rattle.dev_pic.proofs.Facade.{HasInput, Chip, InitState, Ready, Icw2, Ocw2, NonSpecificEoi, RotateOnNonSpecificEoi, SpecificEoi, RotateOnSpecificEoi}
+use Rattle.dev_pic.proofs.Facade.{HasInput, Chip, InitState, Icw2, Ocw2, NonSpecificEoi, RotateOnNonSpecificEoi, SpecificEoi, RotateOnSpecificEoi}
 use Rattle.dev_pic.proofs.Facade.{RotateInAutomaticEoi, SetPriority, NoOperation, but_not, with_input, without_input, requests_hold, mode_holds, HasRegisters}
 use Rattle.dev_pic.proofs.Facade.{IsSoundChip, order, before, ready_among, winner_of, highest_of, Role, LTIM_SINCE, ◌^◌, or-true, cond_both, levels_hold}
 use Rattle.dev_pic.proofs.Facade.{elcr_mask, elcr_written, cascade_input, IsLevel, StepsKeepRegisters, StepsKeepLevel, chip_on, power_on, is_port, with_cascade}
@@ -19,37 +19,17 @@ pub record Keeps (chip after : Chip) : Type 0 where
   pub elcr : after.elcr ≡ chip.elcr
   pub ltim : after.ltim ≡ chip.ltim
 
-same : (chip : Chip) → Keeps chip chip
-same chip = record { irr = refl; lines = refl; elcr = refl; ltim = refl }
-
-ended-keeps : (o : Option ℕ) (chip : Chip) → Keeps chip (ended o chip)
-unfolding ended
-ended-keeps None chip = same chip
-ended-keeps (Some w) chip = record { irr = refl; lines = refl; elcr = refl; ltim = refl }
-
-ended_lowest-keeps : (o : Option ℕ) (chip : Chip) → Keeps chip (ended_lowest o chip)
-unfolding ended_lowest
-ended_lowest-keeps None chip = same chip
-ended_lowest-keeps (Some w) chip = record { irr = refl; lines = refl; elcr = refl; ltim = refl }
-
 pub commanded-keeps : (command : Ocw2) (chip : Chip) → Keeps chip (commanded command chip)
-unfolding commanded
-commanded-keeps NonSpecificEoi chip = ended-keeps (highest_served chip) chip
-commanded-keeps RotateOnNonSpecificEoi chip = ended_lowest-keeps (highest_served chip) chip
-commanded-keeps (SpecificEoi input) chip = ended-keeps (Some input) chip
-commanded-keeps (RotateOnSpecificEoi input) chip = ended_lowest-keeps (Some input) chip
-commanded-keeps NoOperation chip = same chip
-commanded-keeps _ chip = record { irr = refl; lines = refl; elcr = refl; ltim = refl }
+unfolding commanded ended ended_lowest
+commanded-keeps command chip = search (arith, nat_tests)
 
 pub even-keeps : (level value : ℕ) (chip : Chip) → has value 4 ≡ false → Keeps chip (written_even level value chip)
 unfolding written_even selected
-even-keeps level value chip e =
-    rw e (either (Keeps chip) (has value 3) _ _ (record { irr = refl; lines = refl; elcr = refl; ltim = refl }) (commanded-keeps (command_of value) chip))
+even-keeps level value chip e = search (arith, nat_tests, commanded-keeps)
 
 pub odd-keeps : (s : InitState) (value : ℕ) (chip : Chip) → Keeps chip (written_odd_in s value chip)
 unfolding written_odd_in
-odd-keeps Ready value chip = record { irr = refl; lines = refl; elcr = refl; ltim = refl }
-odd-keeps _ value chip = record { irr = refl; lines = refl; elcr = refl; ltim = refl }
+odd-keeps s value chip = search (arith, nat_tests)
 
 -- ---- registers
 
@@ -83,15 +63,7 @@ highest-lt chip = find-inputs (has (in_service_of chip)) (order chip.lowest) (or
 
 command-input : (value : ℕ) → HasInput (command_of value)
 command-input value =
-    let bits = value / 32 in
-    let input : value % 8 < 8 = omega arith in
-    either HasInput (bits == 0b001) _ _ tt
-    (either HasInput (bits == 0b101) _ _ tt
-    (either HasInput (bits == 0b011) _ _ input
-    (either HasInput (bits == 0b111) _ _ input
-    (either HasInput (bits == 0b100) _ _ tt
-    (either HasInput (bits == 0b000) _ _ tt
-    (either HasInput (bits == 0b110) _ _ input tt))))))
+    let input : value % 8 < 8 = omega arith in search (arith, nat_tests)
 
 module _ (level : ℕ) (role : Role) (chip : Chip) (h : HasRegisters level role chip) where
   with-irr : (v : ℕ) → v < 256 → HasRegisters level role (record chip { irr = v })
@@ -145,10 +117,7 @@ module _ (level : ℕ) (role : Role) (chip : Chip) (h : HasRegisters level role 
 
   mode-after : (value : ℕ) → mode_holds level (ltim_after level value chip) ≡ true
   unfolding mode_holds
-  mode-after value = by_level (nat_le LTIM_SINCE level) h.mode where
-    by_level : (b : Bool) → (b || not chip.ltim) ≡ true → (b || not (cond b (has value 3) chip.ltim)) ≡ true
-    by_level true e = refl
-    by_level false e = e
+  mode-after value = let mode = h.mode in grind (arith, nat_tests)
 
   started-registers : (value : ℕ) → HasRegisters level role (started level value chip)
   unfolding started
@@ -186,11 +155,8 @@ module _ (level : ℕ) (role : Role) (chip : Chip) (h : HasRegisters level role 
 
   pub read-registers : (is_odd : Bool) → HasRegisters level role (read_of role is_odd chip).1
   unfolding read_of
-  read-registers is_odd = by_poll chip.poll where
-    by_poll : (poll : Bool)
-        → HasRegisters level role (cond poll (polled_by (winner_at role chip) chip) (cond is_odd chip.imr (cond chip.read_isr chip.isr chip.irr), chip)).1
-    by_poll true = polled-registers (winner_at role chip) (winner-lt role chip)
-    by_poll false = h
+  read-registers is_odd =
+      let polled = polled-registers (winner_at role chip) (winner-lt role chip) in search (arith, nat_tests)
 
   pub answered-registers : (o : Option ℕ) → IfSome o (λ w. w < 8) → HasRegisters level role (answered o chip).1
   unfolding answered
@@ -226,8 +192,7 @@ Kept answer = PairHasRegisters answer.1
 -- There is no level input at power on.
 levels_off : (level : ℕ) (role : Role) → levels_hold level role 0 ≡ true
 unfolding levels_hold
-levels_off level Master = either (λ (b : Bool). b ≡ true) (nat_le ELCR_SINCE level) _ _ refl refl
-levels_off level Slave = either (λ (b : Bool). b ≡ true) (nat_le ELCR_SINCE level) _ _ refl refl
+levels_off level _ = grind (arith, nat_tests)
 
 -- Rule 2 holds for what a write keeps, at a level with edge/level registers.
 levels_written : (level : ℕ) (role : Role) (value : ℕ) → ELCR_SINCE ≤ level → levels_hold level role (bit_and value (elcr_mask role)) ≡ true
@@ -327,30 +292,18 @@ SameLevel level answer = answer.1.level ≡ level
 
 read-level : (port : ℕ) (pair : PicPair) → SameLevel pair.level (read_pair port pair)
 unfolding read_pair
-read-level port pair =
-    either (SameLevel pair.level) (port == 0x20) _ _ refl
-    (either (SameLevel pair.level) (port == 0x21) _ _ refl
-    (either (SameLevel pair.level) (port == 0xa0) _ _ refl
-    (either (SameLevel pair.level) (port == 0xa1) _ _ refl
-    (either (SameLevel pair.level) (port == 0x4d0) _ _ refl refl))))
+read-level port pair = grind (arith, nat_tests)
 
 HasLevel : ℕ → PicPair → Type 0
 HasLevel level pair = pair.level ≡ level
 
 written-level : (port value : ℕ) (pair : PicPair) → HasLevel pair.level (written_pair port value pair)
 unfolding written_pair HasLevel
-written-level port value pair =
-    let keeps = λ (p : PicPair). p.level ≡ pair.level in
-    either keeps (port == 0x20) _ _ refl
-    (either keeps (port == 0x21) _ _ refl
-    (either keeps (port == 0xa0) _ _ refl
-    (either keeps (port == 0xa1) _ _ refl
-    (either keeps (port == 0x4d0) _ _ refl refl))))
+written-level port value pair = grind (arith, nat_tests)
 
 acked_for-level : (o : Option ℕ) (pair : PicPair) → SameLevel pair.level (acked_for o pair)
 unfolding acked_for
-acked_for-level None pair = refl
-acked_for-level (Some w) pair = either (SameLevel pair.level) (w == cascade_input) _ _ refl refl
+acked_for-level o pair = grind (arith, nat_tests)
 
 pub steps_keep_level : StepsKeepLevel
 unfolding HasLevel power_on settled_pair
