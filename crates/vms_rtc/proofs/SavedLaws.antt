@@ -5,8 +5,8 @@ use Rattle.vms_rtc.proofs.Facade.{place_of_clock, numbers_of, Numbers, U8, of_no
 use Rattle.vms_rtc.proofs.Facade.{carried_rows, stands, all_set, AllTrue, judged-all, ok-hook, cell_at, nat_of, flag_number, firsts, AreOf, named, kinds}
 use Rattle.vms_rtc.proofs.Facade.{saved_cells, carried, register, SavedAreCells, SavedIsRestored, CanSave, CanRestore, MayRestore, register_in, nmi_mask_in}
 use Rattle.vms_rtc.proofs.Facade.{pf_in, rules, chip_of, restored, hook_restored, IsSound, NEWEST_CLOCK, NMI_SINCE, REGISTER_A, REGISTER_C, REGISTER_D}
-use Rattle.vms_rtc.proofs.Facade.{REGISTERS, Rtc, drop, ◌==◌, ◌&&◌, and_parts, get_or-map-range_with_len, length-map-range_with_len, CMOS, InRange}
-use Rattle.vms_rtc.proofs.Facade.{Kind, bytes_within, number-lt, judged-ok, hook-ok, IsUpTo, RestoredIsSound, index_in, index_holds, registers_hold, None}
+use Rattle.vms_rtc.proofs.Facade.{REGISTERS, Rtc, drop, get_or-map-range_with_len, length-map-range_with_len, CMOS, InRange}
+use Rattle.vms_rtc.proofs.Facade.{Kind, bytes_within, number-lt, judged-ok, hook-ok, IsUpTo, RestoredIsSound, registers_hold, None}
 use Rattle.vms_rtc.proofs.Facade.{get_or_append_left, length-map, none_failing, all_true, first_failing, IsTold, SoundMeetsRules}
 
 -- ---- the kinds of what is saved

@@ -1,7 +1,7 @@
 -- What time and calls do to a clock chip.
 use Rattle.vms_rtc.proofs.Facade.{refl, arith, line_of, read_of, written, ticks, NumbersAre, ◌≡◌, ℕ, ◌-◌, ◌*◌, ◌/◌, ◌%◌, ◌^◌}
 use Rattle.vms_rtc.proofs.Facade.{◌<◌, ◌≤◌, ◌==◌, Bool, true, false, ◌||◌, Option, Some, None, ◌⊎◌, inl, inr, ⊎_elim, ◌↔◌, sym}
-use Rattle.vms_rtc.proofs.Facade.{ap, ltb-true, nat_tests, div-mul-le_self, le-div, pow_pos, either, grown, quotient_mono, register, period_of_rate, period_of}
+use Rattle.vms_rtc.proofs.Facade.{ltb-true, nat_tests, div-mul-le_self, le-div, pow_pos, either, grown, quotient_mono, register, period_of_rate, period_of}
 use Rattle.vms_rtc.proofs.Facade.{ends_within, passed, PartsAreWhole, HasMultiple, FlagIsSetAtMultiples, REGISTER_A, Rtc, div-lt_iff_lt-mul, false≢true}
 use Rattle.vms_rtc.proofs.Facade.{◌+◌, ◌∙◌, cases_lt, le-leb, lt-leb, div-add-mod', nat_lt, IsNextEnd, moment_of, ◌≢◌, eqb-true, eq-eqb}
 use Rattle.vms_rtc.proofs.Facade.{cond_both, get_or-set_other, power_on, data_read, index_written, data_written, ReadsClearFlag, FlagsAreKept, VersionStays}
@@ -123,15 +123,11 @@ none_ends from = record { ends = λ to h. refl }
 
 of-c : (chip : Rtc) → chip.index ≡ REGISTER_C → (data_read chip).1 ≡ record chip { pf = false }
 unfolding data_read
-of-c chip e =
-    cond_both (chip.index == REGISTER_C) _ _ (λ (r : ℕ × Rtc). r.1 ≡ record chip { pf = false }) (λ is. refl)
-    (λ other. absurd (false≢true (sym other ∙ eq-eqb chip.index REGISTER_C e)))
+of-c chip e = grind (arith, nat_tests)
 
 of-others : (chip : Rtc) → chip.index ≢ REGISTER_C → (data_read chip).1 ≡ chip
 unfolding data_read
-of-others chip ne =
-    cond_both (chip.index == REGISTER_C) _ _ (λ (r : ℕ × Rtc). r.1 ≡ chip) (λ is. absurd (ne (eqb-true chip.index REGISTER_C is)))
-    (λ other. either (λ (r : ℕ × Rtc). r.1 ≡ chip) (chip.index == REGISTER_D) (0x80, chip) (register chip.index chip, chip) refl refl)
+of-others chip ne = grind (arith, nat_tests)
 
 pub reads_clear : ReadsClearFlag
 reads_clear = record { of_c = of-c; others = of-others }
@@ -153,15 +149,11 @@ flags_are_kept = search (arith, left_as)
 
 read-version : (port : ℕ) (chip : Rtc) → (read_of port chip).1.version ≡ chip.version
 unfolding read_of data_read
-read-version port chip =
-    let P : ℕ × Rtc → Type 0 = λ r. r.1.version ≡ chip.version in
-    either P (port == INDEX_PORT) _ _ refl (either P (chip.index == REGISTER_C) _ _ refl (either P (chip.index == REGISTER_D) _ _ refl refl))
+read-version port chip = grind (arith, nat_tests)
 
 write-version : (port value : ℕ) (chip : Rtc) → (written port value chip).version ≡ chip.version
 unfolding written index_written data_written
-write-version port value chip =
-    let P : Rtc → Type 0 = λ c. c.version ≡ chip.version in
-    either P (port == INDEX_PORT) _ _ refl (either P ((chip.index == REGISTER_C) || (chip.index == REGISTER_D)) _ _ refl refl)
+write-version port value chip = grind (arith, nat_tests)
 
 pub version_stays : VersionStays
 unfolding power_on passed
@@ -175,9 +167,7 @@ flagged flag chip s = search
 
 read-sound : (port : ℕ) (chip : Rtc) → IsSound chip → IsSound (read_of port chip).1
 unfolding read_of data_read
-read-sound port chip s =
-    let P : ℕ × Rtc → Type 0 = λ r. IsSound r.1 in
-    either P (port == INDEX_PORT) _ _ s (either P (chip.index == REGISTER_C) _ _ (flagged false chip s) (either P (chip.index == REGISTER_D) _ _ s s))
+read-sound port chip s = search (arith, nat_tests)
 
 index-sound : (value : ℕ) (chip : Rtc) → IsSound chip → IsSound (index_written value chip)
 unfolding index_written
