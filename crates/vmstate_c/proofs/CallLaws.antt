@@ -22,14 +22,13 @@ supplied bytes pieces failing = record { left = bytes; pieces = pieces; failing 
 
 pub input-is : (s : Supply) (bytes pieces failing input : List ℕ) → s ≡ supplied bytes pieces failing → bytes ≡ input → failing ≡ [] → intake_of s ≡ fresh input
 input-is s bytes pieces failing input e f g =
-    ap intake_of e ∙ ap (λ (x : List ℕ). let i : Intake = record { left = Some x; given = 0; faults = 0; promise = is_empty failing } in i) f
-    ∙ ap (λ (x : List ℕ). let i : Intake = record { left = Some input; given = 0; faults = 0; promise = is_empty x } in i) g
+    rw (e, f, g)
 
 abbrev outlet_of : List ℕ → ℕ → Outlet
 outlet_of bytes faults = record { written = Some bytes; faults = faults; promise = None }
 
 pub sink-is : (bytes : List ℕ) (faults : ℕ) → bytes ≡ [] → faults ≡ 0 → outlet_of bytes faults ≡ outlet_of [] 0
-sink-is bytes faults e f = ap (λ (x : List ℕ). outlet_of x faults) e ∙ ap (outlet_of []) f
+sink-is bytes faults e f = rw (e, f)
 
 abbrev stock_of : Held → Stock
 stock_of held = record { held = Some held; faults = 0; promise = true }
@@ -45,16 +44,13 @@ pub leaves : (request : Request) (status : ℕ) (words : List (List ℕ)) (held 
     → after.out.written ≡ Some text → after.notes.written ≡ Some line → after.shelf.held ≡ Some kept → NoneFailed after
     → Leaves request status text line kept
 leaves request status words held kept input out notes after text line same files i o n answers wrote told now none =
-    let began : outside input out notes (stock_of held) ≡ before request.input.now held =
-    ap (λ (x : Intake). outside x out notes (stock_of held)) i ∙ ap (λ (x : Outlet). outside (fresh request.input.now) x notes (stock_of held)) o
-    ∙ ap (λ (x : Outlet). outside (fresh request.input.now) (outlet_of [] 0) x (stock_of held)) n in
+    let began : outside input out notes (stock_of held) ≡ before request.input.now held = rw (i, o, n) in
     record {
       comes = record {
         held = held;
         files = files;
         after = after;
-        answers = subst (λ (x : Outside). Answers (words_of request.words.now) status x after) began
-            (subst (λ (x : List (List ℕ)). Answers x status (outside input out notes (stock_of held)) after) same answers);
+        answers = rw (← began, ← same) answers;
         out_is = wrote;
         notes_is = told;
         none = none;

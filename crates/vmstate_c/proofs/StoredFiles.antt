@@ -34,8 +34,8 @@ held-put file old new utf8 puts name = by (bytes_eq file.name.now name) refl
     by : (b : Bool) → bytes_eq file.name.now name ≡ b → new name ≡ (if b && is_utf8 name then Some file.bytes.now else old name)
     by true e =
         let same : file.name.now ≡ name = (bytes_eq-Decides file.name.now name).0 e in
-        let text : is_utf8 name ≡ true = subst (λ (n : List ℕ). is_utf8 n ≡ true) same (is_utf8-from_IsUtf8 file.name.now utf8) in
-        subst (λ (n : List ℕ). new n ≡ Some file.bytes.now) same puts.there ∙ ap (λ (b : Bool). if b then Some file.bytes.now else old name) (sym text)
+        let text : is_utf8 name ≡ true = rw (← same) (is_utf8-from_IsUtf8 file.name.now utf8) in
+        rw text (rw same at puts.there)
     by false e =
         let other : name ≢ file.name.now = λ same. not_from_Decides (bytes_eq file.name.now name) (bytes_eq-Decides file.name.now name) e (sym same) in
         puts.others name other
@@ -47,7 +47,7 @@ held-other file held bad name = by (bytes_eq file.name.now name) (is_utf8 name) 
     by : (b c : Bool) → bytes_eq file.name.now name ≡ b → is_utf8 name ≡ c → held name ≡ (if b && c then Some file.bytes.now else held name)
     by true true e f =
         let same : file.name.now ≡ name = (bytes_eq-Decides file.name.now name).0 e in
-        absurd (bad (subst IsUtf8 (sym same) (IsUtf8-from_is_utf8 name f)))
+        absurd (bad (rw same (IsUtf8-from_is_utf8 name f)))
     by true false e f = refl
     by false c e f = refl
 
@@ -81,13 +81,12 @@ is_just-Decides (Some held) bytes = ((λ e. ap Some ((bytes_eq-Decides held byte
 one-more : (files : List File) (file : File) (name bytes : List ℕ) → IsUtf8 name
     → is_lent (files ++ file ∷ []) name bytes ≡ (if bytes_eq file.name.now name then bytes_eq file.bytes.now bytes else is_lent files name bytes)
 one-more files file name bytes utf8 =
-    ap (λ (fs : List File). is_just (option_map (λ f. f.bytes.now) (find (is_named name) fs)) bytes) (reverse-append files (file ∷ []))
-    ∙ by (bytes_eq file.name.now name) (is_utf8-from_IsUtf8 name utf8)
+    rw (reverse-append files (file ∷ [])) (by (bytes_eq file.name.now name) (is_utf8-from_IsUtf8 name utf8))
   where
     by : (b : Bool) → is_utf8 name ≡ true
         → is_just (option_map (λ f. f.bytes.now) (cond (b && is_utf8 name) (Some file) (find (is_named name) (reverse files)))) bytes
         ≡ (if b then bytes_eq file.bytes.now bytes else is_lent files name bytes)
-    by true u = ap (λ (u : Bool). is_just (option_map (λ f. f.bytes.now) (cond u (Some file) (find (is_named name) (reverse files)))) bytes) u
+    by true u = rw u
     by false u = refl
 
 -- a turn of the search for the last file with a name
@@ -95,19 +94,17 @@ module _ (files : List File) (i : ℕ) (d : File) (name bytes text : List ℕ) (
   lent-more : (tested : Bool) → text ≡ name → tested ≡ bytes_eq (get_or files i d).name.now text
       → is_lent (take (i + 1) files) name bytes ≡ (if tested then bytes_eq (get_or files i d).bytes.now bytes else is_lent (take i files) name bytes)
   lent-more tested same is =
-      ap (λ (fs : List File). is_lent fs name bytes) (take_more files i d lt) ∙ one-more (take i files) (get_or files i d) name bytes utf8
-      ∙ ap (λ (b : Bool). if b then bytes_eq (get_or files i d).bytes.now bytes else is_lent (take i files) name bytes)
-      (ap (bytes_eq (get_or files i d).name.now) (sym same) ∙ sym is)
+      rw (take_more files i d lt, is, same) (one-more (take i files) (get_or files i d) name bytes utf8)
 
   pub lent-same : (tested now : Bool) → text ≡ name → tested ≡ bytes_eq (get_or files i d).name.now text → tested ≡ true
       → now ≡ bytes_eq (get_or files i d).bytes.now bytes → now ≡ is_lent (take (i + 1) files) name bytes
   lent-same tested now same is passed e =
-      e ∙ sym (lent-more tested same is ∙ ap (λ (b : Bool). if b then bytes_eq (get_or files i d).bytes.now bytes else is_lent (take i files) name bytes) passed)
+      e ∙ sym (rw passed at (lent-more tested same is))
 
   pub lent-other : (tested now : Bool) → text ≡ name → tested ≡ bytes_eq (get_or files i d).name.now text → tested ≡ false
       → now ≡ is_lent (take i files) name bytes → now ≡ is_lent (take (i + 1) files) name bytes
   lent-other tested now same is failed e =
-      e ∙ sym (lent-more tested same is ∙ ap (λ (b : Bool). if b then bytes_eq (get_or files i d).bytes.now bytes else is_lent (take i files) name bytes) failed)
+      e ∙ sym (rw failed at (lent-more tested same is))
 
 -- ---- which files
 
