@@ -1,6 +1,5 @@
 -- The result of a call on fresh objects in memory.
-use Rattle.std.proofs.Common.{◌≡◌, ◌∙◌, ap, subst, ℕ, true, List, [], Some, None, ◌⊎◌, inl, inr, refl, Bool, false, if◌then◌else◌}
-use Rattle.std.proofs.Common.{arith}
+use Rattle.std.proofs.Common.{◌≡◌, ◌∙◌, ap, ℕ, true, List, [], Some, None, ◌⊎◌, inl, inr, refl, Bool, false, if◌then◌else◌, arith}
 use Rattle.vms_io.specs.{Memory.Supply, Memory.is_empty, Shelves.Held, Told.Intake, Told.Outlet, Told.Stock}
 use Rattle.vms_commands.specs.Outcomes.{Outside}
 use Rattle.vms_cli.proofs.{OutcomeLaws.complete_holds as call_complete}

@@ -1,6 +1,6 @@
 -- The files that a call stored, entry by entry.
 use Rattle.std.proofs.{lemmas.Bool.and_from, lemmas.Bool.Decides.not_from_Decides, lemmas.Slice.Eq.bytes_eq-Decides, lemmas.Map.Text.is_eq-slice_cmp}
-use Rattle.std.proofs.Common.{◌≡◌, ◌∙◌, refl, ℕ, ◌+◌, ◌<◌, Bool, true, false, List, length, take, get_or, ◌≢◌, sym, ap, subst}
+use Rattle.std.proofs.Common.{◌≡◌, ◌∙◌, refl, ℕ, ◌+◌, ◌<◌, Bool, true, false, List, length, take, get_or, ◌≢◌, sym, ap}
 use Rattle.std.proofs.Common.{◌&&◌, if◌then◌else◌, Some, zero, suc, cond, [], ◌∷◌, ◌++◌, map, reverse, Option, None, arith}
 use Rattle.std.proofs.lemmas.List.{append-nil, reverse-append, take_more, Folds.list_all_more, Elements.All-cons, Elements.All-contains}
 use Rattle.std.proofs.lemmas.Str.{IsUtf8-from_is_utf8, is_utf8-from_IsUtf8}
