@@ -52,14 +52,11 @@ pub formed_long : (set : Set) (device : ℕ) (defaults : Held) (numbers : List �
 formed_long set device defaults numbers is long = ap length (formed_defaults set device defaults is) ∙ length-map (device_cells set (device_in set device)) form_of ∙ sym long
 
 -- the number of a cell at its default
-default_in : (kinds : List Kind) (numbers : List ℤ) (k : ℕ) → k < length (formed_of kinds numbers) → (k < length numbers) × (get_or numbers k (pos 0) ≡ (get_or (formed_of kinds numbers) k no_form).default)
+pub default_in : (kinds : List Kind) (numbers : List ℤ) (k : ℕ) → k < length (formed_of kinds numbers) → (k < length numbers) × (get_or numbers k (pos 0) ≡ (get_or (formed_of kinds numbers) k no_form).default)
 default_in [] numbers k lt = absurd (omega arith)
 default_in (kind ∷ kinds) [] k lt = absurd (omega arith)
 default_in (kind ∷ kinds) (z ∷ numbers) zero lt = (omega arith, refl)
 default_in (kind ∷ kinds) (z ∷ numbers) (suc k) lt = let r = default_in kinds numbers k (omega arith) in (omega arith, r.1)
-
-pub default_of : (defaults : Held) (k : ℕ) → k < length (formed defaults) → (k < length defaults.numbers) × (get_or defaults.numbers k (pos 0) ≡ (get_or (formed defaults) k no_form).default)
-default_of defaults k lt = default_in defaults.kinds defaults.numbers k lt
 
 -- ---- what ready images have, one after the other
 
@@ -193,13 +190,9 @@ module _ (set : Set) (i : ℕ) (image : Image) (j : ℕ) (lt : j < length (devic
 -- ---- The sections of a stream, one after the other.
 
 -- the next section of those that are left
-pub sections_next : (set : Set) (i : ℕ) (ds : List Device) (images : List Image) (d : Device) (image : Image) → i < length ds → i < length images
-    → written_sections set i (drop i ds) (drop i images)
-    ≡ written_section set (get_or ds i d) (get_or images i image) i ++ written_sections set (i + 1) (drop (i + 1) ds) (drop (i + 1) images)
-sections_next set i ds images d image lt lt' = let up : suc i ≡ i + 1 = omega arith in rw (drop_more ds i d lt, drop_more images i image lt', up)
-
 pub sections_at : (set : Set) (i : ℕ) (images : List Image) (image : Image) → i < length set.devices → i < length images → image ≡ get_or images i image
     → written_sections set i (drop i set.devices) (drop i images)
     ≡ written_section set (device_at set i) image i ++ written_sections set (i + 1) (drop (i + 1) set.devices) (drop (i + 1) images)
 sections_at set i images image lt lt' is =
-    rw (← is) at (sections_next set i set.devices images (record { instance = 0; desc = no_desc; subs = [] }) image lt lt')
+    let up : suc i ≡ i + 1 = omega arith in
+    rw (drop_more set.devices i (record { instance = 0; desc = no_desc; subs = [] }) lt, drop_more images i image lt', up) (rw (← is))
