@@ -89,7 +89,8 @@ tables_next view fields sizes front items i x tables t lt is h y =
     cc (append_assoc front here (fields (view x) ∷ []), map-append fields (map view (take i items)) (view x ∷ []), map_more view items i x lt) in
     rw rows (record {
       long = omega (arith, length-append (front ++ here) (fields (view x) ∷ []), length-append tables (t ∷ []), h.long);
-      table = λ k lt. pairs_more (IsTable sizes) (front ++ here) tables (fields (view x)) [] t no_table h.long h.table y k (omega (arith, length-append (front ++ here) (fields (view x) ∷ [])));
+      table = λ k lt. pairs_more (IsTable sizes) (front ++ here) tables (fields (view x)) [] t no_table h.long h.table y k
+          (omega (arith, length-append (front ++ here) (fields (view x) ∷ [])));
     })
 
 -- ---- devices
