@@ -79,7 +79,7 @@ module _ (P : Formula → Type 0) (parts : IsByParts P) where
   open_reduced ok has v (AtLeast n) e = tt
   open_reduced ok has v (Below n) e = tt
   open_reduced ok has v (Cell Own field mask rel value) e = has field mask rel value e
-  open_reduced ok has v (Cell Parent field mask rel value) e = absurd (cc)
+  open_reduced ok has v (Cell Parent field mask rel value) e = cc
   open_reduced ok has v (Not t) e = not_open (reduced v t) (open_reduced ok has v t e)
   open_reduced ok has v (And s t) e =
       let p = and_parts (names_well ok nobody s) (names_well ok nobody t) e in
@@ -97,7 +97,7 @@ some_least m [] = refl
 some_least m (n ∷ caps) = some_least (min m n) caps
 
 pub bound_some : (item : Item) (caps : List ℕ) (most : ℕ) → Some most ≡ least_of caps → most ≡ bound item caps
-bound_some item [] most e = absurd (cc)
+bound_some item [] most e = cc
 bound_some item (m ∷ caps) most e = cc (some_least m caps)
 
 pub bound_none : (item : Item) (caps : List ℕ) → None ≡ least_of caps → greatest item ≡ bound item caps

@@ -15,12 +15,12 @@ use Rattle.vms_parts.specs.declared.types.Field.{Field as CodeField}
 pub passes : (rule : ℕ) (b : Bool) (rules : List (ℕ × Bool)) (p q : Place) → failing_pair ((rule, b) ∷ rules) p q ≡ None
     → (b ≡ true) × (failing_pair rules p q ≡ None)
 passes rule true rules p q e = (refl, e)
-passes rule false rules p q e = absurd (cc)
+passes rule false rules p q e = cc
 
 pub pass : (rule : ℕ) (b : Bool) (rules : List (ℕ × Bool)) (p q : Place) → b ≡ true → failing_pair rules p q ≡ None
     → failing_pair ((rule, b) ∷ rules) p q ≡ None
 pass rule true rules p q e f = f
-pass rule false rules p q e f = absurd (cc)
+pass rule false rules p q e f = cc
 
 pub at_every : {X : Type 0} (p : X → Bool) (xs : List X) → ((i : ℕ) (x : X) → slice_get xs i ≡ Some x → p x ≡ true) → list_all p xs ≡ true
 at_every p [] h = refl
@@ -50,7 +50,7 @@ left_same o n (Known true) (Known true) x y = refl
 left_same o n (Known true) (Open t) x y = refl
 left_same o n (Open s) (Known true) x y = refl
 left_same o n (Open s) (Open t) x y = refl
-left_same o n _ _ x y = absurd (cc)
+left_same o n _ _ x y = cc
 
 -- ---- Two fields of the same position: no rule fails exactly where they are paired as the rules say.
 
@@ -249,12 +249,12 @@ found v i f = record { index = i; place = 0; field = f; rest = tree_of (field_re
 
 there : (i : ℕ) (f : Field) (r : Reduced) → is_nothing (left_of r) ≡ false
     → entry_of i 0 f (left_of r) ≡ record { index = i; place = 0; field = f; rest = tree_of r } ∷ []
-there i f (Known false) e = absurd (cc)
+there i f (Known false) e = cc
 there i f _ e = refl
 
 absent : (i : ℕ) (f : Field) (o : Option (Option Formula)) → is_nothing o ≡ true → entry_of i 0 f o ≡ []
 absent i f None e = refl
-absent i f (Some rest) e = absurd (cc)
+absent i f (Some rest) e = cc
 
 module _ (v : ℕ) (fields : List Field) (i : ℕ) (lt : i < length fields) where
   here : fields_from v i (drop i fields)

@@ -33,7 +33,7 @@ all_bound item (m ∷ ms) = (least_below m ms, all_least m ms)
 
 counted_at : (P : ℕ → Type 0) (i : ℕ) (fs : List Field) (k : ℕ) (g : Field) (most : ℕ) → slice_get fs k ≡ Some g → g.count ≡ Counted i most
     → AllByRecursion P (counted i fs) → P most
-counted_at P i [] k g most there is h = absurd (cc)
+counted_at P i [] k g most there is h = cc
 counted_at P i (f ∷ fs) zero g most there is h =
     let count : f.count ≡ Counted i most = (let same : f ≡ g = cc in rw same is) in
     (rw (count, eq-eqb i i refl) at h).0
@@ -61,7 +61,7 @@ pub steady_there : (d : Desc) (v k : ℕ) → d.minimum ≤ v → is_steady_in d
 steady_there d v k low e = by_field (slice_get d.fields k) refl e
   where
     by_field : (o : Option Field) → slice_get d.fields k ≡ o → is_steady d.minimum o ≡ true → HasPosition (position_in v d.fields) k
-    by_field None is s = absurd (cc)
+    by_field None is s = cc
     by_field (Some f) is s =
         let a = and_parts (is_num f.item && is_one f.count && has_no_test f.test) (nat_le f.since d.minimum) s in
         let b = and_parts (is_num f.item && is_one f.count) (has_no_test f.test) a.0 in
@@ -97,7 +97,7 @@ module _ (o : ℕ → Option ℕ) where
   same_self (Open t) h = h
 
   rest_by : (r : Reduced) (rest : Option Formula) → IsSelf r → left_of r ≡ Some rest → same_rest o o rest rest ≡ true
-  rest_by (Known false) rest h e = absurd (cc)
+  rest_by (Known false) rest h e = cc
   rest_by (Known true) rest h e = let none : None ≡ rest = cc in rw (← none)
   rest_by (Open t) rest h e = let some : Some t ≡ rest = cc in rw (← some) h
 
@@ -139,7 +139,7 @@ record IsEntry (v i : ℕ) (fs : List Field) (e : Entry) : Type 0 where
   pub left : presence v e.field.test e.field.since ≡ Some e.rest
 
 entry_is : (v i : ℕ) (fs : List Field) (p : ℕ) (e : Entry) → slice_get (fields_from v i fs) p ≡ Some e → IsEntry v i fs e
-entry_is v i [] p e h = absurd (cc)
+entry_is v i [] p e h = cc
 entry_is v i (f ∷ fs) p e h = by_presence (λ q g. entry_is v (suc i) fs q e g) (presence v f.test f.since) refl p h
   where
     later : IsEntry v (suc i) fs e → IsEntry v i (f ∷ fs) e
@@ -229,7 +229,7 @@ own_version d low = rw (le-leb d.minimum d.version low) (le-leb d.version d.vers
 
 -- a name that is in a list of names is one of them
 pub is_among : (names : List (List ℕ)) (i : ℕ) (name : List ℕ) → slice_get names i ≡ Some name → is_one_of names name ≡ true
-is_among [] i name e = absurd (cc)
+is_among [] i name e = cc
 is_among (n ∷ names) zero name e = let same : n ≡ name = cc in or_left (bytes_eq n name) (is_one_of names name) ((bytes_eq-Decides n name).1 same)
 is_among (n ∷ names) (suc i) name e = or_right (bytes_eq n name) (is_one_of names name) (is_among names i name e)
 

@@ -65,7 +65,7 @@ module _ (same : ℕ → ℕ → Bool) (structs : List Comparer) (k : ℕ) (a b 
           let right : f ≡ h = cc in
           rw (left, right) at here
       by_place here rest (suc p) g h x y = rest p g h x y
-  fields_so said es fs below none = absurd (cc)
+  fields_so said es fs below none = cc
 
   -- where both are structures, they are alike, so they are so said
   struct_none : Meant → (e f : Entry) → uses_below k f.field.item ≡ true → ((i j : ℕ) → e.field.item ≡ Struct i → f.field.item ≡ Struct j → same i j ≡ true)
@@ -103,7 +103,7 @@ module _ (same : ℕ → ℕ → Bool) (structs : List Comparer) (k : ℕ) (a b 
 
   so_kept : (r : Reduced) → IsKept same a b v w r → keeps r ≡ true
   so_kept (Known true) h = refl
-  so_kept r (inl e) = absurd (cc)
+  so_kept r (inl e) = cc
   so_kept r (inr e) = e
 
   -- ---- both
@@ -187,7 +187,7 @@ module _ (old new : Set) (well : WellFormed new) where
               (sub_below k l v e t device inside) p.1;
         },
       )
-  sub_fits i k j e s device _ _ is inside none = absurd (cc)
+  sub_fits i k j e s device _ _ is inside none = cc
 
   device_fits : (i k : ℕ) (d e : Device) → slice_get new.devices k ≡ Some e → compare_device old new i d (Some k) (Some e) ≡ None → DevicesFit same d e
   device_fits i k d e there none =

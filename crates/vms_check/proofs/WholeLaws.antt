@@ -27,14 +27,14 @@ later_is x y e = rw e
 
 pub failing_some : (rules : List (ℕ × Bool)) (a b : Place) (r : ℕ) → failing_number rules ≡ Some r
     → failing_pair rules a b ≡ Some (record { rule = r; in_old = a; in_new = b })
-failing_some [] a b r e = absurd (cc)
+failing_some [] a b r e = cc
 failing_some ((rule, true) ∷ rules) a b r e = failing_some rules a b r e
 failing_some ((rule, false) ∷ rules) a b r e = let same : rule ≡ r = cc in rw same
 
 pub failing_none : (rules : List (ℕ × Bool)) (a b : Place) → failing_number rules ≡ None → failing_pair rules a b ≡ None
 failing_none [] a b e = refl
 failing_none ((rule, true) ∷ rules) a b e = failing_none rules a b e
-failing_none ((rule, false) ∷ rules) a b e = absurd (cc)
+failing_none ((rule, false) ∷ rules) a b e = cc
 
 -- ---- without places
 

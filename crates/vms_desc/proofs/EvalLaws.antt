@@ -8,7 +8,7 @@ use Rattle.vms_desc.proofs.Facade.{device_fields, AreDeviceTables, ◌≤◌, mi
 use Rattle.vms_desc.proofs.Facade.{take_min, map-map, Item, Num, Struct, Count, One, Part, MOST_ITEMS, Own, Parent, first, times, counted, item_cells}
 use Rattle.vms_desc.proofs.Facade.{item_size, field_cells, cells_from, desc_cells, struct_cells, device_cells, numbers_of, place_of, is_num, is_one, names_well}
 use Rattle.vms_desc.proofs.Facade.{Formula, Below, Cell, Not, And, Or, Desc, Set, truth, field_size, sizes_to, form_of, capped_fields, Scope, item_forms}
-use Rattle.vms_desc.proofs.Facade.{fields_forms, subs_forms, device_forms, forms_to, sizes_of, place_in, number_in, number_of, number_of_parent, desc_at}
+use Rattle.vms_desc.proofs.Facade.{fields_forms, subs_forms, device_forms, forms_to, sizes_of, place_in, number_of, number_of_parent, desc_at}
 use Rattle.vms_desc.proofs.Facade.{is_number, is_number_in, is_number_of_parent, is_placed, parent_of, HasParentCells, may_ask, may_ask_parent, IsInside}
 use Rattle.vms_desc.proofs.Facade.{IsInsideParent, IsScope, IsParent, AreStarts, slice_get-map, slice_get_within, slice_get-get_or}
 use Rattle.vms_parts.specs.{declared.types.Device.Device as CodeDevice, declared.types.Field.Field as CodeField}
@@ -79,13 +79,6 @@ starts_more sizes fields i sum more starts f lt is e h = record { long = omega (
 
 -- ---- lists of tables
 
-pub tables_more : (sizes : List ℕ) (descs : List (List Field)) (tables : List Table) (fields : List Field) (t : Table) → AreTables sizes descs tables
-    → IsTable sizes fields t → AreTables sizes (descs ++ fields ∷ []) (tables ++ t ∷ [])
-tables_more sizes descs tables fields t h x = record {
-  long = omega (arith, length-append descs (fields ∷ []), length-append tables (t ∷ []), h.long);
-  table = λ k lt. pairs_more (IsTable sizes) descs tables fields [] t no_table h.long h.table x k (omega (arith, length-append descs (fields ∷ [])));
-}
-
 -- the next description of a list of the code
 pub tables_next : {X Y : Type 0} (view : X → Y) (fields : Y → List Field) (sizes : List ℕ) (front : List (List Field)) (items : List X) (i : ℕ) (x : X)
     → (tables : List Table) (t : Table) → i < length items → x ≡ get_or items i x → AreTables sizes (front ++ map fields (map view (take i items))) tables → IsTable sizes (fields (view x)) t
@@ -94,7 +87,11 @@ tables_next view fields sizes front items i x tables t lt is h y =
     let here = map fields (map view (take i items)) in
     let rows : front ++ map fields (map view (take (i + 1) items)) ≡ (front ++ here) ++ fields (view x) ∷ [] =
     cc (append_assoc front here (fields (view x) ∷ []), map-append fields (map view (take i items)) (view x ∷ []), map_more view items i x lt) in
-    rw rows (tables_more sizes (front ++ here) tables (fields (view x)) t h y)
+    rw rows (record {
+      long = omega (arith, length-append (front ++ here) (fields (view x) ∷ []), length-append tables (t ∷ []), h.long);
+      table = λ k lt. pairs_more (IsTable sizes) (front ++ here) tables (fields (view x)) [] t no_table h.long h.table y k
+          (omega (arith, length-append (front ++ here) (fields (view x) ∷ [])));
+    })
 
 -- ---- devices
 
@@ -269,9 +266,6 @@ module _ (set : Set) (d : Desc) (few : length (desc_cells (struct_cells set) d) 
         let same : k ≡ min k (length d.fields) = omega arith in
         ap (λ m. base + get_or starts m 0) same ∙ place_in_is base k
 
-    number_is : (numbers : List ℤ) (base k : ℕ) → number_in starts d.fields numbers base k ≡ numbers_of (struct_cells set) d numbers base k
-    number_is numbers base k = rw (place_in_is base k)
-
     -- the cells of the fields that may be named are among n cells
     cells_inside : (base n : ℕ) → base + length (desc_cells (struct_cells set) d) ≤ n → (k : ℕ) → is_number_in d.fields k ≡ true
         → place_in starts d.fields base k < n
@@ -308,7 +302,7 @@ seen {set} {d} {base} {own} {numbers} s few room =
         starts = omega (arith, ap length s.fields, s.starts.long);
         cells = λ k asked. rw (s.fields, s.first) (cells_inside set d small own.starts.now s.starts base (length numbers) room k (rw s.fields at asked));
       };
-      number = λ k. rw (s.fields, s.first) (number_is set d small own.starts.now s.starts numbers base k);
+      number = λ k. rw (s.fields, s.first, place_in_is set d small own.starts.now s.starts base k);
     }
 
 -- the cells of the parent are there, and its numbers are those of the part's parent

@@ -31,7 +31,7 @@ pub use Rattle.vms_desc.specs.{Asks.own_numbers, Described.described, Heads.Fits
 pub use Rattle.vms_desc.specs.{declared.eval.Scope.Scope, declared.forms.Forms.Forms, declared.path.Element.Element, declared.path.Placed.Placed}
 pub use Rattle.vms_desc.specs.{declared.table.Table.Table, Formed.clock_set, Formed.is_well_formed, Formed.newest_set, Formed.shipped_set}
 pub use Rattle.vms_desc.specs.Forms.{device_forms, fields_forms, forms_to, item_forms, structs_forms, subs_forms}
-pub use Rattle.vms_desc.specs.Numbers.{fields_in, number_in, number_of, number_of_parent, place_in, sizes_of}
+pub use Rattle.vms_desc.specs.Numbers.{fields_in, number_of, number_of_parent, place_in, sizes_of}
 pub use Rattle.vms_desc.specs.Parts.{HasParentCells, HasPart, desc_at, is_number, is_number_in, is_number_of_parent, is_placed, parent_of, sub_at}
 pub use Rattle.vms_desc.specs.Paths.{Begins, Enters, IsPlaced, begin_base, begin_desc, element_in, element_of}
 pub use Rattle.vms_desc.specs.Scopes.{IsInside, IsInsideParent, IsParent, IsScope, may_ask, may_ask_parent}

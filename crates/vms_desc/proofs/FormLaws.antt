@@ -1,11 +1,11 @@
 -- Forms that are appended, and the numbers of a device's cells at their defaults.
-use Rattle.vms_desc.proofs.{Clean.none_is, EvalLaws.device_forms_are, EvalLaws.times_map, Facade.device_forms, Facade.forms_to, Facade.structs_forms}
-use Rattle.vms_desc.proofs.Facade.{AreForms, Puts, kinds_at, form_numbers, defaults_at, ◌≡◌, ℕ, zero, suc, ◌+◌, ◌-◌, ◌*◌, ◌<◌}
-use Rattle.vms_desc.proofs.Facade.{◌≤◌, List, [], ◌∷◌, ◌++◌, length, get_or, drop, take, map, refl, sym, ap, ◌∙◌, arith, ℤ, pos}
-use Rattle.vms_desc.proofs.Facade.{append_assoc, append-nil, length-append, true, drop_at, ext_get_or, length-map, map-append, take-map, take_at}
-use Rattle.vms_desc.proofs.Facade.{take-append-le, length-drop, get_or_past, mul-le, slice_get-get_or, map-map, Kind, U8, InRange, FitsHeads, no_desc, no_cell}
-use Rattle.vms_desc.proofs.Facade.{times, device_cells, first_fault, DefaultsFit, first_at, first_take, first_long, well_good, device_at, CellForm, Parts}
-use Rattle.vms_desc.proofs.Facade.{field_of, desc_of, device_of, set_of, form_of, layout_of, get_map_at, Held, Forms, is_well_formed, fields_forms}
+use Rattle.vms_desc.proofs.{Clean.none_is, EvalLaws.device_forms_are, EvalLaws.times_map, Facade.fields_forms}
+use Rattle.vms_desc.proofs.Facade.{device_forms, forms_to, structs_forms, AreForms, Puts, kinds_at, form_numbers, defaults_at, ◌≡◌, ℕ, zero, suc}
+use Rattle.vms_desc.proofs.Facade.{◌+◌, ◌-◌, ◌*◌, ◌<◌, ◌≤◌, List, [], ◌∷◌, ◌++◌, length, get_or, drop, take, map, refl, sym, ap}
+use Rattle.vms_desc.proofs.Facade.{◌∙◌, arith, ℤ, pos, append_assoc, append-nil, length-append, true, drop_at, ext_get_or, length-map, map-append}
+use Rattle.vms_desc.proofs.Facade.{take-map, take_at, take-append-le, length-drop, get_or_past, mul-le, slice_get-get_or, map-map, Kind, U8, InRange, FitsHeads}
+use Rattle.vms_desc.proofs.Facade.{no_desc, no_cell, times, device_cells, first_fault, DefaultsFit, first_at, first_take, first_long, well_good, device_at}
+use Rattle.vms_desc.proofs.Facade.{CellForm, Parts, field_of, desc_of, device_of, set_of, form_of, layout_of, get_map_at, Held, Forms, is_well_formed}
 use Rattle.std.proofs.{Common.drop-drop, Common.take_all, Math.Seq.take-add, lemmas.List.drop-append-le, lemmas.List.get_or-map, lemmas.List.length-take-le}
 use Rattle.vms_parts.specs.{declared.types.Desc.Desc, declared.types.Device.Device}
 use Rattle.vms_spec.specs.Sets as sets

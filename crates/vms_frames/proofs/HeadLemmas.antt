@@ -1,6 +1,6 @@
 -- Units by the bytes that came: numbers, heads, footers, and what ends a stream.
-use Rattle.std.proofs.{lemmas.Result.err_from_is_err_and, lemmas.List.get_or_append_left, lemmas.List.drop-append-le, Math.Bool.and-false}
-use Rattle.std.proofs.Common.{IsErrAnd, Result}
+use Rattle.std.proofs.{lemmas.Result.err_from_is_err_and, Math.Bool.and-false, Common.IsErrAnd, Common.Result}
+use Rattle.std.proofs.lemmas.List.{get_or_append_left, drop-append-le}
 use Rattle.vms_frames.proofs.Facade.{◌≡◌, ℕ, suc, zero, ◌+◌, ◌<◌, ◌≤◌, List, [], ◌++◌, length, get_or, drop, Some, Ok, Err, refl, sym}
 use Rattle.vms_frames.proofs.Facade.{ap, arith, length-drop, take-append-le, le-ltb, lt-ltb, big_from, Reason, number_at, bytes_at, Refused, Piece, Known, Due}
 use Rattle.vms_frames.proofs.Facade.{first_row, alone, needs, Seen, Good, Bad, Short, seen_in, seen_by, not, ℤ, Bool, true, false, if◌then◌else◌}

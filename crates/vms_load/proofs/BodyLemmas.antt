@@ -168,7 +168,8 @@ module _ {a b : Intake} (kind : Kind) (at : ℕ) (caps : List ℕ) where
 
   pub reads_no_number : (e : FrameFault) → Plain a b kind at (Err e) → Capped a b kind at caps (Err e)
   reads_no_number e p =
-      reads_as (λ n l. l) (λ rest left h. own_err kind at (Some left) rest (exceeds caps) (Number 0 kind) _ (number_by kind rest 0 caps) (Number 0 kind) (λ _. width kind) e h) p
+      reads_as (λ n l. l)
+      (λ rest left h. own_err kind at (Some left) rest (exceeds caps) (Number 0 kind) _ (number_by kind rest 0 caps) (Number 0 kind) (λ _. width kind) e h) p
 
 abbrev differs : ℤ → ℤ → Bool
 differs y v = not (same_number v y)
@@ -188,7 +189,9 @@ module _ {a b : Intake} (kind : Kind) (at : ℕ) (y : ℤ) where
 
   pub reads_no_constant : (e : FrameFault) → Plain a b kind at (Err e) → Fixed a b kind at y (Err e)
   reads_no_constant e p =
-      reads_as (λ n l. l) (λ rest left h. own_err kind at (Some left) rest (differs y) (Constant kind) _ (constant_by kind rest y) {X = Unit {0}} (λ _. Constant kind y) (λ _. width kind) e h) p
+      reads_as (λ n l. l)
+      (λ rest left h. own_err kind at (Some left) rest (differs y) (Constant kind) _ (constant_by kind rest y) {X = Unit {0}} (λ _. Constant kind y)
+      (λ _. width kind) e h) p
 
 -- nothing is read for the validations of a description
 pub reads_rule : (a : Intake) (holds : Bool) (numbers : List ℤ) (at : ℕ) (result : Result (Unit {0}) FrameFault) → a.given < 2 ^ 64 → OnOk result (holds ≡ true)

@@ -212,22 +212,10 @@ pub record Reset (set : Set) (images first : List Typed) (done : ℕ) : Type 0 w
   pub before : AreDefaults set images done
   pub after : (k : ℕ) → done ≤ k → get_or images k no_image ≡ get_or first k no_image
 
-pub reset_all : (set : Set) (images first : List Typed) (done : ℕ) → Reset set images first done → AreShaped set first → length images ≤ done → map untyped images ≡ map (default_image set) set.devices
-reset_all set images first done r s all = all_default set images (r.long ∙ s.all) (λ k lt. r.before k (omega arith))
-
-pub reset_shaped : (set : Set) (images first : List Typed) (done : ℕ) → Reset set images first done → AreShaped set first → length images ≤ done → AreShaped set images
-reset_shaped set images first done r s all = all_shaped set images (r.long ∙ s.all) (λ k lt. r.before k (omega arith))
-
 -- those of the first devices
 pub record Made (set : Set) (images : List Typed) (done : ℕ) : Type 0 where
   pub long : length images ≡ done
   pub each : AreDefaults set images done
-
-pub made_all : (set : Set) (images : List Typed) (done : ℕ) → Made set images done → done ≡ length set.devices → map untyped images ≡ map (default_image set) set.devices
-made_all set images done m all = all_default set images (m.long ∙ all) (λ k lt. m.each k (omega arith))
-
-pub made_shaped : (set : Set) (images : List Typed) (done : ℕ) → Made set images done → done ≡ length set.devices → AreShaped set images
-made_shaped set images done m all = all_shaped set images (m.long ∙ all) (λ k lt. m.each k (omega arith))
 
 -- ---- states
 

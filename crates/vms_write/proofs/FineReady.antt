@@ -130,23 +130,15 @@ part_ascends set spot n =
     subst (λ cs. Ascends spot.base (spot.base + length (desc_cells cs (desc_at set spot.part))) (spot_slots set spot n)) (cells_first set.structs (length set.structs))
     (desc_ascends (table set) (meanings_ascend set.structs (length set.structs)) (desc_at set spot.part) spot.version n spot.base)
 
--- the walk over a part reaches its end
-pub part_fine : (set : Set) (spot : PartAt) (forms : List CellForm) (n : List ℤ) (end : ℕ) → end ≡ spot.base + own_cell_count set (desc_at set spot.part)
-    → are_steps_fine forms n spot.base (steps_of (spot_slots set spot n)) ≡ true
-    → settle [] forms n (behind spot.base (steps_of (spot_slots set spot n))) (end - behind spot.base (steps_of (spot_slots set spot n)))
+-- the walk over a part, and the rest of its cells once the walk is at its end
+pub part_is : (set : Set) (spot : PartAt) (forms : List CellForm) (n : List ℤ) (end : ℕ) → end ≡ spot.base + own_cell_count set (desc_at set spot.part)
+    → let steps = steps_of (spot_slots set spot n) in
+    (are_steps_fine forms n spot.base steps && settle [] forms n (behind spot.base steps) (end - behind spot.base steps))
     ≡ is_fine forms n (spot_slots set spot n) spot.base (own_cell_count set (desc_at set spot.part))
-part_fine set spot forms n end e fine =
+part_is set spot forms n end e =
     let asc : Ascends spot.base end (spot_slots set spot n) = rw e (part_ascends set spot n) in
     let size : end - spot.base ≡ own_cell_count set (desc_at set spot.part) = omega arith in
-    rw (fine, size) at (slots_fine forms n spot.base end (spot_slots set spot n) asc)
-
--- it stops
-pub part_unfit : (set : Set) (spot : PartAt) (forms : List CellForm) (n : List ℤ) → are_steps_fine forms n spot.base (steps_of (spot_slots set spot n)) ≡ false
-    → false ≡ is_fine forms n (spot_slots set spot n) spot.base (own_cell_count set (desc_at set spot.part))
-part_unfit set spot forms n fine =
-    let end = spot.base + own_cell_count set (desc_at set spot.part) in
-    let size : end - spot.base ≡ own_cell_count set (desc_at set spot.part) = omega arith in
-    rw (fine, size) at (slots_fine forms n spot.base end (spot_slots set spot n) (part_ascends set spot n))
+    rw size at (slots_fine forms n spot.base end (spot_slots set spot n) asc)
 
 -- ---- what the judging walk finds fine is ready, and what is ready it finds fine: slots that fit
 

@@ -52,14 +52,11 @@ pub formed_long : (set : Set) (device : ℕ) (defaults : Held) (numbers : List �
 formed_long set device defaults numbers is long = ap length (formed_defaults set device defaults is) ∙ length-map (device_cells set (device_in set device)) form_of ∙ sym long
 
 -- the number of a cell at its default
-default_in : (kinds : List Kind) (numbers : List ℤ) (k : ℕ) → k < length (formed_of kinds numbers) → (k < length numbers) × (get_or numbers k (pos 0) ≡ (get_or (formed_of kinds numbers) k no_form).default)
+pub default_in : (kinds : List Kind) (numbers : List ℤ) (k : ℕ) → k < length (formed_of kinds numbers) → (k < length numbers) × (get_or numbers k (pos 0) ≡ (get_or (formed_of kinds numbers) k no_form).default)
 default_in [] numbers k lt = absurd (omega arith)
 default_in (kind ∷ kinds) [] k lt = absurd (omega arith)
 default_in (kind ∷ kinds) (z ∷ numbers) zero lt = (omega arith, refl)
 default_in (kind ∷ kinds) (z ∷ numbers) (suc k) lt = let r = default_in kinds numbers k (omega arith) in (omega arith, r.1)
-
-pub default_of : (defaults : Held) (k : ℕ) → k < length (formed defaults) → (k < length defaults.numbers) × (get_or defaults.numbers k (pos 0) ≡ (get_or (formed defaults) k no_form).default)
-default_of defaults k lt = default_in defaults.kinds defaults.numbers k lt
 
 -- ---- what ready images have, one after the other
 
@@ -101,55 +98,41 @@ ready_writable set well heads i image lt r =
 
 -- ---- Images that are ready, one after the other.
 
--- there is an image for each device, and the first n are ready
-pub record AreSoFar (set : Set) (images : List Image) (n : ℕ) : Type 0 where
-  pub long : length images ≡ length set.devices
-  pub ready : (k : ℕ) (d : Device) (image : Image) → k < n → slice_get set.devices k ≡ Some d → slice_get images k ≡ Some image → IsReady set d image
+-- what holds of the first n of a list
+pub record SoFar {X : Type 0} (P : ℕ → X → Type 0) (xs : List X) (n : ℕ) : Type 0 where
+  pub each : (k : ℕ) (x : X) → k < n → slice_get xs k ≡ Some x → P k x
 
-pub none_so_far : (set : Set) (images : List Image) → length images ≡ length set.devices → AreSoFar set images 0
-none_so_far set images long = record { long = long; ready = λ k d image lt. absurd (omega arith) }
+pub none_so_far : {X : Type 0} (P : ℕ → X → Type 0) (xs : List X) → SoFar P xs 0
+none_so_far P xs = record { each = λ k x lt. absurd (omega arith) }
 
-module _ (set : Set) (images : List Image) (n : ℕ) (image : Image) (sofar : AreSoFar set images n) (lt : n < length images) (is : image ≡ get_or images n image) where
-  pub one_more : IsReady set (device_at set n) image → AreSoFar set images (n + 1)
-  one_more r = record {
-    long = sofar.long;
-    ready = λ k d other less e f. ⊎_elim (λ (below : k < n). sofar.ready k d other below e f) (λ (above : n ≤ k).
-        let same : k ≡ n = omega arith in
-        let there : image ≡ other = is ∙ get_or_from_slice_get images n other image (ap (slice_get images) (sym same) ∙ f) in
-        rw (get_or_from_slice_get set.devices n d _ (ap (slice_get set.devices) (sym same) ∙ e)) at (rw there at r)) (cases_lt k n);
+pub one_more : {X : Type 0} {P : ℕ → X → Type 0} {xs : List X} {n : ℕ} {x : X} → SoFar P xs n → x ≡ get_or xs n x → P n x → SoFar P xs (n + 1)
+one_more {P = P} {xs = xs} {n = n} {x = x} sofar is p = record {
+  each = λ k other less f. ⊎_elim (λ (below : k < n). sofar.each k other below f) (λ (above : n ≤ k).
+      let same : k ≡ n = omega arith in
+      let here : x ≡ other = is ∙ get_or_from_slice_get xs n other x (rw same at f) in
+      rw (same, ← here) p) (cases_lt k n);
+}
+
+module _ (set : Set) where
+  pub all_ready : (images : List Image) (n : ℕ) → SoFar (λ k. IsReady set (device_at set k)) images n → length images ≡ length set.devices → length images ≤ n
+      → AreReady set images
+  all_ready images n sofar long le = record {
+    one_each = long;
+    ready = λ k d image e f.
+        let inside = slice_get_within images k image f in rw (get_or_from_slice_get set.devices k d _ e) at (sofar.each k image (omega arith) f);
   }
 
   -- if one isn't ready, not all are
-  pub not_all : (IsReady set (device_at set n) image → ⊥) → AreReady set images → ⊥
-  not_all r all =
-      r (all.ready n (device_at set n) image (slice_get-get_or set.devices n _ (omega arith)) (slice_get-get_or images n image lt ∙ ap (λ x. Some x) (sym is)))
+  pub not_all : (images : List Image) (n : ℕ) (image : Image) → n < length images → image ≡ get_or images n image → (IsReady set (device_at set n) image → ⊥)
+      → AreReady set images → ⊥
+  not_all images n image lt is r all =
+      r (all.ready n (device_at set n) image (slice_get-get_or set.devices n _ (omega (arith, all.one_each))) (slice_get-get_or images n image lt ∙ ap Some (sym is)))
 
-pub all_so_far : (set : Set) (images : List Image) (n : ℕ) → AreSoFar set images n → length images ≤ n → AreReady set images
-all_so_far set images n sofar le = record {
-  one_each = sofar.long;
-  ready = λ k d image e f. let inside = slice_get_within images k image f in sofar.ready k d image (omega arith) e f;
-}
-
--- the first n are images of their devices
-pub record AreOfSoFar (set : Set) (images : List Typed) (n : ℕ) : Type 0 where
-  pub each : (k : ℕ) (image : Typed) → k < n → slice_get images k ≡ Some image → IsImageOf set k image
-
-pub none_of : (set : Set) (images : List Typed) → AreOfSoFar set images 0
-none_of set images = record { each = λ k image lt. absurd (omega arith) }
-
-module _ (set : Set) (images : List Typed) (n : ℕ) (image : Typed) (sofar : AreOfSoFar set images n) (lt : n < length images) (is : image ≡ get_or images n image) where
-  pub one_more_of : IsImageOf set n image → AreOfSoFar set images (n + 1)
-  one_more_of o = record {
-    each = λ k other less f. ⊎_elim (λ (below : k < n). sofar.each k other below f) (λ (above : n ≤ k).
-        let same : k ≡ n = omega arith in
-        rw same (rw (is ∙ get_or_from_slice_get images n other image (ap (slice_get images) (sym same) ∙ f)) at o)) (cases_lt k n);
+  pub all_of : (images : List Typed) (n : ℕ) → SoFar (IsImageOf set) images n → length images ≡ length set.devices → length images ≤ n → AreImagesOf set images
+  all_of images n sofar long le = record {
+    one_each = long;
+    each = λ k image f. let inside = slice_get_within images k image f in sofar.each k image (omega arith) f;
   }
-
-pub all_of : (set : Set) (images : List Typed) (n : ℕ) → AreOfSoFar set images n → length images ≡ length set.devices → length images ≤ n → AreImagesOf set images
-all_of set images n sofar long le = record {
-  one_each = long;
-  each = λ k image f. let inside = slice_get_within images k image f in sofar.each k image (omega arith) f;
-}
 
 -- ---- the bytes of steps, runs of numbers, subsections and sections, one after the other
 
@@ -207,13 +190,9 @@ module _ (set : Set) (i : ℕ) (image : Image) (j : ℕ) (lt : j < length (devic
 -- ---- The sections of a stream, one after the other.
 
 -- the next section of those that are left
-pub sections_next : (set : Set) (i : ℕ) (ds : List Device) (images : List Image) (d : Device) (image : Image) → i < length ds → i < length images
-    → written_sections set i (drop i ds) (drop i images)
-    ≡ written_section set (get_or ds i d) (get_or images i image) i ++ written_sections set (i + 1) (drop (i + 1) ds) (drop (i + 1) images)
-sections_next set i ds images d image lt lt' = let up : suc i ≡ i + 1 = omega arith in rw (drop_more ds i d lt, drop_more images i image lt', up)
-
 pub sections_at : (set : Set) (i : ℕ) (images : List Image) (image : Image) → i < length set.devices → i < length images → image ≡ get_or images i image
     → written_sections set i (drop i set.devices) (drop i images)
     ≡ written_section set (device_at set i) image i ++ written_sections set (i + 1) (drop (i + 1) set.devices) (drop (i + 1) images)
 sections_at set i images image lt lt' is =
-    rw (← is) at (sections_next set i set.devices images (record { instance = 0; desc = no_desc; subs = [] }) image lt lt')
+    let up : suc i ≡ i + 1 = omega arith in
+    rw (drop_more set.devices i (record { instance = 0; desc = no_desc; subs = [] }) lt, drop_more images i image lt', up) (rw (← is))

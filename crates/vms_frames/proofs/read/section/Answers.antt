@@ -15,7 +15,8 @@ returns-clause-reads g c =
     let long : length unit ≡ 14 + get_or unit 5 0 = omega arith in
     let same : c.of.result ≡ head_in unit = cc (c.of.ensures, c.deref.ensures.0) in
     unit_on (a_step head_seen) c.args.at (Ok (Section c.of.result)) grown
-    (unit_whole (a_step head_seen) {x = Section c.of.result} unit c.args.at (g.met.S.Source.counted c.grow_head.new.source) (rw same (head_long unit long)) (λ rest. rw same (head_whole unit rest long)))
+    (unit_whole (a_step head_seen) {x = Section c.of.result} unit c.args.at (g.met.S.Source.counted c.grow_head.new.source)
+    (rw same (head_long unit long)) (λ rest. rw same (head_whole unit rest long)))
 
 pub returns-in_err-grow_head-clause-reads : goal.returns-in_err-grow_head-clause-reads
 returns-in_err-grow_head-clause-reads g c =

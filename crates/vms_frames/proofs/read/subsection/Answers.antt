@@ -15,7 +15,8 @@ returns g c =
     let long : length unit ≡ 6 + get_or unit 1 0 = omega arith in
     let same : c.of.result ≡ sub_head_in unit = cc (c.of.ensures, c.deref.ensures.0) in
     unit_on a_sub c.args.at (Ok c.of.result) grown
-    (unit_whole a_sub unit c.args.at (g.met.S.Source.counted c.grow_head.new.source) (rw same (sub_whole_long unit long)) (λ rest. rw same (sub_whole unit rest long)))
+    (unit_whole a_sub unit c.args.at (g.met.S.Source.counted c.grow_head.new.source)
+    (rw same (sub_whole_long unit long)) (λ rest. rw same (sub_whole unit rest long)))
 
 pub returns-in_err-grow_head : goal.returns-in_err-grow_head
 returns-in_err-grow_head g c =

@@ -1,4 +1,4 @@
-use Rattle.vms_load.proofs.Facade.{rules, ◌<◌, sym, ap, ◌∙◌, arith, length, get_or, false, Some, None, find_device, described, reason_against}
+use Rattle.vms_load.proofs.Facade.{rules, ◌<◌, sym, ap, ◌∙◌, arith, length, get_or, false, Some, None, described, reason_against}
 use Rattle.vms_load.proofs.HeadLemmas.{opens, device_below, section_new}
 use Rattle.vms_load.proofs.heads.open_section.Goals as goal
 
@@ -12,8 +12,7 @@ bounds-came-number c =
 
 pub returns-in-None-against_device : goal.returns-in-None-against_device
 returns-in-None-against_device c =
-    let devices = (described c.args.set.now).devices in
-    let found = ap (λ name. find_device 0 devices name c.args.head.now.instance) (sym c.deref.ensures.0) ∙ sym c.find.ensures ∙ c.in-Some.is in
+    let found = rw (c.find.ensures, c.deref.ensures.0) at c.in-Some.is in
     let reason = sym c.in-None-against_device.is ∙ c.against_device.ensures ∙ ap (λ d. reason_against d (get_or c.args.came.now c.in-Some.number false) c.args.head.now.version) c.device.ensures in
     let opened = opens (described c.args.set.now) c.args.came.now c.args.head.now.name.items c.args.head.now.instance c.args.head.now.version c.args.at c.in-Some.number None found reason in
     record {
@@ -25,8 +24,7 @@ returns-in-None-against_device c =
 
 pub returns-in-Some-against_device : goal.returns-in-Some-against_device
 returns-in-Some-against_device c =
-    let devices = (described c.args.set.now).devices in
-    let found = ap (λ name. find_device 0 devices name c.args.head.now.instance) (sym c.deref.ensures.0) ∙ sym c.find.ensures ∙ c.in-Some.is in
+    let found = rw (c.find.ensures, c.deref.ensures.0) at c.in-Some.is in
     let reason = sym c.in-Some-against_device.is ∙ c.against_device.ensures ∙ ap (λ d. reason_against d (get_or c.args.came.now c.in-Some.number false) c.args.head.now.version) c.device.ensures in
     record {
       short = search rules;

@@ -1,21 +1,15 @@
-use Rattle.vms_load.proofs.Facade.{rules, ◌≡◌, ◌<◌, sym, ap, ◌∙◌, arith, length, Option, Some, None, ℕ, List, map, length-map, find_sub}
-use Rattle.vms_load.proofs.Facade.{sub_of, device_of, get_map_at, sub_at, reason_against_sub, sub_opened, opened_unless, Reason}
+use Rattle.vms_load.proofs.Facade.{get_or, rules, ◌≡◌, ◌<◌, sym, ap, ◌∙◌, arith, length, Option, Some, None, ℕ, List, map, length-map}
+use Rattle.vms_load.proofs.Facade.{find_sub, sub_of, device_of, get_map_at, reason_against_sub, sub_opened, opened_unless, Reason}
 use Rattle.vms_load.proofs.HeadLemmas.{unknown_sub, opens_sub, sub_below}
 use Rattle.vms_load.proofs.heads.open_sub.Goals.{After-against_sub, In-Some}
 use Rattle.vms_parts.specs.declared.types.Sub.{Sub as CodeSub}
 use Rattle.vms_load.proofs.heads.open_sub.Goals as goal
 
--- the subsection found by its name
-found_sub : (subs : List CodeSub) (there name wanted : _) (found : Option ℕ) (j : ℕ) → there ≡ subs → name ≡ wanted → found ≡ find_sub 0 (map sub_of there) name → found ≡ Some j
-    → find_sub 0 (map sub_of subs) wanted ≡ Some j
-found_sub subs there name wanted found j e f h is = cc
-
 below_subs : (subs : List CodeSub) (name : List ℕ) (j : ℕ) → find_sub 0 (map sub_of subs) name ≡ Some j → j < length subs
 below_subs subs name j e = omega (arith, sub_below (map sub_of subs) name j e, length-map subs sub_of)
 
 found : (c : goal.In-Some) → find_sub 0 (map sub_of c.args.device.now.subs) c.args.name.now.items ≡ Some c.in-Some.sub
-found c =
-    found_sub c.args.device.now.subs c.as_slice.result.now c.deref.result.now c.args.name.now.items c.find_sub.result c.in-Some.sub c.as_slice.ensures c.deref.ensures.0 c.find_sub.ensures c.in-Some.is
+found c = rw (c.find_sub.ensures, c.as_slice.ensures, c.deref.ensures.0) at c.in-Some.is
 
 -- it is opened, or refused for the reason against it
 judged : (c : goal.After-against_sub) → find_sub 0 (map sub_of c.args.device.now.subs) c.args.name.now.items ≡ Some c.in-Some.sub
@@ -28,7 +22,7 @@ judged c it k why is =
     let below = below_subs subs c.args.name.now.items j it in
     let here = get_map_at sub_of subs j c.index-as_slice-sub.result _ below (rw c.as_slice-2.ensures at c.index-as_slice-sub.is) in
     opens_sub k d c.args.image.now.came c.args.name.now.items c.args.version j why c.requires.long it
-    (sym is ∙ c.against_sub.ensures ∙ ap (λ s. reason_against_sub s c.came.result c.args.version) (sym here) ∙ ap (λ o. reason_against_sub (sub_at d j) o c.args.version) c.came.ensures)
+    (sym is ∙ c.against_sub.ensures ∙ rw c.came.ensures (ap (λ s. reason_against_sub s (get_or c.args.image.now.came j None) c.args.version) (sym here)))
 
 pub bounds-as_slice-sub : goal.bounds-as_slice-sub
 bounds-as_slice-sub c =
@@ -52,8 +46,7 @@ returns-in-Some-against_sub c =
 
 pub returns-in-None : goal.returns-in-None
 returns-in-None c =
-    let subs = c.args.device.now.subs in
-    let none = ap (λ n. find_sub 0 (map sub_of subs) n) (sym c.deref.ensures.0) ∙ ap (λ s. find_sub 0 (map sub_of s) c.deref.result.now) (sym c.as_slice.ensures) ∙ sym c.find_sub.ensures ∙ c.in-None.is in
+    let none = rw (c.find_sub.ensures, c.as_slice.ensures, c.deref.ensures.0) at c.in-None.is in
     record {
       short = search rules;
       opened = λ k. sym (unknown_sub k (device_of c.args.device.now) c.args.image.now.came c.args.name.now.items c.args.version none);

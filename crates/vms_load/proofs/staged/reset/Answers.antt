@@ -1,9 +1,11 @@
-use Rattle.vms_load.proofs.{Facade.rules, Facade.arith, Facade.described, HeadLemmas.reset_all, HeadLemmas.reset_shaped}
+use Rattle.vms_load.proofs.Facade.{rules, arith, described, ◌∙◌, ◌<◌, ℕ, length}
+use Rattle.vms_load.proofs.HeadLemmas.{all_default, all_shaped}
 use Rattle.vms_load.proofs.staged.reset.Goals as goal
 
 pub returns : goal.returns
-returns c = record {
-  states = reset_all (described c.args.set.now) c.loop-device.images c.args.images.now c.loop-device.device c.loop-device.invariant c.requires (omega arith);
-  shaped = reset_shaped (described c.args.set.now) c.loop-device.images c.args.images.now c.loop-device.device c.loop-device.invariant c.requires (omega arith);
-  each = search rules;
-}
+returns c =
+    let set = described c.args.set.now in
+    let images = c.loop-device.images in
+    let long = c.loop-device.invariant.long ∙ c.requires.all in
+    let each = λ (k : ℕ) (lt : k < length images). c.loop-device.invariant.before k (omega arith) in
+    record { states = all_default set images long each; shaped = all_shaped set images long each; each = search rules }

@@ -1,25 +1,23 @@
-use Rattle.vms_write.proofs.Facade.{OnTrue_at, OnFalse_at, ◌<◌, length, map, sym, ap, ◌∙◌, arith, true, false, length-map, device_of, described}
+use Rattle.vms_write.proofs.Facade.{OnTrue_at, OnFalse_at, ◌<◌, length, map, sym, ap, ◌∙◌, arith, length-map, device_of, described}
 use Rattle.vms_write.proofs.Facade.{state_of, states_long, state_at, image_at}
-use Rattle.vms_write.proofs.Sections.{none_so_far, none_of, one_more, one_more_of, not_all, all_so_far, all_of}
+use Rattle.vms_write.proofs.Sections.{none_so_far, one_more, not_all, all_ready, all_of}
 use Rattle.vms_write.proofs.readiness.are_ready.Goals as goal
 
 pub loop-device-init : goal.loop-device-init
 loop-device-init c = record {
-  ready = none_so_far (described c.args.set.now) (map state_of c.args.images.now)
-      (states_long c.args.images.now ∙ c.if-images-as_slice.false ∙ ap length c.as_slice.ensures ∙ sym (length-map c.parts.result.now.devices device_of) ∙ ap (λ s. length s.devices) c.parts.ensures);
-  of = none_of (described c.args.set.now) c.args.images.now;
+  long = c.if-images-as_slice.false ∙ ap length c.as_slice.ensures ∙ sym (length-map c.parts.result.now.devices device_of) ∙ ap (λ s. length s.devices) c.parts.ensures;
+  ready = none_so_far _ (map state_of c.args.images.now);
+  of = none_so_far _ c.args.images.now;
 }
 
 pub loop-device-preserved : goal.loop-device-preserved
 loop-device-preserved c =
-    let images = c.args.images.now in
-    let image = c.index-images-device.result in
-    let k = c.loop-device.device in
-    let lt : k < length (map state_of images) = omega (arith, states_long images) in
+    let inv = c.loop-device.invariant in
+    let is = state_at c.args.images.now c.loop-device.device c.index-images-device.result c.loop-device-test.true c.index-images-device.is in
     record {
-      ready = one_more (described c.args.set.now) (map state_of images) k (state_of image) c.loop-device.invariant.ready lt (state_at images k image c.loop-device-test.true c.index-images-device.is)
-          (OnTrue_at c.if-not-may_be_written.false c.may_be_written.ensures.ready);
-      of = one_more_of (described c.args.set.now) images k image c.loop-device.invariant.of c.loop-device-test.true c.index-images-device.is (OnTrue_at c.if-not-may_be_written.false c.may_be_written.ensures.of);
+      long = inv.long;
+      ready = one_more inv.ready is (OnTrue_at c.if-not-may_be_written.false c.may_be_written.ensures.ready);
+      of = one_more inv.of c.index-images-device.is (OnTrue_at c.if-not-may_be_written.false c.may_be_written.ensures.of);
     }
 
 pub returns-then-not-may_be_written-clause-other : goal.returns-then-not-may_be_written-clause-other
@@ -28,15 +26,15 @@ returns-then-not-may_be_written-clause-other c =
     let image = c.index-images-device.result in
     let k = c.loop-device.device in
     let lt : k < length (map state_of images) = omega (arith, states_long images) in
-    λ of. not_all (described c.args.set.now) (map state_of images) k (state_of image) c.loop-device.invariant.ready lt (state_at images k image c.loop-device-test.true c.index-images-device.is)
+    λ of. not_all (described c.args.set.now) (map state_of images) k (state_of image) lt (state_at images k image c.loop-device-test.true c.index-images-device.is)
     (OnFalse_at c.if-not-may_be_written.true c.may_be_written.ensures.other (of.each k image (image_at images k image c.loop-device-test.true c.index-images-device.is)))
 
 pub returns-clause-ready : goal.returns-clause-ready
 returns-clause-ready c =
     let images = c.args.images.now in
-    all_so_far (described c.args.set.now) (map state_of images) c.loop-device.device c.loop-device.invariant.ready (omega (arith, states_long images))
+    all_ready (described c.args.set.now) (map state_of images) _ c.loop-device.invariant.ready (states_long images ∙ c.loop-device.invariant.long)
+    (omega (arith, states_long images))
 
 pub returns-clause-of : goal.returns-clause-of
 returns-clause-of c =
-    let images = c.args.images.now in
-    all_of (described c.args.set.now) images c.loop-device.device c.loop-device.invariant.of (sym (states_long images) ∙ c.loop-device.invariant.ready.long) c.loop-device-test.false
+    all_of (described c.args.set.now) c.args.images.now _ c.loop-device.invariant.of c.loop-device.invariant.long c.loop-device-test.false

@@ -1,8 +1,12 @@
-use Rattle.vms_write.proofs.{Facade.map, Facade.described, Facade.state_of, Sections.AreSoFar, Sections.AreOfSoFar}
+use Rattle.vms_write.proofs.Facade.{◌≡◌, length, map, described, device_at, state_of, IsReady, IsImageOf}
+use Rattle.vms_write.proofs.{Sections.SoFar}
 use Rattle.vms_write.proofs.readiness.are_ready.Given as goal
 
 abbrev pub invariant-loop-device : goal.invariant-loop-device
-invariant-loop-device l = record {
-  ready : AreSoFar (described l.set) (map state_of l.images) l.device;
-  of : AreOfSoFar (described l.set) l.images l.device;
-}
+invariant-loop-device l =
+    let set = described l.set in
+    record {
+      long : length l.images ≡ length set.devices;
+      ready : SoFar (λ k. IsReady set (device_at set k)) (map state_of l.images) l.device;
+      of : SoFar (IsImageOf set) l.images l.device;
+    }
