@@ -26,22 +26,21 @@ pub record IsMadeOf (level : ℕ) (of_timer : Result ℕ Misfit) (of_pair : Resu
   pub serial : of_port ≡ Ok m.serial
   pub lines : lines_agree m ≡ true
 
-record IsAgreed (b : Bool) (found m : State) : Type 0 where
-  agree : b ≡ true
-  pub same : found ≡ m
+-- What a test lets through.
+pub let-through : {A E : Type 0} (b : Bool) (found m : A) (fault : E) → cond b (Ok found) (Err fault) ≡ Ok m → (b ≡ true) × (found ≡ m)
+let-through true found m fault e = (refl, cc)
+let-through false found m fault e = cc
 
-agreed-by : (b : Bool) (found m : State) (misfit : Misfit) → cond b (Ok found) (Err misfit) ≡ Ok m → IsAgreed b found m
-agreed-by true found m misfit e = record { agree = refl; same = cc }
-agreed-by false found m misfit e = cc
-
-agreed-ok : (found m : State) → agreed found ≡ Ok m → IsAgreed (lines_agree found) found m
+agreed-ok : (found m : State) → agreed found ≡ Ok m → (lines_agree found ≡ true) × (found ≡ m)
 unfolding agreed
-agreed-ok found m e = agreed-by (lines_agree found) found m _ e
+agreed-ok found m e = let-through (lines_agree found) found m _ e
 
 pub made_of : (level : ℕ) (of_timer : Result ℕ Misfit) (of_pair : Result PicPair Misfit) (of_pit : Result Pit Misfit) (of_port : Result Port Misfit) (m : State)
     → joined level of_timer of_pair of_pit of_port ≡ Ok m → IsMadeOf level of_timer of_pair of_pit of_port m
 unfolding joined
-made_of level (Ok moment) (Ok pair) (Ok pit) (Ok serial) m e = search (arith, agreed-ok)
+made_of level (Ok moment) (Ok pair) (Ok pit) (Ok serial) m e =
+    let is = agreed-ok _ m e in
+    rw (← is.1) (record { same_level = refl; timer = refl; pair = refl; pit = refl; serial = refl; lines = is.0 })
 made_of level _ _ _ _ m e = cc
 
 pub chip-ok : (outcome : Result PicPair ChipFault) (pair : PicPair) → by_chip outcome ≡ Ok pair → outcome ≡ Ok pair
@@ -59,13 +58,11 @@ pub record IsTimed (moment found : ℕ) : Type 0 where
   pub last : moment ≤ LAST_MOMENT
   pub same : found ≡ moment
 
-timed-by : (b : Bool) (moment found : ℕ) → nat_le moment LAST_MOMENT ≡ b → cond b (Ok moment) (Err (Unsound TIMER_DEVICE 1)) ≡ Ok found → IsTimed moment found
-timed-by true moment found h e = record { last = grind (arith, nat_tests); same = cc }
-timed-by false moment found h e = cc
-
 pub timed-ok : (moment found : ℕ) → timed moment ≡ Ok found → IsTimed moment found
 unfolding timed
-timed-ok moment found e = timed-by (nat_le moment LAST_MOMENT) moment found refl e
+timed-ok moment found e =
+    let is = let-through (nat_le moment LAST_MOMENT) moment found _ e in
+    record { last = grind (arith, nat_tests); same = sym is.1 }
 
 module _ (level : ℕ) (cells : BoardCells) (l : IsLevel level) (are : AreBoardCells cells) (last : moment_of cells ≤ LAST_MOMENT) where
   abbrev moment : ℕ
