@@ -1,6 +1,6 @@
 -- What each port reaches.
-use Rattle.dev_board.proofs.Facade.{◌≡◌, ◌≢◌, ℕ, ◌+◌, ◌-◌, ◌<◌, ◌≤◌, ◌==◌, ◌⊎◌, inl, inr, Bool, true, false, ◌&&◌, ◌||◌, if◌then◌else◌, refl, ap, ◌∙◌, arith}
-use Rattle.dev_board.proofs.Facade.{sym, subst, ⊎_elim, and-false, ne_eqb, le-leb, lt-leb, cond_both, nat_le, nat_tests, is_port, PortsAre, target_of, Target}
+use Rattle.dev_board.proofs.Facade.{◌≡◌, ◌≢◌, ℕ, ◌+◌, ◌-◌, ◌<◌, ◌≤◌, ◌==◌, ◌⊎◌, inl, inr, Bool, true, false, ◌&&◌, ◌||◌, if◌then◌else◌, refl, ◌∙◌, arith}
+use Rattle.dev_board.proofs.Facade.{sym, subst, ⊎_elim, and-false, lt-leb, cond_both, nat_le, nat_tests, is_port, PortsAre, target_of, Target}
 use Rattle.dev_board.proofs.Facade.{Pair, Counter, Control, Register, Nothing, IsPort, HasDevices, State}
 
 -- What a port reaches that isn't the pair's.

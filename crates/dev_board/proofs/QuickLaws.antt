@@ -1,6 +1,6 @@
 -- Events that leave the lines as they were.
 use Rattle.dev_board.proofs.{QuietLaws.command-taken, QuietLaws.ack-taken, QuietLaws.untouched-settled, PortLaws.ports_are, WireLaws.wires_of-are}
-use Rattle.dev_board.proofs.Facade.{◌≡◌, ℕ, Bool, true, false, ◌==◌, bit_or, arith, refl, ap, ◌∙◌, sym, not, ◌&&◌, ◌||◌, subst}
+use Rattle.dev_board.proofs.Facade.{◌≡◌, ℕ, Bool, true, false, ◌==◌, bit_or, arith, refl, ap, ◌∙◌, sym, not, ◌&&◌}
 use Rattle.dev_board.proofs.Facade.{if◌then◌else◌, cond_both, false≢true, nat_tests, and-false, and-true, or-false, has, bits_where, lines_of}
 use Rattle.dev_board.proofs.Facade.{written_pair, acked, PicPair, HasTaken, IsBefore, is_command, Stays, ack_touches, leaves_port, read_touches, time_touches}
 use Rattle.dev_board.proofs.Facade.{write_touches, has-or, either, State, Act, waited, Before, Touch, Untouched, Command, Access, pit_out, lsr_of, lsr_read}
@@ -9,7 +9,6 @@ use Rattle.dev_board.proofs.Facade.{Option, None, Some, IfSome, int_of, is_nothi
 use Rattle.dev_board.proofs.Facade.{after_act, wires_after, settled, wires_of, IsCalm, Pit, pit_read}
 use Rattle.dev_board.proofs.SoundLaws.{read-out, read_at-kept, serial-written, calm-read, calm-write, settled-sound}
 use Rattle.dev_board.specs.{declared.touch.Touch.TheVariants.Port as OfPort, Kept.IsKept, Ports.has_port, Ports.is_device, declared.kept.Kept.Kept}
-use Rattle.std.proofs.lemmas.Bool.{not-true}
 use Rattle.std.specs.Prelude.{MatchOption}
 use Rattle.dev_serial.specs.Access.{read_of as registers_read}
 
@@ -107,8 +106,8 @@ module _ (m : State) (s : IsSound m) (before : Before) (b : IsBefore before m) w
   pub after-read : (port value : ℕ) (after : State) (touch : Touch) → touch ≡ read_touches (target_of m.level port) (read port m).0
       → (value, after) ≡ read port m → Stays touch before after
   after-read port value after touch t e =
-      rw t (subst (λ done. Stays (read_touches (target_of m.level port) (read port m).0) before done.1) (sym e)
-      (read-stays (target_of m.level port) port))
+      let stays = read-stays (target_of m.level port) port in
+      rw (t, ← e) (rw (← e) at stays)
 
   pub after-write : (port value : ℕ) (after : State) (touch : Touch) → touch ≡ write_touches (target_of m.level port) port value → after ≡ write port value m
       → Stays touch before after
@@ -118,11 +117,12 @@ module _ (m : State) (s : IsSound m) (before : Before) (b : IsBefore before m) w
       → Stays touch before (record m { pair = pair })
   unfolding ack_touches
   after-ack value pair touch t e =
-      rw t (subst (λ done. Stays (ack_touches before.lines) before (record m { pair = done.1 })) (sym e) (ack-stays (has before.lines 2) refl))
+      let stays = ack-stays (has before.lines 2) refl in
+      rw t (rw (← e) at stays)
 
   pub after-time : (to : ℕ) (act : Act) (after : State) (calm : Bool) → (act, after) ≡ waited to m
       → (calm ≡ true → pit_out 0 to m.pit ≡ pit_out 0 m.moment m.pit) → Stays (time_touches calm) before after
-  after-time to act after calm e still = subst (λ done. Stays (time_touches calm) before done.1) (sym e) (time-stays to calm still)
+  after-time to act after calm e still = let stays = time-stays to calm still in rw (← e) at stays
 
 -- ---- accesses after which no line has changed
 
@@ -150,12 +150,12 @@ module _ (m : State) (s : IsSound m) where
     same-settled = untouched-settled (wires_of m) before false touch after stays (untouched-wires touch m before (is-before).lines nothing)
 
     still-sound : IsSound after
-    still-sound = subst IsSound same-settled (settled-sound (wires_of m) false after (wires_of-are m) h)
+    still-sound = rw same-settled at (settled-sound (wires_of m) false after (wires_of-are m) h)
 
   -- A read.
   module _ (port value : ℕ) (after : State) (touched : read_touches (target_of m.level port) value ≡ Untouched) (e : (value, after) ≡ read port m) where
     read-devices : HasDevices after
-    read-devices = subst (λ done. HasDevices done.1) (sym e) (read_at-kept m s.devices (target_of m.level port) port)
+    read-devices = let found = read_at-kept m s.devices (target_of m.level port) port in rw (← e) at found
 
     read-leaves : Stays Untouched before after
     read-leaves =
@@ -229,16 +229,13 @@ module _ (m seen : State) (port : ℕ) (view : m ≡ seen) (at : port ≡ 0x3fd)
   pub status-read : (A : Type 0) → (o : Option ℕ) → MatchOption o A Status → MatchOption o (seen ≡ seen) (λ value. (value, seen) ≡ read port seen)
   unfolding read_at registers_read
   status-read A None e = refl
-  status-read A (Some value) e =
-      rw (← view) (ap (λ done. (done.0, record m { serial = done.1 })) e
-      ∙ ap (λ target. read_at target port m) (sym (subst (λ x. target_of x.level port ≡ Register 5) (sym view) is-status)))
+  status-read A (Some value) e = rw (is-status, ← view) (ap (λ done. (done.0, record m { serial = done.1 })) e)
 
   status-leaves : (value : ℕ) → Status value → leaves_port 5 value ≡ true
   unfolding leaves_port
   status-leaves value e =
       let none : m.serial.receiver.overrun ≡ false = ap (λ done. done.1.receiver.overrun) e in
-      let is : value ≡ lsr_of m.serial = ap (λ done. done.0) e in
-      rw (is, lsr-overrun m.serial, none) refl
+      rw (ap (λ done. done.0) e, lsr-overrun m.serial, none) refl
 
   pub status-touch : (A : Type 0) → (o : Option ℕ) → MatchOption o A Status → IfSome o (λ value. read_touches (target_of seen.level port) value ≡ Untouched)
   status-touch A None e = tt
@@ -251,9 +248,7 @@ module _ (m seen : State) (port : ℕ) (view : m ≡ seen) (at : port ≡ 0x40) 
 
   pub first-read : (value : ℕ) (pit : Pit) → (value, pit) ≡ pit_read 0 m.moment m.pit → (value, record m { pit = pit }) ≡ read port seen
   unfolding read_at
-  first-read value pit e =
-      rw (← view) (ap (λ done. (done.0, record m { pit = done.1 })) e
-      ∙ ap (λ target. read_at target port m) (sym (subst (λ x. target_of x.level port ≡ Counter 0) (sym view) is-first)))
+  first-read value pit e = rw (is-first, ← view, ← e) refl
 
   pub first-touch : (value : ℕ) → read_touches (target_of seen.level port) value ≡ Untouched
   first-touch value = rw is-first refl
@@ -271,15 +266,11 @@ none-read m port has e none = grind (arith, none_at)
 module _ (m seen : State) (value : ℕ) (view : m ≡ seen) where
   pub command-written : (pair : PicPair) → pair ≡ written_pair 0x20 value m.pair → record m { pair = pair } ≡ write 0x20 value seen
   unfolding written_at
-  command-written pair e =
-      rw (← view) (ap (λ p. record m { pair = p }) e
-      ∙ ap (λ target. written_at target 0x20 value m) (sym (ports_are.pair m.level 0x20 refl)))
+  command-written pair e = rw (ports_are.pair seen.level 0x20 refl, ← view, e) refl
 
   pub queue-written : (serial : Port) → serial ≡ written 0 value m.moment m.serial → record m { serial = serial } ≡ write 0x3f8 value seen
   unfolding written_at
-  queue-written serial e =
-      rw (← view) (ap (λ p. record m { serial = p }) e
-      ∙ ap (λ target. written_at target 0x3f8 value m) (sym (ports_are.register m.level 0 (omega arith))))
+  queue-written serial e = rw (ports_are.register seen.level 0 (omega arith), ← view, e) refl
 
 pub queue-devices : (m : State) → HasDevices m → (value : ℕ) → value < 256 → (serial : Port) (queued : Bool)
     → (queued ≡ true → (now : ℕ) → serial ≡ written 0 value now m.serial) → (queued ≡ false → serial ≡ m.serial) → HasDevices (record m { serial = serial })

@@ -1,6 +1,6 @@
 -- Which inputs leave the board unchanged.
 use Rattle.dev_board.proofs.Facade.{◌≡◌, ℕ, ◌+◌, ◌-◌, ◌*◌, ◌/◌, ◌%◌, ◌<◌, ◌≤◌, ◌^◌, Bool, true, false, ◌==◌, cond, min, max, bit_and, bit_or, arith, refl, ap}
-use Rattle.dev_board.proofs.Facade.{◌∙◌, sym, ⊎_elim, ◌≢◌, not, ◌&&◌, ◌||◌, Option, Some, None, subst, zero, suc, cases_lt, cases_eq, cond_both, w8, bit_at}
+use Rattle.dev_board.proofs.Facade.{◌∙◌, sym, ⊎_elim, ◌≢◌, not, ◌&&◌, ◌||◌, Option, Some, None, zero, suc, cases_lt, cases_eq, cond_both, w8, bit_at}
 use Rattle.dev_board.proofs.Facade.{and_numeral, and_le_l, or_of_8, pow_below, bit_at_and, bit_at_or, bit_at_not, bit_at-lt, bit_at-zero, same_from_bits}
 use Rattle.dev_board.proofs.Facade.{same_from_bits_below, bit_at_cat_low, bit_at_cat_high, bit_at-pow_other, and_pow, Decides-eqb, nat_tests, is_some, IfSome}
 use Rattle.dev_board.proofs.Facade.{has, bits_where, but_not, without_input, requests_hold, level_inputs_of, taken, answered, cascaded, lines_of, slave_int_of}

@@ -5,7 +5,7 @@ use Rattle.dev_board.proofs.Facade.{pit-restored, IsSoundPit, Pit, IsSoundAt, Po
 use Rattle.dev_board.proofs.Facade.{joined, numbers_back, pair_back, pit_back, serial_back, restored, RestoredIsSound, HasDevices, IsSound, State, BoardCells}
 use Rattle.dev_board.proofs.Facade.{Misfit, Unsound, LinesDisagree, TIMER_DEVICE, MASTER_DEVICE, PIT_DEVICE, SERIAL_DEVICE, ℤ, ◌/◌, List, length, take}
 use Rattle.dev_board.proofs.Facade.{drop, length-append, saved-count, saved_are_cells, kinds, saved_cells, pair_cells, pit_cells, saved, carried, MaySaveUnder}
-use Rattle.dev_board.proofs.Facade.{judged-ok, has, NEWEST, pair-same, lines_of, slave_int_of, pit_of-saved, pit_out, rules, pit_of, numbers-back, lines_alike}
+use Rattle.dev_board.proofs.Facade.{judged-ok, NEWEST, pair-same, pit_of-saved, rules, pit_of, numbers-back, lines_alike}
 use Rattle.dev_board.proofs.Facade.{restored-saved, line_of, IsTold, SoundMeetsRules, HasLines}
 use Rattle.dev_board.proofs.SavedLaws.{has-lines, comes-back}
 use Rattle.dev_serial.proofs.{SavedCells.carried-saved as serial-carried}
@@ -26,22 +26,21 @@ pub record IsMadeOf (level : ℕ) (of_timer : Result ℕ Misfit) (of_pair : Resu
   pub serial : of_port ≡ Ok m.serial
   pub lines : lines_agree m ≡ true
 
-record IsAgreed (b : Bool) (found m : State) : Type 0 where
-  agree : b ≡ true
-  pub same : found ≡ m
+-- What a test lets through.
+pub let-through : {A E : Type 0} (b : Bool) (found m : A) (fault : E) → cond b (Ok found) (Err fault) ≡ Ok m → (b ≡ true) × (found ≡ m)
+let-through true found m fault e = (refl, cc)
+let-through false found m fault e = cc
 
-agreed-by : (b : Bool) (found m : State) (misfit : Misfit) → cond b (Ok found) (Err misfit) ≡ Ok m → IsAgreed b found m
-agreed-by true found m misfit e = record { agree = refl; same = cc }
-agreed-by false found m misfit e = cc
-
-agreed-ok : (found m : State) → agreed found ≡ Ok m → IsAgreed (lines_agree found) found m
+agreed-ok : (found m : State) → agreed found ≡ Ok m → (lines_agree found ≡ true) × (found ≡ m)
 unfolding agreed
-agreed-ok found m e = agreed-by (lines_agree found) found m _ e
+agreed-ok found m e = let-through (lines_agree found) found m _ e
 
 pub made_of : (level : ℕ) (of_timer : Result ℕ Misfit) (of_pair : Result PicPair Misfit) (of_pit : Result Pit Misfit) (of_port : Result Port Misfit) (m : State)
     → joined level of_timer of_pair of_pit of_port ≡ Ok m → IsMadeOf level of_timer of_pair of_pit of_port m
 unfolding joined
-made_of level (Ok moment) (Ok pair) (Ok pit) (Ok serial) m e = search (arith, agreed-ok)
+made_of level (Ok moment) (Ok pair) (Ok pit) (Ok serial) m e =
+    let is = agreed-ok _ m e in
+    rw (← is.1) (record { same_level = refl; timer = refl; pair = refl; pit = refl; serial = refl; lines = is.0 })
 made_of level _ _ _ _ m e = cc
 
 pub chip-ok : (outcome : Result PicPair ChipFault) (pair : PicPair) → by_chip outcome ≡ Ok pair → outcome ≡ Ok pair
@@ -59,13 +58,11 @@ pub record IsTimed (moment found : ℕ) : Type 0 where
   pub last : moment ≤ LAST_MOMENT
   pub same : found ≡ moment
 
-timed-by : (b : Bool) (moment found : ℕ) → nat_le moment LAST_MOMENT ≡ b → cond b (Ok moment) (Err (Unsound TIMER_DEVICE 1)) ≡ Ok found → IsTimed moment found
-timed-by true moment found h e = record { last = grind (arith, nat_tests); same = cc }
-timed-by false moment found h e = cc
-
 pub timed-ok : (moment found : ℕ) → timed moment ≡ Ok found → IsTimed moment found
 unfolding timed
-timed-ok moment found e = timed-by (nat_le moment LAST_MOMENT) moment found refl e
+timed-ok moment found e =
+    let is = let-through (nat_le moment LAST_MOMENT) moment found _ e in
+    record { last = grind (arith, nat_tests); same = sym is.1 }
 
 module _ (level : ℕ) (cells : BoardCells) (l : IsLevel level) (are : AreBoardCells cells) (last : moment_of cells ≤ LAST_MOMENT) where
   abbrev moment : ℕ
@@ -212,9 +209,6 @@ module _ (m : State) (s : IsSound m) where
       let there = comes-back NEWEST m s may-save in
       (there.back, ap (restored m.level) (sym carried-newest) ∙ there.restored)
 
-port-same : (first second : Port) (outcome : Result Port ℕ) → outcome ≡ Ok first → outcome ≡ Ok second → first ≡ second
-port-same first second outcome d e = cc
-
 -- The converse.
 module _ (m : State) (t : IsTold m) (n : State) (e : restored m.level (saved NEWEST m) ≡ Ok n) where
   made : IsMadeOf m.level (timed (moment_of (saved NEWEST m))) (pair_back m.level (saved NEWEST m).master.items (saved NEWEST m).slave.items) (pit_back m.level (moment_of (saved NEWEST m)) (saved NEWEST m).pit.items) (serial_back m.level (moment_of (saved NEWEST m)) (saved NEWEST m).serial.items) n
@@ -234,7 +228,7 @@ module _ (m : State) (t : IsTold m) (n : State) (e : restored m.level (saved NEW
 
   sound_pair : IsSoundPair m.pair
   unfolding saved
-  sound_pair = subst IsSoundPair same_pair (pair-back m.level (saved NEWEST m) t.level t.cells last n.pair made.pair).0
+  sound_pair = rw same_pair at (pair-back m.level (saved NEWEST m) t.level t.cells last n.pair made.pair).0
 
   same_pit : n.pit ≡ m.pit
   unfolding saved
@@ -255,18 +249,17 @@ module _ (m : State) (t : IsTold m) (n : State) (e : restored m.level (saved NEW
   same_line : line_of m.moment n.serial ≡ line_of m.moment m.serial
   same_line =
       let there = restored-saved NEWEST m.moment m.serial last sound_port in
-      ap (line_of m.moment) (sym (port-same there.0 n.serial _ there.1 port-again)) ∙ lines_alike m.moment m.serial there.0 there.2
+      let same : n.serial ≡ there.0 = cc (there.1, port-again) in
+      rw same (lines_alike m.moment m.serial there.0 there.2)
 
   -- The remembered lines.
   lines : HasLines m
   lines =
       let has_lines = has-lines n made.lines in
       record {
-        out = rw (sym same_pair) (has_lines.out ∙ ap (λ (now : ℕ). pit_out 0 now n.pit) same_moment
-            ∙ ap (pit_out 0 m.moment) same_pit);
-        slave = ap (λ pair. has (lines_of pair) 2) (sym same_pair) ∙ has_lines.slave ∙ ap slave_int_of same_pair;
-        serial = rw (sym same_pair) (has_lines.serial ∙ ap (λ (now : ℕ). line_of now n.serial) same_moment
-            ∙ same_line);
+        out = rw (same_pair, same_moment, same_pit) at has_lines.out;
+        slave = rw same_pair at has_lines.slave;
+        serial = (rw (same_pair, same_moment) at has_lines.serial) ∙ same_line;
       }
 
   rules-sound : IsSound m

@@ -1,9 +1,9 @@
 -- What is saved of a board is restored as a board like it, which answers each event alike.
-use Rattle.dev_board.proofs.Facade.{◌≡◌, ℕ, Bool, List, [], ◌∷◌, None, refl, sym, ap, subst, ◌∙◌, int_of, settled_pair, PicPair, pit_edge}
-use Rattle.dev_board.proofs.Facade.{reads_alike, writes_alike, bytes_in_alike, advances_alike, lines_alike, alike_itself, alike_back, alike_on, read_of}
-use Rattle.dev_board.proofs.Facade.{bits_where, Port, AnswersAlike, StaysAlike, AlikeStays, Likeness, target_of, read_at, written_at, Alike, State, Act, valued}
+use Rattle.dev_board.proofs.Facade.{◌≡◌, ℕ, Bool, List, [], ◌∷◌, refl, sym, ap, subst, ◌∙◌, PicPair}
+use Rattle.dev_board.proofs.Facade.{reads_alike, writes_alike, bytes_in_alike, advances_alike, lines_alike, alike_itself, alike_back, alike_on}
+use Rattle.dev_board.proofs.Facade.{Port, AnswersAlike, StaysAlike, AlikeStays, Likeness, target_of, read_at, written_at, Alike, State, Act, valued}
 use Rattle.dev_board.proofs.Facade.{later_by, waited, acted, wires_after, inputs_of, settled, after_act, step, after_by, answers_by, wires_of, Answer, Event}
-use Rattle.dev_board.proofs.Facade.{Read, Write, Byte, Wait, Target, Register, ℤ, pos, ◌≤◌, true, false, Result, Ok, arith, and_parts, and_from}
+use Rattle.dev_board.proofs.Facade.{Read, Write, Byte, Wait, Target, Register, pos, ◌≤◌, true, false, Result, Ok, arith, and_from}
 use Rattle.dev_board.proofs.Facade.{nat_tests, nat_le, of_none, of_more, long, has, AreOf, IsLevel, MaySave, MayRestore, NEWEST, LAST_MOMENT, hook-ok}
 use Rattle.dev_board.proofs.Facade.{carried-saved, pair-restored, set-of, saved_cells, lines_of, slave_int_of, restored_pair, ChipFault, pit_cells, AreCellsOf}
 use Rattle.dev_board.proofs.Facade.{pit_out, restored_pit, Pit, cells_at, restored_cells, numbers_at, saved, carried, MaySaveUnder, timer_kinds, AreSavedCells}
@@ -12,7 +12,7 @@ use Rattle.dev_board.proofs.Facade.{SavedGoesOn, HasLines, IsSound, Misfit, PIT_
 use Rattle.dev_serial.proofs.SavedCells.{saved_are_cells as serial-saved, saved_comes_back as serial-comes-back}
 use Rattle.dev_serial.specs.{Sound.Alike as AlikePorts, Cells.carried as serial_carried, Laws.ComesBack as PortComesBack}
 use Rattle.dev_base.specs.Bits.{same}
-use Rattle.dev_pic.specs.Cells.{kinds as pic_kinds, carried as pic_carried}
+use Rattle.dev_pic.specs.Cells.{carried as pic_carried}
 use Rattle.dev_pit.proofs.SavedLaws.{saved_are_cells as pit-saved, saved_is_restored as pit-is-restored}
 use Rattle.dev_pit.specs.Cells.{carried as pit_carried}
 
@@ -68,10 +68,8 @@ module _ (m : State) (port : Port) (a : AlikePorts m.serial port) where
 
 -- The lines of boards that are alike are updated after equal acts.
 settle-alike : (wires : ℕ) (first second : Act × State) → AnswersAlike Alike first second → AnswersAlike Alike (after_act wires first) (after_act wires second)
-settle-alike wires first second answers =
-    let same_act = λ (act : Act). AnswersAlike Alike (after_act wires first) (after_act wires (act, record first.1 { serial = second.1.serial })) in
-    let same_state = λ (after : State). AnswersAlike Alike (after_act wires first) (after_act wires (second.0, after)) in
-    subst same_state (sym answers.alike.same) (subst same_act (sym answers.value) (after_act-alike first.1 second.1.serial answers.alike.serial wires first.0))
+settle-alike wires (act, m) (other, n) answers =
+    rw (answers.alike.same, answers.value) (after_act-alike m n.serial answers.alike.serial wires act)
 
 same_wires : (m : State) (port : Port) → wires_of (record m { serial = port }) ≡ wires_of m
 unfolding wires_of

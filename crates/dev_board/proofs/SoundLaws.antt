@@ -6,7 +6,7 @@ use Rattle.dev_board.proofs.Facade.{read_pair, written_pair, acked, PairHasRegis
 use Rattle.dev_board.proofs.Facade.{reads_keep_sound, writes_keep_sound, bytes_in_keep_sound, advances_keep_sound, reads_keep_level, writes_keep_level}
 use Rattle.dev_board.proofs.Facade.{bytes_in_keep_level, advances_keep_level, read_of, written, came_in, advanced, Port, IsEvent, write, HasDevices, later_by}
 use Rattle.dev_board.proofs.Facade.{Byte, Wait, Wire, Ack, Counter, Register, Access, ◌/◌, inl, inr, Bool, false, if◌then◌else◌, Option, Some, None}
-use Rattle.dev_board.proofs.Facade.{⊎_elim, cases_lt, or_parts, nat_tests, nat_lt, at_step, same, read-goes_on, edge_in_parts, period, rises, ticks, edge_of}
+use Rattle.dev_board.proofs.Facade.{or_parts, nat_tests, nat_lt, at_step, same, read-goes_on, edge_in_parts, period, rises, ticks, edge_of}
 use Rattle.dev_board.proofs.Facade.{edge_since, out_of, GoesOn, counter_of, pit_edge, pit_out, AreTurns, IsTurn, Mode, OneShot, RateGenerator, SquareWave}
 use Rattle.dev_board.proofs.Facade.{HardwareStrobe, Turns, IsCalm, calm_by, later, read, calm_after, is_command, write_touches, Control, Touch, Command}
 use Rattle.dev_board.proofs.Facade.{wires_after, after_all, after_by, AreWires, wires_of, ◌^◌, [], ◌∷◌, IsLevel, lines_are_taken, but_not, winner_at}
@@ -140,21 +140,21 @@ module _ (m : State) (h : HasDevices m) where
 -- The answers of devices, as their calls return them.
 module _ (m : State) (h : HasDevices m) where
   pub after-pair : (port value : ℕ) (pair : PicPair) → (value, pair) ≡ read_pair port m.pair → HasDevices (record m { pair = pair })
-  after-pair port value pair e = subst (λ answer. HasDevices (record m { pair = answer.1 })) (sym e) (pair-read m h port)
+  after-pair port value pair e = let found = pair-read m h port in rw (← e) at found
 
   pub after-pit : (counter value : ℕ) (pit : Pit) → (value, pit) ≡ pit_read counter m.moment m.pit → HasDevices (record m { pit = pit })
-  after-pit counter value pit e = subst (λ answer. HasDevices (record m { pit = answer.1 })) (sym e) (pit-read m h counter)
+  after-pit counter value pit e = let found = pit-read m h counter in rw (← e) at found
 
   pub after-serial : (offset value : ℕ) (port : Port) → (value, port) ≡ read_of offset m.moment m.serial → HasDevices (record m { serial = port })
-  after-serial offset value port e = subst (λ answer. HasDevices (record m { serial = answer.1 })) (sym e) (serial-read m h offset)
+  after-serial offset value port e = let found = serial-read m h offset in rw (← e) at found
 
   pub after-ack : (value : ℕ) (pair : PicPair) → (value, pair) ≡ acked m.pair → HasDevices (record m { pair = pair })
-  after-ack value pair e = subst (λ answer. HasDevices (record m { pair = answer.1 })) (sym e) (ack-kept m h)
+  after-ack value pair e = let found = ack-kept m h in rw (← e) at found
 
   pub after-wait : (to : ℕ) (sent : List ℕ) (port : Port) → m.moment ≤ to → to ≤ LAST_MOMENT → (sent, port) ≡ advanced to m.serial
       → HasDevices (record m { moment = to; serial = port })
   unfolding waited
-  after-wait to sent port l b e = subst (λ answer. HasDevices (record m { moment = to; serial = answer.1 })) (sym e) (waited-kept m h to l b)
+  after-wait to sent port l b e = let found = waited-kept m h to l b in rw (← e) at found
 
   -- No counter was loaded after the moment.
   pub loaded : IsLoadedBy m.moment m.pit

@@ -1,8 +1,8 @@
 -- The inputs of the pair, bit by bit, and the wires among them.
 use Rattle.dev_board.proofs.Facade.{◌≡◌, ◌≢◌, ℕ, ◌-◌, ◌<◌, ◌^◌, Bool, true, false, ◌&&◌, arith, bit_or, refl, ap, sym, ◌∙◌}
-use Rattle.dev_board.proofs.Facade.{◌||◌, false≢true, nat_tests, and_le_l, and_le_r, or_of_16, pow_below, and-false, and-true, or-false, has, bits_where}
+use Rattle.dev_board.proofs.Facade.{false≢true, nat_tests, and_le_l, and_le_r, or_of_16, pow_below, and-false, and-true, or-false, has, bits_where}
 use Rattle.dev_board.proofs.Facade.{has-and, has-or, has-one_other, lines_of, pit_out, line_of, IsEvent, State, inputs_of, names_wire, wires_after, AreWires}
-use Rattle.dev_board.proofs.Facade.{is_wire, wires_of, with_wire, Event, Wire, WIRES, ◌+◌, ◌≤◌, ◌==◌, not, if◌then◌else◌, bit_and, subst}
+use Rattle.dev_board.proofs.Facade.{is_wire, wires_of, with_wire, Event, Wire, WIRES, ◌+◌, ◌≤◌, ◌==◌, not, if◌then◌else◌, bit_and}
 use Rattle.dev_board.proofs.Facade.{⊎_elim, cases_lt, cond_both, bit_at_not, bit_at-lt, bit_at-zero, bit_at, w16, or-true, has-one, not_test, lines_are_taken}
 use Rattle.dev_board.proofs.Facade.{settled_pair, wire_left, WiresStay, acted, after_act, settled, step}
 
@@ -75,9 +75,7 @@ module _ (wires : ℕ) (m : State) (w : AreWires wires) where
   pub inputs-out : has (inputs_of wires m) 0 ≡ out
   unfolding inputs_of
   inputs-out =
-      has-or (bit_or wires (bits_where out 0x01)) (bits_where line 0x10) 0
-      ∙ ap (λ b. has (bit_or wires (bits_where out 0x01)) 0 || b) (where-bit line 0x10 0 refl) ∙ or-false (has (bit_or wires (bits_where out 0x01)) 0)
-      ∙ has-or wires (bits_where out 0x01) 0 ∙ ap (λ b. b || has (bits_where out 0x01) 0) w.out ∙ where-bit out 0x01 0 refl
+      rw (has-or (bit_or wires (bits_where out 0x01)) (bits_where line 0x10) 0, where-bit line 0x10 0 refl, has-or wires (bits_where out 0x01) 0, w.out, where-bit out 0x01 0 refl) (or-false out)
 
   pub inputs-serial : has (inputs_of wires m) 4 ≡ line
   unfolding inputs_of
@@ -104,17 +102,15 @@ unfolding with_wire
 named input wire wires true h l =
     cond_both (input == wire) _ _ (λ (b : Bool). has (bit_or wires (2 ^ input)) wire ≡ b)
     (λ e. let same : wire ≡ input = grind (arith, nat_tests) in
-    has-or wires (2 ^ input) wire ∙ ap (λ b. has wires wire || b) (rw same (has-one input)) ∙ or-true (has wires wire))
+    rw (has-or wires (2 ^ input) wire, same, has-one input) (or-true (has wires input)))
     (λ e. let other : wire ≢ input = grind (arith, nat_tests) in
-    has-or wires (2 ^ input) wire ∙ ap (λ b. has wires wire || b) (has-one_other input wire other) ∙ or-false (has wires wire))
+    rw (has-or wires (2 ^ input) wire, has-one_other input wire other) (or-false (has wires wire)))
 named input wire wires false h l =
     cond_both (input == wire) _ _ (λ (b : Bool). has (bit_and wires (65535 - 2 ^ input)) wire ≡ b)
     (λ e. let same : wire ≡ input = grind (arith, nat_tests) in
-    has-and wires (65535 - 2 ^ input) wire
-    ∙ ap (λ b. has wires wire && b) (has-rest input wire h l ∙ ap not (ap (λ n. has (2 ^ input) n) same ∙ has-one input)) ∙ and-false (has wires wire))
+    rw (has-and wires (65535 - 2 ^ input) wire, has-rest input wire h l, same, has-one input) (and-false (has wires input)))
     (λ e. let other : wire ≢ input = grind (arith, nat_tests) in
-    has-and wires (65535 - 2 ^ input) wire ∙ ap (λ b. has wires wire && b) (has-rest input wire h l ∙ ap not (has-one_other input wire other))
-    ∙ and-true (has wires wire))
+    rw (has-and wires (65535 - 2 ^ input) wire, has-rest input wire h l, has-one_other input wire other) (and-true (has wires wire)))
 
 left : (event : Event) (wire wires : ℕ) → wire < 16 → IsEvent event → has (wires_after event wires) wire ≡ wire_left wire event (has wires wire)
 unfolding wires_after

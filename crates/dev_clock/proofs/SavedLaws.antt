@@ -1,6 +1,6 @@
 -- What is saved of a clock board's devices and restored from it.
 use Rattle.dev_clock.proofs.Facade.{SavedAreCells, ComesBack, SavedComesBack, SavedGoesOn, IsSound, ClockState, CLOCK_DEVICE, LINES_CELL, ◌≡◌, ℕ}
-use Rattle.dev_clock.proofs.Facade.{◌*◌, ◌+◌, ◌<◌, ◌==◌, ap, arith, ℤ, ◌≤◌, Bool, List, Result, Ok, refl, sym, subst, ◌∙◌, has}
+use Rattle.dev_clock.proofs.Facade.{◌==◌, ap, arith, ℤ, ◌≤◌, Bool, List, Result, Ok, refl, sym, subst, ◌∙◌, has}
 use Rattle.dev_clock.proofs.Facade.{lines_of, IsSoundPair, PicPair, CLOCK_INPUT, hook-ok, number_at, NEWEST, same-refl, by_device, State, Misfit, carried-saved}
 use Rattle.dev_clock.proofs.Facade.{Numbers, saved_is_restored, saved_cells, line_of, CanRestore, hook_restored, Rtc, MaySaveUnder, saved, carried}
 use Rattle.dev_clock.proofs.Facade.{AreSavedCells, AreClockCells, numbers_back, slave_line, with_line, joined, restored, nat_le, Err, true, false, cond, either}
@@ -20,13 +20,10 @@ use Rattle.vms_rtc.specs.Saved.{restored as clock_restored, rules as clock_rules
 
 -- ---- what is saved of a clock board's devices can be restored
 
-high-bit : (high low : ℕ) → low < 256 → has (high * 256 + low) 8 ≡ has high 0
-high-bit high low l = ap (λ (n : ℕ). n == 1) (omega (arith, l))
-
 -- Its input is bit 0 of the slave's lines.
 pub slave-bit : (pair : PicPair) → IsSoundPair pair → has (lines_of pair) CLOCK_INPUT ≡ has pair.slave.lines 0
 unfolding lines_of
-slave-bit pair s = high-bit pair.slave.lines pair.master.lines s.master.registers.lines
+slave-bit pair s = ap (λ (n : ℕ). n == 1) (omega (arith, s.master.registers.lines))
 
 -- ---- what is saved
 
@@ -43,9 +40,6 @@ pub both-kept : (clock : Rtc) (board : State) (of_clock : Result Rtc Misfit) (of
     → joined of_clock of_board ≡ Ok (record { clock = clock; board = board })
 unfolding joined
 both-kept clock board of_clock of_board a b = rw (a, b) refl
-
-ok-same : (first second : ClockState) (outcome : Result ClockState Misfit) → outcome ≡ Ok first → outcome ≡ Ok second → first ≡ second
-ok-same first second outcome d e = cc
 
 module _ (set : ℕ) (m : ClockState) (s : IsSound m) (may : MaySaveUnder m.clock.version set) where
   may-board : MaySaveBoard m.board.level NEWEST
@@ -114,7 +108,8 @@ saved_comes_back = record { back = comes-back }
 pub saved_goes_on : SavedGoesOn
 saved_goes_on = record {
   answers = λ set m back events s may e. let there = comes-back set m s may in
-      alike_stays.answers events m back (rw (ok-same there.back back _ there.restored e) at there.alike);
+      let same : there.back ≡ back = cc (there.restored) in
+      alike_stays.answers events m back (rw same at there.alike);
 }
 
 -- ---- restored devices are sound: the devices that misfits of a board name
@@ -202,16 +197,13 @@ clock-version version line cells clock e =
     clock-is-sound.version (numbers_back version 0) cells clock (ok-hook _ clock (clock-lined version line cells clock e).found)
 
 -- The slave's lines.
-lines-of : (cells : List ℤ) (chip : Chip) → chip_of cells ≡ chip → number_at cells LINES_CELL ≡ chip.lines
-unfolding chip_of
-lines-of cells chip e = ap (λ (c : Chip). c.lines) e
-
 slave-lines : (level : ℕ) (cells : BoardCells) (board : State) → board_restored level cells ≡ Ok board
     → number_at cells.slave.items LINES_CELL ≡ board.pair.slave.lines
+unfolding chip_of
 slave-lines level cells board e =
     let pair = chip-ok _ board.pair (board_made_of level (timed (moment_of cells)) _ _ _ board e).pair in
     let slave = (pair_made_of level _ _ board.pair pair).of_slave in
-    lines-of cells.slave.items board.pair.slave (judged-ok (rules level _ cells.slave.items) (chip_of cells.slave.items) board.pair.slave slave).1
+    ap (λ (c : Chip). c.lines) (judged-ok (rules level _ cells.slave.items) (chip_of cells.slave.items) board.pair.slave slave).1
 
 pub both-sound : (version : ℕ) (cells : ClockCells) (clock : Rtc) (board : State) → IsUpTo NEWEST_CLOCK version → AreClockCells cells → clock_back version (slave_line cells.board.slave.items) cells.clock.items ≡ Ok clock → board_restored NEWEST cells.board ≡ Ok board → IsSound (record { clock = clock; board = board })
 both-sound version cells clock board v are a b =

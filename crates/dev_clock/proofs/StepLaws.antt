@@ -163,10 +163,6 @@ sound_stays_on = record { power_on = on-sound; event = step-sound; events = all-
 
 -- ---- devices that are alike give equal answers to each event
 
--- Boards that are alike have the same moment.
-same-moment : (m n : State) → AlikeBoards m n → n.moment ≡ m.moment
-same-moment m n a = ap (λ (s : State). s.moment) a.same
-
 -- Two choices by one test.
 chosen : (b : Bool) (x y p q : Answer × ClockState) → AnswersAlike Alike x p → AnswersAlike Alike y q → AnswersAlike Alike (cond b x y) (cond b p q)
 chosen true x y p q first second = first
@@ -186,7 +182,7 @@ module _ (m : ClockState) (board : State) (a : AlikeBoards m.board board) where
   unfolding waited
   waited-alike ns =
       let answers = board_alike.event (Wait ns) m.board board a in
-      record { value = answers.value; alike = record { clock = rw (same-moment _ _ answers.alike, same-moment m.board board a); board = answers.alike } }
+      record { value = answers.value; alike = record { clock = rw (ap (λ (s : State). s.moment) answers.alike.same, ap (λ (s : State). s.moment) a.same); board = answers.alike } }
 
   acted-alike : (event : Event) → AnswersAlike Alike (acted event m) (acted event other)
   unfolding acted

@@ -3,9 +3,9 @@ use Rattle.dev_due.proofs.Facade.{Answer, AreTurns, Board, Bool, Clock, ClockSta
 use Rattle.dev_due.proofs.Facade.{IsLoadedBy, IsSegment, IsSentAfter, IsShift, IsSound, IsTurn, Isa, LAST_MOMENT, LoadedBy, None, OneIsDue, Option, Rtc}
 use Rattle.dev_due.proofs.Facade.{SameClock, SameLine, Shift, Shown, Some, State, Tried, Turns, Wait, acted, advanced, after_act, ap, arith, board_int}
 use Rattle.dev_due.proofs.Facade.{cases_lt, character_of, clock_int, counter_of, devices_of, edge_of, ends_within, false, false_from_ne_true, false≢true}
-use Rattle.dev_due.proofs.Facade.{follows_line, has_come, inl, inputs_of, inr, later_by, le-leb, length, line_of, loaded, lt-leb, not, out_of, passed}
-use Rattle.dev_due.proofs.Facade.{period_in, pit-later, pit_edge, pit_out, refl, settled, shows, shows_at, shows_of, step, sym, timer_of, true, waited}
-use Rattle.dev_due.proofs.Facade.{wires_after, wires_of, ℕ, ⊎_elim, ◌*◌, ◌+◌, ◌-◌, ◌<◌, ◌==◌, ◌||◌, ◌∙◌, ◌≡◌, ◌≤◌}
+use Rattle.dev_due.proofs.Facade.{follows_line, has_come, inl, inputs_of, inr, later_by, le-leb, length, line_of, loaded, lt-leb, not_from_false, or_right}
+use Rattle.dev_due.proofs.Facade.{out_of, passed, period_in, pit-later, pit_edge, pit_out, refl, settled, shows, shows_at, shows_of, step, sym, timer_of, true}
+use Rattle.dev_due.proofs.Facade.{waited, wires_after, wires_of, ℕ, ⊎_elim, ◌*◌, ◌+◌, ◌-◌, ◌<◌, ◌==◌, ◌∙◌, ◌≡◌, ◌≤◌}
 use Rattle.dev_due.proofs.Facade.{◌⊎◌}
 use Rattle.dev_due.proofs.PortLaws.{Covers, IsBase, LeavesBy, covers}
 use Rattle.dev_clock.specs.Step.{acted as clock_acted, step as clock_step, waited as clock_waited}
@@ -213,15 +213,11 @@ module _ (board : Board) (base to : ℕ) (found : Option ℕ) (from : now_of boa
 
 -- ---- a byte that leaves shows
 
-shown-by : (first empty : Bool) → empty ≡ false → (first || not empty) ≡ true
-shown-by true empty e = refl
-shown-by false empty e = ap not e
-
 leaves-shows : (board : Board) (to : ℕ) → now_of board ≤ to → to ≤ LAST_MOMENT → (length (advanced to (devices_of board).serial).0 == 0) ≡ false
     → shows_at board to ≡ true
-leaves-shows (Isa devices) to h l e = shown-by _ _ (rw (wait-to step board_int (λ m. m.moment) ended wait-at devices.now to h l, board-sent to devices.now) e)
+leaves-shows (Isa devices) to h l e = or_right _ _ (not_from_false _ (rw (wait-to step board_int (λ m. m.moment) ended wait-at devices.now to h l, board-sent to devices.now) e))
 leaves-shows (Clock devices) to h l e =
-    shown-by _ _ (rw (wait-to clock_step clock_int (λ m. m.board.moment) clock-at clock-wait-at devices.now to h l, clock-sent to devices.now) e)
+    or_right _ _ (not_from_false _ (rw (wait-to clock_step clock_int (λ m. m.board.moment) clock-at clock-wait-at devices.now to h l, clock-sent to devices.now) e))
 
 sent-later : (now : ℕ) (shift : Option Shift) → IsShift now shift → IsSentAfter now shift
 sent-later now None h = tt

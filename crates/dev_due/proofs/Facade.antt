@@ -1,7 +1,7 @@
 -- The names of other crates, and of this crate's `specs`, that the proofs use.
 pub use Rattle.std.proofs.Common.{Bool, List, None, Option, Some, [], ap, append-nil, arith, false, if◌then◌else◌, inl, inr, length, not, refl, rules, subst, suc, sym}
 pub use Rattle.std.proofs.Common.{true, ℕ, ⊎_elim, ◌&&◌, ◌*◌, ◌++◌, ◌+◌, ◌-◌, ◌<◌, ◌==◌, ◌||◌, ◌∙◌, ◌∷◌, ◌≡◌, ◌≤◌, ◌⊎◌}
-pub use Rattle.std.proofs.lemmas.Bool.{cases_lt, false_from_ne_true, false≢true, le-leb, lt-leb, Decides.nat_tests}
+pub use Rattle.std.proofs.lemmas.Bool.{cases_lt, false_from_ne_true, false≢true, le-leb, lt-leb, not_from_false, or_right, Decides.nat_tests}
 pub use Rattle.std.proofs.lemmas.Option.{same_Some}
 pub use Rattle.std.specs.Prelude.{IfSome, is_some, nat_le, nat_lt}
 pub use Rattle.vms_rtc.specs.{Chip.ends_within, Ends.has_come, Ends.period_in, declared.rtc.Rtc.Rtc}

@@ -1,17 +1,17 @@
 -- The commands that play a script: `save`, `play` and `load`.
-use Rattle.vms_board_commands.proofs.Facade.{◌≡◌, ℕ, List, Option, Result, None, Ok, Err, IfOk, IsErrAnd, refl, Bool, true, Some, Global, Vec}
-use Rattle.vms_board_commands.proofs.Facade.{AreEvents, Event, Looks, Stock, SetCause, Asks, FetchCause, HadCause, ReadCause, Ending, BadText, ShelfFault}
-use Rattle.vms_board_commands.proofs.Facade.{NotThere, TooLarge, NoMemory, are_events, reads_exactly, AreLines, ScriptLine, Reading, script_read, event_lines}
-use Rattle.vms_board_commands.proofs.Facade.{ReadsLines, ScriptFault, ◌≤◌, length, ap, arith, Family, saved_stream, after_events, Held, fetched_gives}
-use Rattle.vms_board_commands.proofs.Facade.{sound_fetch, sound_next, Step, Untold, Gives, Ends, next, events_of, saved_after, longest_script, said_lines}
-use Rattle.vms_board_commands.proofs.Facade.{scripted, power_on, Saves, SaveFault, Outlet, stops_prefix, mapped_by, TextEnds, ◌<◌, ◌^◌, [], take, inl}
-use Rattle.vms_board_commands.proofs.Facade.{inr, sym, subst, IsSomeAnd, Appends, State, Intake, takes_nothing, DoneAs, EndsAs, Outcome, Part, ComesTo}
-use Rattle.vms_board_commands.proofs.Facade.{FailsToStore, held_after, text_of, Plays, session_of, DoesSome, LinesEnd, PlayFault, Session, ReadFault}
-use Rattle.vms_board_commands.proofs.Facade.{WriteFault, rose_since, begun_whole, PlaysAll, ending_by, sessions_end, sessions_are_one, ◌∙◌, IsLevel}
-use Rattle.vms_board_commands.proofs.Facade.{power_on-sound, HoldsAll, ◌+◌, length-append, ArrayVec, IsRefused, RestoreReads, Back, Restores, Standing}
-use Rattle.vms_board_commands.proofs.Facade.{one_restore, answers_to, trace_of, Refusal, reads_as, WritesAs, refused_line, done, ended, events_back, trace_from}
-use Rattle.vms_board_commands.proofs.Facade.{FitsHeads, IsBytes, WellFormed, fault_within, most_given, StepAs, LoadGives, Loads, Traces, Faulty, Unfit, Seen}
-use Rattle.vms_board_commands.proofs.Facade.{◌∷◌, IsFaultAt, IsMisfitAt, Restore, bytes_come, no_fault, Reason, one_fault_holds}
+use Rattle.vms_board_commands.proofs.Facade.{Appends, AreEvents, AreLines, ArrayVec, Asks, Back, BadText, Bool, ComesTo, DoesSome, DoneAs, Ending, Ends, EndsAs}
+use Rattle.vms_board_commands.proofs.Facade.{Err, Event, FailsToStore, Family, Faulty, FetchCause, FitsHeads, Gives, Global, HadCause, Held, HoldsAll, IfOk}
+use Rattle.vms_board_commands.proofs.Facade.{Intake, IsBytes, IsErrAnd, IsFaultAt, IsLevel, IsMisfitAt, IsRefused, IsSomeAnd, Line, LinesEnd, List, LoadGives}
+use Rattle.vms_board_commands.proofs.Facade.{Loads, Looks, NoMemory, None, NotThere, Ok, Option, Outcome, Outlet, Part, PlayFault, Plays, PlaysAll, ReadCause}
+use Rattle.vms_board_commands.proofs.Facade.{ReadFault, Reading, ReadsLines, Reason, Refusal, Restore, RestoreReads, Restores, Result, SaveFault, Saves}
+use Rattle.vms_board_commands.proofs.Facade.{ScriptFault, ScriptLine, Seen, Session, SetCause, ShelfFault, Some, Standing, State, Step, StepAs, Stock, TextEnds}
+use Rattle.vms_board_commands.proofs.Facade.{TooLarge, Traces, Unfit, Untold, Vec, WellFormed, WriteFault, WritesAs, [], after_events, answers_to, ap}
+use Rattle.vms_board_commands.proofs.Facade.{are_events, arith, begun_whole, bytes_come, done, ended, ending_by, event_lines, events_back, events_of}
+use Rattle.vms_board_commands.proofs.Facade.{fault_within, fetched_gives, held_after, inl, inr, length, length-append, lines_view, longest_script, mapped_by}
+use Rattle.vms_board_commands.proofs.Facade.{most_given, next, no_fault, one_fault_holds, one_restore, power_on, power_on-sound, reads_as, reads_exactly, refl}
+use Rattle.vms_board_commands.proofs.Facade.{refused_line, rose_since, said_lines, saved_after, saved_stream, script_read, scripted, session_of}
+use Rattle.vms_board_commands.proofs.Facade.{sessions_are_one, sessions_end, sound_fetch, sound_next, stops_prefix, subst, sym, take, takes_nothing, text_of}
+use Rattle.vms_board_commands.proofs.Facade.{trace_from, trace_of, true, ℕ, ◌+◌, ◌<◌, ◌^◌, ◌∙◌, ◌∷◌, ◌≡◌, ◌≤◌}
 use Rattle.vms_board_commands.proofs.RunLemmas.{TakesSo, reads_all, seen_refused, seen_written}
 use Rattle.vms_board_commands.specs.Save.{ending_by as save_ending}
 use Rattle.vms_commands.proofs.StepLemmas.{IsSound}
@@ -61,10 +61,17 @@ pub unfetched_asks : {T U : Type 0} {s s' : Stock} {e : Ending} (r : Result U En
 unfetched_asks (Ok v) h a = absurd h
 unfetched_asks {T} {U} {s} {s'} {e} (Err x) h a = rw h (record { looks = a.looks; cause = unfetched T true s s' e refl a.cause })
 
+-- the lines of events, and of a script
+abbrev pub event_view : Vec Event Global → List ScriptLine
+event_view v = event_lines v.items
+
+abbrev pub script_view : Vec Line Global → List ScriptLine
+script_view v = lines_view v.items
+
 -- events that are obtained may be applied
-pub had_events : (text : List ℕ) (read : Result (Vec Event Global) ScriptFault) (r : Result (Vec Event Global) Ending) → ReadsLines (λ (v : Vec Event Global). event_lines v.items) (script_read None text) read
+pub had_events : (text : List ℕ) (read : Result (Vec Event Global) ScriptFault) (r : Result (Vec Event Global) Ending) → ReadsLines event_view (script_read None text) read
     → IfOk r (λ v. read ≡ Ok v) → IfOk r (λ v. AreEvents v.items)
-had_events text read (Ok v) h same = are_events None _ (had_lines (λ (v : Vec Event Global). event_lines v.items) None text read (Ok v) h same)
+had_events text read (Ok v) h same = are_events None _ (had_lines event_view None text read (Ok v) h same)
 had_events text read (Err e) h same = tt
 
 -- ---- the step that gives a script. It is known if the shelf is, never ends with the status 0, and gives lines that may be in a script.
@@ -317,6 +324,10 @@ module _ {S : Type 0} (kind : Family S) (well : WellFormed (kind.set kind.newest
   pub loads_one : OneLoad kind level lines bytes held
   loads_one = let some = bytes_come kind well heads level bytes ok in by some.0 some.1
 
-  -- so two are the same
-  pub loads_same : (x y : Outcome) → Loads kind level lines bytes held x → Loads kind level lines bytes held y → y ≡ x
-  loads_same x y p q = cc (loads_one.only y q, loads_one.only x p)
+-- so two are the same
+pub loads_same : {S : Type 0} (kind : Family S) → WellFormed (kind.set kind.newest) → FitsHeads (kind.set kind.newest) → (level : ℕ) (lines : List ScriptLine)
+    (bytes : List ℕ) (held : Option Held) (x y : Outcome)
+    → IsBytes bytes → Loads kind level lines bytes held x → Loads kind level lines bytes held y → y ≡ x
+loads_same kind well heads level lines bytes held x y ok p q =
+    let one = loads_one kind well heads level lines bytes held ok in
+    cc (one.only y q, one.only x p)

@@ -27,14 +27,7 @@ module _ (input stream : List ℕ) (held : Option Held) (n : ℕ) where
     is : IsStreamFor to newest machine images stream
 
   by_outcome : (to : Set) → IsFit to → Compatible to newest → (x : Outcome) → x ≡ done stream held n → Converts to input held x → Written to
-  by_outcome to fit compatible x same (Rewrites taken machine images bytes takes is) = record {
-    fit = fit;
-    compatible = compatible;
-    machine = machine;
-    images = images;
-    takes = rw (ap (λ (o : Outcome). o.taken) same) at takes;
-    is = rw (same_text _ _ same) at is;
-  }
+  by_outcome to fit compatible x same (Rewrites taken machine images bytes takes is) = search arith
   by_outcome to fit compatible x same (WouldLose taken machine images section cell takes loses) = absurd (done_apart 11 _ stream held taken n (sym same))
   by_outcome to fit compatible x same (Refuses place section reason size fault) = absurd (done_apart 1 _ stream held _ n (sym same))
 

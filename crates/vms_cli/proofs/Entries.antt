@@ -7,7 +7,7 @@ use Rattle.vms_cli.proofs.Facade.{Step, Untold, Gives, Ends, next, FitStep, fit_
 use Rattle.vms_cli.proofs.Facade.{agreed, agrees, lost_line, newest, target, CanBeConverted, HasOne, Converts, one_text, computed, counted, counter_text}
 use Rattle.vms_cli.proofs.Facade.{counter_entry, named_sets, drill_line, drill_entry, BoardWord, CanBeRead, load_entry, FitsHeads, WellFormed, Family, Back}
 use Rattle.vms_cli.proofs.Facade.{Restores, script_gives, sound_script, loads_one, LoadsBy, Traces, scripted, answers_to, Loads, trace_of, events_of, BoardOf}
-use Rattle.vms_cli.proofs.Facade.{ap, longest_file, fetched_gives, CanBePacked, described_stream, packed_by, packs, pack_entry, IfSome, HoldsAll, AreStepLines}
+use Rattle.vms_cli.proofs.Facade.{fetched_gives, CanBePacked, described_stream, packs, pack_entry, IfSome, HoldsAll}
 use Rattle.vms_cli.proofs.Facade.{scripted_lines, IsLevel, has_end, one_outcome, PlaysAll, reads_exactly, play_entry, saved_stream, sound_saved, after_events}
 use Rattle.vms_cli.proofs.Facade.{saved_on, save_entry, Refuses, Shows, show_entry, values_text, CanBeShown, ◌∷◌, [], codes, bytes_eq, option_map}
 use Rattle.vms_cli.proofs.Facade.{set_word, shipped_word, Asked, Analyze, Check, Convert, Counter, Drill, Load, Pack, Play, Save, Show, board_word, convertible}
@@ -202,9 +202,7 @@ load_row board script = record {
 -- a values text that is there is packed
 packs_give : (word : SetWord) (name : List ℕ) (map : Held) → (can : CanBePacked word name map)
     → packs (Some map) word name ≡ Gives (described_stream can.set can.machine can.images)
-packs_give word name map can =
-    pack_gives (Some map) word name can.set can.text (described_stream can.set can.machine can.images) can.there
-    (fetched_gives longest_file map name can.text can.held can.short) (ap (packed_by can.set) can.reads)
+packs_give word name map can = grind (arith, pack_gives, fetched_gives)
 
 packed : (word : SetWord) (name : List ℕ) (input : Option (List ℕ)) (held : Option Held) → (pack_entry word name).needs input held
     → (text : List ℕ) × (packs held word name ≡ Gives text)
@@ -235,7 +233,7 @@ play_row level script = record {
   one = λ input held ok holds is.
       let step = scripted (Some level) (Some held) script in
       one_by (λ lines o. PlaysAll level lines held o) held step (sound_script (Some level) (Some held) script) (λ lines gives.
-      let are = subst (AreStepLines (Some level)) gives (scripted_lines (Some level) (Some held) script) in
+      let are = rw gives at (scripted_lines (Some level) (Some held) script) in
       let end = has_end level lines held is are holds in
       record { outcome = end.0; is = end.1; only = λ other p. one_outcome level lines held is are holds end.0 other end.1 p });
   done = λ input held octets is can. played level script input held octets is can;
@@ -251,8 +249,7 @@ saved : (board : BoardWord) (set : ℕ) (script : List ℕ) (input : Option (Lis
 saved board set script input None can = absurd can
 saved (BoardOf kind number) set script input (Some map) can =
     let f = family_of kind in
-    let board = after_events f (events_of can.lines) (f.power_on number) in
-    (saved_stream f set board, rw (script_gives None map script _ _ can.held can.short can.reads) refl)
+    (saved_stream f set (after_events f (events_of can.lines) (f.power_on number)), rw (script_gives None map script _ _ can.held can.short can.reads) refl)
 
 pub save_row : (board : BoardWord) (set : ℕ) (script : List ℕ) → IsRow (save_entry board set script)
 save_row board set script =

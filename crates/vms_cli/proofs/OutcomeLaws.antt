@@ -13,24 +13,7 @@ use Rattle.vms_commands.specs.declared.ending.Ending.TheVariants as endings
 -- ---- the numbers by which the program goes
 
 pub limits_hold : LimitsLaw
-limits_hold =
-    record {
-      file = refl;
-      script = refl;
-      events = refl;
-      wait = refl;
-      name = refl;
-      described = refl;
-      items = refl;
-      unused = refl;
-      cells = refl;
-      image = refl;
-      newest_set = refl;
-      newest = refl;
-      newest_clock = refl;
-      last_moment = refl;
-      second = refl;
-    }
+limits_hold = search arith
 
 -- ---- the paths of the newest set's cells are short
 
@@ -161,12 +144,7 @@ module _ (status : ℕ) (old new : Outside) (o : Outcome) (ample : IsAmple old o
   come_short (inr fails) = out_short (text_of (take fails.1.done o.parts)) (done_short o.parts fails.1.done) fails.1.text
 
   none-rises : new.out.faults ≡ 0 → new.notes.faults ≡ 0 → NoneRises old new
-  none-rises out notes = record {
-    input = never_rose _ _ (kept.input (stay.input.promise ∙ ample.input));
-    out = never_rose _ _ out;
-    notes = never_rose _ _ notes;
-    shelf = never_rose _ _ (kept.shelf (stay.shelf.promise ∙ ample.shelf));
-  }
+  none-rises out notes = search (arith, never_rose)
 
   rises_never : DoesOrStops status old new o → NoneRises old new
   rises_never (inl does) = none-rises (out_short (text_of o.parts) (omega arith) does.text) (note_short o.note (le-max_right 14 (length o.note)) does.note)

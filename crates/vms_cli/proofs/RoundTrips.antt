@@ -18,7 +18,6 @@ use Rattle.vms_cli.proofs.Facade.{Mismatch, Counters, Finds, always_holds, named
 use Rattle.vms_cli.proofs.KindLaws.{goes_on_of, numbers_of, sound_of, stands_of}
 use Rattle.vms_cli.specs.{Answers.Answers as CallAnswers, Commands.ShowCommand.Values as Printed}
 use Rattle.vms_analyze.proofs.Shown.{shown_holds as shown_listing}
-use Rattle.dev_base.specs.Levels.{IsUpTo}
 use Rattle.vms_board.specs.Family.{Stands}
 use Rattle.vms_check.proofs.SelfLaws.{is_among}
 use Rattle.vms_counter_laws.specs.Counters.{Refusal, State}
@@ -85,9 +84,8 @@ pub check_then_show : CheckThenShowLaw
 check_then_show one other old new sets a b c d status checks shows gives checked held shown machine text images w left =
     let words = named_both sets a.shelf.held old new gives in
     let compatible : Compatible sets.old sets.new = subst AreCompatible gives ((rw checks at checked.verdict) refl) in
-    let upgrade : Upgrade (Some (Show new)) status c d = subst (λ x. Upgrade x status c d) shows shown.upgrade in
-    let newer : word_set c.shelf.held new ≡ Gives sets.new = ap (λ h. word_set h new) held ∙ words.1 in
-    (subst (λ s. UpgradesTo s status c d) newer upgrade) sets.old machine text images (subst FitStep words.0 (fit_word a.shelf.held old)).well compatible w left
+    let newer : word_set c.shelf.held new ≡ Gives sets.new = rw held (words.1) in
+    (rw newer at (rw shows at shown.upgrade)) sets.old machine text images (subst FitStep words.0 (fit_word a.shelf.held old)).well compatible w left
 
 -- ---- From how a call ends and why to what it answers.
 
@@ -137,11 +135,7 @@ lists_few input text _ (HasNoShape p few last none) e = few
 lists_few input text _ (IsRead p devices few last tells) e = few
 
 pub lists_all : (input text : List ℕ) (held : Option Held) → Lists input (Text text) → IsListing held input (done text held (length input))
-lists_all input text held lists = record {
-  listing = Text text;
-  lists = lists;
-  is = ap (λ n. done text held n) (omega (arith, lists_few input text _ lists refl));
-}
+lists_all input text held lists = search (arith, lists_few)
 
 module _ (set : Set) (fit : IsFit set) (machine : Option (List ℕ)) (images : List Image) (named : IsMachineOf set machine) (ready : AreReady set images) where
   pub shown_listed : Lists (described_stream set machine images) (Text (values_text set machine images))
@@ -217,8 +211,7 @@ module _ (set : Set) (fit : IsFit set) (machine : Option (List ℕ)) (images : L
   listed_too x same (Printed taken other others whole) =
       let bytes = described_stream set machine images in
       let all = (written_only set machine (Some (described_text set images)) images fit named (fits_text set fit images) ready).only taken other others whole in
-      let printed : values_text set machine images ≡ values_text set other others =
-      ap (λ o. values_text set o images) (sym all.1) ∙ ap (values_text set other) (sym all.2) in
+      let printed : values_text set machine images ≡ values_text set other others = cc in
       rw all.0 (lists_all bytes _ held
       (subst (λ t. Lists bytes (Text t)) printed (shown_listed set fit machine images named ready)))
   listed_too x same (Refuses place section reason size fault) = absurd (done_apart 1 _ text held _ n (sym same))
@@ -310,7 +303,7 @@ save_then_analyze words (BoardOf kind number) set script stream input held asked
     let can = subst CanBeAsked asked (words_ask words) in
     let of = numbers_of kind in
     saved_prints _ (stands_of kind) (sound_of kind).power_on (sound_of kind).events held _ number set
-    (ap Gives (of.set set)) (subst (λ (n : ℕ). IsUpTo n number) of.newest can.0) (subst (λ (n : ℕ). ReachesSet n number set) of.newest can.1) script stream has
+    (ap Gives (of.set set)) (rw of.newest at can.0) (rw of.newest at can.1) script stream has
 
 -- ---- What follows where `counter` names a state.
 

@@ -61,14 +61,7 @@ one_by P held (Ends status line) sound each = record { outcome = ended status li
 
 -- a command that writes one text and stores nothing
 pub text_fits : (course : Course) → is_among course.statuses 6 ≡ true → HasSix course.takes → course.writes ≡ 0 ∷ 6 ∷ [] → course.stores ≡ [] → Fits course
-text_fits course six takes writes stores = record {
-  statuses = six;
-  writes = inl (rw writes refl);
-  takes = takes;
-  stores = inr stores;
-  unwritten = rw writes spares_text;
-  unstored = rw stores spares_none;
-}
+text_fits course six takes writes stores = search (arith, spares_text, spares_none)
 
 -- if its steps give the text wherever all that it needs is there
 pub text_row : (step : Option Held → Step (List ℕ)) {course : Course} {words : Type 0} {needs : Option (List ℕ) → Option Held → Type 0} → Fits course
@@ -140,31 +133,15 @@ module _ (i : Intake) (o o' : Outlet) (s s' : Stock) where
     -- if the shelf was only read
     text_by : (e : Option Ending) → WriteCause asks compares o o' e → Serves o o' → Looks s s' → (asks ≡ false → s' ≡ s)
         → EndsSo i i o o' s s' (text_course own [] asks) e
-    text_by e c serves looks unasked =
-        let r = text_so e c in
-        record {
-          can = r.0;
-          risen = r.1;
-          out = r.2;
-          input = λ f. refl;
-          held = λ f. looks.held;
-          shelf = unasked;
-          draws = draws_none i;
-          serves = serves;
-          reaches = looks_reaches looks;
-        }
+    text_by e c serves looks unasked = search (arith, text_so, draws_none, looks_reaches)
 
   pub pack_ends : (e : Option Ending) → WritesBy true false o o' e → Looks s s' → EndsSo i i o o' s s' save_course e
   pack_ends e w looks = text_by (0 ∷ 6 ∷ 10 ∷ []) true false (compares_none (0 ∷ 6 ∷ 10 ∷ []) refl refl refl) e w.cause w.serves looks (λ f. absurd (wrong f))
 
   -- once all sets are there, no text is bad
   written_so : (asks compares : Bool) (e : Option Ending) → WriteCause false compares o o' e → WriteCause asks compares o o' e
-  written_so asks compares None c = tt
   written_so asks compares (Some (BadText line)) c = absurd (wrong (sym c.0))
-  written_so asks compares (Some (NotCompatible line)) c = c
-  written_so asks compares (Some WriteFault) c = c
-  written_so asks compares (Some NoMemory) c = c
-  written_so asks compares e c = absurd c
+  written_so asks compares e c = c
 
   pub check_ends : (b : Bool) (e : Option Ending) → WritesBy false true o o' e → Looks s s' → (b ≡ false → s' ≡ s) → EndsSo i i o o' s s' (check_course b) e
   check_ends b e w looks unasked =
@@ -248,14 +225,7 @@ module _ (i i' : Intake) (o o' n n' : Outlet) (s s' : Stock) where
   same_why _ _ e h = absurd (omega arith)
 
   why_cause : (why : Why) (status : ℕ) → status ≡ status_at why → Holds why → HasCause status old new
-  why_cause why status is h = record {
-    done = λ e. same_why why Well (sym is ∙ e) h;
-    words = λ e. same_why why Words (sym is ∙ e) h;
-    input = λ e. same_why why Input (sym is ∙ e) h;
-    sink = λ e. same_why why Sink (sym is ∙ e) h;
-    shelf = λ e. same_why why Shelf (sym is ∙ e) h;
-    memory = λ e. same_why why Memory (sym is ∙ e) h;
-  }
+  why_cause why status is h = search (arith, same_why)
 
   has_cause : (course : Course) (e : Option Ending) (status : ℕ) → EndsSo i i' o o' s s' course e → Tells n n' e status → HasCause status old new
   has_cause course None status h t = why_cause Well status t.0 t.1
@@ -299,13 +269,7 @@ module _ (i i' : Intake) (o o' n n' : Outlet) (s s' : Stock) where
 
   seen_so : (P : List ℕ → Outcome → Type 0) (e : Option Ending) (status : ℕ) → SeenAs P i i' o o' s s' e → Caused i i' o o' s s' e → Tells n n' e status
       → IsSeen status → DoesSeen P status old new
-  seen_so P e status seen cause t which =
-      let v = seen (ended_among e status (told e status t) which) in
-      record {
-        outcome = v.outcome;
-        sees = v.sees;
-        does = does_so status _ (outcome_so i i' o o' n n' s s' e status _ v.ends cause t) which;
-      }
+  seen_so P e status seen cause t which = search (arith, ended_among, does_so, outcome_so)
 
   stopped_so : (P : List ℕ → Outcome → Type 0) (e : Option Ending) (status : ℕ) → SeenAs P i i' o o' s s' e → Caused i i' o o' s s' e → Tells n n' e status
       → status ≡ 6 → ComesSeen P status old new ⊎ Rose old.notes.faults new.notes.faults

@@ -310,17 +310,13 @@ module _ (to : Set) (fit : IsFit to) (i i' : Intake) (o o' : Outlet) where
   -- ---- known or unknown
 
   convert_given : (r : Result (Unit {0}) ConvertFault) → Calls to newest i i' o o' r → ConvertGives (agrees to) i i'
-  convert_given (Ok u) c = rw (agreed_gives to c.0) (omega arith)
   convert_given (Err (faults.NotCompatible m)) c = rw (ap (agreed to) c.0) c.1
-  convert_given (Err (faults.Refused r)) c = rw (agreed_gives to c.0) (omega arith)
-  convert_given (Err (faults.WouldLose section cell)) c = rw (agreed_gives to c.0) (omega arith)
-  convert_given (Err faults.ReadFault) c = rw (agreed_gives to c.0) (omega arith)
-  convert_given (Err faults.WriteFault) c = rw (agreed_gives to c.0) (omega arith)
   convert_given (Err faults.NoMemory) c = nothing _ c.0
     where
       nothing : (step : Step Set) → i' ≡ i → ConvertGives step i i'
       nothing (Ends status line) e = e
       nothing step e = omega (arith, ap (λ x. x.given) e)
+  convert_given _ c = rw (agreed_gives to c.0) (omega arith)
 
   -- ---- what it touches
 
@@ -344,14 +340,7 @@ module _ (to : Set) (fit : IsFit to) (i i' : Intake) (o o' : Outlet) where
 
   pub converts_stream : (r : Result (Unit {0}) ConvertFault) (e : Option Ending) → EndsLike r e → Calls to newest i i' o o' r → IfSome i.left IsBytes
       → i.given < 2 ^ 64 → ConvertsStream to i i' o o' e
-  converts_stream r e like said octets counted = record {
-    runs = record {
-      content = λ s s' x same has. content_by s s' e x (left_by r e like said s s' same) octets counted has;
-      so = convert_so r e like said;
-      seen = λ s s' same. seen_by s s' e (left_by r e like said s s' same);
-    };
-    given = convert_given r said;
-  }
+  converts_stream r e like said octets counted = search (arith, content_by, left_by, convert_so, seen_by, convert_given)
 
 -- what would be lost is named in the newest set
 pub names_cell : (to : Set) → IsFit to → (i i' : Intake) (o o' : Outlet) (r : Result (Unit {0}) ConvertFault) → Calls to newest i i' o o' r → NamesCell r

@@ -72,10 +72,7 @@ front_shown set bytes held _ (Refuses place section reason size fault) = (Invali
 
 pub shows_same : (set : Set) → IsFit set → (bytes : List ℕ) (held : Option Held) (x y : Outcome) → IsBytes bytes → Shows set bytes held x
     → Shows set bytes held y → y ≡ x
-shows_same set fit bytes held x y ok p q =
-    let a = front_shown set bytes held x p in
-    let b = front_shown set bytes held y q in
-    b.2 ∙ ap (shown set held) (one_front set fit bytes ok a.0 b.0 a.1 b.1) ∙ sym a.2
+shows_same set fit bytes held x y ok p q = grind (arith, front_shown, one_front)
 
 -- ---- what is seen
 
@@ -114,9 +111,8 @@ module _ (set : Set) where
   are_from : (devices : List Device) (images : List Image) → length images ≡ length devices
       → ((k : ℕ) → k < length devices → IsOf set (get_or devices k no_device) (get_or images k (state_of no_image))) → AreOf set devices images
   are_from [] [] all each = tt
-  are_from [] (image ∷ images) all each = absurd (omega arith)
-  are_from (d ∷ devices) [] all each = absurd (omega arith)
   are_from (d ∷ devices) (image ∷ images) all each = (each 0 (omega arith), are_from devices images (omega arith) (λ k lt. each (suc k) (omega arith)))
+  are_from _ _ all each = absurd (omega arith)
 
   pub are_of : is_well_formed set ≡ true → (images : List Typed) → AreShaped set images → AreOf set set.devices (map state_of images)
   are_of well images h = are_from _ _ (length-map images state_of ∙ h.all) (λ k lt.

@@ -1,12 +1,12 @@
 -- Events, parts and lines of a session, one after the other.
-use Rattle.vms_session.proofs.Facade.{◌≡◌, ℕ, zero, suc, ◌+◌, ◌<◌, ◌≤◌, List, [], ◌∷◌, ◌++◌, length, take, drop, get_or, Option}
-use Rattle.vms_session.proofs.Facade.{refl, sym, ap, subst, ◌∙◌, arith, drop_all, drop_more, AreEvents, IsEvent, after_by, answers_by, Event, Read}
-use Rattle.vms_session.proofs.Facade.{Family, after_events, AreLines, ScriptLine, Happens, Saves, trace_line, event_lines, events_of, trace_from, append_assoc}
-use Rattle.vms_session.proofs.Facade.{append-nil, length-append, take_all, Held, Part, text_of, text_begun, held_after, ◌⊎◌, inl, inr, Some, Result, Ok}
-use Rattle.vms_session.proofs.Facade.{Err, Appends-nil, Appends-trans, Appends, State, Rose, Reaches, Outlet, Stock, Serves, reaches_both, serves_both}
-use Rattle.vms_session.proofs.Facade.{stored_next, HoldsBut, FailsToStore, line_view, lines_view, Line, Session, Does, part_of, Plays, session_of, DoesSome}
-use Rattle.vms_session.proofs.Facade.{Goes, LinesEnd, HasPlayCause, PlayFault, WriteFault, ShelfFault, NoMemory}
-use Rattle.vms_session.proofs.SoundLaws.{event_is, line_event}
+use Rattle.vms_session.proofs.Facade.{Appends, Appends-nil, Appends-trans, AreEvents, AreLines, Does, DoesSome, Err, Event, FailsToStore, Family, Goes, Happens}
+use Rattle.vms_session.proofs.Facade.{HasPlayCause, Held, HoldsBut, IsEvent, Line, LinesEnd, List, NoMemory, Ok, Option, Outlet, Part, PlayFault, Plays}
+use Rattle.vms_session.proofs.Facade.{Reaches, Read, Result, Rose, Saves, ScriptLine, Serves, Session, ShelfFault, Some, State, Stock, WriteFault, [], after_by}
+use Rattle.vms_session.proofs.Facade.{after_events, answers_by, ap, append-nil, append_assoc, arith, drop, drop_all, drop_more, event_lines, events_of, get_or}
+use Rattle.vms_session.proofs.Facade.{held_after, inl, inr, length, length-append, line_view, lines_view, part_of, reaches_both, refl, serves_both, session_of}
+use Rattle.vms_session.proofs.Facade.{stored_next, suc, sym, take, take_all, text_begun, text_of, trace_from, trace_line, zero, ℕ, ⊎_elim, ◌++◌}
+use Rattle.vms_session.proofs.Facade.{◌+◌, ◌<◌, ◌∙◌, ◌∷◌, ◌≡◌, ◌≤◌}
+use Rattle.vms_session.proofs.SoundLaws.{comes, event_is, line_event}
 use Rattle.vms_script.specs.Lines.{Restores}
 use Rattle.vms_commands.specs.Outcomes.{ComesTo}
 use Rattle.std.proofs.Common.{add-one}
@@ -23,10 +23,10 @@ pub none_left : (events : List Event) (i : ℕ) → length events ≤ i → drop
 none_left events i le = drop_all i events le
 
 pub first_event : (event : Event) (rest events : List Event) → events ≡ event ∷ rest → AreEvents events → IsEvent event
-first_event event rest events e are = let both : AreEvents (event ∷ rest) = subst AreEvents e are in both.0
+first_event event rest events e are = (rw e at are).0
 
 pub later_events : (event : Event) (rest events : List Event) → events ≡ event ∷ rest → AreEvents events → AreEvents rest
-later_events event rest events e are = let both : AreEvents (event ∷ rest) = subst AreEvents e are in both.1
+later_events event rest events e are = (rw e at are).1
 
 -- valid lines of a script have valid events
 pub lines_are_events : (play : Option ℕ) (lines : List ScriptLine) → AreLines play lines → AreEvents (events_of lines)
@@ -41,7 +41,7 @@ events_back [] = refl
 events_back (event ∷ events) = rw (events_back events)
 
 pub are_events : (play : Option ℕ) (events : List Event) → AreLines play (event_lines events) → AreEvents events
-are_events play events are = subst AreEvents (events_back events) (lines_are_events play _ are)
+are_events play events are = rw (events_back events) at (lines_are_events play _ are)
 
 -- ---- the board
 
@@ -54,7 +54,7 @@ module _ {S : Type 0} (f : Family S) where
 
     pub trace_next : trace_from f events m ≡ trace_line (f.step event m).0 ++ trace_from f rest m'
     unfolding answers_by
-    trace_next = rw e (sym (ap (λ (b : S). trace_line (f.step event m).0 ++ trace_from f rest b) done))
+    trace_next = rw (e, done) refl
 
   pub after_none : (events : List Event) (m : S) → events ≡ [] → after_events f events m ≡ m
   unfolding after_by
@@ -77,7 +77,7 @@ module _ {S : Type 0} (f : Family S) where
       → m'' ≡ (f.step (event_at events i) m').1 → m'' ≡ after_events f (take (i + 1) events) m
   one_more events i m m' m'' lt before done =
       let next : suc i ≡ i + 1 = omega arith in
-      done ∙ ap (λ (b : S). (f.step (event_at events i) b).1) before ∙ sym (after_more events i m lt) ∙ ap (λ (n : ℕ). after_events f (take n events) m) next
+      rw (done, before, ← next) (sym (after_more events i m lt))
 
   -- ---- the trace
 
@@ -101,20 +101,16 @@ module _ {S : Type 0} (f : Family S) where
 module _ (part : Part) (rest : List Part) where
   -- the part that comes next
   pub text_next : (i : ℕ) (parts : List Part) → drop i parts ≡ part ∷ rest → text_of (take (suc i) parts) ≡ text_of (take i parts) ++ part.text
-  text_next zero [] e = cc
-  text_next zero (x ∷ parts) e =
-      let same : x ≡ part = cc in
-      append-nil x.text ∙ ap (λ (p : Part). p.text) same
-  text_next (suc i) [] e = cc
+  text_next zero (x ∷ parts) e = cc (append-nil x.text)
   text_next (suc i) (x ∷ parts) e = rw (text_next i parts e) (sym (append_assoc x.text (text_of (take i parts)) part.text))
+  text_next zero [] e = cc
+  text_next (suc i) [] e = cc
 
   pub held_next : (i : ℕ) (held : Option Held) (parts : List Part) → drop i parts ≡ part ∷ rest → held_after held (take (suc i) parts) ≡ part.held
-  held_next zero held [] e = cc
-  held_next zero held (x ∷ parts) e =
-      let same : x ≡ part = cc in
-      ap (λ p. p.held) same
-  held_next (suc i) held [] e = cc
+  held_next zero held (x ∷ parts) e = cc
   held_next (suc i) held (x ∷ parts) e = held_next i x.held parts e
+  held_next zero held [] e = cc
+  held_next (suc i) held [] e = cc
 
   pub rest_next : (i : ℕ) (parts : List Part) → drop i parts ≡ part ∷ rest → drop (suc i) parts ≡ rest
   rest_next (suc i) (x ∷ parts) e = rest_next i parts e
@@ -122,12 +118,10 @@ module _ (part : Part) (rest : List Part) where
 
   -- a part of which a number of bytes is written
   pub begun_next : (i n : ℕ) (parts : List Part) → drop i parts ≡ part ∷ rest → text_begun parts (suc i) n ≡ text_of (take i parts) ++ take n part.text
-  begun_next zero n [] e = cc
-  begun_next zero n (x ∷ parts) e =
-      let same : x ≡ part = cc in
-      ap (λ p. take n p.text) same
-  begun_next (suc i) n [] e = cc
+  begun_next zero n (x ∷ parts) e = cc
   begun_next (suc i) n (x ∷ parts) e = rw (begun_next i n parts e) (sym (append_assoc x.text (text_of (take i parts)) (take n part.text)))
+  begun_next zero n [] e = cc
+  begun_next (suc i) n [] e = cc
 
 -- a number of complete parts
 pub begun_whole : (i n : ℕ) (parts : List Part) → length (text_of parts) ≤ n → text_begun parts i n ≡ text_of (take i parts)
@@ -137,16 +131,16 @@ begun_whole _ n _ le = refl
 
 -- nothing is left
 pub text_all : (i : ℕ) (parts : List Part) → drop i parts ≡ [] → text_of (take i parts) ≡ text_of parts
-text_all zero [] e = refl
 text_all zero (x ∷ parts) e = cc
-text_all (suc i) [] e = refl
 text_all (suc i) (x ∷ parts) e = rw (text_all i parts e)
+text_all zero [] e = refl
+text_all (suc i) [] e = refl
 
 pub held_all : (i : ℕ) (held : Option Held) (parts : List Part) → drop i parts ≡ [] → held_after held (take i parts) ≡ held_after held parts
-held_all zero held [] e = refl
 held_all zero held (x ∷ parts) e = cc
-held_all (suc i) held [] e = refl
 held_all (suc i) held (x ∷ parts) e = held_all i x.held parts e
+held_all zero held [] e = refl
+held_all (suc i) held [] e = refl
 
 -- ---- lines of a session, one after the other: lines
 
@@ -190,25 +184,6 @@ pub in_course : (lines : List ScriptLine) (parts : List Part) (new : Session) (b
     → shelf.held ≡ Some held → Plays lines (session_of board held) parts new → InCourse 0 lines parts new board out out shelf shelf
 in_course lines parts new board held out shelf told plays = record { holds = held; told = told; rest = plays; text = Appends-nil out.written; held = refl }
 
--- nothing of a part was done, or some of it was written once the shelf was as after it
-one_part : (out out' : Outlet) (shelf shelf' : Stock) (part : Part) → ComesTo out out' shelf shelf' (part ∷ [])
-    → (Appends out.written out'.written [] × (shelf'.held ≡ shelf.held))
-    ⊎ ((n : ℕ) × Appends out.written out'.written (take n part.text) × (shelf'.held ≡ part.held))
-one_part out out' shelf shelf' part comes = by comes.begun comes.text comes.held
-  where
-    by : (k : ℕ) → Appends out.written out'.written (text_begun (part ∷ []) k comes.bytes) → shelf'.held ≡ held_after shelf.held (take k (part ∷ []))
-        → (Appends out.written out'.written [] × (shelf'.held ≡ shelf.held))
-        ⊎ ((n : ℕ) × Appends out.written out'.written (take n part.text) × (shelf'.held ≡ part.held))
-    by zero text held = inl (text, held)
-    by (suc zero) text held = inr (comes.bytes, text, held)
-    by (suc (suc k)) text held =
-        inr (
-          length part.text,
-          subst (Appends out.written out'.written)
-              (append-nil part.text ∙ sym (take_all (length part.text) part.text (omega arith))) text,
-          held,
-        )
-
 -- what a line's call says, of each text and session that the line leaves
 abbrev pub Content : ScriptLine → State → State → (out out' : Outlet) (shelf shelf' : Stock) → Result Unit PlayFault → Type 0
 Content line board board' out out' shelf shelf' result =
@@ -245,24 +220,22 @@ module _ (i : ℕ) (line : ScriptLine) (left : List ScriptLine) (parts : List Pa
 
   -- the result of this one is the result of all
   comes_behind : ComesTo out' out'' shelf' shelf'' (part_of line text between ∷ []) → ComesTo out out'' shelf shelf'' parts
-  comes_behind comes = by (one_part out' out'' shelf' _ _ comes)
+  comes_behind comes = by comes.begun comes.text comes.held
     where
-      by : (Appends out'.written out''.written [] × (shelf''.held ≡ shelf'.held))
-          ⊎ ((n : ℕ) × Appends out'.written out''.written (take n text) × (shelf''.held ≡ Some between.held))
-          → ComesTo out out'' shelf shelf'' parts
-      by (inl none) = record {
-        begun = i;
-        bytes = length (text_of parts);
-        text = subst (Appends out.written out''.written) (sym (begun_whole i _ parts (omega arith))) (behind none.0);
-        held = cc;
-      }
-      by (inr some) = record {
+      some : (n : ℕ) → Appends out'.written out''.written (take n text) → shelf''.held ≡ Some between.held → ComesTo out out'' shelf shelf'' parts
+      some n begun held = record {
         begun = suc i;
-        bytes = some.0;
-        text = rw (begun_next _ _ i some.0 parts next)
-            (Appends-trans _ _ _ _ _ course.text some.1);
+        bytes = n;
+        text = rw (begun_next _ _ i n parts next) (Appends-trans _ _ _ _ _ course.text begun);
         held = cc (held_next _ _ i _ parts next);
       }
+
+      by : (k : ℕ) → Appends out'.written out''.written (text_begun (part_of line text between ∷ []) k comes.bytes)
+          → shelf''.held ≡ held_after shelf'.held (take k (part_of line text between ∷ [])) → ComesTo out out'' shelf shelf'' parts
+      by zero none held =
+          record { begun = i; bytes = length (text_of parts); text = rw (begun_whole i (length (text_of parts)) parts (omega arith)) (behind none); held = cc }
+      by (suc zero) begun held = some comes.bytes begun held
+      by (suc (suc k)) all held = some (length text) (rw (take_all (length text) text (omega arith)) (rw (append-nil text) at all)) held
 
   -- where this one is done, or nothing of it is
   does_behind : DoesSome out' out'' shelf' shelf'' (part_of line text between ∷ []) → DoesSome out out'' shelf shelf'' parts
@@ -308,12 +281,8 @@ module _ (i : ℕ) (line : ScriptLine) (left : List ScriptLine) (parts : List Pa
   pub course_stops : (fault : PlayFault) → shelf.faults ≤ shelf'.faults → Content line board board' out' out'' shelf' shelf'' (Err fault)
       → LinesEnd parts new out out'' shelf shelf'' board' (Err fault)
   course_stops WriteFault le content = comes_behind (content course.holds text between course.told course.rest.3)
-  course_stops ShelfFault le content = by (content course.holds text between course.told course.rest.3)
-    where
-      by : DoesSome out' out'' shelf' shelf'' (part_of line text between ∷ []) ⊎ FailsToStore out' out'' shelf' shelf'' (part_of line text between ∷ [])
-          → DoesSome out out'' shelf shelf'' parts ⊎ FailsToStore out out'' shelf shelf'' parts
-      by (inl does) = inl (does_behind does)
-      by (inr fails) = inr (fails_behind le fails)
+  course_stops ShelfFault le content =
+      ⊎_elim (λ does. inl (does_behind does)) (λ fails. inr (fails_behind le fails)) (content course.holds text between course.told course.rest.3)
   course_stops NoMemory le content = does_behind (content course.holds text between course.told course.rest.3)
 
 pub course_ends : (i : ℕ) (parts : List Part) (new : Session) (board : State) (out out' : Outlet) (shelf shelf' : Stock)
@@ -321,5 +290,5 @@ pub course_ends : (i : ℕ) (parts : List Part) (new : Session) (board : State) 
 course_ends i parts new board out out' shelf shelf' course = (
   rw (text_all i parts course.rest.0) at course.text,
   course.held ∙ held_all i _ parts course.rest.0,
-  ap (λ s. s.board) (sym course.rest.1),
+  cc (course.rest.1),
 )

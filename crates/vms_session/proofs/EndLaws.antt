@@ -1,11 +1,11 @@
 -- Each session has a trace and an end, and a script leaves one of them.
-use Rattle.vms_session.proofs.Facade.{◌≡◌, ℕ, ◌≤◌, Bool, true, false, if◌then◌else◌, List, [], ◌∷◌, length, Option, Some, None}
-use Rattle.vms_session.proofs.Facade.{nat_lt, arith, refl, subst, ◌∙◌, bytes_eq, bytes_eq-Decides, nat_tests, NEWEST, IsSound, State, step, shipped_set}
-use Rattle.vms_session.proofs.Facade.{Held, PutsUnder, IsLine, AreLines, ScriptLine, Happens, Saves, is_set_of, trace_line, isa_laws, Restore, Back, Refused}
-use Rattle.vms_session.proofs.Facade.{Restores, saved_stream, part_of, HoldsBytes, HasAnEnd, SessionsEnd, saved_line, restored_line, missing_line}
-use Rattle.vms_session.proofs.Facade.{too_large_line, refused_line, Session, IsTooLarge, IsLoaded, Does, longest_file, isa, MaySaveIn, sym, ap, puts_bytes}
-use Rattle.vms_session.proofs.Facade.{HoldsAll, streams_are_bytes, Part, Plays, IsOneCourse, ReadsBytes, SessionsAreOne}
-use Rattle.vms_session.proofs.SoundLaws.{line_level, sessions_stay_sound, one_end, load_keeps}
+use Rattle.vms_session.proofs.Facade.{AreLines, Back, Bool, Does, Happens, HasAnEnd, Held, HoldsAll, HoldsBytes, IsLine, IsLoaded, IsOneCourse, IsSound}
+use Rattle.vms_session.proofs.Facade.{IsTooLarge, List, MaySaveIn, NEWEST, None, Option, Part, Plays, PutsUnder, ReadsBytes, Refused, Restore, Restores, Saves}
+use Rattle.vms_session.proofs.Facade.{ScriptLine, Session, SessionsAreOne, SessionsEnd, Some, State, [], arith, bytes_eq, bytes_eq-Decides, false}
+use Rattle.vms_session.proofs.Facade.{if◌then◌else◌, is_set_of, isa, isa_laws, length, longest_file, missing_line, nat_lt, nat_tests, part_of, puts_bytes}
+use Rattle.vms_session.proofs.Facade.{refl, refused_line, restored_line, saved_line, saved_stream, shipped_set, step, streams_are_bytes, subst, too_large_line}
+use Rattle.vms_session.proofs.Facade.{trace_line, true, ℕ, ◌∙◌, ◌∷◌, ◌≡◌, ◌≤◌}
+use Rattle.vms_session.proofs.SoundLaws.{comes, line_level, load_keeps, one_end, sessions_stay_sound}
 use Rattle.vms_script.specs.Lines.{Restores as Loads}
 use Rattle.dev_base.proofs.RuleLaws.{either}
 use Rattle.std.proofs.lemmas.Bool.{false_from_ne_true}
@@ -136,9 +136,6 @@ sessions_end = record {
 
 -- ---- the shelf still holds bytes
 
-abbrev held-of : Session → Held
-held-of s = s.held
-
 pub reads_bytes : (line : ScriptLine) (old : Session) → HoldsAll old.held → ReadsBytes line old
 reads_bytes (Loads name) old holds = holds name
 reads_bytes _ old holds = tt
@@ -146,10 +143,10 @@ reads_bytes _ old holds = tt
 pub line_holds : (line : ScriptLine) (old : Session) (text : List ℕ) (new : Session) → IsLine (Some old.board.level) line → Does line old text new
     → IsSound old.board
     → HoldsAll old.held → HoldsAll new.held
-line_holds (Happens event) old text new good does s holds = subst HoldsAll (sym (ap held-of does.new_is)) holds
+line_holds (Happens event) old text new good does s holds = rw (does.new_is) holds
 line_holds (Saves set name) old text new good does s holds =
     puts_bytes _ _ name _ does.held (streams_are_bytes.bytes set old.board s (may_save old.board set good.0)) holds
-line_holds (Loads name) old text new good does s holds = subst HoldsAll (sym (load_keeps (old.held name) old text new does).held) holds
+line_holds (Loads name) old text new good does s holds = rw ((load_keeps (old.held name) old text new does).held) holds
 
 -- ---- scripts
 
@@ -178,8 +175,7 @@ lines-one level (line ∷ lines) old parts parts' new new' are f p q =
     let one = one_end line old p.0 q.0 p.2 q.2 (reads_bytes line old f.holds) p.3 q.3 in
     let rest = lines-one level lines p.2 p.1 q.1 new new' are.1 (line_follows level line old p.0 p.2 are.0 p.3 f) p.4 (rw one.ends q.4) in
     record {
-      same = p.5 ∙ ap (λ (r : List Part). part_of line p.0 p.2 ∷ r) rest.same ∙ ap (λ (t : List ℕ). part_of line t p.2 ∷ q.1) one.texts
-          ∙ ap (λ (z : Session). part_of line q.0 z ∷ q.1) one.ends ∙ sym q.5;
+      same = cc (p.5, q.5, rest.same, one.texts, one.ends);
       ends = rest.ends;
     }
 

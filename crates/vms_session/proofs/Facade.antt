@@ -2,7 +2,7 @@
 pub use Rattle.std.proofs.{KnownBytes.Appends-nil, KnownBytes.Appends-trans, lemmas.Bool.Decides.nat_tests, lemmas.List.drop_all, lemmas.List.drop_more}
 pub use Rattle.std.proofs.{lemmas.List.take_all, lemmas.Result.err_from_is_err_and, lemmas.Slice.Eq.bytes_eq-Decides, Common.◌≤◌, Common.◌⊎◌}
 pub use Rattle.std.proofs.Common.{Bool, Err, List, None, Ok, Option, Result, Some, [], ap, append-nil, append_assoc, arith, drop, false, get_or, if◌then◌else◌}
-pub use Rattle.std.proofs.Common.{inl, inr, length, length-append, map, nat_lt, refl, subst, suc, sym, take, true, zero, ℕ, ◌++◌, ◌+◌, ◌<◌, ◌∙◌, ◌∷◌, ◌≡◌, ◌≢◌}
+pub use Rattle.std.proofs.Common.{inl, inr, length, length-append, map, nat_lt, refl, subst, suc, sym, take, true, zero, ℕ, ⊎_elim, ◌++◌, ◌+◌, ◌<◌, ◌∙◌, ◌∷◌, ◌≡◌, ◌≢◌}
 pub use Rattle.std.specs.{Io.KnownBytes.Appends, List.slice_get, Prelude.slice_set, Str.bytes_eq}
 pub use Rattle.vms_kinds.specs.Bytes.{IsBytes}
 pub use Rattle.vms_spec.proofs.ListsAndNumbers.{none_left}

@@ -1,13 +1,13 @@
 -- What a line of a session does: one thing, which keeps the level and a sound board.
-use Rattle.vms_session.proofs.Facade.{◌≡◌, ◌⊎◌, inl, inr, ℕ, zero, suc, ◌∙◌, Bool, true, false, List, ◌∷◌, map, Option, Some, None}
-use Rattle.vms_session.proofs.Facade.{refl, sym, ap, subst, [], slice_set, slice_get, NEWEST, IsLevel, restored_is_sound, sound_stays_on, IsEvent}
-use Rattle.vms_session.proofs.Facade.{AreBoardCells, IsSound, State, Event, Write, Byte, Wire, normal_may_be_restored, cells_in, shipped_set, IsLine, AreLines}
-use Rattle.vms_session.proofs.Facade.{ScriptLine, Happens, Saves, Image, IsNormal, Device, Set, EachOnce, none_left, HasSection, SectionsSpell, TakesBoard}
-use Rattle.vms_session.proofs.Facade.{Back, Refused, Restores, Part, Plays, SessionsStaySound, Session, IsTooLarge, IsLoaded, LoadsBytes, LoadsHeld, Does, isa}
-use Rattle.vms_session.proofs.Facade.{clock_goes_on, LevelStays, ◌≢◌, arith, bytes_eq, bytes_eq-Decides, step, Held, PutsUnder, trace_line, IsBytes}
-use Rattle.vms_session.proofs.Facade.{isa_laws, Restore, HoldsBytes, ReadsBytes, LinesAreOne, IsOneEnd, Leaves, ComesTo, ◌≤◌, append-nil, length, Result}
-use Rattle.vms_session.proofs.Facade.{Ok, Err, ◌<◌, Outlet, Stock, refused_line, too_large_line, longest_file, Reason, LinesEnd, WritesText, part_of}
-use Rattle.vms_session.proofs.Facade.{PlayFault, WriteFault, BringsNone, IsMissing, IsLarge, IsRefused, GoesOnWithout, RefusalsLeave}
+use Rattle.vms_session.proofs.Facade.{AreBoardCells, AreLines, Back, Bool, BringsNone, Byte, ComesTo, Device, Does, EachOnce, Err, Event, GoesOnWithout}
+use Rattle.vms_session.proofs.Facade.{Happens, HasSection, Held, HoldsBytes, Image, IsBytes, IsEvent, IsLarge, IsLevel, IsLine, IsLoaded, IsMissing, IsNormal}
+use Rattle.vms_session.proofs.Facade.{IsOneEnd, IsRefused, IsSound, IsTooLarge, Leaves, LevelStays, LinesAreOne, LinesEnd, List, LoadsBytes, LoadsHeld, NEWEST}
+use Rattle.vms_session.proofs.Facade.{None, Ok, Option, Outlet, Part, PlayFault, Plays, PutsUnder, ReadsBytes, Reason, RefusalsLeave, Refused, Restore}
+use Rattle.vms_session.proofs.Facade.{Restores, Result, Saves, ScriptLine, SectionsSpell, Session, SessionsStaySound, Set, Some, State, Stock, TakesBoard, Wire}
+use Rattle.vms_session.proofs.Facade.{Write, WriteFault, WritesText, [], ap, append-nil, arith, bytes_eq, bytes_eq-Decides, cells_in, clock_goes_on, false, inl}
+use Rattle.vms_session.proofs.Facade.{inr, isa, isa_laws, length, longest_file, map, none_left, normal_may_be_restored, part_of, refl, refused_line}
+use Rattle.vms_session.proofs.Facade.{restored_is_sound, shipped_set, slice_get, slice_set, sound_stays_on, step, suc, sym, too_large_line, trace_line, true}
+use Rattle.vms_session.proofs.Facade.{zero, ℕ, ◌<◌, ◌∙◌, ◌∷◌, ◌≡◌, ◌≢◌, ◌≤◌, ◌⊎◌}
 use Rattle.vms_script.specs.{Grammar.IsEvent as IsSpelled, Lines.Restores as Loads}
 
 -- ---- each device of a stream that is taken has a normal image
@@ -27,7 +27,7 @@ of-section : (set : Set) (footed : Bool) (k : ℕ) (device : Option Device) (fou
 of-section set footed k (Some x) (Some y) bytes d image h e f =
     let same : x ≡ d = cc in
     let alike : y ≡ image = cc in
-    subst (λ z. IsNormal set z image) same (subst (λ i. IsNormal set x i) alike h.1.normal)
+    rw (← same, ← alike) h.1.normal
 of-section set footed k _ _ bytes d image h e f = absurd h
 
 normal-in : (set : Set) (footed : Bool) (images : List Image) (order : List ℕ) (came : List Bool) (bytes : List ℕ)
@@ -65,7 +65,7 @@ line_event None event h = h
 line_event (Some level) event h = h
 
 same-board : (old new : Session) → new.board ≡ old.board → IsSound old.board → IsSound new.board
-same-board old new e s = subst IsSound (sym e) s
+same-board old new e s = rw e s
 
 -- What a restore from the shelf keeps, whatever it brings back.
 pub record LoadKeeps (old new : Session) : Type 0 where
@@ -92,7 +92,7 @@ load_keeps (Some bytes) old text new loads = bytes-keep bytes old text new loads
 pub line_sound : (play : Option ℕ) (line : ScriptLine) (old : Session) (text : List ℕ) (new : Session) → IsLine play line → Does line old text new
     → IsSound old.board → IsSound new.board
 line_sound play (Happens event) old text new good does s =
-    subst IsSound (sym (rw (does.new_is))) (sound_stays_on.event event old.board (event_is event (line_event play event good)) s)
+    rw (does.new_is) (sound_stays_on.event event old.board (event_is event (line_event play event good)) s)
 line_sound play (Saves set name) old text new good does s = same-board old new does.board s
 line_sound play (Loads name) old text new good does s = (load_keeps _ old text new does).sound s
 
@@ -130,7 +130,7 @@ same-held old a b name bytes p q other = by _ refl
     by : (t : Bool) → bytes_eq other name ≡ t → a other ≡ b other
     by true e =
         let same : other ≡ name = (bytes_eq-Decides other name).0 e in
-        ap a same ∙ p.there ∙ sym q.there ∙ ap b (sym same)
+        cc (p.there, q.there)
     by false e =
         let ne : other ≢ name = λ same. let f = (bytes_eq-Decides other name).1 same in cc (sym e ∙ f) in
         p.others other ne ∙ sym (q.others other ne)
@@ -168,10 +168,7 @@ pub one_end : (line : ScriptLine) (old : Session) (text text' : List ℕ) (new n
 one_end (Happens event) old text text' new new' ok a b =
     same-left (trace_line (step event old.board).0) (record old { board = (step event old.board).1 }) text text' new new' a b
 one_end (Saves set name) old text text' new new' ok a b =
-    record {
-      texts = cc;
-      ends = rw (a.board ∙ sym b.board) (ap (session new'.board) (one_map _ _ _ name _ a.held b.held));
-    }
+    record { texts = cc; ends = rw (a.board ∙ sym b.board) (ap (session new'.board) (one_map _ _ _ name _ a.held b.held)) }
 one_end (Loads name) old text text' new new' ok a b = same-under _ old text text' new new' ok a b
 
 pub lines_are_one : LinesAreOne
@@ -222,8 +219,7 @@ later-so name lines old text parts new none plays =
     let left = leaves-so name old text _ _ none plays.3 in
     record {
       later = plays.1;
-      parts_are = plays.5 ∙ ap (λ (t : List ℕ). part_of (Loads name) t plays.2 ∷ plays.1) left.text_is
-          ∙ ap (λ (s : Session). part_of (Loads name) text s ∷ plays.1) left.new_is;
+      parts_are = cc (plays.5, left.text_is, left.new_is);
       plays = rw left.new_is at plays.4;
     }
 

@@ -1,4 +1,3 @@
-use Rattle.dev_board.proofs.Facade.{◌≡◌, false, has}
 use Rattle.std.proofs.Common.{rules}
 use Rattle.dev_board.proofs.QuickLaws.{command-holds, command-step, queue-holds, queue-step, read-holds, read-step}
 use Rattle.dev_board.proofs.devices.Devices.at_once.Goals as goal

@@ -1,4 +1,4 @@
-use Rattle.dev_board.proofs.Facade.{◌≡◌, ℕ, List, [], None, sym, ap, subst, ◌∙◌, State, acted, after_act, step, waited, saying, Answer, Wait}
+use Rattle.dev_board.proofs.Facade.{◌≡◌, ℕ, [], None, sym, ap, ◌∙◌, State, acted, after_act, step, waited, saying, Answer, Wait}
 use Rattle.dev_board.proofs.devices.Devices.pass.Goals as goal
 
 -- A wait in which no byte leaves says the output alone.

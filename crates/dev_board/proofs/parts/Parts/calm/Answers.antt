@@ -1,4 +1,4 @@
-use Rattle.dev_board.proofs.{Facade.ℕ, Facade.sym, Facade.subst, Facade.IsCalm, Facade.parts_view, SoundLaws.loaded, SoundLaws.calm-turns}
+use Rattle.dev_board.proofs.{Facade.sym, Facade.subst, Facade.IsCalm, Facade.parts_view, SoundLaws.loaded, SoundLaws.calm-turns}
 use Rattle.dev_board.proofs.parts.Parts.calm.Goals as goal
 
 pub turns-requires-clause-loaded : goal.turns-requires-clause-loaded

@@ -1,4 +1,4 @@
-use Rattle.dev_board.proofs.Facade.{wires_after, calm_after, parts_view, wires_of, Wire, IsBefore, ◌≡◌, ℕ, sym, ap, subst, ◌∙◌, int_of, IsCalm}
+use Rattle.dev_board.proofs.Facade.{wires_after, parts_view, wires_of, Wire, ◌≡◌, sym, ap, subst, ◌∙◌, int_of, IsCalm}
 use Rattle.dev_board.proofs.Facade.{IsSound, State, names_wire, settled}
 use Rattle.dev_board.proofs.QuickLaws.{after-ack as ack-stays, after-read, after-write}
 use Rattle.dev_board.proofs.SoundLaws.{after-ack, calm-read, calm-write}

@@ -1,5 +1,5 @@
 use Rattle.dev_board.proofs.{SoundLaws.calm-wait, QuickLaws.after-time}
-use Rattle.dev_board.proofs.Facade.{◌<◌, arith, sym, subst, nat_tests, IsCalm, settled, Stays, Touch}
+use Rattle.dev_board.proofs.Facade.{◌<◌, arith, nat_tests, settled}
 use Rattle.dev_board.proofs.parts.Parts.pass.Goals as goal
 
 pub settle-kept-requires-clause-stays : goal.settle-kept-requires-clause-stays

@@ -1,4 +1,4 @@
-use Rattle.dev_board.proofs.Facade.{◌≡◌, ℕ, Bool, true, false, not, List, [], refl, ap, subst, still, advanced, Port, State, acted, after_act, step, waited}
+use Rattle.dev_board.proofs.Facade.{◌≡◌, Bool, true, false, not, [], refl, subst, still, advanced, acted, after_act, step, waited}
 use Rattle.dev_board.proofs.parts.Parts.sends_by.Goals as goal
 
 holds : (b : Bool) → not b ≡ false → b ≡ true

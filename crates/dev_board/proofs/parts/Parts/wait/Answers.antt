@@ -1,4 +1,4 @@
-use Rattle.dev_board.proofs.{Facade.◌≤◌, Facade.sym, Facade.subst, Facade.State, Facade.parts_view, SoundLaws.after-wait, SoundLaws.loaded}
+use Rattle.dev_board.proofs.{Facade.◌≤◌, Facade.sym, Facade.subst, Facade.parts_view, SoundLaws.after-wait, SoundLaws.loaded}
 use Rattle.dev_board.proofs.parts.Parts.wait.Goals as goal
 
 pub edge-edge-requires-clause-loaded : goal.edge-edge-requires-clause-loaded
