@@ -1,13 +1,12 @@
 -- What calls do to one counter of a chip: its count, its OUT, and the moment at which it was
 -- loaded.
 use Rattle.dev_pit.proofs.EdgeLaws.{ticks-mono}
-use Rattle.dev_pit.proofs.Facade.{◌≡◌, ℕ, zero, suc, ◌<◌, List, [], ◌∷◌, length, slice_index_or, slice_set, refl, ap, arith, subst}
-use Rattle.dev_pit.proofs.Facade.{length-set, powered_on, counter_of, with_counter, Counter, Pit, Bool, Option, Some, None, ◌∙◌, either, latched}
-use Rattle.dev_pit.proofs.Facade.{status_latched, read_back, read_of, read_by, counted_of, counted_by, GoesOn, Access, LowThenHigh, ◌+◌, ◌-◌, ◌≤◌}
-use Rattle.dev_pit.proofs.Facade.{◌==◌, true, false, ◌&&◌, ⊎_elim, nat_tests, nat_le, is_some, cases_Bool, reads, writes, called, programs}
-use Rattle.dev_pit.proofs.Facade.{sets_mode_of, loads, completes, control_word, out_at, ticks, out_of, out_since, written, written_by, written_low_first}
+use Rattle.dev_pit.proofs.Facade.{◌≡◌, ℕ, zero, suc, ◌<◌, List, [], ◌∷◌, length, slice_index_or, slice_set, refl, ap, arith, length-set}
+use Rattle.dev_pit.proofs.Facade.{powered_on, counter_of, with_counter, Counter, Pit, Bool, Option, ◌∙◌, either, latched, status_latched, read_back}
+use Rattle.dev_pit.proofs.Facade.{read_of, counted_of, GoesOn, Access, ◌+◌, ◌-◌, ◌≤◌, ◌==◌, true, false, ◌&&◌, ⊎_elim, nat_tests}
+use Rattle.dev_pit.proofs.Facade.{nat_le, cases_Bool, reads, writes, called, programs, sets_mode_of, loads, completes, control_word, out_at, out_of, written}
 use Rattle.dev_pit.proofs.Facade.{CountingGoesOn, TerminalCountStays, pit_read, pit_out, asked_back, controlled, pit_written, ControlWord, LatchCount, SetMode}
-use Rattle.dev_pit.proofs.Facade.{ReadBack, READ_BACK_LEVEL, TerminalCount, sym, get_or_default, LoadedBy, loaded, programmed, IsLoadedBy, Mode}
+use Rattle.dev_pit.proofs.Facade.{ReadBack, READ_BACK_LEVEL, TerminalCount, get_or_default, LoadedBy, loaded, programmed, IsLoadedBy, Mode}
 
 -- ---- the counters of a chip, and what holds for each after one was replaced
 
@@ -49,36 +48,22 @@ each_of P a b c (suc (suc (suc k))) l = absurd (omega arith)
 -- ---- which steps of a counter leave its counting as it was
 
 pub same : (counter : Counter) → GoesOn counter counter
-same counter = record { count = refl; mode = refl; loaded_at = refl }
+same counter = search
 
 pub goes-on : (first second third : Counter) → GoesOn first second → GoesOn second third → GoesOn first third
 goes-on first second third a b = record { count = cc; mode = cc; loaded_at = cc }
 
 pub latched-goes_on : (now : ℕ) (counter : Counter) → GoesOn counter (latched now counter)
 unfolding latched
-latched-goes_on now counter = record { count = refl; mode = refl; loaded_at = refl }
+latched-goes_on now counter = search
 
 pub read_back-goes_on : (count status : Bool) (now : ℕ) (counter : Counter) → GoesOn counter (read_back count status now counter)
 unfolding read_back latched status_latched
-read_back-goes_on count status now counter = record { count = grind arith; mode = grind arith; loaded_at = grind arith }
-
--- A counter that counts on, as the second part of an answer.
-abbrev Goes : Counter → ℕ × Counter → Type 0
-Goes before answer = GoesOn before answer.1
-
-counted_by-goes_on : (access : Access) (count : ℕ) (counter : Counter) → Goes counter (counted_by access count counter)
-counted_by-goes_on LowThenHigh count counter =
-    either (Goes counter) counter.read_high _ _ (record { count = refl; mode = refl; loaded_at = refl }) (record { count = refl; mode = refl; loaded_at = refl })
-counted_by-goes_on _ count counter = record { count = refl; mode = refl; loaded_at = refl }
-
-read_by-goes_on : (status : Option ℕ) (now : ℕ) (counter : Counter) → Goes counter (read_by status now counter)
-unfolding counted_of
-read_by-goes_on None now counter = counted_by-goes_on counter.access _ counter
-read_by-goes_on (Some status) now counter = record { count = refl; mode = refl; loaded_at = refl }
+read_back-goes_on count status now counter = search arith
 
 pub read-goes_on : (now : ℕ) (counter : Counter) → GoesOn counter (read_of now counter).1
-unfolding read_of
-read-goes_on now counter = read_by-goes_on counter.status now counter
+unfolding read_of counted_of
+read-goes_on now counter = search (arith, nat_tests)
 
 -- ---- what calls leave unchanged in a counter
 
@@ -101,17 +86,9 @@ control-goes_on (ReadBack count status first second third) k now pit e =
     (asked-go_on _ _ 2 k now _ _ (asked-go_on _ _ 1 k now _ _ (asked-go_on _ _ 0 k now _ pit (same (counter_of k pit))))) (same (counter_of k pit))
 
 -- A byte that doesn't complete a count leaves the counter counting.
-first-goes_on : (held : Option ℕ) (value now : ℕ) (counter : Counter) → is_some held ≡ false → GoesOn counter (written_low_first held value now counter)
-first-goes_on None value now counter e = record { count = refl; mode = refl; loaded_at = refl }
-first-goes_on (Some low) value now counter e = cc
-
-by-goes_on : (access : Access) (value now : ℕ) (counter : Counter) → completes access counter ≡ false → GoesOn counter (written_by access value now counter)
-by-goes_on LowThenHigh value now counter e = first-goes_on counter.held_low value now counter e
-by-goes_on _ value now counter e = cc
-
 written-goes_on : (value now : ℕ) (counter : Counter) → completes counter.access counter ≡ false → GoesOn counter (written value now counter)
 unfolding written
-written-goes_on value now counter e = by-goes_on counter.access value now counter e
+written-goes_on value now counter e = search (arith, nat_tests)
 
 write-goes_on : (k now port value : ℕ) (pit : Pit) → k < 3 → (0x40 ≤ port) × (port ≤ 0x43) × (value < 256) → ((port == 0x43) && sets_mode_of k (control_word value)) ≡ false → ((port == 0x40 + k) && completes (counter_of k pit).access (counter_of k pit)) ≡ false → GoesOn (counter_of k pit) (counter_of k (pit_written port value now pit))
 unfolding pit_written
@@ -127,15 +104,9 @@ counting_goes_on k now (reads j) pit h c p l =
 counting_goes_on k now (writes port value) pit h c p l = write-goes_on k now port value pit h (c.0.0, c.0.1, c.1) p l
 
 -- OUT after terminal count
-terminal-later : (load : Option ℕ) (count now later : ℕ) → now ≤ later → out_since load TerminalCount count now ≡ true
-    → out_since load TerminalCount count later ≡ true
-unfolding out_at
-terminal-later None count now later h e = cc
-terminal-later (Some load) count now later h e = let l : ticks load now ≤ ticks load later = ticks-mono load now later h in grind (arith, nat_tests)
-
 out-later : (counter : Counter) (now later : ℕ) → counter.mode ≡ TerminalCount → now ≤ later → out_of counter now ≡ true → out_of counter later ≡ true
-unfolding out_of
-out-later counter now later m h e = rw m (terminal-later counter.loaded_at counter.count now later h (rw m at e))
+unfolding out_of out_at
+out-later counter now later m h e = grind (arith, nat_tests, ticks-mono)
 
 out-goes_on : (before after : Counter) (now : ℕ) → GoesOn before after → out_of after now ≡ out_of before now
 unfolding out_of
@@ -153,8 +124,7 @@ terminal_count_stays = record {
 -- ---- a counter that was loaded by a moment was loaded by each later one
 
 pub loaded_by-later : (load : Option ℕ) (now later : ℕ) → LoadedBy now load → now ≤ later → LoadedBy later load
-loaded_by-later None now later h l = tt
-loaded_by-later (Some load) now later h l = omega arith
+loaded_by-later load now later h l = grind arith
 
 -- A counter that wasn't loaded after a moment.
 abbrev Loaded : (now : ℕ) → Counter → Type 0
@@ -166,21 +136,9 @@ goes_on-loaded now before after g h = rw g.loaded_at h
 with-loaded : (now j : ℕ) (counter : Counter) (pit : Pit) → IsLoadedBy now pit → Loaded now counter → IsLoadedBy now (with_counter j counter pit)
 with-loaded now j counter pit h l k within = at_counter (Loaded now) k j counter pit (λ here. l) (h k within)
 
-loaded-now : (count now : ℕ) (counter : Counter) → Loaded now (loaded count now counter)
-unfolding loaded
-loaded-now count now counter = omega arith
-
-first-loaded : (held : Option ℕ) (value now : ℕ) (counter : Counter) → Loaded now counter → Loaded now (written_low_first held value now counter)
-first-loaded None value now counter h = h
-first-loaded (Some low) value now counter h = loaded-now _ now _
-
-by-loaded : (access : Access) (value now : ℕ) (counter : Counter) → Loaded now counter → Loaded now (written_by access value now counter)
-by-loaded LowThenHigh value now counter h = first-loaded counter.held_low value now counter h
-by-loaded _ value now counter h = loaded-now _ now counter
-
 pub written-loaded : (value now : ℕ) (counter : Counter) → Loaded now counter → Loaded now (written value now counter)
-unfolding written
-written-loaded value now counter h = by-loaded counter.access value now counter h
+unfolding written loaded
+written-loaded value now counter h = grind (arith, nat_tests)
 
 programmed-loaded : (access : Access) (mode : Mode) (bcd : Bool) (now : ℕ) (counter : Counter) → Loaded now (programmed access mode bcd counter)
 unfolding programmed powered_on

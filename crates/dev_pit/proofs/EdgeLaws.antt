@@ -1,9 +1,8 @@
 -- Edges of OUT in a span of time, and the ticks at which they are.
 use Rattle.dev_pit.proofs.Facade.{◌≡◌, ℕ, ◌+◌, ◌/◌, ◌<◌, ◌≤◌, ◌==◌, Bool, false, not, ◌&&◌, ◌||◌, Option, Some, None}
 use Rattle.dev_pit.proofs.Facade.{refl, arith, nat_tests, nat_lt, nat_le, grown, quotient_mono, rises, ticks, period, edge_of, edge_since, TicksGoOn}
-use Rattle.dev_pit.proofs.Facade.{SecondsHaveTicks, EdgeInParts, Mode, TerminalCount, RateGenerator, SquareWave, SoftwareStrobe, HardwareStrobe, ◌-◌}
-use Rattle.dev_pit.proofs.Facade.{◌*◌, ◌%◌, true, subst, sym, ⊎_elim, cases_lt, cases_Bool, div-mul-le_self, div-lt_iff_lt-mul, le-div, mod-mul-add}
-use Rattle.dev_pit.proofs.Facade.{div-add-mod', out_at, high_part, EdgeTurnsHigh, OneShot}
+use Rattle.dev_pit.proofs.Facade.{SecondsHaveTicks, EdgeInParts, Mode, TerminalCount, RateGenerator, SquareWave, SoftwareStrobe, ◌-◌, ◌*◌, ◌%◌}
+use Rattle.dev_pit.proofs.Facade.{true, ⊎_elim, cases_lt, cases_Bool, le-div, mod-mul-add, out_at, high_part, EdgeTurnsHigh}
 
 -- ---- an edge in a span of time is one in a part of it
 
@@ -37,16 +36,11 @@ periods count a b c h l = grind (arith, both, grown, quotient_mono, period-pos)
 
 rises-parts : (mode : Mode) (count a b c : ℕ) → a ≤ b → b ≤ c → rises mode count a c ≡ (rises mode count a b || rises mode count b c)
 unfolding rises
-rises-parts TerminalCount count a b c h l = passed (period count) a b c h l
-rises-parts RateGenerator count a b c h l = periods count a b c h l
-rises-parts SquareWave count a b c h l = periods count a b c h l
-rises-parts SoftwareStrobe count a b c h l = passed (period count + 1) a b c h l
-rises-parts _ count a b c h l = refl
+rises-parts mode count a b c h l = grind (arith, passed, periods)
 
 since-parts : (load : Option ℕ) (mode : Mode) (count from between to : ℕ) → from ≤ between → between ≤ to
     → edge_since load mode count from to ≡ (edge_since load mode count from between || edge_since load mode count between to)
-since-parts None mode count from between to h l = refl
-since-parts (Some load) mode count from between to h l = grind (arith, rises-parts, ticks-mono)
+since-parts load mode count from between to h l = grind (arith, rises-parts, ticks-mono)
 
 pub edge_in_parts : EdgeInParts
 unfolding edge_of
@@ -142,14 +136,6 @@ square-grown count before after one t =
 no_turns : (mode : Mode) (count before after : ℕ) → ((k : ℕ) → out_at mode count k ≡ true) → Turns mode count before after → ⊥
 no_turns mode count before after high t = let e = high (t.tick - 1) in let l = t.low in cc
 
-rate-one : (count k : ℕ) → (count == 1) ≡ true → out_at RateGenerator count k ≡ true
-unfolding out_at
-rate-one count k e = rw e
-
-square-one : (count k : ℕ) → (count == 1) ≡ true → out_at SquareWave count k ≡ true
-unfolding out_at
-square-one count k e = rw e
-
 periodic-grown : (count a b : ℕ) → (count == 1) ≡ false → a < b → (not (count == 1) && nat_lt a b) ≡ true
 periodic-grown count a b one l = grind (arith, nat_tests)
 
@@ -209,15 +195,14 @@ turns-from_rises _ count before after e = cc
 rises-from_turns : (mode : Mode) (count before after : ℕ) → Turns mode count before after → rises mode count before after ≡ true
 unfolding rises out_at
 rises-from_turns TerminalCount count before after t = terminal-rises count before after t
-rises-from_turns OneShot count before after t = absurd (no_turns OneShot count before after (λ k. refl) t)
 rises-from_turns RateGenerator count before after t =
-    ⊎_elim (λ one. absurd (no_turns RateGenerator count before after (λ k. rate-one count k one) t))
+    ⊎_elim (λ one. absurd (no_turns RateGenerator count before after (λ k. rw one) t))
     (λ one. periodic-grown count _ _ one (rate-grown count before after one t)) (cases_Bool (count == 1))
 rises-from_turns SquareWave count before after t =
-    ⊎_elim (λ one. absurd (no_turns SquareWave count before after (λ k. square-one count k one) t))
+    ⊎_elim (λ one. absurd (no_turns SquareWave count before after (λ k. rw one) t))
     (λ one. periodic-grown count _ _ one (square-grown count before after one t)) (cases_Bool (count == 1))
 rises-from_turns SoftwareStrobe count before after t = strobe-rises count before after t
-rises-from_turns HardwareStrobe count before after t = absurd (no_turns HardwareStrobe count before after (λ k. refl) t)
+rises-from_turns _ count before after t = absurd (no_turns _ count before after (λ k. refl) t)
 
 -- The same for a counter and moments.
 since-turns : (load : Option ℕ) (mode : Mode) (count from to : ℕ) → edge_since load mode count from to ≡ true

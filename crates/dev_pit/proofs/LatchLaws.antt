@@ -1,12 +1,11 @@
 -- What is read of a counter: latched counts, the read-back command and the status byte.
 use Rattle.dev_pit.proofs.{CallLaws.at_counter, CallLaws.at_step, SoundLaws.flag-small, SoundLaws.mode-small, SoundLaws.access-small}
-use Rattle.dev_pit.proofs.Facade.{refl, NumbersAre, ◌≡◌, ℕ, ◌-◌, ◌<◌, ◌≤◌, ◌==◌, Bool, true, false, not, ◌&&◌, Option, Some, None}
-use Rattle.dev_pit.proofs.Facade.{arith, ⊎_elim, nat_tests, nat_le, is_some, cases_Bool, Call, reads, writes, IsCall, called, programs, sets_mode_of}
-use Rattle.dev_pit.proofs.Facade.{reads_latch, is_last, control_word, loaded, written, written_by, written_low_first, read_of, read_by, counted_of, counted_by}
-use Rattle.dev_pit.proofs.Facade.{latched, status_latched, read_back, LatchStays, counter_of, pit_read, asked_back, controlled, pit_written, ControlWord}
-use Rattle.dev_pit.proofs.Facade.{LatchCount, SetMode, ReadBack, Counter, READ_BACK_LEVEL, Access, LowThenHigh, Pit, either, ◌||◌, sym, status_holds}
-use Rattle.dev_pit.proofs.Facade.{ReadBackByLevel, Channel, ◌+◌, ◌*◌, ◌/◌, ◌%◌, ap, ◌∙◌, flag_number, out_of, status_of, TellsStatus}
-use Rattle.dev_pit.proofs.Facade.{StatusTells, mode_number, access_number, flag-back}
+use Rattle.dev_pit.proofs.Facade.{refl, NumbersAre, ◌≡◌, ℕ, ◌-◌, ◌<◌, ◌≤◌, ◌==◌, Bool, true, false, not, ◌&&◌, Some, arith}
+use Rattle.dev_pit.proofs.Facade.{⊎_elim, nat_tests, nat_le, is_some, cases_Bool, Call, reads, writes, IsCall, called, programs, sets_mode_of, reads_latch}
+use Rattle.dev_pit.proofs.Facade.{is_last, control_word, loaded, written, read_of, counted_of, latched, status_latched, read_back, LatchStays, counter_of}
+use Rattle.dev_pit.proofs.Facade.{pit_read, asked_back, controlled, pit_written, ControlWord, LatchCount, SetMode, ReadBack, Counter, READ_BACK_LEVEL, Pit}
+use Rattle.dev_pit.proofs.Facade.{either, status_holds, ReadBackByLevel, Channel, ◌+◌, ◌*◌, ◌/◌, ◌%◌, ap, ◌∙◌, flag_number, out_of}
+use Rattle.dev_pit.proofs.Facade.{status_of, TellsStatus, StatusTells, mode_number, access_number, flag-back}
 
 -- ---- the numbers are the constants' by their definition
 
@@ -33,38 +32,15 @@ unfolding read_back
 read_back-holds count status held now counter h = grind (arith, nat_tests, status_latched-holds, latched-holds)
 
 -- So does loading.
-loaded-holds : (count held now : ℕ) (counter : Counter) → Holds held counter → Holds held (loaded count now counter)
-unfolding loaded
-loaded-holds count held now counter h = h
-
-first-holds : (low : Option ℕ) (value held now : ℕ) (counter : Counter) → Holds held counter → Holds held (written_low_first low value now counter)
-first-holds None value held now counter h = h
-first-holds (Some low) value held now counter h = loaded-holds _ held now _ h
-
-by-holds : (access : Access) (value held now : ℕ) (counter : Counter) → Holds held counter → Holds held (written_by access value now counter)
-by-holds LowThenHigh value held now counter h = first-holds counter.held_low value held now counter h
-by-holds _ value held now counter h = loaded-holds _ held now counter h
-
 written-holds : (value held now : ℕ) (counter : Counter) → Holds held counter → Holds held (written value now counter)
-unfolding written
-written-holds value held now counter h = by-holds counter.access value held now counter h
+unfolding written loaded
+written-holds value held now counter h = grind (arith, nat_tests)
 
 -- A read that returns a status or a first byte keeps it.
-counted_by-holds : (access : Access) (count held : ℕ) (counter : Counter) → is_last access counter ≡ false → Holds held counter
-    → Holds held (counted_by access count counter).1
-counted_by-holds LowThenHigh count held counter e h = rw e h
-counted_by-holds _ count held counter e h = cc
-
-read_by-holds : (status : Option ℕ) (held now : ℕ) (counter : Counter) → (not (is_some status) && is_last counter.access counter) ≡ false → Holds held counter
-    → Holds held (read_by status now counter).1
-unfolding counted_of
-read_by-holds None held now counter e h = counted_by-holds counter.access _ held counter e h
-read_by-holds (Some status) held now counter e h = h
-
 read-holds : (held now : ℕ) (counter : Counter) → (not (is_some counter.status) && is_last counter.access counter) ≡ false → Holds held counter
     → Holds held (read_of now counter).1
-unfolding read_of
-read-holds held now counter e h = read_by-holds counter.status held now counter e h
+unfolding read_of counted_of
+read-holds held now counter e h = grind (arith, nat_tests)
 
 -- The whole chip.
 asked-holds : (count status : Bool) (j k held now : ℕ) (pit : Pit) → Holds held (counter_of k pit)
@@ -98,18 +74,9 @@ call-holds k held now (reads j) pit l c p r h =
 call-holds k held now (writes port value) pit l c p r h = write-holds k held now port value pit l (c.0.0, c.0.1, c.1) p h
 
 -- What is read of a latched count is the same at any moment.
-read_by-held : (status : Option ℕ) (now later held : ℕ) (counter : Counter) → counter.latch ≡ Some held
-    → read_by status now counter ≡ read_by status later counter
-read_by-held None now later held counter e = rw e
-read_by-held (Some status) now later held counter e = refl
-
-read-held : (now later held : ℕ) (counter : Counter) → counter.latch ≡ Some held → read_of now counter ≡ read_of later counter
-unfolding read_of
-read-held now later held counter e = read_by-held counter.status now later held counter e
-
 pit_read-held : (k now later held : ℕ) (pit : Pit) → (counter_of k pit).latch ≡ Some held → pit_read k now pit ≡ pit_read k later pit
-unfolding pit_read
-pit_read-held k now later held pit e = rw (read-held now later held (counter_of k pit) e)
+unfolding pit_read read_of
+pit_read-held k now later held pit e = grind (arith, nat_tests)
 
 pub latch_stays : LatchStays
 latch_stays = search (arith, call-holds, pit_read-held)
@@ -132,13 +99,9 @@ asked : (count status first second third : Bool) (now : ℕ) (pit : Pit) → 2 �
 unfolding controlled
 asked count status first second third now pit h = let has : nat_le READ_BACK_LEVEL pit.level ≡ true = grind (arith, nat_tests) in rw has
 
-unlatched : (latched zero : Bool) → ((latched || zero) && not latched) ≡ true → latched ≡ false
-unlatched false zero h = refl
-unlatched true zero h = sym h
-
 not-latched : (channel : Channel) → status_holds 1 channel ≡ true → channel.status_latched ≡ false
 unfolding status_holds
-not-latched channel h = unlatched channel.status_latched (channel.status == 0) h
+not-latched channel h = grind (arith, nat_tests)
 
 pub read_back_by_level : ReadBackByLevel
 read_back_by_level = record { none = none-asked; asks = asked; rule = not-latched }

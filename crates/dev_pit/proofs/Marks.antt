@@ -1,9 +1,9 @@
 -- The marked ticks: OUT of a counter and its edges after a moment come at one of them.
 use Rattle.dev_pit.proofs.{Facade.Counter, Facade.Turns, EdgeLaws.period-pos, EdgeLaws.period-two, EdgeLaws.ticks-mono}
 use Rattle.dev_pit.proofs.Facade.{SquareWave, SoftwareStrobe, marks_of, Marks, ◌≡◌, ℕ, ◌+◌, ◌-◌, ◌*◌, ◌/◌, ◌%◌, ◌<◌, ◌≤◌}
-use Rattle.dev_pit.proofs.Facade.{◌==◌, ◌⊎◌, inl, inr, Bool, true, false, not, ◌&&◌, ◌||◌, refl, ap, ◌∙◌, arith, ⊎_elim, cases_lt}
-use Rattle.dev_pit.proofs.Facade.{nat_tests, div-add-mod', div-mul-add, mod-mul-add, mul-le-mul_right, nat_lt, quotient_mono, rises, out_at, period, high_part}
-use Rattle.dev_pit.proofs.Facade.{Mode, TerminalCount, RateGenerator, Some, None, subst, ticks, moment_of, AreTurns, IsTurn, Turned, LoadedBy, edge_of, out_of}
+use Rattle.dev_pit.proofs.Facade.{◌==◌, ◌⊎◌, inl, inr, Bool, true, not, refl, ap, ◌∙◌, arith, ⊎_elim, cases_lt, nat_tests, div-add-mod'}
+use Rattle.dev_pit.proofs.Facade.{div-mul-add, mod-mul-add, mul-le-mul_right, nat_lt, quotient_mono, rises, out_at, period, high_part, Mode, TerminalCount}
+use Rattle.dev_pit.proofs.Facade.{RateGenerator, Some, None, ticks, moment_of, AreTurns, IsTurn, Turned, edge_of, out_of}
 
 -- ---- OUT of a counter, and its edges, come again at the marked ticks
 

@@ -1,18 +1,17 @@
 -- What is saved of a chip and restored from it.
 use Rattle.dev_pit.proofs.CallLaws.{each_of, three_counters}
 use Rattle.dev_pit.proofs.Facade.{ℕ, ◌≤◌, Bool, true, false, cond, List, [], ◌++◌, ℤ, length, codes, arith, nat_le, numbers_of, STATUS_SINCE}
-use Rattle.dev_pit.proofs.Facade.{CELLS, named_statuses, channel_cells, status_cells, three_cells, Channel, Access, LowByte, HighByte, LowThenHigh, Pit}
-use Rattle.dev_pit.proofs.Facade.{◌≡◌, ◌+◌, ◌<◌, subst, ◌∙◌, ◌^◌, ◌==◌, not, ◌&&◌, Ok, ◌∷◌, slice_index_or, refl}
-use Rattle.dev_pit.proofs.Facade.{⊎_elim, ◌||◌, get_or-append, get_or-append-add, nat_tests, and_parts, cases_Bool, InRange, Kind, U8, U16, U64}
-use Rattle.dev_pit.proofs.Facade.{kinds_under, status_rows, CHANNEL_CELLS, COUNT, LOAD_TIME, WLOW, LATCH, cell_at, kind_at, NEWEST, LAST_MOMENT, channel_kinds}
-use Rattle.dev_pit.proofs.Facade.{channel_place, latched_place, status_place, IsChannelAt, IsPitCells, channel_at, IsLevel, number-lt, AllTrue, judged-ok}
-use Rattle.dev_pit.proofs.Facade.{hook-ok, held_if, counter_from, moment_holds, status_holds, toggles_hold, LoadedBy, powered_on, RestoredIsSound, access_of}
-use Rattle.dev_pit.proofs.Facade.{three_hold, pit_of, restored_pit, HeldBelow, IsSoundCounter, IsSoundPit, READ_BACK_LEVEL, Option, Some, None, ap, sym}
-use Rattle.dev_pit.proofs.Facade.{is_some, channel_rows, STATUS_LATCHED, Numbers, flag_number, flag_at, number_at, AreOf, MayRestore, first_failing, of_none}
-use Rattle.dev_pit.proofs.Facade.{of_more, of_both, byte, word, long, flag, flag-back, AllHold, one_holds, of_rows, carried_rows, none_failing, all_true}
-use Rattle.dev_pit.proofs.Facade.{judged-all, ok-hook, kinds_of, named, channel_in, pit_cells, carried, field_place, AreCellsOf, channel_of, registers_hold}
-use Rattle.dev_pit.proofs.Facade.{held_or, SoundMeetsRules, SavedAreCells, SavedIsRestored, mode_number, mode_of, access_number, counter_of, CanSave}
-use Rattle.dev_pit.proofs.Facade.{CanRestore, hook_restored, HasWidths, Counter, Mode, TerminalCount}
+use Rattle.dev_pit.proofs.Facade.{CELLS, named_statuses, channel_cells, status_cells, three_cells, Channel, Access, LowThenHigh, Pit, ◌≡◌, ◌+◌}
+use Rattle.dev_pit.proofs.Facade.{◌<◌, subst, ◌∙◌, ◌^◌, ◌==◌, not, ◌&&◌, Ok, ◌∷◌, slice_index_or, refl, ⊎_elim, ◌||◌}
+use Rattle.dev_pit.proofs.Facade.{get_or-append, get_or-append-add, nat_tests, cases_Bool, InRange, Kind, U8, kinds_under, status_rows, CHANNEL_CELLS, cell_at}
+use Rattle.dev_pit.proofs.Facade.{kind_at, NEWEST, LAST_MOMENT, channel_kinds, channel_place, latched_place, status_place, IsChannelAt, IsPitCells, channel_at}
+use Rattle.dev_pit.proofs.Facade.{IsLevel, number-lt, AllTrue, judged-ok, hook-ok, held_if, counter_from, moment_holds, status_holds, toggles_hold, LoadedBy}
+use Rattle.dev_pit.proofs.Facade.{powered_on, RestoredIsSound, access_of, three_hold, pit_of, restored_pit, HeldBelow, IsSoundCounter, IsSoundPit}
+use Rattle.dev_pit.proofs.Facade.{READ_BACK_LEVEL, Option, None, ap, sym, is_some, channel_rows, STATUS_LATCHED, Numbers, flag_number, flag_at, number_at}
+use Rattle.dev_pit.proofs.Facade.{AreOf, MayRestore, first_failing, of_none, of_more, of_both, byte, word, long, flag, flag-back, AllHold, one_holds, of_rows}
+use Rattle.dev_pit.proofs.Facade.{carried_rows, none_failing, all_true, judged-all, ok-hook, kinds_of, named, channel_in, pit_cells, carried, field_place}
+use Rattle.dev_pit.proofs.Facade.{AreCellsOf, channel_of, registers_hold, held_or, SoundMeetsRules, SavedAreCells, SavedIsRestored, mode_number, mode_of}
+use Rattle.dev_pit.proofs.Facade.{access_number, counter_of, CanSave, CanRestore, hook_restored, HasWidths, Counter, Mode}
 use Rattle.dev_pit.proofs.SoundLaws.{PlainSound, StatusFits, TogglesFit, sound-from_plain, plain-from_sound, mode-small, access-small, held-below}
 use Rattle.dev_pit.specs.Saved.{rules}
 
@@ -26,10 +25,7 @@ statuses_where has first second third =
 
 pub three_cells_fit : (set : ℕ) (first second third : Channel) → length (three_cells set first second third) ≤ CELLS
 unfolding three_cells channel_cells status_cells
-three_cells_fit set first second third = by_test (nat_le STATUS_SINCE set) where
-  by_test : (has : Bool) → length (channel_cells first ++ channel_cells second ++ channel_cells third ++ statuses_where has first second third) ≤ CELLS
-  by_test true = omega arith
-  by_test false = omega arith
+three_cells_fit set first second third = grind (arith, nat_tests)
 
 -- ---- a restored chip is sound: normal cells are those of three channels
 
@@ -104,10 +100,7 @@ if-status : (level : ℕ) (b : Bool) (n : ℕ) → (nat_le READ_BACK_LEVEL level
 if-status level b n h = grind (arith, nat_tests)
 
 halves : (access : Access) (read_high held : Bool) (n : ℕ) → (not read_high && not held) ≡ true → TogglesFit access read_high (held_if held n)
-halves LowByte false false n e = (refl, refl)
-halves HighByte false false n e = (refl, refl)
-halves LowThenHigh read_high held n e = tt
-halves _ _ _ n e = cc
+halves access read_high held n e = grind (arith, nat_tests)
 
 three : (rw_number : ℕ) → (rw_number == 3) ≡ true → access_of rw_number ≡ LowThenHigh
 three rw_number e = grind arith
@@ -167,16 +160,13 @@ restored_is_sound = record {
 -- ---- a saved chip is restored as it was
 
 mode-back : (mode : Mode) → mode_of (mode_number mode) ≡ mode
-mode-back TerminalCount = refl
-mode-back _ = refl
+mode-back mode = grind arith
 
 access-back : (access : Access) → access_of (access_number access) ≡ access
-access-back LowByte = refl
-access-back _ = refl
+access-back access = grind arith
 
 held-back : (held : Option ℕ) → held_if (is_some held) (held_or held 0) ≡ held
-held-back None = refl
-held-back (Some held) = refl
+held-back held = grind arith
 
 -- A counter is that of its own fields.
 pub counter-back : (counter : Counter) → counter_from (channel_of counter) ≡ counter
@@ -220,13 +210,11 @@ channel-of counter h = of_rows (named (channel_of counter)) NEWEST channel_rows 
 
 -- An absent cell is 0.
 no_held : (held : Option ℕ) → (flag_number (is_some held) == 1) ≡ false → held_or held 0 ≡ 0
-no_held None e = refl
-no_held (Some held) e = cc
+no_held held e = grind arith
 
 -- A level without the command has no status.
 no-status : (level : ℕ) (status : Option ℕ) → level < READ_BACK_LEVEL → StatusFits level status → status ≡ None
-no-status level None h f = refl
-no-status level (Some status) h f = absurd (omega arith)
+no-status level status h f = grind arith
 
 -- A sound chip.
 module _ (now : ℕ) (pit : Pit) (s : IsSoundPit now pit) where

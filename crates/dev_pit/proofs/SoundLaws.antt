@@ -1,15 +1,14 @@
 -- A chip and each of its counters are sound at power on, and stay so.
 use Rattle.dev_pit.proofs.CallLaws.{at_step, count-with, each_of, loaded_by-later}
-use Rattle.dev_pit.proofs.Facade.{◌≡◌, ℕ, ◌≤◌, ◌==◌, Bool, true, false, not, ◌&&◌, ◌||◌, Option, Some, None, refl, arith, ◌+◌}
-use Rattle.dev_pit.proofs.Facade.{◌*◌, ◌%◌, ◌^◌, ◌<◌, subst, sym, le-leb, nat_tests, nat_le, is_some, nat_lt, channel_of, registers_hold}
-use Rattle.dev_pit.proofs.Facade.{moment_holds, status_holds, toggles_hold, LoadedBy, held_or, live_of, live_since, out_of, status_of, written, written_by}
-use Rattle.dev_pit.proofs.Facade.{written_low_first, programmed, powered_on, read_of, read_by, counted_of, counted_by, latched, status_latched, read_back}
+use Rattle.dev_pit.proofs.Facade.{◌≡◌, ℕ, ◌≤◌, ◌==◌, Bool, true, false, not, ◌&&◌, ◌||◌, Option, Some, None, refl, arith, ◌^◌}
+use Rattle.dev_pit.proofs.Facade.{◌<◌, le-leb, nat_tests, nat_le, is_some, channel_of, registers_hold, moment_holds, status_holds, toggles_hold, LoadedBy}
+use Rattle.dev_pit.proofs.Facade.{held_or, live_of, out_of, status_of, written, programmed, powered_on, read_of, counted_of, latched, status_latched, read_back}
 use Rattle.dev_pit.proofs.Facade.{mode_number, access_number, HasWidths, IsSoundCounter, HeldBelow, Counter, READ_BACK_LEVEL, Access, LowByte, HighByte}
-use Rattle.dev_pit.proofs.Facade.{LowThenHigh, Mode, TerminalCount, OneShot, RateGenerator, SquareWave, HardwareStrobe, flag_number, LAST_MOMENT, live_at}
-use Rattle.dev_pit.proofs.Facade.{square, high_part, either, ◌-◌, ◌∷◌, slice_index_or, ◌∙◌, ⊎_elim, [], cases_Bool, IsLevel, control_word}
-use Rattle.dev_pit.proofs.Facade.{SoundStays, StepsKeepLevel, counter_of, with_counter, new_pit, pit_read, asked_back, controlled, pit_written, IsSoundPit}
-use Rattle.dev_pit.proofs.Facade.{ControlWord, LatchCount, SetMode, ReadBack, Pit}
-use Rattle.dev_pit.specs.{Counter.loaded as loading}
+use Rattle.dev_pit.proofs.Facade.{LowThenHigh, Mode, flag_number, LAST_MOMENT, live_at, square, either, ◌-◌, ◌∷◌, slice_index_or, ⊎_elim, []}
+use Rattle.dev_pit.proofs.Facade.{cases_Bool, IsLevel, control_word, SoundStays, StepsKeepLevel, counter_of, with_counter, new_pit, pit_read, asked_back}
+use Rattle.dev_pit.proofs.Facade.{controlled, pit_written, IsSoundPit, ControlWord, LatchCount, SetMode, ReadBack, Pit}
+use Rattle.dev_pit.proofs.Facade.{nat_lt, high_part, RateGenerator, SquareWave, ◌%◌}
+use Rattle.dev_pit.specs.Counter.{loaded as loading}
 
 -- ---- what the rules say about a counter itself
 
@@ -31,12 +30,10 @@ pub record PlainSound (level now : ℕ) (counter : Counter) : Type 0 where
   pub toggles : TogglesFit counter.access counter.read_high counter.held_low
 
 pub mode-small : (mode : Mode) → mode_number mode ≤ 5
-mode-small TerminalCount = omega arith
-mode-small _ = omega arith
+mode-small mode = grind arith
 
 pub access-small : (access : Access) → (1 ≤ access_number access) × (access_number access ≤ 3)
-access-small LowByte = (omega arith, omega arith)
-access-small _ = (omega arith, omega arith)
+access-small access = search arith
 
 pub registers-hold : (counter : Counter) → registers_hold (channel_of counter) ≡ true
 unfolding registers_hold channel_of
@@ -45,36 +42,26 @@ registers-hold counter =
     rw (le-leb _ 5 (mode-small counter.mode), le-leb 1 _ access.0, le-leb _ 3 access.1)
 
 moment-from : (now : ℕ) (load : Option ℕ) → LoadedBy now load → (nat_le (held_or load 0) now && (is_some load || (held_or load 0 == 0))) ≡ true
-moment-from now None h = grind (arith, nat_tests)
-moment-from now (Some load) h = grind (arith, nat_tests)
+moment-from now load h = grind (arith, nat_tests)
 
 moment-back : (now : ℕ) (load : Option ℕ) → (nat_le (held_or load 0) now && (is_some load || (held_or load 0 == 0))) ≡ true → LoadedBy now load
-moment-back now None e = tt
-moment-back now (Some load) e = grind (arith, nat_tests)
+moment-back now load e = grind (arith, nat_tests)
 
 status-from : (level : ℕ) (status : Option ℕ) → StatusFits level status
     → ((is_some status || (held_or status 0 == 0)) && (nat_le READ_BACK_LEVEL level || not (is_some status))) ≡ true
-status-from level None h = grind (arith, nat_tests)
-status-from level (Some status) h = grind (arith, nat_tests)
+status-from level status h = grind (arith, nat_tests)
 
 status-back : (level : ℕ) (status : Option ℕ) → ((is_some status || (held_or status 0 == 0)) && (nat_le READ_BACK_LEVEL level || not (is_some status))) ≡ true
     → StatusFits level status
-status-back level None e = tt
-status-back level (Some status) e = grind (arith, nat_tests)
+status-back level status e = grind (arith, nat_tests)
 
 toggles-from : (access : Access) (read_high : Bool) (held : Option ℕ) → TogglesFit access read_high held
     → ((access_number access == 3) || (not read_high && not (is_some held))) ≡ true
-toggles-from LowThenHigh read_high held h = refl
-toggles-from _ read_high held h = rw (h.0, h.1)
-
-halves-back : (read_high : Bool) (held : Option ℕ) → (not read_high && not (is_some held)) ≡ true → (read_high ≡ false) × (held ≡ None)
-halves-back false None e = (refl, refl)
-halves-back _ _ e = cc
+toggles-from access read_high held h = grind (arith, nat_tests)
 
 toggles-back : (access : Access) (read_high : Bool) (held : Option ℕ) → ((access_number access == 3) || (not read_high && not (is_some held))) ≡ true
     → TogglesFit access read_high held
-toggles-back LowThenHigh read_high held e = tt
-toggles-back _ read_high held e = halves-back read_high held e
+toggles-back access read_high held e = grind (arith, nat_tests)
 
 pub sound-from_plain : (level now : ℕ) (counter : Counter) → PlainSound level now counter → IsSoundCounter level now counter
 unfolding channel_of moment_holds status_holds toggles_hold
@@ -86,36 +73,22 @@ plain-from_sound level now counter s = search (moment-back, status-back, toggles
 
 -- ---- steps
 
--- A number of sixteen bits.
-record IsWord (n : ℕ) : Type 0 where
-  fits : n < 2 ^ 16
-
-word-mod : (n : ℕ) → IsWord (n % 65536)
-word-mod n = record { fits = omega arith }
-
-square-word : (n k : ℕ) → IsWord (square n k)
+square-word : (n k : ℕ) → square n k < 2 ^ 16
 unfolding square
-square-word n k = either IsWord (nat_lt (k % n) (high_part n)) _ _ (word-mod _) (word-mod _)
+square-word n k = either (λ m. m < 2 ^ 16) (nat_lt (k % n) (high_part n)) _ _ (omega arith) (omega arith)
 
-live_at-word : (mode : Mode) (count k : ℕ) → IsWord count → IsWord (live_at mode count k)
+live_at-word : (mode : Mode) (count k : ℕ) → count < 2 ^ 16 → live_at mode count k < 2 ^ 16
 unfolding live_at
-live_at-word OneShot count k h = h
-live_at-word RateGenerator count k h = either IsWord (count == 1) _ _ (record { fits = omega arith }) (word-mod _)
-live_at-word SquareWave count k h = either IsWord (count == 1) _ _ (record { fits = omega arith }) (square-word _ k)
-live_at-word HardwareStrobe count k h = h
-live_at-word _ count k h = word-mod _
-
-since-word : (load : Option ℕ) (mode : Mode) (count now : ℕ) → IsWord count → IsWord (live_since load mode count now)
-since-word None mode count now h = h
-since-word (Some load) mode count now h = live_at-word mode count _ h
+live_at-word RateGenerator count k h = either (λ m. m < 2 ^ 16) (count == 1) _ _ (omega arith) (omega arith)
+live_at-word SquareWave count k h = either (λ m. m < 2 ^ 16) (count == 1) _ _ (omega arith) (square-word _ k)
+live_at-word _ count k h = omega arith
 
 live-word : (counter : Counter) (now : ℕ) → HasWidths counter → live_of counter now < 2 ^ 16
 unfolding live_of
-live-word counter now h = (since-word counter.loaded_at counter.mode counter.count now (record { fits = h.count })).fits
+live-word counter now h = grind (arith, live_at-word)
 
 pub held-below : (limit value : ℕ) (held : Option ℕ) → HeldBelow limit held → value < limit → held_or held value < limit
-held-below limit value None h l = l
-held-below limit value (Some held) h l = h
+held-below limit value held h l = grind arith
 
 -- The status byte.
 pub flag-small : (b : Bool) → flag_number b ≤ 1
@@ -159,8 +132,7 @@ unfolding powered_on
 powered_on-sound level now = search arith
 
 fresh-toggles : (access : Access) → TogglesFit access false None
-fresh-toggles LowThenHigh = tt
-fresh-toggles _ = (refl, refl)
+fresh-toggles access = grind arith
 
 pub programmed-sound : (access : Access) (mode : Mode) (bcd : Bool) (level now : ℕ) (counter : Counter) → PlainSound level now counter
     → PlainSound level now (programmed access mode bcd counter)
@@ -178,21 +150,11 @@ holding : (level now : ℕ) (low : Option ℕ) (counter : Counter) → counter.a
     → PlainSound level now (record counter { held_low = low })
 holding level now low counter e h s = changed s h s.widths.latch s.widths.status s.status (rw e tt)
 
-first-sound : (low : Option ℕ) (value level now : ℕ) (counter : Counter) → now ≤ LAST_MOMENT → value < 256 → counter.access ≡ LowThenHigh
-    → HeldBelow (2 ^ 8) low → PlainSound level now counter → PlainSound level now (written_low_first low value now counter)
-first-sound None value level now counter m v e h s = holding level now (Some value) counter e v s
-first-sound (Some low) value level now counter m v e h s = loaded-sound (256 * value + low) level now _ m (omega arith) (holding level now None counter e tt s)
-
-by-sound : (access : Access) (value level now : ℕ) (counter : Counter) → now ≤ LAST_MOMENT → value < 256 → counter.access ≡ access
-    → PlainSound level now counter → PlainSound level now (written_by access value now counter)
-by-sound LowByte value level now counter m v e s = loaded-sound value level now counter m (omega arith) s
-by-sound HighByte value level now counter m v e s = loaded-sound (256 * value) level now counter m (omega arith) s
-by-sound LowThenHigh value level now counter m v e s = first-sound counter.held_low value level now counter m v e s.widths.held_low s
-
 pub written-sound : (value level now : ℕ) (counter : Counter) → now ≤ LAST_MOMENT → value < 256 → PlainSound level now counter
     → PlainSound level now (written value now counter)
 unfolding written
-written-sound value level now counter m v s = by-sound counter.access value level now counter m v refl s
+written-sound value level now counter m v s =
+    let loads = λ (count : ℕ) (c : Counter). loaded-sound count level now c m in search (arith, nat_tests, loaded-sound, holding)
 
 -- Reading.
 no_latch : (level now : ℕ) (counter : Counter) → PlainSound level now counter → PlainSound level now (record counter { latch = None })
@@ -202,25 +164,9 @@ turned : (level now : ℕ) (read_high : Bool) (latch : Option ℕ) (counter : Co
     → PlainSound level now counter → PlainSound level now (record counter { read_high = read_high; latch = latch })
 turned level now read_high latch counter e h s = changed s s.widths.held_low h s.widths.status s.status (rw e tt)
 
--- A sound counter, as the second part of an answer.
-abbrev Sounds : (level now : ℕ) → ℕ × Counter → Type 0
-Sounds level now answer = PlainSound level now answer.1
-
-counted_by-sound : (access : Access) (count level now : ℕ) (counter : Counter) → counter.access ≡ access → PlainSound level now counter
-    → Sounds level now (counted_by access count counter)
-counted_by-sound LowThenHigh count level now counter e s =
-    either (Sounds level now) counter.read_high _ _ (turned level now false None counter e tt s)
-    (turned level now true counter.latch counter e s.widths.latch s)
-counted_by-sound _ count level now counter e s = no_latch level now counter s
-
-read_by-sound : (status : Option ℕ) (level now : ℕ) (counter : Counter) → PlainSound level now counter → Sounds level now (read_by status now counter)
-unfolding counted_of
-read_by-sound None level now counter s = counted_by-sound counter.access _ level now counter refl s
-read_by-sound (Some status) level now counter s = changed s s.widths.held_low s.widths.latch tt tt s.toggles
-
 pub read-sound : (level now : ℕ) (counter : Counter) → PlainSound level now counter → PlainSound level now (read_of now counter).1
-unfolding read_of
-read-sound level now counter s = read_by-sound counter.status level now counter s
+unfolding read_of counted_of
+read-sound level now counter s = search (arith, nat_tests, turned, no_latch)
 
 -- ---- a chip is sound at power on, and time and every call keep it so
 

@@ -3,12 +3,12 @@
 use Rattle.vms_bodies.proofs.Facade.{◌≡◌, ◌≢◌, ℕ, ◌+◌, ◌<◌, ◌≤◌, List, ◌∷◌, ◌++◌, length, get_or, take, drop, slice_set}
 use Rattle.vms_bodies.proofs.Facade.{Ok, Err, ℤ, pos, refl, sym, ap, ◌∙◌, arith, append_assoc, length-append, Bool, true, false, not}
 use Rattle.vms_bodies.proofs.Facade.{if◌then◌else◌, nat_lt, ◌==◌, [], drop-append_seam, take_all, take-append-le, append_cancel_left, ext_get_or}
-use Rattle.vms_bodies.proofs.Facade.{get_or-set_same, length-set, le-ltb, ne_eqb, cases_eq, ⊎_elim, add-zero, Kind, width, code, InRange, Reason, Desc}
-use Rattle.vms_bodies.proofs.Facade.{exceeds, same_number, Slot, Number, Constant, Filler, Rule, Cell, meanings, desc_slots, desc_cells, Spells, RulesHold}
-use Rattle.vms_bodies.proofs.Facade.{has_cell, Taken, Progress, Refusal, take_value, take_slot, take_desc, takers, cells_of, IsSound, AreSound, AreCells}
-use Rattle.vms_bodies.proofs.Facade.{length-code, value_code, good_code, same_number_itself, not_exceeds, IsNormal, IsValid, IsVersionOf, sub_head, IsGood}
-use Rattle.vms_bodies.proofs.Facade.{zero, suc, map, Option, Some, None, ◌||◌, slice_get, get_or-eq_default, cases_lt, cases_Bool, slice_get_within, Device}
-use Rattle.vms_bodies.proofs.Facade.{Set, Sub, no_cell, device_cells, Image, default_image, own_slots, own_cells, sub_slots, came_slots}
+use Rattle.vms_bodies.proofs.Facade.{get_or-set_same, length-set, le-ltb, ne_eqb, cases_eq, ⊎_elim, Kind, width, code, InRange, Reason, Desc, exceeds}
+use Rattle.vms_bodies.proofs.Facade.{same_number, Slot, Number, Constant, Filler, Rule, Cell, meanings, desc_slots, Spells, RulesHold, has_cell, Taken}
+use Rattle.vms_bodies.proofs.Facade.{Progress, Refusal, take_value, take_slot, take_desc, takers, IsSound, AreSound, AreCells, length-code, value_code}
+use Rattle.vms_bodies.proofs.Facade.{good_code, same_number_itself, not_exceeds, IsNormal, IsValid, IsVersionOf, sub_head, IsGood, zero, suc, map, Option, Some}
+use Rattle.vms_bodies.proofs.Facade.{None, ◌||◌, slice_get, get_or-eq_default, cases_lt, slice_get_within, Device, Set, Sub, no_cell, device_cells, Image}
+use Rattle.vms_bodies.proofs.Facade.{default_image, own_slots, own_cells, sub_slots, came_slots}
 use Rattle.vms_bodies.proofs.PartLaws.{part_place, sub_size, sub_are, sub_place_up, parts_apart, parts_together, part_apart, names_next, none_of, none_came}
 use Rattle.vms_bodies.proofs.Places.{IsAbove, desc_above, meanings_above, names_append, none_in_both, none_joined}
 use Rattle.vms_bodies.proofs.SettledLaws.{its_below, its_outside, fit_slots, own_are, defaults_at, defaults_long, SameIn, own_constants, part_constants}
@@ -42,12 +42,12 @@ value_taken : (kind : Kind) (reason : Reason) (fails : ℤ → Bool) (put : ℤ 
     → take_value kind reason fails put p ≡ Ok (record { numbers = put z; place = p.place + width kind; rest = r })
 value_taken kind reason fails put z p r fits good e =
     rw (
-      front_long (width kind) (code kind z) r p.rest e (length-code kind z),
-      front_take (width kind) (code kind z) r p.rest e (length-code kind z),
+      front_long _ _ r p.rest e (length-code kind z),
+      front_take _ _ r p.rest e (length-code kind z),
       good_code kind z fits,
       value_code kind z fits,
       good,
-      front_drop (width kind) (code kind z) r p.rest e (length-code kind z),
+      front_drop _ _ r p.rest e (length-code kind z),
     ) refl
 
 filler_taken : (filler r : List ℕ) (p : Progress) (n : ℕ) → length filler ≡ n → p.rest ≡ filler ++ r
@@ -142,13 +142,13 @@ module _ (all : List Cell) (total : List ℤ → List Slot) (n : List ℤ) (end 
       passed {cell = cell} {further = cell} {slot = Constant kind z} {done = done} {left = left} up l
       (value_taken kind reasons.NotEqual (λ y. not (same_number y z)) (λ y. p.numbers) z p _ r.fits.0 (ap not (same_number_itself z))
       (r.front ∙ rw (r.spells.1, append_assoc) refl))
-      (unchanged (width kind) r.spells.0 r
+      (unchanged _ _ r
       (omega (arith, ap length r.spells.1, length-append (code kind z) r.spells.0, length-code kind z)) r.spells.2 r.fits.1 r.rules (λ c. refl))
   other_spelling cell (Filler k) done left p o up l =
       let r = rest_of l in
       passed {cell = cell} {further = cell} {slot = Filler k} {done = done} {left = left} up l
-      (filler_taken r.spells.0 _ p k r.spells.2 (r.front ∙ rw (r.spells.3, append_assoc) refl))
-      (unchanged k r.spells.1 r (omega (arith, ap length r.spells.3, length-append r.spells.0 r.spells.1)) r.spells.4 r.fits r.rules (λ c. refl))
+      (filler_taken _ _ p k r.spells.2 (r.front ∙ rw (r.spells.3, append_assoc) refl))
+      (unchanged k _ r (omega (arith, ap length r.spells.3, length-append r.spells.0 r.spells.1)) r.spells.4 r.fits r.rules (λ c. refl))
   other_spelling cell (Rule b) done left p o up l =
       let r = rest_of l in
       passed {cell = cell} {further = cell} {slot = Rule b} {done = done} {left = left} up l (if_true b (Ok p) _ r.rules.0)
@@ -180,14 +180,14 @@ pub body_only : (all : List Cell) (ds : List Desc) → AreSound ds → (d : Desc
 body_only all ds structs d v base n p bytes tail sound room long cells spells fits rules same front =
     let total : List ℤ → List Slot = λ m. desc_slots (meanings ds (length ds)) d v m base in
     let end = p.place + length bytes in
-    let c = set_desc_comes total (Spelling total n end tail) Never (spelling_keeps all total n end tail room cells) ds structs d v base p sound (λ m. refl)
+    let c = set_desc_comes total _ Never (spelling_keeps all total n end tail room cells) ds structs d v base p sound (λ m. refl)
     (record {
       more = total n;
       split = refl;
-      high = desc_above _ (meanings_above ds (length ds)) d v n base;
+      high = desc_above _ (meanings_above ds _) d v n base;
       rest = record { bytes = bytes; front = front; place = refl; spells = spells; fits = fits; rules = rules; same = same; long = long };
     }) in
-    ends_so total n end (base + length (desc_cells (cells_of (takers ds (length ds))) d)) tail _ c.comes
+    ends_so total n end _ tail _ c.comes
 
 -- ---- a section with subsections in any order is read
 
@@ -281,22 +281,22 @@ module _ (set : Set) (d : Device) (image : Image) where
       same = λ c up lt. pick_all image.numbers (own ++ parts came) (device_cells set d) c normal.cells.long (λ inside e.
           let both = none_in_both c own (parts came) e in
           normal.absent c inside (none_joined c own _ both.0
-          (parts_together set d image.numbers (λ xs. has_cell xs c ≡ false) refl (none_joined c) (own_cells set d) d.subs image.came
+          (parts_together set d _ (λ xs. has_cell xs c ≡ false) refl (none_joined c) _ d.subs _
           (h c up lt both.0 both.1))));
     }
 
     own_region : (came : List (Option ℕ)) → SameIn 0 (0 + own_cells set d) image.numbers (so_far came)
-    own_region came = region came 0 (0 + own_cells set d) (λ c up lt a b i s x e f.
+    own_region came = region came 0 _ (λ c up lt a b i s x e f.
         its_below set s.desc x (part_place set d i) image.numbers c (omega (arith, sub_place_up set (own_cells set d) d.subs i)))
 
     part_region : (came : List (Option ℕ)) (j w : ℕ) (s : Sub) → slice_get d.subs j ≡ Some s → slice_get came j ≡ Some (Some w)
         → slice_get image.came j ≡ Some (Some w) → SameIn (part_place set d j) (part_place set d j + sub_size set s) image.numbers (so_far came)
-    part_region came j w s there f g = region came (part_place set d j) (part_place set d j + sub_size set s) (λ c up lt a b i t x e f'.
+    part_region came j w s there f g = region came _ _ (λ c up lt a b i t x e f'.
         ⊎_elim (λ (same : j ≡ i).
         let st : t ≡ s = cc in
         let xw : x ≡ w = cc in
-        rw (← same, st, xw) (part_apart set d image.numbers (λ xs. has_cell xs c ≡ false) (none_in_both c) (own_cells set d) d.subs came b j s w there f))
-        (λ (ne : j ≡ i → ⊥). its_outside set t.desc x (part_place set d i) image.numbers c
+        rw (← same, st, xw) (part_apart set d _ (λ xs. has_cell xs c ≡ false) (none_in_both c) _ d.subs came b j s w there f))
+        (λ (ne : j ≡ i → ⊥). its_outside set t.desc x _ _ c
         (parts_apart set (own_cells set d) d.subs j i s t there e ne c up lt)) (cases_eq j i))
 
     -- at last all numbers are there
@@ -319,9 +319,8 @@ module _ (set : Set) (d : Device) (image : Image) where
           let came1 = slice_set came j (Some w) in
           let m = so_far came1 in
           let sound = good.subs k j d s here there in
-          let same = part_region came1 j w s there (at_set came j (Some w) (slice_get_within came j None new)) comes in
-          let rules : RulesHold (part j w s) =
-          part_apart set d n RulesHold rules_split (own_cells set d) d.subs image.came (rules_split own (parts image.came) valid).1 j s w there comes in
+          let same = part_region came1 j w s there (at_set came j _ (slice_get_within came j None new)) comes in
+          let rules : RulesHold (part j w s) = part_apart set d n _ rules_split _ d.subs _ (rules_split own _ valid).1 j s w there comes in
           let fits : FitSlots n (part j w s) =
           fit_slots all n (part j w s) normal.cells (sub_are set d j s w n there) (part_constants set good k j d s here there w base n) in
           body_only all set.structs good.structs s.desc w base m (record { numbers = so_far came; place = place; rest = body ++ tail }) body tail sound
@@ -331,7 +330,7 @@ module _ (set : Set) (d : Device) (image : Image) where
           (λ c e.
           pick_same n (own ++ parts came1) (own ++ parts came) all c
           (names_append own (parts came1) c ∙ ap (λ b. has_cell own c || b)
-          (names_next set d n c (own_cells set d) d.subs came j s w there new ∙ rw (rw (its_same set s.desc w base good.structs sound n m same) at e) refl)
+          (names_next set d n c _ d.subs came j s w there new ∙ rw (rw (its_same set s.desc w base good.structs sound n m same) at e) refl)
           ∙ sym (names_append own (parts came) c)))
           refl
 
@@ -349,11 +348,10 @@ module _ (set : Set) (d : Device) (image : Image) where
           let sound = good.devices k d here in
           let same = own_region none in
           let fits : FitSlots n own = fit_slots all n own normal.cells (own_are set d v n) (own_constants set good k d here v 0 n) in
-          body_only all set.structs good.structs d.desc v 0 m
-          (record { numbers = (default_image set d).numbers; place = place; rest = body ++ tail }) body tail sound
-          (omega (arith, so_long none)) (defaults_long all ∙ sym (so_long none)) (own_are set d v)
+          body_only all _ good.structs d.desc v 0 m
+          _ body tail sound (omega (arith, so_long none)) (defaults_long all ∙ sym (so_long none)) (own_are set d v)
           (its_spelled set d.desc v 0 good.structs sound n m body same spells) (its_fit set d.desc v 0 good.structs sound n m same fits)
-          (its_hold set d.desc v 0 good.structs sound n m same (rules_split own (parts image.came) valid).0)
+          (its_hold set d.desc v 0 good.structs sound n m same (rules_split own _ valid).0)
           (λ c e.
           pick_default n (own ++ parts none) all c (none_joined c own (parts none) (rw (its_same set d.desc v 0 good.structs sound n m same) at e)
           (parts_together set d n (λ xs. has_cell xs c ≡ false) refl (none_joined c) (own_cells set d) d.subs none

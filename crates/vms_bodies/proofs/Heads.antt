@@ -2,9 +2,8 @@
 use Rattle.vms_bodies.proofs.Facade.{⊎_elim, cases_Bool, ◌≡◌, ℕ, zero, suc, ◌+◌, ◌<◌, ◌≤◌, List, ◌∷◌, ◌++◌, length, get_or}
 use Rattle.vms_bodies.proofs.Facade.{take, drop, Some, refl, sym, ap, ◌∙◌, arith, append_assoc, length-drop, true, false, ◌==◌, ◌&&◌, []}
 use Rattle.vms_bodies.proofs.Facade.{slice_get, bytes_eq, drop-drop, take-append-drop, length-take-le, get_or-take, drop-cons, eqb-true, and_parts, big_number}
-use Rattle.vms_bodies.proofs.Facade.{big_from, U32, again, bytes_first, bytes_rest, IsBytes, Device, be32, section_head, number_at, bytes_at, find_device, Sub}
-use Rattle.vms_bodies.proofs.Facade.{sub_head, find_sub, Kind, U8, width, code, value_of, InRange, plain_take, value_taken, is_truth, is_above, is_bad_bool}
-use Rattle.vms_bodies.proofs.Facade.{raw}
+use Rattle.vms_bodies.proofs.Facade.{big_from, again, bytes_rest, IsBytes, Device, be32, section_head, number_at, bytes_at, find_device, Sub, sub_head}
+use Rattle.vms_bodies.proofs.Facade.{find_sub, Kind, U8, width, code, value_of, InRange, plain_take, value_taken, is_truth, is_above, is_bad_bool, raw}
 use Rattle.vms_kinds.specs.declared.Kind.TheVariants.{Bool as Truth}
 
 -- ---- bytes
@@ -28,8 +27,7 @@ split_four xs ok long = grind (arith, again, big_from_take)
 
 pub four_at : (k after : ℕ) (rest : List ℕ) → IsBytes rest → after ≡ k + 4 → after ≤ length rest → drop k rest ≡ be32 (number_at 4 k rest) ++ drop after rest
 four_at k after rest ok e le =
-    split_four (drop k rest) (is_bytes_drop k rest ok) (omega (arith, length-drop k rest)) ∙ ap (λ l. be32 (number_at 4 k rest) ++ l)
-    (drop-drop 4 k rest ∙ rw e refl)
+    split_four _ (is_bytes_drop k rest ok) (omega (arith, length-drop k rest)) ∙ ap (λ l. be32 (number_at 4 k rest) ++ l) (drop-drop 4 k rest ∙ rw e refl)
 
 pub text_at : (n k : ℕ) (rest : List ℕ) → drop k rest ≡ bytes_at n k rest ++ drop (k + n) rest
 text_at n k rest = cc (take-append-drop n (drop k rest), drop-drop n k rest)
@@ -85,7 +83,7 @@ sub_bytes rest n ok mark size long =
     let v = be32 (number_at 4 (2 + n) rest) in
     let tail = drop (6 + n) rest in
     split_one rest (omega arith) ∙ ap (λ b. b ∷ drop 1 rest) mark ∙ ap (λ l. 0x05 ∷ l)
-    ((cc (drop-cons rest 1 0 (omega arith))) ∙ ap (λ l. n ∷ l) (text_at n 2 rest ∙ ap (λ l. name ++ l) (four_at (2 + n) (6 + n) rest ok (omega arith) long)
+    ((cc (drop-cons rest 1 0 (omega arith))) ∙ ap (λ l. n ∷ l) (text_at n 2 rest ∙ ap (λ l. name ++ l) (four_at _ _ rest ok (omega arith) long)
     ∙ sym (append_assoc name v tail)))
     ∙ ap (λ k. 0x05 ∷ (k ∷ ((name ++ v) ++ tail))) (sym (text_long n 2 rest (omega arith)))
 

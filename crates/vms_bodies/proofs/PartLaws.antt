@@ -6,7 +6,7 @@ use Rattle.vms_bodies.proofs.Facade.{length, map, slice_set, Option, Some, None,
 use Rattle.vms_bodies.proofs.Facade.{slice_get, or_assoc, cases_lt, ⊎_elim, drop-append_seam, Sub, Device, Set, Slot, Cell, desc_cells, device_cells}
 use Rattle.vms_bodies.proofs.Facade.{struct_cells, sub_place, sub_slots, own_cells, came_slots, has_cell, AreVersionsOf, get_or, pos, false, cases_eq}
 use Rattle.vms_bodies.proofs.Facade.{cases_Bool, or_parts, slice_get_within, no_cell, Image, own_slots, image_slots, RulesHold, IsNormal, IsValid, FitsCell}
-use Rattle.vms_bodies.proofs.Facade.{IsSound, AreSound, DefaultsFit, ◌==◌, Bool, true, length-map, eqb-true, eq-eqb, Spells, default_image, sub_head}
+use Rattle.vms_bodies.proofs.Facade.{IsSound, AreSound, DefaultsFit, ◌==◌, Bool, true, length-map, Spells, default_image, sub_head}
 use Rattle.vms_bodies.proofs.Places.{names_append, Stands, front_stands, rest_stands, desc_are, meanings_are, cells_first, cells_append, none_in_both}
 use Rattle.vms_bodies.proofs.SettledLaws.{own_are, named_fits, SameIn, its_same, its_fit, its_hold, its_below, its_outside}
 use Rattle.vms_spec.specs.Streams
@@ -67,8 +67,7 @@ sub_are set d j s v m e =
     let all = device_cells set d in
     let rest : Stands all (own_cells set d) (sub_cells set d.subs) =
     record { more = []; is = rw append-nil (drop-append_seam (desc_cells (struct_cells set) d.desc) (sub_cells set d.subs)) } in
-    desc_are _ (meanings_are set.structs (length set.structs)) s.desc v _ m all
-    (rw (cells_first set.structs (length set.structs)) (cells_of_sub (Stands all) (front_stands all) (rest_stands all) set (own_cells set d) d.subs j s e rest))
+    desc_are _ (meanings_are _ _) s.desc v _ m all (rw (cells_first _ _) (cells_of_sub _ (front_stands all) (rest_stands all) set _ d.subs j s e rest))
 
 -- ---- what holds of all parts that came
 
@@ -104,7 +103,7 @@ names_next set d n c from (t ∷ subs) (Some w ∷ came) (suc j) s v e f =
     let here = sub_slots set t w n from in
     let part = has_cell (sub_slots set s v n (sub_place set next subs j)) c in
     names_append here (came_slots set d n next subs (slice_set came j (Some v))) c
-    ∙ ap (λ b. has_cell here c || b) (names_next set d n c next subs came j s v e f) ∙ or_turned (has_cell here c) part _ ∙ or_assoc part (has_cell here c) _
+    ∙ ap (λ b. has_cell here c || b) (names_next set d n c next subs came j s v e f) ∙ or_turned _ part _ ∙ or_assoc part _ _
     ∙ ap (λ b. part || b) (sym (names_append here (came_slots set d n next subs came) c))
 names_next set d n c from _ _ _ s v e f = cc
 
@@ -219,8 +218,7 @@ pub in_refl : (low end : ℕ) (n : List ℤ) → SameIn low end n n
 in_refl low end n = record { same = λ c up lt. refl }
 
 pub stays_refl : (set : Set) (d : Device) (came : List (Option ℕ)) (n : List ℤ) → Stays set d came n n
-stays_refl set d came n =
-    record { own = in_refl 0 (0 + own_cells set d) n; parts = λ i s x e f. in_refl (part_place set d i) (part_place set d i + sub_size set s) n }
+stays_refl set d came n = record { own = in_refl 0 _ n; parts = λ i s x e f. in_refl _ _ n }
 
 -- what came is another than what did not
 other_part : (came : List (Option ℕ)) (i j x : ℕ) → slice_get came i ≡ Some (Some x) → slice_get came j ≡ Some None → i ≡ j → ⊥
@@ -244,9 +242,9 @@ pub stays_next : (set : Set) (d : Device) (came : List (Option ℕ)) (j w : ℕ)
 stays_next set d came j w t n m there new kept =
     let first = own_cells set d in
     record {
-      own = record { same = λ c up lt. kept c (its_below set t.desc w (part_place set d j) m c (omega (arith, sub_place_up set first d.subs j))) };
+      own = record { same = λ c up lt. kept c (its_below set t.desc w _ m c (omega (arith, sub_place_up set first d.subs j))) };
       parts = λ i s x e f. record {
-        same = λ c up lt. kept c (its_outside set t.desc w (part_place set d j) m c
+        same = λ c up lt. kept c (its_outside set t.desc w _ m c
             (parts_apart set first d.subs i j s t e there (other_part came i j x f new) c up lt));
       };
     }
@@ -260,17 +258,16 @@ next_parts subs came j w t P there new here before i s x e f =
     let g = at_set came j (Some w) (slice_get_within came j None new) in
     let ts : t ≡ s = cc in
     let wx : w ≡ x = cc in
-    rw (same, ← ts, ← wx) here)
-    (λ (ne : i ≡ j → ⊥). before i s x e (sym (at_other came j i (Some w) ne) ∙ f)) (cases_eq i j)
+    rw (same, ← ts, ← wx) here) (λ (ne : i ≡ j → ⊥). before i s x e (sym (at_other came j i _ ne) ∙ f)) (cases_eq i j)
 
 -- the slots of the parts that came name the same cells
 pub names_stay : (set : Set) (d : Device) (came : List (Option ℕ)) (n m : List ℤ) (c : ℕ) → AreSound set.structs
     → ((j : ℕ) (s : Sub) → slice_get d.subs j ≡ Some s → IsSound s.desc) → Stays set d came n m
     → has_cell (came_slots set d m (own_cells set d) d.subs came) c ≡ false → has_cell (came_slots set d n (own_cells set d) d.subs came) c ≡ false
 names_stay set d came n m c structs sound stays h =
-    parts_together set d n (λ xs. has_cell xs c ≡ false) refl (none_joined c) (own_cells set d) d.subs came (λ i s x e f.
-    rw (← (its_same set s.desc x (part_place set d i) structs (sound i s e) n m (stays.parts i s x e f)))
-    (part_apart set d m (λ xs. has_cell xs c ≡ false) (none_in_both c) (own_cells set d) d.subs came h i s x e f))
+    parts_together set d n (λ xs. has_cell xs c ≡ false) refl (none_joined c) _ d.subs came (λ i s x e f.
+    rw (← (its_same set s.desc x _ structs (sound i s e) n m (stays.parts i s x e f)))
+    (part_apart set d m (λ xs. has_cell xs c ≡ false) (none_in_both c) _ d.subs came h i s x e f))
 
 pub fine_next : (set : Set) (d : Device) (v : ℕ) (came : List (Option ℕ)) (n m : List ℤ) (j w : ℕ) (t : Sub) → AreSound set.structs → IsSound d.desc
     → ((j : ℕ) (s : Sub) → slice_get d.subs j ≡ Some s → IsSound s.desc) → slice_get d.subs j ≡ Some t → slice_get came j ≡ Some None → IsVersionOf t.desc w
@@ -289,7 +286,7 @@ fine_next set d v came n m j w t structs own sound there new version long fits r
       rules = next_parts d.subs came j w t (λ i s x. RulesHold (sub_slots set s x m (part_place set d i))) there new rules
           (λ i s x e g. its_hold set s.desc x _ structs (sound i s e) n m (stays.parts i s x e g) (f.rules i s x e g));
       absent = λ c a b.
-          let both = or_parts _ _ (sym (names_next set d m c (own_cells set d) d.subs came j t w there new) ∙ b) in
+          let both = or_parts _ _ (sym (names_next set d m c _ d.subs came j t w there new) ∙ b) in
           kept c both.0 ∙ f.absent c (rw (its_same set d.desc v 0 structs own n m stays.own) at a) (names_stay set d came n m c structs sound stays both.1);
     }
 
@@ -297,9 +294,9 @@ fine_next set d v came n m j w t structs own sound there new version long fits r
 
 pub image_are : (set : Set) (d : Device) (image : Image) → AreCells (device_cells set d) (image_slots set d image)
 image_are set d image =
-    cells_append (device_cells set d) (own_slots set d image.version image.numbers) _ (own_are set d image.version image.numbers)
-    (parts_together set d image.numbers (AreCells (device_cells set d)) tt (cells_append (device_cells set d)) (own_cells set d) d.subs image.came
-    (λ j s w e f. sub_are set d j s w image.numbers e))
+    cells_append (device_cells set d) (own_slots set d image.version image.numbers) _ (own_are set d _ _)
+    (parts_together set d _ _ tt (cells_append (device_cells set d)) _ d.subs _
+    (λ j s w e f. sub_are set d j s w _ e))
 
 -- the number of a cell fits if it is named or at its default
 cell_fits : (all : List Cell) (n : List ℤ) (slots : List Slot) → DefaultsFit all → AreCells all slots → FitSlots n slots
@@ -313,7 +310,7 @@ pub fine_normal : (set : Set) (d : Device) (v : ℕ) (came : List (Option ℕ)) 
 fine_normal set d v came n version defaults f =
     let image : Image = record { version = v; came = came; numbers = n } in
     let fits : FitSlots n (image_slots set d image) =
-    fit_append n (own_slots set d v n) _ f.own_fits (parts_together set d n (FitSlots n) tt (fit_append n) (own_cells set d) d.subs came f.fits) in
+    fit_append n (own_slots set d v n) _ f.own_fits (parts_together set d n _ tt (fit_append n) _ d.subs came f.fits) in
     let absent : (c : ℕ) → has_cell (image_slots set d image) c ≡ false → get_or n c (pos 0) ≡ (get_or (device_cells set d) c no_cell).default = λ c e.
     let both = none_in_both c (own_slots set d v n) _ e in f.absent c both.0 both.1 in
     record {
@@ -325,8 +322,7 @@ fine_normal set d v came n version defaults f =
 
 pub fine_valid : (set : Set) (d : Device) (v : ℕ) (came : List (Option ℕ)) (n : List ℤ) → Fine set d v came n
     → IsValid set d (record { version = v; came = came; numbers = n })
-fine_valid set d v came n f =
-    rules_append (own_slots set d v n) _ f.own_rules (parts_together set d n RulesHold tt rules_append (own_cells set d) d.subs came f.rules)
+fine_valid set d v came n f = rules_append (own_slots set d v n) _ f.own_rules (parts_together set d n _ tt rules_append _ d.subs came f.rules)
 
 -- ---- which devices and which subsections came: devices
 

@@ -1,12 +1,12 @@
 -- Where the slots of a description begin, and which cells they name.
-use Rattle.vms_bodies.proofs.Facade.{◌≡◌, ℕ, List, ◌∷◌, ◌++◌, refl, sym, ◌∙◌, true, false, ◌==◌, [], ◌||◌, if◌then◌else◌}
-use Rattle.vms_bodies.proofs.Facade.{or_parts, or_right, or_assoc, Slot, Number, has_cell, zero, suc, ◌+◌, ◌*◌, ◌<◌, ◌≤◌, length, get_or}
-use Rattle.vms_bodies.proofs.Facade.{drop, Option, Some, None, ℤ, pos, ap, arith, length-append, not, AllByRecursion, Item, Num, Count, One, Counted, Own}
-use Rattle.vms_bodies.proofs.Facade.{Formula, Not, And, Or, Field, Desc, truth, is_there, place_of, field_cells, item_size, capacity_of, cells_from, numbers_of}
-use Rattle.vms_bodies.proofs.Facade.{no_field, no_parent, all_hold, elements_of, field_size, IsNumber, IsOne, IsEarlier, NamesEarlier, IsSoundTest}
-use Rattle.vms_bodies.proofs.Facade.{IsSoundCount, ne_eqb, Struct, Meaning, no_meaning, no_desc, item_slots, times, field_slots, slots_from, desc_slots}
-use Rattle.vms_bodies.proofs.Facade.{counted, first, meaning, meanings, one_more, first_cells, drop_on, map, append_assoc, get_or-map, Cell, no_cell}
-use Rattle.vms_bodies.proofs.Facade.{item_cells, desc_cells, AreCells, size_same, elements_fit, Kind, U8, width}
+use Rattle.vms_bodies.proofs.Facade.{◌≡◌, ℕ, List, ◌∷◌, ◌++◌, refl, sym, ◌∙◌, true, false, [], ◌||◌, if◌then◌else◌, or_parts}
+use Rattle.vms_bodies.proofs.Facade.{or_right, or_assoc, Slot, Number, has_cell, zero, suc, ◌+◌, ◌*◌, ◌<◌, ◌≤◌, length, get_or, drop, Option}
+use Rattle.vms_bodies.proofs.Facade.{Some, None, ℤ, pos, ap, arith, length-append, not, AllByRecursion, Item, Num, Count, One, Counted, Own, Formula, Not}
+use Rattle.vms_bodies.proofs.Facade.{And, Or, Field, Desc, truth, is_there, place_of, field_cells, item_size, capacity_of, cells_from, numbers_of, no_field}
+use Rattle.vms_bodies.proofs.Facade.{no_parent, all_hold, elements_of, field_size, IsNumber, IsOne, IsEarlier, NamesEarlier, IsSoundTest, IsSoundCount, ne_eqb}
+use Rattle.vms_bodies.proofs.Facade.{Struct, Meaning, no_meaning, no_desc, item_slots, times, field_slots, slots_from, desc_slots, counted, first, meaning}
+use Rattle.vms_bodies.proofs.Facade.{meanings, one_more, first_cells, drop_on, map, append_assoc, get_or-map, Cell, no_cell, item_cells, desc_cells, AreCells}
+use Rattle.vms_bodies.proofs.Facade.{size_same, elements_fit, Kind, U8, width}
 use Rattle.std.proofs.Common.{Bool as Truth}
 use Rattle.vms_spec.specs.Layout.{Cell as OneCell}
 use Rattle.vms_spec.specs.Sets as sets
@@ -28,7 +28,7 @@ pub has_left : (s t : List Slot) (c : ℕ) → has_cell s c ≡ true → has_cel
 has_left s t c h = rw (names_append, h) refl
 
 pub has_right : (s t : List Slot) (c : ℕ) → has_cell t c ≡ true → has_cell (s ++ t) c ≡ true
-has_right s t c h = names_append s t c ∙ or_right (has_cell s c) _ h
+has_right s t c h = names_append s t c ∙ or_right _ _ h
 
 -- a property of both values, or of each where the test says so
 pub if_both : {A : Type 0} (P : A → Type 0) (b : Truth) (x y : A) → P x → P y → P (if b then x else y)
@@ -157,7 +157,7 @@ module _ (ms : List Meaning) (h : MeanAbove ms) where
   pub items_above : (item : Item) (caps : List ℕ) (numbers : List ℤ) (n at step : ℕ) → IsAbove at (times n (item_slots ms item caps numbers) at step)
   items_above item caps numbers zero at step = above_none at
   items_above item caps numbers (suc n) at step =
-      above_append at _ _ (item_above item caps numbers at) (above_less at (at + step) _ (omega arith) (items_above item caps numbers n (at + step) step))
+      above_append at _ _ (item_above item caps _ at) (above_less at _ _ (omega arith) (items_above item caps numbers n (at + step) step))
 
   module _ (fields : List Field) (v : ℕ) (own : ℕ → ℕ) (numbers : List ℤ) where
     pub field_above : (i at : ℕ) (f : Field) → IsAbove at (field_slots ms fields v own numbers i at f)
@@ -191,7 +191,7 @@ pub front_stands : (all : List Cell) (at : ℕ) (xs ys : List Cell) → Stands a
 front_stands all at xs ys s = record { more = ys ++ s.more; is = cc (append_assoc xs ys s.more) }
 
 pub rest_stands : (all : List Cell) (at : ℕ) (xs ys : List Cell) → Stands all at (xs ++ ys) → Stands all (at + length xs) ys
-rest_stands all at xs ys s = record { more = s.more; is = drop_on all at xs (ys ++ s.more) (s.is ∙ append_assoc xs ys s.more) }
+rest_stands all at xs ys s = record { more = s.more; is = drop_on all at xs _ (s.is ∙ append_assoc xs ys s.more) }
 
 first_is : (all : List Cell) (at : ℕ) (c : Cell) (more : List Cell) → drop at all ≡ c ∷ more → (at < length all) × (get_or all at no_cell ≡ c)
 first_is [] zero c more e = cc
@@ -217,7 +217,7 @@ module _ (ms : List Meaning) (h : MeanCells ms) where
   pub item_are : (item : Item) (caps : List ℕ) (z : ℤ) (all : List Cell) (at : ℕ) (numbers : List ℤ)
       → Stands all at (item_cells (cells_in ms) item caps z) → AreCells all (item_slots ms item caps numbers at)
   item_are (Num kind) caps z all at numbers s =
-      let x = first_is all at (record { kind = kind; capacities = caps; default = z }) s.more s.is in
+      let x = first_is all at _ s.more s.is in
       (record { within = x.0; kind = rw (x.1); capacities = rw (x.1) }, tt)
   item_are (Struct j) caps z all at numbers s = (h j).means all at numbers (rw (get_or-map (λ (m : Meaning). m.cells) ms j no_meaning) at s)
   item_are _ caps z all at numbers s = tt
@@ -243,7 +243,7 @@ module _ (ms : List Meaning) (h : MeanCells ms) where
   fields_are fields v own numbers i at [] all s = tt
   fields_are fields v own numbers i at (f ∷ fs) all s =
       cells_append all (field_slots ms fields v own numbers i at f) _ (field_are fields v own numbers i at f all (front_stands all at _ _ s))
-      (fields_are fields v own numbers (suc i) _ fs all (rest_stands all at (field_cells (cells_in ms) fields i f) _ s))
+      (fields_are fields v own numbers (suc i) _ fs all (rest_stands all at _ _ s))
 
   pub desc_are : (d : Desc) (v at : ℕ) (numbers : List ℤ) (all : List Cell) → Stands all at (desc_cells (cells_in ms) d)
       → AreCells all (desc_slots ms d v numbers at)

@@ -88,10 +88,10 @@ module _ (ms : List Meaning) (h : MeanSettled ms) where
         let cs = cells_in ms in
         let last = base + length (desc_cells cs d) in
         rw (
-          fields_settled 0 base low end d.fields n k sound.fields up (sym (place_first cs d.fields 0 base d.fields)) refl le s,
-          hold_same d.fields (length d.fields) v (own n) (own k)
+          fields_settled 0 base low end _ n k sound.fields up (sym (place_first cs d.fields 0 base d.fields)) refl le s,
+          hold_same _ _ v _ _
               (λ j x. own_in cs d base (length d.fields) last j n k (sym (place_end cs d.fields 0 base d.fields))
-              (in_less low base last end n k up le s) x) d.validate sound.validate,
+              (in_less low base last end n k up le s) x) _ sound.validate,
         )
 
 pub meanings_settled : (ds : List Desc) → AreSound ds → (k : ℕ) → k ≤ length ds → MeanSettled (meanings ds k)
@@ -100,23 +100,22 @@ meanings_settled ds sound zero le = λ j. record { means = λ at low end n k up 
 meanings_settled ds sound (suc k) le =
     let h : MeanSettled (meanings ds k) = meanings_settled ds sound k (omega arith) in
     one_more MeansSettled no_meaning (record { means = λ at low end n k up le s. refl }) (meanings ds k) h (meaning (meanings ds k) (get_or ds k no_desc))
-    (record { means = λ at low end n m up fit s. desc_settled (meanings ds k) h (get_or ds k no_desc) _ at low end n m (sound k (omega arith)) up fit s })
+    (record { means = λ at low end n m up fit s. desc_settled _ h _ _ at low end n m (sound k (omega arith)) up fit s })
 
 pub slots_within : (ds : List Desc) → AreSound ds → (d : Desc) (v base low end : ℕ) (n k : List ℤ) → IsSound d → low ≤ base
     → base + length (desc_cells (cells_in (meanings ds (length ds))) d) ≤ end → SameIn low end n k
     → desc_slots (meanings ds (length ds)) d v k base ≡ desc_slots (meanings ds (length ds)) d v n base
-slots_within ds structs d v base low end n k sound up le s =
-    desc_settled _ (meanings_settled ds structs (length ds) (omega arith)) d v base low end n k sound up le s
+slots_within ds structs d v base low end n k sound up le s = desc_settled _ (meanings_settled ds structs _ (omega arith)) d v base low end n k sound up le s
 
 -- ---- what is spelled depends on the cells that are named; a description's slots name cells between its place and its end
 
 named : (c : ℕ) (xs : List Slot) → (c == c || has_cell xs c) ≡ true
-named c xs = or_left (c == c) _ (eq-eqb c c refl)
+named c xs = or_left _ _ (eq-eqb c c refl)
 
 pub spells_agree : (n k : List ℤ) (xs : List Slot) (bytes : List ℕ) → ((c : ℕ) → has_cell xs c ≡ true → get_or k c (pos 0) ≡ get_or n c (pos 0))
     → Spells n xs bytes → Spells k xs bytes
 spells_agree n k [] bytes h s = s
-spells_agree n k (Number c kind caps ∷ xs) bytes h s = (s.0, rw (h c (named c xs)) s.1, spells_agree n k xs s.0 (λ j e. h j (or_right (c == j) _ e)) s.2)
+spells_agree n k (Number c kind caps ∷ xs) bytes h s = (s.0, rw (h c (named c xs)) s.1, spells_agree n k xs s.0 (λ j e. h j (or_right _ _ e)) s.2)
 spells_agree n k (Constant kind z ∷ xs) bytes h s = (s.0, s.1, spells_agree n k xs s.0 h s.2)
 spells_agree n k (Filler m ∷ xs) bytes h s = (s.0, s.1, s.2, s.3, spells_agree n k xs s.1 h s.4)
 spells_agree n k (Rule b ∷ xs) bytes h s = spells_agree n k xs bytes h s
@@ -125,7 +124,7 @@ pub fits_agree : (n k : List ℤ) (xs : List Slot) → ((c : ℕ) → has_cell x
 fits_agree n k [] h f = tt
 fits_agree n k (Number c kind caps ∷ xs) h f =
     let e = h c (named c xs) in
-    (rw e f.0, rw e f.1, fits_agree n k xs (λ j e. h j (or_right (c == j) _ e)) f.2)
+    (rw e f.0, rw e f.1, fits_agree n k xs (λ j e. h j (or_right _ _ e)) f.2)
 fits_agree n k (Constant kind z ∷ xs) h f = (f.0, fits_agree n k xs h f.1)
 fits_agree n k (_ ∷ xs) h f = fits_agree n k xs h f
 
@@ -151,13 +150,13 @@ module _ (set : Set) (d : Desc) (v base : ℕ) where
   size = length (desc_cells (struct_cells set) d)
 
   pub its_below : (n : List ℤ) (c : ℕ) → c < base → has_cell (its n) c ≡ false
-  its_below n c lt = (desc_above _ (meanings_above set.structs (length set.structs)) d v n base).below c lt
+  its_below n c lt = (desc_above _ (meanings_above _ _) d v n base).below c lt
 
   its_inside : (n : List ℤ) (c : ℕ) → has_cell (its n) c ≡ true → c < base + size
   its_inside n c e =
       let cells = desc_cells (struct_cells set) d in
       let a : AreCells (replicate base no_cell ++ cells) (its n) =
-      desc_are _ (meanings_are set.structs (length set.structs)) d v base n _ (rw (cells_first set.structs (length set.structs)) (stands_behind base cells)) in
+      desc_are _ (meanings_are _ _) d v base n _ (rw (cells_first _ _) (stands_behind base cells)) in
       omega (arith, named_inside _ (its n) c a e, skip_long base cells)
 
   pub its_above : (n : List ℤ) (c : ℕ) → base + size ≤ c → has_cell (its n) c ≡ false
@@ -173,9 +172,8 @@ module _ (set : Set) (d : Desc) (v base : ℕ) where
   module _ (structs : AreSound set.structs) (sound : IsSound d) (n k : List ℤ) where
     pub its_same : SameIn base (base + size) n k → its k ≡ its n
     its_same s =
-        let same : length (desc_cells (cells_in (meanings set.structs (length set.structs))) d) ≡ size =
-        rw (cells_first set.structs (length set.structs)) refl in
-        slots_within set.structs structs d v base base (base + size) n k sound (omega arith) (omega arith) s
+        let same : length (desc_cells (cells_in (meanings set.structs (length set.structs))) d) ≡ size = rw (cells_first _ _) refl in
+        slots_within _ structs d v base base _ n k sound (omega arith) (omega arith) s
 
     pub its_spelled : (bytes : List ℕ) → SameIn base (base + size) n k → Spells n (its n) bytes → Spells k (its k) bytes
     its_spelled bytes s h = rw (its_same s) (spells_agree n k (its n) bytes (λ c e. let b = its_in n c e in s.same c b.0 b.1) h)
@@ -217,11 +215,11 @@ fit_slots all m (_ ∷ slots) f c k = fit_slots all m slots f c k
 pub own_are : (set : Set) (d : Device) (v : ℕ) (m : List ℤ) → AreCells (device_cells set d) (own_slots set d v m)
 own_are set d v m =
     let n = length set.structs in
-    desc_are _ (meanings_are set.structs n) d.desc v 0 m (device_cells set d)
-    (record { more = flat_map (λ s. desc_cells (struct_cells set) s.desc) d.subs; is = rw (cells_first set.structs n) refl })
+    desc_are _ (meanings_are _ n) d.desc v 0 m _
+    (record { more = flat_map (λ s. desc_cells (struct_cells set) s.desc) d.subs; is = rw (cells_first _ n) refl })
 
 pub defaults_at : (cells : List Cell) (c : ℕ) → get_or (map (λ (x : Cell). x.default) cells) c (pos 0) ≡ (get_or cells c no_cell).default
-defaults_at cells c = get_or-map (λ x. x.default) cells c no_cell
+defaults_at cells c = get_or-map (λ x. x.default) cells c _
 
 pub defaults_long : (cells : List Cell) → length (map (λ (x : Cell). x.default) cells) ≡ length cells
 defaults_long cells = length-map cells _
@@ -273,10 +271,8 @@ meanings_constants ds a (suc k) =
 module _ (set : Set) (good : IsGood set) where
   pub own_constants : (k : ℕ) (d : Device) → slice_get set.devices k ≡ Some d → (v at : ℕ) (numbers : List ℤ)
       → AreConstants (desc_slots (meanings set.structs (length set.structs)) d.desc v numbers at)
-  own_constants k d e v at numbers =
-      desc_constants _ (meanings_constants set.structs good.struct_constants (length set.structs)) d.desc (good.constants k d e) v numbers at
+  own_constants k d e v at numbers = desc_constants _ (meanings_constants _ good.struct_constants _) d.desc (good.constants k d e) v _ at
 
   pub part_constants : (k j : ℕ) (d : Device) (s : Sub) → slice_get set.devices k ≡ Some d → slice_get d.subs j ≡ Some s → (v at : ℕ) (numbers : List ℤ)
       → AreConstants (sub_slots set s v numbers at)
-  part_constants k j d s e f v at numbers =
-      desc_constants _ (meanings_constants set.structs good.struct_constants (length set.structs)) s.desc (good.sub_constants k j d s e f) v numbers at
+  part_constants k j d s e f v at numbers = desc_constants _ (meanings_constants _ good.struct_constants _) s.desc (good.sub_constants k j d s e f) v _ at

@@ -93,7 +93,7 @@ module _ (all : List Cell) (total : List ℤ → List Slot) (start : Progress) w
     bytes = h.bytes ++ bytes;
     front = rw (append_assoc, ← a.front) h.front;
     place = omega (arith, length-append h.bytes bytes);
-    spells = λ m s. spells_append m done _ h.bytes bytes (h.spells m (a.below m s)) (a.spells m s);
+    spells = λ m s. spells_append m done _ _ bytes (h.spells m (a.below m s)) (a.spells m s);
     fits = λ m s. fit_append m done _ (h.fits m (a.below m s)) (a.fits m s);
     rules = rules_append done _ h.rules a.rules;
     long = cc;
@@ -121,8 +121,8 @@ module _ (all : List Cell) (total : List ℤ → List Slot) (start : Progress) w
     bytes = h.bytes;
     front = h.front;
     place = h.place;
-    spells = λ m s. h.spells m (same_less cell further p.numbers m le s);
-    fits = λ m s. h.fits m (same_less cell further p.numbers m le s);
+    spells = λ m s. h.spells m (same_less cell _ _ m le s);
+    fits = λ m s. h.fits m (same_less cell _ _ m le s);
     rules = h.rules;
     long = h.long;
     kept = h.kept;
@@ -134,8 +134,7 @@ module _ (all : List Cell) (total : List ℤ → List Slot) (start : Progress) w
         → is_bad_bool kind (take (width kind) p.rest) ≡ false
         → InRange kind (value_of kind (take (width kind) p.rest)) × (take (width kind) p.rest ≡ code kind (value_of kind (take (width kind) p.rest)))
     value_here {p = p} kind h e good =
-        value_law kind _ (length-take-le (width kind) p.rest (ltb-false _ _ e))
-        (bytes_first (width kind) p.rest (bytes_rest h.bytes p.rest (rw (h.front) at ok))) good
+        value_law kind _ (length-take-le (width kind) p.rest (ltb-false _ _ e)) (bytes_first _ p.rest (bytes_rest _ p.rest (rw (h.front) at ok))) good
 
     number_spelled : length all ≤ length start.numbers → ((m : List ℤ) → AreCells all (total m)) → (cell : ℕ) (kind : Kind) (caps : List ℕ) (done : List Slot)
         → (left : List ℤ → List Slot) (p : Progress) → Left total (Spelled start) Anything cell p done (λ m. Number cell kind caps ∷ left m)
@@ -192,7 +191,7 @@ module _ (all : List Cell) (total : List ℤ → List Slot) (start : Progress) w
   -- what each slot of a body keeps
   pub spelled_keeps : IsBytes start.rest → length all ≤ length start.numbers → ((m : List ℤ) → AreCells all (total m)) → Keeping total (Spelled start) Anything
   spelled_keeps ok room cells = record {
-    less = λ cell further done left p le up l. spelled_less cell further done p le l.holds;
+    less = λ cell further done left p le up l. spelled_less cell _ done p le l.holds;
     number = λ cell kind caps done left p up l. number_spelled ok room cells cell kind caps done left p l;
     other = λ cell slot done left p o up l. other_spelled ok cell slot done left p o l;
   }
@@ -236,9 +235,9 @@ pub body_found : (all : List Cell) (ds : List Desc) → AreSound ds → (d : Des
     → IsBody (λ m. desc_slots (meanings ds (length ds)) d v m base) (base + length (desc_cells (cells_of (takers ds (length ds))) d)) p q
 body_found all ds structs d v base p q sound ok room cells e =
     let slots : List ℤ → List Slot = λ m. desc_slots (meanings ds (length ds)) d v m base in
-    let c = set_desc_comes slots (Spelled p) Anything (spelled_keeps all slots p ok room cells) ds structs d v base p sound (λ m. refl)
+    let c = set_desc_comes slots _ Anything (spelled_keeps all slots p ok room cells) ds structs d v base p sound (λ m. refl)
     (spelled_first all slots p base) in
-    body_of slots (base + length (desc_cells (cells_of (takers ds (length ds))) d)) p q (rw e at c.comes)
+    body_of slots _ p q (rw e at c.comes)
 
 -- ---- a reading slot by slot, with the slots computed anew after each number, does what the structural reader does
 
@@ -271,8 +270,7 @@ module _ {X : Type 0} (total : List ℤ → List Slot) (R : ℕ → Progress →
 
   one_step : (w : Walks) (x : X) (cell : ℕ) (slot : Slot) (done : List Slot) (left : List ℤ → List Slot) (p : Progress)
       → Left total (Is x) (Refuses x) cell p done (λ m. slot ∷ left m) → x ≡ after (length done) (take_slot slot p)
-  one_step w x cell slot done left p l =
-      cc (w.walks (length done) p, l.split p.numbers (same_refl cell p.numbers), drop-append_seam done (slot ∷ left p.numbers))
+  one_step w x cell slot done left p l = cc (w.walks (length done) p, l.split p.numbers (same_refl cell _), drop-append_seam done (slot ∷ left p.numbers))
 
   pub steps_keep : (w : Walks) (x : X) → Keeping total (Is x) (Refuses x)
   steps_keep w x = record {
@@ -321,4 +319,4 @@ one_unit judge a state at rest =
 -- a unit that is spelled is read
 pub unit_read : {S : Type 0} (judge : S → List ℕ → Verdict S) → Advances judge → (state next : S) (at : ℕ) (unit rest : List ℕ)
     → judge state (unit ++ rest) ≡ Goes (length unit) next → reading_on judge state at (unit ++ rest) ≡ reading_on judge next (at + length unit) rest
-unit_read judge a state next at unit rest e = one_unit judge a state at (unit ++ rest) ∙ rw (e, drop_at unit rest (length unit) refl) refl
+unit_read judge a state next at unit rest e = one_unit judge a state at _ ∙ rw (e, drop_at unit rest (length unit) refl) refl

@@ -7,11 +7,11 @@ use Rattle.vms_bodies.proofs.Facade.{if◌then◌else◌, [], flat_map, slice_ge
 use Rattle.vms_bodies.proofs.Facade.{Set, Cell, no_desc, first, item_size, capacity_of, place_of, field_cells, cells_from, desc_cells, struct_cells}
 use Rattle.vms_bodies.proofs.Facade.{device_cells, sub_place, own_cells, item_at, element_at, path_at, desc_of_sub, cell_in, cell_at, get_or, ℤ, pos, negsuc}
 use Rattle.vms_bodies.proofs.Facade.{◌≤ℤ◌, ap, not, ◌&&◌, ◌==◌, nat_le, ◌||◌, AllByRecursion, and_parts, not-true, leb-true, le-leb}
-use Rattle.vms_bodies.proofs.Facade.{eqb-true, eq-eqb, and_from, not_from_false, ints, Kind, lowest, highest, InRange, same_number, no_cell, Slot, Rule, Image}
-use Rattle.vms_bodies.proofs.Facade.{has_cell, image_slots, IsVersionOf, AreVersionsOf, FitsCell, FitCells, IsNormal, RulesHold, is_needed, ComeAsNeeded}
-use Rattle.vms_bodies.proofs.Facade.{IsReady, int_le, in_range, counts_well, is_version_of, are_versions_of, fits_cell, fit_cells, are_settled, is_normal}
-use Rattle.vms_bodies.proofs.Facade.{rules_are_true, come_as_needed, is_ready, ranges, within, same_number_itself, same_number_is, Decides-and, Decides-eqb}
-use Rattle.vms_bodies.proofs.Facade.{Decides-like, Decides, replicate, length-replicate, Filler, Spells, zeroed, GoodLaw, ShippedLaw, well_good, shipped_stands}
+use Rattle.vms_bodies.proofs.Facade.{eqb-true, and_from, not_from_false, ints, Kind, lowest, InRange, same_number, no_cell, Slot, Rule, Image, has_cell}
+use Rattle.vms_bodies.proofs.Facade.{image_slots, IsVersionOf, AreVersionsOf, FitsCell, FitCells, IsNormal, RulesHold, is_needed, ComeAsNeeded, IsReady, int_le}
+use Rattle.vms_bodies.proofs.Facade.{in_range, counts_well, is_version_of, are_versions_of, fits_cell, fit_cells, are_settled, is_normal, rules_are_true}
+use Rattle.vms_bodies.proofs.Facade.{come_as_needed, is_ready, ranges, within, same_number_itself, same_number_is, Decides-and, Decides-eqb, Decides-like}
+use Rattle.vms_bodies.proofs.Facade.{Decides, replicate, length-replicate, Filler, Spells, zeroed, GoodLaw, ShippedLaw, well_good, shipped_stands}
 
 -- ---- places
 
@@ -62,7 +62,7 @@ module _ (set : Set) where
       → Within cell (item_size (first desc_cells set.structs below) item) c
   in_item [] inside below (Num kind) cell c h = let same : cell ≡ c = cc in record { low = omega arith; high = omega arith }
   in_item (step ∷ path) inside below (Struct j) cell c h =
-      let t = some_if (nat_lt j below) _ c h in in_struct step path inside below j cell c (ltb-true j below t.0) (slice_get set.structs j) refl t.1
+      let t = some_if _ _ c h in in_struct step path inside below j cell c (ltb-true j below t.0) _ refl t.1
   in_item _ inside below _ cell c h = cc
 
   in_element : (path : List (ℕ × ℕ)) → Inside path → (below : ℕ) (d : Desc) (base i e c : ℕ) (o : Option Field) → slice_get d.fields i ≡ o
@@ -79,7 +79,7 @@ module _ (set : Set) where
 
   path_inside : (path : List (ℕ × ℕ)) → Inside path
   path_inside [] below d base c h = cc
-  path_inside (step ∷ path) below d base c h = in_element path (path_inside path) below d base step.0 step.1 c (slice_get d.fields step.0) refl h
+  path_inside (step ∷ path) below d base c h = in_element path (path_inside path) below d base step.0 step.1 c _ refl h
 
   abbrev cells : Desc → List Cell
   cells d = desc_cells (struct_cells set) d
@@ -107,7 +107,7 @@ module _ (set : Set) where
   in_device : (o : Option Device) (part : Option ℕ) (path : List (ℕ × ℕ)) (c : ℕ) → cell_in set o part path ≡ Some c → c < size_of_device set o
   in_device None part path c h = cc
   in_device (Some d) None path c h = let w = path_inside path (length set.structs) d.desc 0 c h in omega (arith, all_room d)
-  in_device (Some d) (Some j) path c h = in_sub d j path c (slice_get d.subs j) refl h
+  in_device (Some d) (Some j) path c h = in_sub d j path c _ refl h
 
   pub cell_inside : (k : ℕ) (part : Option ℕ) (path : List (ℕ × ℕ)) (c : ℕ) → cell_at set k part path ≡ Some c → c < cell_count set k
   cell_inside k part path c h = grind (arith, in_device)
@@ -128,7 +128,7 @@ ranged kind z h = grind (arith, and_from, below_int, lowest)
 
 pub counted_well : (caps : List ℕ) (z : ℤ) → AllByRecursion (λ most. z ≤ℤ pos most) caps → counts_well caps z ≡ true
 counted_well [] z h = refl
-counted_well (m ∷ caps) z h = and_from _ _ (below_int z (pos m) h.0) (counted_well caps z h.1)
+counted_well (m ∷ caps) z h = and_from _ _ (below_int z _ h.0) (counted_well caps z h.1)
 
 same_decides : (z u : ℤ) → Decides (same_number z u) (z ≡ u)
 same_decides z u = (same_number_is z u, is_same z u)
@@ -139,7 +139,7 @@ pub le_decides : (a b : ℕ) → Decides (nat_le a b) (a ≤ b)
 le_decides a b = (leb-true a b, le-leb a b)
 
 pub version_decides : (d : Desc) (v : ℕ) → Decides (is_version_of d v) (IsVersionOf d v)
-version_decides d v = Decides-and _ _ (le_decides d.minimum v) (le_decides v d.version)
+version_decides d v = Decides-and _ _ (le_decides _ v) (le_decides v _)
 
 versions_decide : (subs : List Sub) (came : List (Option ℕ)) → Decides (are_versions_of subs came) (AreVersionsOf subs came)
 versions_decide [] [] = (λ e. tt, λ h. refl)
@@ -150,8 +150,7 @@ versions_decide _ _ = (λ e. cc, λ h. absurd h)
 -- ---- cells
 
 fits_decides : (cell : Cell) (z : ℤ) → Decides (fits_cell cell z) (FitsCell cell z)
-fits_decides cell z =
-    Decides-and _ _ (ranges cell.kind z, ranged cell.kind z) (within cell.capacities z, counted_well cell.capacities z)
+fits_decides cell z = Decides-and _ _ (ranges _ z, ranged _ z) (within cell.capacities z, counted_well _ z)
 
 cells_decide : (cells : List Cell) (numbers : List ℤ) → Decides (fit_cells cells numbers) (FitCells cells numbers)
 cells_decide [] [] = (λ e. record { long = refl; fits = λ c lt. absurd (omega arith) }, λ h. refl)
@@ -185,7 +184,7 @@ settled_decides slots from (cell ∷ cells) (z ∷ numbers) =
     Decides-like _ (λ h. by_place h.0 h.1) (λ h. (
       λ bare. h 0 from (omega arith) (omega arith) (omega arith) bare,
       λ c k lt le is bare. h (suc c) k (omega arith) (omega arith) (omega arith) bare,
-    )) (Decides-and _ _ (unless (has_cell slots from) _ (same_decides z cell.default)) (settled_decides slots (suc from) cells numbers))
+    )) (Decides-and _ _ (unless _ _ (same_decides z _)) (settled_decides slots (suc from) cells numbers))
   where
     by_place : (has_cell slots from ≡ false → z ≡ cell.default) → Settled slots (suc from) cells numbers → Settled slots from (cell ∷ cells) (z ∷ numbers)
     by_place a b zero k lt le is bare = let same : k ≡ from = omega arith in a (rw same at bare)
@@ -238,7 +237,7 @@ module _ (set : Set) (d : Device) (image : Image) where
       (λ h. (((h.normal, h.valid), h.version), h.needed))
       (Decides-and _ _
       (Decides-and _ _ (Decides-and _ _ (normal_decides set d image) (rules_decide (image_slots set d image)))
-      (Decides-eqb image.version d.desc.version)) (needed_are 0 d.subs image.came, are_needed 0 d.subs image.came))
+      (Decides-eqb image.version d.desc.version)) (needed_are 0 d.subs _, are_needed 0 d.subs _))
 
 -- ---- the bytes that the writer gives for slots are of the slots
 

@@ -5,8 +5,8 @@ use Rattle.vms_bodies.proofs.Facade.{map, take, drop, Ok, Err, IfOk, ℤ, refl, 
 use Rattle.vms_bodies.proofs.Facade.{false, not, if◌then◌else◌, nat_lt, slice_set, get_or-set_other, [], mul-le-mul_right, Kind, Item, Num, Equal, Unused}
 use Rattle.vms_bodies.proofs.Facade.{Struct, width, value_of, Reason, is_bad_bool, Field, Desc, is_there, Slot, Number, Constant, Filler, Rule, Meaning}
 use Rattle.vms_bodies.proofs.Facade.{no_meaning, no_desc, item_slots, item_size, times, field_slots, slots_from, desc_slots, desc_cells, cells_from}
-use Rattle.vms_bodies.proofs.Facade.{field_cells, place_of, numbers_of, elements_of, capacity_of, counted, all_hold, no_parent, first, meaning, meanings, Taken}
-use Rattle.vms_bodies.proofs.Facade.{Progress, Refusal, Taker, no_taker, takers, taker_of, cells_of, take_value, take_slot, take_item, take_items, take_field}
+use Rattle.vms_bodies.proofs.Facade.{field_cells, place_of, numbers_of, elements_of, capacity_of, counted, all_hold, no_parent, first, meanings, Taken}
+use Rattle.vms_bodies.proofs.Facade.{Progress, Refusal, Taker, no_taker, takers, cells_of, take_value, take_slot, take_item, take_items, take_field}
 use Rattle.vms_bodies.proofs.Facade.{take_fields, take_desc, check_rules, refuse, on, if_whole, IsSound, AreSound, IsSoundField, AreSoundFields, IsEarlier}
 use Rattle.vms_bodies.proofs.Facade.{field_size, elements_fit, ◌-◌, drop-drop}
 use Rattle.vms_bodies.proofs.Places.{IsAbove, MeanAbove, above_none, above_append, above_less, items_above, fields_above, meanings_above, SameBelow, same_refl}
@@ -59,8 +59,8 @@ sets_from cell _ old new le s = rw s (same_refl cell old)
 -- the numbers below its cell are final
 pub slot_keeps : (cell : ℕ) (slot : Slot) (p : Progress) → IsFrom cell slot → Keeps cell p.numbers (take_slot slot p)
 slot_keeps cell slot p from =
-    slot_gives (Keeps cell p.numbers) p (λ reason n. record { kept = tt }) slot (λ n numbers s. record { kept = sets_from cell slot p.numbers numbers from s })
-    (record { kept = same_refl cell p.numbers })
+    slot_gives (Keeps cell p.numbers) p (λ reason n. record { kept = tt }) slot (λ n numbers s. record { kept = sets_from cell slot _ _ from s })
+    (record { kept = same_refl cell _ })
 
 -- ---- tools
 
@@ -189,8 +189,8 @@ module _ (total : List ℤ → List Slot) (Holds : ℕ → List Slot → Progres
           comes_less _ (omega arith) up (slot_comes {cell = cell} {further = cell + 1} (take_slot (Number cell kind caps) p) (omega arith) l
           (slot_keeps cell (Number cell kind caps) p (omega arith))
           (w.number cell kind caps done left p (λ m. above_less (cell + 1) end _ (omega arith) (up m)) l))
-      item_comes (Equal kind z) caps cell end e up l = one_other (Constant kind z) (omega arith) tt up l
-      item_comes (Unused n) caps cell end e up l = one_other (Filler n) (omega arith) tt up l
+      item_comes (Equal kind z) caps cell end e up l = one_other _ (omega arith) tt up l
+      item_comes (Unused n) caps cell end e up l = one_other _ (omega arith) tt up l
       item_comes (Struct j) caps cell end e up l = (pair_at ts ms j pairs).takes cell end _ _ _ (omega (arith, ap length (cells_get ts j))) up l
 
       items_comes : (item : Item) (caps : List ℕ) (n cell end : ℕ) {p : Progress} {done : List Slot} {left : List ℤ → List Slot}
@@ -200,9 +200,9 @@ module _ (total : List ℤ → List Slot) (Holds : ℕ → List Slot → Progres
       items_comes item caps zero cell end e up l = stay (omega arith) up l
       items_comes item caps (suc n) cell end {p} {left = left} e up l =
           let size = item_size (cells_of ts) item in
-          then_comes (take_item ts item caps cell p) (λ q. take_items ts item caps size n (cell + size) q)
-          (item_comes item caps cell (cell + size) refl
-          (λ m. above_append (cell + size) _ (left m) (items_above ms ab item caps m n (cell + size) size)
+          then_comes _ (λ q. take_items ts item caps size n (cell + size) q)
+          (item_comes item caps cell _ refl
+          (λ m. above_append _ _ _ (items_above ms ab item caps m n _ size)
           (above_less (cell + size) end _ (omega arith) (up m)))
           (left_ap (λ m s. append_assoc (item_slots ms item caps m cell) _ (left m)) l))
           (λ q done' l'. items_comes item caps n (cell + size) end (grind arith) up l')
@@ -232,11 +232,11 @@ module _ (total : List ℤ → List Slot) (Holds : ℕ → List Slot → Progres
             let le : n * size ≤ capacity_of f.count * size = mul-le-mul_right {m = n} {n = capacity_of f.count} size (elements_fit f.count old) in
             let more : cell + n * size ≤ end = omega (arith, field_size cs d.fields i f) in
             if_comes b (take_items ts f.item caps size n cell p) (λ m. times n (item_slots ms f.item caps m) cell size) (omega arith) up
-            (λ l. comes_less _ more up (items_comes f.item caps n cell (cell + n * size) refl (λ m. above_less _ end _ more (up m)) l))
+            (λ l. comes_less _ more up (items_comes f.item caps n cell _ refl (λ m. above_less _ end _ more (up m)) l))
             (left_ap (λ m s.
             let now = numbers_of cs d m base in
             let h : (j : ℕ) → IsEarlier d.fields i j → now j ≡ old j = λ j x. own_same cs d base i cell j p.numbers m here s x in
-            rw (pairs_cells _ _ pairs, there_same d.fields i v f.since old now h f.test sound.test, elements_same d.fields i old now h f.count sound.count)) l)
+            rw (pairs_cells _ _ pairs, there_same _ i v _ old now h f.test sound.test, elements_same d.fields i old now h f.count sound.count)) l)
 
         fields_comes : (i cell end : ℕ) (fs : List Field) {p : Progress} {done : List Slot} {left : List ℤ → List Slot}
             → AreSoundFields d.fields i fs → cell ≡ place_of (cells_of ts) d.fields 0 base d.fields i → drop i d.fields ≡ fs
@@ -250,13 +250,13 @@ module _ (total : List ℤ → List Slot) (Holds : ℕ → List Slot → Progres
             omega (arith, length-append (field_cells cs d.fields i f) (cells_from cs d.fields (suc i) fs)) in
             let there : next ≡ place_of cs d.fields 0 base d.fields (suc i) =
             omega (arith, place_next cs d.fields 0 base d.fields i f fs is, ap (λ k. length (field_cells cs d.fields k f)) (zero_plus i)) in
-            then_comes (take_field ts d v base i cell f p) (λ q. take_fields ts d v base (suc i) next fs q) (field_comes i cell next f sound.0 here refl
+            then_comes _ (λ q. take_fields ts d v base (suc i) next fs q) (field_comes i cell next f sound.0 here refl
             (λ m. above_append next _ (left m) (fields_above ms ab d.fields v (own m) m (suc i) next fs) (above_less next end _ (omega arith) (up m)))
             (left_ap (λ m s.
             ap (λ cs. (field_slots ms d.fields v (own m) m i cell f
             ++ slots_from ms d.fields v (own m) m (suc i) (cell + length (field_cells cs d.fields i f)) fs) ++ left m) (pairs_cells ts ms pairs)
             ∙ append_assoc (field_slots ms d.fields v (own m) m i cell f) _ (left m)) l))
-            (λ q done' l'. fields_comes (suc i) next end fs sound.1 there (drop_next d.fields i f fs is) e' up l')
+            (λ q done' l'. fields_comes (suc i) next end fs sound.1 there (drop_next _ i f fs is) e' up l')
 
         -- reading a description's slots is taking it
         pub desc_comes : (end : ℕ) {p : Progress} {done : List Slot} {left : List ℤ → List Slot} → IsSound d
@@ -276,7 +276,7 @@ module _ (total : List ℤ → List Slot) (Holds : ℕ → List Slot → Progres
             rw (
               pairs_cells ts ms pairs,
               hold_same d.fields (length d.fields) v (numbers_of cs d q.numbers base) (numbers_of cs d m base)
-                  (λ j x. own_same cs d base (length d.fields) end j q.numbers m last s x) d.validate sound.validate,
+                  (λ j x. own_same cs d base (length d.fields) end j q.numbers m last s x) _ sound.validate,
             )) l'))
 
     pub pairs_first : (ds : List Desc) → AreSound ds → (k : ℕ) → k ≤ length ds → Pairs (takers ds k) (meanings ds k)
@@ -285,8 +285,7 @@ module _ (total : List ℤ → List Slot) (Holds : ℕ → List Slot → Progres
     pairs_first ds sound (suc k) le =
         let pairs : Pairs (takers ds k) (meanings ds k) = pairs_first ds sound k (omega arith) in
         let d = get_or ds k no_desc in
-        pairs_append (takers ds k) (meanings ds k) (taker_of (takers ds k) d) (meaning (meanings ds k) d) pairs
-        (rw (sym (pairs_cells (takers ds k) (meanings ds k) pairs)))
+        pairs_append _ _ _ _ pairs (rw (sym (pairs_cells _ _ pairs)))
         (record { takes = λ cell end p done left e up l. desc_comes _ _ pairs (meanings_above ds k) d d.version cell end (sound k (omega arith)) e up l })
 
     -- the same with all structures of a set, from the front on
@@ -294,7 +293,7 @@ module _ (total : List ℤ → List Slot) (Holds : ℕ → List Slot → Progres
         → ((m : List ℤ) → total m ≡ desc_slots (meanings ds (length ds)) d v m base) → Holds base [] p
         → Comes (base + length (desc_cells (cells_of (takers ds (length ds))) d)) (λ m. []) (take_desc (takers ds (length ds)) d v base p)
     set_desc_comes ds structs d v base p sound is h =
-        desc_comes _ _ (pairs_first ds structs (length ds) (omega arith)) (meanings_above ds (length ds)) d v base _ sound refl
+        desc_comes _ _ (pairs_first ds structs _ (omega arith)) (meanings_above ds _) d v base _ sound refl
         (λ m. above_none _) (record { split = λ m s. is m ∙ sym (append-nil (desc_slots (meanings ds (length ds)) d v m base)); holds = h })
 
 -- ---- what the reader of a body leaves: the bytes from its offset on, also if a unit is invalid
@@ -346,6 +345,6 @@ pub desc_leaves : (structs : List Desc) (sound : AreSound structs) (d : Desc) (v
 desc_leaves structs sound d v base p good =
     let total : List ℤ → List Slot = λ m. desc_slots (meanings structs (length structs)) d v m base in
     let none : p.place - p.place ≡ 0 = omega arith in
-    let c = set_desc_comes total (Holds p.place p.rest) (Fails p.place p.rest) (keeping p.place p.rest total) structs sound d v base p good (λ m. refl)
+    let c = set_desc_comes total _ (Fails p.place p.rest) (keeping p.place p.rest total) _ sound d v base p good (λ m. refl)
     (record { from = omega arith; is = rw none refl }) in
     leaves p.place p.rest total _ (λ m. []) _ c.comes

@@ -236,11 +236,11 @@ module _ (sides : Sides) where
         → (body r r' : List ℕ) → Spells numbers' (NewSlots f) body → body ++ r' ≡ zeroed numbers (OldSlots e) ++ r → ⊥
     clash_refuses e f clash known known' body r r' spells h =
         let d = clash.constants in
-        let there_is' = known_there ns b.fields w numbers' at' f known' clash.rest' (newer sides) _ in
+        let there_is' = known_there ns b.fields w numbers' at' f known' clash.rest' _ _ in
         let one : IsSingle (Equal d.kind d.value) e.field.count = rw d.item at (old e.index e.field known.field).single in
         let one' : IsSingle (Equal d.kind d.other) f.field.count = rw d.item' at (named f.index f.field known'.field).single in
         d.differ (constants_same d.kind d.value d.other _ _ _ _ (counted e.index a.fields) (counted f.index b.fields) _ _ _ _ one one'
-        (known_there ms a.fields v numbers at e known clash.rest (older sides) _) there_is' body r r' (rw d.item' at spells) (rw d.item at h))
+        (known_there ms a.fields v numbers at e known clash.rest _ _) there_is' body r r' (rw d.item' at spells) (rw d.item at h))
 
     pub entries_clash : (es fs : List Entry) (p i : ℕ) → Clashes two es fs → State p i es fs → (body r r' : List ℕ) → Spells numbers' (all_new fs) body
         → body ++ r' ≡ zeroed numbers (all_old es) ++ r → ⊥

@@ -111,12 +111,12 @@ module _ (sides : Sides) where
         → FitCells (desc_cells (news sides) b) (carry_from cs (olds sides) (news sides) numbers (older sides) v w at b.fields 0 b.fields all)
     fields_fit good h = by_fields sides _ (λ i p gs es fs zs. DefaultsGood b.fields i gs → FitCells (cells_from (news sides) b.fields i gs) zs) (λ i p good. tt)
         (λ i p g gs es fs zs lt more good.
-        let here = good_item (news sides) below' g.item _ _ (λ j l. (table.rows j l).good) lt good.0 in
+        let here = good_item _ below' g.item _ _ (λ j l. (table.rows j l).good) lt good.0 in
         fit_append _ _ _ _ (fit_defaults _ (good_times _ _ 0 0 here)) (more good.1))
         (λ i p g gs rest e es fs zs lt h more good.
         let q = fit_pair e _ h in
         fit_append _ _ _ _ (fit_items _ g.item _ _ e.field.default g.default _ _ _ 0 0 0 0 _ (if_least _ _ _ (elements_fit e.field.count (older sides)))
-        q.low lt q.structs (good_item (news sides) below' g.item _ _ (λ j l. (table.rows j l).good) lt good.0) q.fits q.follow) (more good.1))
+        q.low lt q.structs (good_item _ below' g.item _ _ (λ j l. (table.rows j l).good) lt good.0) q.fits q.follow) (more good.1))
         0 0 _ all (fields_below _ _ (λ j f e. (new j f e).item)) h good
 
 -- ---- validations
@@ -129,7 +129,7 @@ module _ (sides : Sides) (ok : ℕ → Bool) where
       → list_any (λ s. same_reduced o n (reduced v s) r) ss ≡ true → truth_of r w (newer sides) no_parent ≡ true
   some_same r [] named agree holds h = absurd (cc)
   some_same r (s ∷ ss) named agree holds h =
-      let p = and_parts (truth s v _ no_parent) (all_hold ss v (older sides)) holds in
+      let p = and_parts (truth s v _ no_parent) (all_hold ss v _) holds in
       either_of (same_reduced o n (reduced v s) r) (list_any (λ s. same_reduced o n (reduced v s) r) ss) h
       (λ is. rw (← (same_reduced_truth o n ok (older sides) (newer sides) no_parent no_parent v w agree (reduced v s) r named is), reduced_holds) p.0)
       (λ k. some_same r ss named agree p.1 k)

@@ -134,7 +134,7 @@ module _ (sides : Sides) where
       record {
         plain = s;
         matched = m;
-        there_is = known_there ms a.fields v numbers at e met.known (rest_none o n e.rest f.rest rest m.rest) (older sides) _;
+        there_is = known_there ms a.fields v numbers at e met.known (rest_none o n e.rest f.rest rest m.rest) _ _;
         rest = rest;
       }
 
@@ -192,10 +192,10 @@ module _ (sides : Sides) where
   items_read i j caps caps' d d' (suc m) most zero p p' step step' x y pair constant le le' fits held = absurd (omega arith)
   items_read i j caps caps' d d' (suc m) zero (suc most') p p' step step' x y pair constant le le' fits held = absurd (omega arith)
   items_read i j caps caps' d d' zero most (suc most') p p' step step' x y pair constant le le' fits held =
-      let first : Settled [] y (item_cells (news sides) j caps' d') (fallback j d') = rw (same_defaults (news sides) j [] caps' d') (settled_defaults [] y _) in
+      let first : Settled [] y (item_cells (news sides) j caps' d') (fallback j d') = rw (same_defaults _ j [] caps' d') (settled_defaults [] y _) in
       let more =
       items_read i j caps caps' d d' zero most most' p (p' + step') step step' x _ pair constant (omega arith) (omega arith) fits (holds_right _ held) in
-      let size = defaults_size (item_cells (news sides) j [] d') ∙ size_same (news sides) j [] d' ∙ sym (size_same (news sides) j caps' d') in
+      let size = defaults_size (item_cells (news sides) j [] d') ∙ size_same _ j [] d' ∙ sym (size_same _ j caps' d') in
       record { carries = carries_nil; settled = settled_append size first refl more.settled }
   items_read i j caps caps' d d' (suc m) (suc most) (suc most') p p' step step' x y pair constant le le' fits held =
       let sized = item_sized i j d' x pair.low' in

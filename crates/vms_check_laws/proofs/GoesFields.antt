@@ -198,7 +198,7 @@ module _ (structs : List Pairer) (cs : List Carrier) (ms : List Meaning) (y : Li
 
         with_present : (i' p' : ℕ) (gs : List Field) → FieldsBelow k' gs → With i' p' gs (news i' p' gs) (carry_on i' gs (entry ∷ later))
         with_present i' p' [] below = old_alone i p p' f fs (more i' p' [] tt)
-        with_present i' p' (g ∷ gs) below = by_new (presence w g.test g.since) (with_present (suc i') (p' + size_at' i' g) gs below.1) where
+        with_present i' p' (g ∷ gs) below = by_new _ (with_present (suc i') (p' + size_at' i' g) gs below.1) where
           by_new : (o : Option (Option Formula))
               → With (suc i') (p' + size_at' i' g) gs (news (suc i') (p' + size_at' i' g) gs) (carry_on (suc i') gs (entry ∷ later))
               → With i' p' (g ∷ gs) (entry_of i' p' g o ++ news (suc i') (p' + size_at' i' g) gs)

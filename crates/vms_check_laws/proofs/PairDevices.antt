@@ -275,7 +275,7 @@ module _ (old new : Set) (good_old : WellFormed old) (good_new : WellFormed new)
   unfolding device_partners
   device_paired =
       record {
-        long = omega (arith, own.long, all_long old (named_partners old new e) d.subs sized, length-append ps qs, length-append xs (flat_map old_cells d.subs));
+        long = omega (arith, own.long, all_long old _ d.subs sized, length-append ps qs, length-append xs (flat_map old_cells d.subs));
         kinds = λ c k f. kinds c k f (before_or_behind _ c);
         once = once_append ps qs own.once once_in (λ b c k lt behind f g.
             let z = sub_pair c k behind g in omega (arith, own_pair b k lt f, sub_place_up new (own_cells new e) e.subs z.pair.f.number));

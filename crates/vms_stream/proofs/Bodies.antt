@@ -2,14 +2,14 @@
 -- slot is what is seen of its unit.
 use Rattle.vms_stream.proofs.{Finding.advances, Finding.IsFramed, Finding.behind_each, Judging.solid, Facade.judge_found, Facade.by_row}
 use Rattle.vms_stream.proofs.Facade.{owes, State, Inside, image_at, part_at, known_at, after, by_state, ◌≡◌, if_both, ℕ, length, take, Option, Some}
-use Rattle.vms_stream.proofs.Facade.{None, ℤ, refl, ap, ◌∙◌, Bool, true, false, not, nat_lt, ◌&&◌, if◌then◌else◌, zero, suc, ◌+◌, ◌<◌}
-use Rattle.vms_stream.proofs.Facade.{List, [], ◌∷◌, get_or, drop, slice_set, Ok, Err, sym, arith, slice_get, drop-append_seam, Kind, width, value_of}
-use Rattle.vms_stream.proofs.Facade.{Reason, is_truth, is_above, exceeds, same_number, is_bad_bool, Slot, desc_slots, meanings, desc_cells, Progress, Taken}
-use Rattle.vms_stream.proofs.Facade.{refuse, on, if_whole, take_value, take_slot, Refusal, take_desc, takers, cells_of, Piece, Number, Constant, Filler}
-use Rattle.vms_stream.proofs.Facade.{raw_same, bad_same, raw, Field, Due, AfterFields, due_field, rules_hold, Whole, Cut, needs, Found, unit_at, Seen, Good}
-use Rattle.vms_stream.proofs.Facade.{Bad, Short, seen, seen_in, seen_by, Known, beyond, skipped, first_row, alone, first_of, put, taken_by, Set, Device, Desc}
-use Rattle.vms_stream.proofs.Facade.{Image, Verdict, Faulty, Reading, Refused, reading_after, part_slots, reading_on, at_set, set_twice, one_unit, none_taken}
-use Rattle.vms_stream.proofs.Facade.{IsSound, AreSound, same_refl, drop_next, Comes, set_desc_comes, step, Walks, Is, steps_keep, cut_in, Grammar, judge}
+use Rattle.vms_stream.proofs.Facade.{None, ℤ, refl, ap, ◌∙◌, Bool, true, false, not, nat_lt, ◌&&◌, if◌then◌else◌, zero, suc, ◌<◌, List}
+use Rattle.vms_stream.proofs.Facade.{[], ◌∷◌, get_or, drop, slice_set, Ok, Err, sym, arith, slice_get, drop-append_seam, Kind, width, value_of, Reason}
+use Rattle.vms_stream.proofs.Facade.{is_truth, is_above, exceeds, same_number, Slot, desc_slots, meanings, Progress, Taken, refuse, on, take_value, take_slot}
+use Rattle.vms_stream.proofs.Facade.{Refusal, take_desc, takers, Piece, Number, Constant, Filler, raw_same, bad_same, raw, Field, Due, AfterFields, due_field}
+use Rattle.vms_stream.proofs.Facade.{rules_hold, Whole, Cut, needs, Found, unit_at, Seen, Good, Bad, Short, seen, seen_in, seen_by, Known, beyond, skipped}
+use Rattle.vms_stream.proofs.Facade.{first_row, alone, first_of, put, taken_by, Set, Device, Desc, Image, Verdict, Faulty, Reading, Refused, reading_after}
+use Rattle.vms_stream.proofs.Facade.{part_slots, reading_on, at_set, set_twice, one_unit, none_taken, IsSound, AreSound, same_refl, drop_next, Comes}
+use Rattle.vms_stream.proofs.Facade.{set_desc_comes, step, Walks, Is, steps_keep, cut_in, Grammar, judge}
 use Rattle.vms_spec.specs.Layout.{Number as NumberSlot, Constant as ConstantSlot, Filler as FillerSlot, Rule as RuleSlot}
 use Rattle.vms_spec.specs.Readings.{Over as IsOver}
 use Rattle.vms_bodies.proofs.SpellLaws.{after as step_after, Refuses}
@@ -82,7 +82,7 @@ module _ (set : Set) (names : List (List ℕ)) (state : State) (d : Device) (ima
 
   module _ (e : slice_get set.devices k ≡ Some d) (lt : k < length state.images) where
     part_now : (numbers : List ℤ) (i : ℕ) → part_slots set (slice_get set.devices k) (image_at (in_body numbers i)) part ≡ total numbers
-    part_now numbers i = rw (e, at_set state.images k (now numbers) lt)
+    part_now numbers i = rw (e, at_set _ k _ lt)
 
     -- the verdict, if this is due
     abbrev verdict : ℕ → Progress → Due → Found → Verdict State
@@ -100,17 +100,16 @@ module _ (set : Set) (names : List (List ℕ)) (state : State) (d : Device) (ima
 
     -- by the slots that are left
     by_slots : (i : ℕ) (p : Progress) (slots : List Slot) → drop i (total p.numbers) ≡ slots → judge g (in_body p.numbers i) p.rest ≡ judged i p slots
-    by_slots i p slots h = rw (same i p (unit_at (g.due (in_body p.numbers i)) p.rest)) (ap (judged i p) (ap (drop i) (part_now p.numbers i) ∙ h))
+    by_slots i p slots h = rw (same i p _) (ap (judged i p) (ap (drop i) (part_now _ i) ∙ h))
 
     so : (i : ℕ) (p : Progress) (slots : List Slot) → drop i (total p.numbers) ≡ slots → goes_on i p ≡ reads p (judged i p slots)
-    so i p slots h = cc ((one_unit (judge g) (advances g (λ s. solid set s s.spot)) (in_body p.numbers i) p.place p.rest), by_slots i p slots h)
+    so i p slots h = cc ((one_unit _ (advances g (λ s. solid set s s.spot)) _ _ p.rest), by_slots i p slots h)
 
     -- if no slot is skipped, one more slot is passed with the next unit
     counted : (numbers : List ℤ) (i : ℕ) (slots : List Slot) → drop i (total numbers) ≡ slots → skipped slots ≡ 0
         → beyond i (part_at set (in_body numbers i) (Inside k id part i)) ≡ suc i
     counted numbers i slots h z =
-        let f : skipped (drop i (part_slots set (slice_get set.devices k) (image_at (in_body numbers i)) part)) ≡ 0 =
-        rw (part_now numbers i) (ap skipped h ∙ z) in
+        let f : skipped (drop i (part_slots set (slice_get set.devices k) (image_at (in_body numbers i)) part)) ≡ 0 = rw (part_now _ i) (ap skipped h ∙ z) in
         omega arith
 
     -- what is taken, as the judge resumes from there
@@ -133,7 +132,7 @@ module _ (set : Set) (names : List (List ℕ)) (state : State) (d : Device) (ima
 
     put_on : (numbers : List ℤ) (i c : ℕ) (kind : Kind) (z : ℤ) → beyond i (part_at set (in_body numbers i) (Inside k id part i)) ≡ suc i
         → after set (in_body numbers i) (Number c kind z) ≡ in_body (slice_set numbers c z) (suc i)
-    put_on numbers i c kind z n = rw (n, at_set state.images k (now numbers) lt, set_twice state.images k (now numbers) (now (slice_set numbers c z)))
+    put_on numbers i c kind z n = rw (n, at_set _ k _ lt, set_twice _ k _ _)
 
     number_is : (i : ℕ) (p : Progress) (c : ℕ) (kind : Kind) (caps : List ℕ) (more : List Slot) → drop i (total p.numbers) ≡ NumberSlot c kind caps ∷ more
         → goes_on i p ≡ goes i (take_slot (NumberSlot c kind caps) p)
@@ -189,24 +188,24 @@ module _ (set : Set) (names : List (List ℕ)) (state : State) (d : Device) (ima
     skips : (i : ℕ) (p : Progress) (slot : Slot) (more : List Slot) → drop i (total p.numbers) ≡ slot ∷ more → skipped (slot ∷ more) ≡ suc (skipped more)
         → judged i p (slot ∷ more) ≡ judged i p more → goes_on i p ≡ goes_on (suc i) p
     skips i p slot more h z v =
-        let next = drop_next (total p.numbers) i slot more h in
+        let next = drop_next _ i slot more h in
         let all = part_slots set (slice_get set.devices k) (image_at (in_body p.numbers i)) part in
-        let a : skipped (drop i all) ≡ suc (skipped more) = rw (part_now p.numbers i) (ap skipped h ∙ z) in
-        let b : skipped (drop (suc i) all) ≡ skipped more = rw (part_now p.numbers i) (ap skipped next) in
+        let a : skipped (drop i all) ≡ suc (skipped more) = rw (part_now _ i) (ap skipped h ∙ z) in
+        let b : skipped (drop (suc i) all) ≡ skipped more = rw (part_now _ i) (ap skipped next) in
         so i p (slot ∷ more) h ∙ ap (reads p) (v ∙ judged_same i (suc i) p more (omega arith)) ∙ sym (so (suc i) p more next)
 
     walk : (i : ℕ) (p : Progress) (slots : List Slot) → drop i (total p.numbers) ≡ slots → goes_on i p ≡ step total goes_on goes_on is_refused slots i p
     walk i p [] h = refl
     walk i p (NumberSlot c kind caps ∷ more) h = number_is i p c kind caps more h
     walk i p (ConstantSlot kind z ∷ more) h = constant_is i p kind z more h
-    walk i p (FillerSlot zero ∷ more) h = cc (skips i p (FillerSlot 0) more h refl refl, none_taken p)
+    walk i p (FillerSlot zero ∷ more) h = cc (skips i p _ more h refl refl, none_taken p)
     walk i p (FillerSlot (suc n) ∷ more) h = filler_is i p n more h
-    walk i p (RuleSlot true ∷ more) h = skips i p (RuleSlot true) more h refl refl
-    walk i p (RuleSlot false ∷ more) h = so i p (RuleSlot false ∷ more) h
+    walk i p (RuleSlot true ∷ more) h = skips i p _ more h refl refl
+    walk i p (RuleSlot false ∷ more) h = so i p _ h
 
     -- the judge walks the slots as the structural reader does, for every description
     pub judge_walks : Walks total goes_on goes_on is_refused
-    judge_walks = record { walks = λ i p. walk i p (drop i (total p.numbers)) refl }
+    judge_walks = record { walks = λ i p. walk i p _ refl }
 
     -- ---- a whole body
 
@@ -221,7 +220,7 @@ module _ (set : Set) (names : List (List ℕ)) (state : State) (d : Device) (ima
     body_ends i p cell (Err e) c = c.comes
     body_ends i p cell (Ok q) c =
         let done = c.comes.0 in
-        (length done, ap (drop (length done)) (c.comes.1.split q.numbers (same_refl cell q.numbers)) ∙ drop-append_seam done [], c.comes.1.holds)
+        (length done, ap (drop (length done)) (c.comes.1.split q.numbers (same_refl cell _)) ∙ drop-append_seam done [], c.comes.1.holds)
 
     -- a body whose slots are those of a description is read as the description is taken
     pub body_read : AreSound set.structs → (desc : Desc) (v base : ℕ) → IsSound desc
@@ -229,8 +228,7 @@ module _ (set : Set) (names : List (List ℕ)) (state : State) (d : Device) (ima
         → (p : Progress) → Reads 0 p (take_desc (takers set.structs (length set.structs)) desc v base p)
     body_read structs desc v base sound is p =
         let n = length set.structs in
-        body_ends 0 p (base + length (desc_cells (cells_of (takers set.structs n)) desc)) (take_desc (takers set.structs n) desc v base p)
-        (set_desc_comes total _ _ (steps_keep total goes_on goes_on is_refused judge_walks (goes_on 0 p)) set.structs structs desc v base p sound is refl)
+        body_ends 0 p _ _ (set_desc_comes total _ _ (steps_keep total goes_on goes_on is_refused judge_walks _) _ structs desc v base p sound is refl)
 
     -- ---- what follows the fields
 

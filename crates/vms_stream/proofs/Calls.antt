@@ -3,13 +3,13 @@ use Rattle.vms_stream.proofs.{Finding.next_at, Steps.Line, Steps.mark_never, Ste
 use Rattle.vms_stream.proofs.Facade.{JudgedLaw, NextLaw, SeenLaw, ◌≡◌, if_both, if_so, ℕ, ◌+◌, List, ◌∷◌, length, get_or, Option, Some, None}
 use Rattle.vms_stream.proofs.Facade.{refl, ap, ◌∙◌, Bool, true, false, not, nat_lt, ◌==◌, ◌&&◌, if◌then◌else◌, [], ◌||◌, zero, suc}
 use Rattle.vms_stream.proofs.Facade.{◌++◌, take, both_ways, not-true, or-not_self, LONGEST_NAME, Reason, Set, Image, number_at, bytes_at, Verdict, Faulty}
-use Rattle.vms_stream.proofs.Facade.{Over, Piece, Configuration, Long, Head, End, Start, Mark, Number, Constant, Filler, SubHead, Foot, if_true, Tail, Unknown}
-use Rattle.vms_stream.proofs.Facade.{Footed, Bare, Known, Due, Between, AfterFields, begins_next, rules_hold, AMagic, AVersion, Field, AfterEnd, Nothing}
-use Rattle.vms_stream.proofs.Facade.{is_foot, is_next, due_field, Found, Whole, Cut, needs, between_at, unit_at, sub_at, behind_at, cut_in, first_of}
-use Rattle.vms_stream.proofs.Facade.{is_between, wants_foot, Row, first_row, alone, asking, other_constant, large_count, bad_foot, judge, judge_found, by_row}
-use Rattle.vms_stream.proofs.Facade.{owes, State, Free, Inside, due_by, known_at, slots_at, after, by_state, Spot, Before, Headed, Ended, open_at, width, Slot}
-use Rattle.vms_stream.proofs.Facade.{Bad, seen_in, seen_by, judge_seen, ask, begins_section}
-use Rattle.vms_stream.specs.{State.Over as IsOver}
+use Rattle.vms_stream.proofs.Facade.{Over, Piece, Configuration, Long, Head, End, Start, Mark, Number, Constant, Filler, Foot, if_true, Tail, Unknown, Footed}
+use Rattle.vms_stream.proofs.Facade.{Bare, Known, Due, Between, AfterFields, begins_next, rules_hold, AMagic, Field, is_foot, is_next, due_field, Found, Whole}
+use Rattle.vms_stream.proofs.Facade.{Cut, needs, between_at, unit_at, sub_at, behind_at, cut_in, first_of, is_between, wants_foot, Row, first_row, alone}
+use Rattle.vms_stream.proofs.Facade.{asking, other_constant, large_count, bad_foot, judge, judge_found, by_row, owes, State, Free, Inside, due_by, known_at}
+use Rattle.vms_stream.proofs.Facade.{slots_at, after, by_state, Spot, Before, Headed, Ended, open_at, width, Slot, Bad, seen_in, seen_by, judge_seen, ask}
+use Rattle.vms_stream.proofs.Facade.{begins_section}
+use Rattle.vms_stream.specs.State.{Over as IsOver}
 use Rattle.std.proofs.Math.Bool.{and-false}
 use Rattle.vms_spec.specs.Layout.{Number as NumberSlot, Constant as ConstantSlot, Filler as FillerSlot, Rule as RuleSlot}
 use Rattle.vms_spec.specs.declared.Reason.TheVariants as reasons
@@ -81,10 +81,10 @@ module _ (set : Set) (names : List (List ℕ)) (machine : Option (List ℕ)) (im
     pub next_judged : due_by set inner (Inside k id part n) ≡ AfterFields k t → rules_hold (slots_at set inner (Inside k id part n)) ≡ true
         → judge (by_state set names) inner rest ≡ judge (by_state set names) outer rest
     next_judged due held =
-        if_true (rules_hold (slots_at set inner (Inside k id part n)))
-        (judge_found (by_state set names) inner rest (unit_at (due_by set inner (Inside k id part n)) rest)) _ held
+        if_true _
+        _ _ held
         ∙ same (unit_at (due_by set inner (Inside k id part n)) rest) ∙ ap (λ d. verdict d (unit_at d rest)) due ∙ ap (verdict (AfterFields k t)) unit_is
-        ∙ between_outer (get_or rest 0 0) (mark_outer (get_or rest 0 0))
+        ∙ between_outer _ (mark_outer (get_or rest 0 0))
 
 -- a row of this section, or none
 abbrev Of : Option ℕ → Line → Type 0
@@ -151,11 +151,11 @@ module _ (k : Known) where
   unfolding behind_at
   behind_of j t b rest h =
       let d = AfterFields j t in
-      if_so (OfOpen d) (b == 0x05) (sub_at rest (get_or rest 1 0)) _ (λ _. whole d rest (6 + get_or rest 1 0) (SubHead _ _) tt)
+      if_so (OfOpen d) (b == 0x05) (sub_at rest _) _ (λ _. whole d rest _ _ tt)
       (λ e. if_so (OfOpen d) (is_foot t b) (if b == 0x7e then needs 5 rest (Foot (number_at 4 1 rest)) else needs 1 rest (Mark b)) (between_at false b rest)
       (λ f. if_so (OfOpen d) (b == 0x7e) (needs 5 rest (Foot (number_at 4 1 rest))) (needs 1 rest (Mark b))
       (λ _. whole d rest 5 (Foot (number_at 4 1 rest)) (two_rows _ false reasons.BadFooter reasons.BadFooter))
-      (λ g. whole d rest 1 (Mark b) (mark_of j t b f g)))
+      (λ g. whole d rest 1 _ (mark_of j t b f g)))
       (λ f. let wrong : not (false || false) ≡ false = rw (e, f) at h in cc))
 
   after_of : (j : ℕ) (t : Tail) (rest : List ℕ) → begins_next t rest ≡ false → OfOpen (AfterFields j t) (unit_at (AfterFields j t) rest)
@@ -189,11 +189,11 @@ module _ (k : Known) where
 concerned_at : (set : Set) (s : State) (p : Spot) (rest : List ℕ) → s.spot ≡ p → begins_section (due_by set s p) rest ≡ false
     → Concerned (known_at set s) (due_by set s p) rest
 concerned_at set s (Inside k id part n) rest e b = inside (known_at set s) s.tail k (slots_at set s (Inside k id part n)) rest b
-concerned_at set s Before rest e b = outside (known_at set s) AMagic rest (ap open_at e) (λ o. refl)
-concerned_at set s Headed rest e b = outside (known_at set s) AVersion rest (ap open_at e) (λ o. refl)
-concerned_at set s (Free first c) rest e b = outside (known_at set s) (Between first c) rest (ap open_at e) (λ o. refl)
-concerned_at set s Ended rest e b = outside (known_at set s) AfterEnd rest (ap open_at e) (λ o. refl)
-concerned_at set s IsOver rest e b = outside (known_at set s) Nothing rest (ap open_at e) (λ o. refl)
+concerned_at set s Before rest e b = outside _ AMagic rest (ap open_at e) (λ o. refl)
+concerned_at set s Headed rest e b = outside _ _ rest (ap open_at e) (λ o. refl)
+concerned_at set s (Free first c) rest e b = outside _ _ rest (ap open_at e) (λ o. refl)
+concerned_at set s Ended rest e b = outside _ _ rest (ap open_at e) (λ o. refl)
+concerned_at set s IsOver rest e b = outside _ _ rest (ap open_at e) (λ o. refl)
 
 -- ---- the judge
 
@@ -212,7 +212,7 @@ module _ (set : Set) (names : List (List ℕ)) (s : State) (rest : List ℕ) whe
 
   by_found : (f : Found) → OfOpen k d f → cut_in d rest k.section ≡ k.section → owes d rest ≡ true
       → judge_found (by_state set names) s rest f ≡ judge_seen k.section (ask set names s) rest (seen_in d k f)
-  by_found (Whole x n) h c o = rw (first_append (alone d k x) (asking set names k x)) (by_line x n (first_row (alone d k x)) h)
+  by_found (Whole x n) h c o = rw (first_append _ _) (by_line x n _ h)
   by_found Cut h c o = rw (o, c)
 
 pub judged_holds : JudgedLaw

@@ -63,10 +63,10 @@ module _ {set : Set} (c : Section set) (image : Image) (part : Option ℕ) (n : 
   knows = record { came = c.state.came; section = Some c.k; id = c.id; image = image }
 
   pub known_is : known_at set (stands c image part n) ≡ knows
-  known_is = rw (at_set c.state.images c.k image c.room)
+  known_is = rw (at_set _ c.k image c.room)
 
   slots_are : slots_at set (stands c image part n) (Inside c.k c.id part n) ≡ drop n (part_slots set (Some c.device) image part)
-  slots_are = rw (c.there, at_set c.state.images c.k image c.room)
+  slots_are = rw (c.there, at_set _ c.k image c.room)
 
   -- if all slots are passed, what is due comes after the fields
   pub due_is : drop n (part_slots set (Some c.device) image part) ≡ []
@@ -82,8 +82,7 @@ module _ {set : Set} (c : Section set) (image : Image) (part : Option ℕ) (n : 
   -- the state after a subsection head
   pub sub_after : (j : ℕ) (name : List ℕ) (v : ℕ) → find_sub 0 c.device.subs name ≡ Some j
       → after set (stands c image part n) (SubHead name v) ≡ stands c (record image { came = slice_set image.came j (Some v) }) (Some j) 0
-  sub_after j name v named =
-      rw (c.there, named, at_set c.state.images c.k image c.room, set_twice c.state.images c.k image (record image { came = slice_set image.came j (Some v) }))
+  sub_after j name v named = rw (c.there, named, at_set _ c.k image c.room, set_twice _ c.k image _)
 
 -- what comes after the fields: a subsection head, or the end of the section
 pub data Behind (r : Run) (c : Section r.set) (image : Image) (place : ℕ) (rest : List ℕ) : Type 0 where
@@ -166,14 +165,14 @@ module _ (r : Run) (good : IsGood r.set) (c : Section r.set) (long : length c.st
     base = part_place r.set c.device j
 
     set_at : slice_get next j ≡ Some (Some w)
-    set_at = at_set so_far j (Some w) (slice_get_within so_far j None new)
+    set_at = at_set so_far j _ (slice_get_within so_far j None new)
 
     sub_before : (m : List ℤ) (body more : List ℕ) → rest ≡ head ++ (body ++ more) → Spells m (sub_slots r.set s w m base) body
         → Stays r.set c.device so_far n m → SubsRead r c v next m ((place + length head) + length body) more → SubsRead r c v so_far n place rest
     sub_before m body more spelled spells stays q =
         let b = beside_back so_far q.left q.all j w q.beside new in
         let last : Spells q.numbers (sub_slots r.set s w q.numbers base) body =
-        its_spelled r.set s.desc w base good.structs (good.subs c.k j c.device s c.there there) m q.numbers body (q.stays.parts j s w there set_at) spells in
+        its_spelled r.set s.desc w base good.structs (good.subs c.k j c.device s c.there there) m _ body (q.stays.parts j s w there set_at) spells in
         record {
           all = q.all;
           numbers = q.numbers;
@@ -235,7 +234,7 @@ module _ (r : Run) (good : IsGood r.set) (c : Section r.set) (long : length c.st
   subs_found zero part i so_far n place rest done less ok fine h = absurd (omega arith)
   subs_found (suc most) part i so_far n place rest done less ok fine h =
       by (λ part i so_far n place more done' less'. subs_found most part i so_far n place more done' (omega arith))
-      (behind_found c (image_so v so_far n) part i long (versions_long c.device.subs so_far fine.versions) done ok h)
+      (behind_found c _ part i long (versions_long _ so_far fine.versions) done ok h)
     where
       by : FindsSubs (length rest) → Behind r c (image_so v so_far n) place rest → SubsRead r c v so_far n place rest
       by on (ASub j w s more e there new version goes) = sub_goes so_far n j w s place rest there new more ok fine e version on goes

@@ -5,11 +5,11 @@ use Rattle.vms_stream.proofs.Facade.{IsBytes, bytes_rest, Reason, Set, Verdict, 
 use Rattle.vms_stream.proofs.Facade.{Piece, spell, spelled, opened, Due, AfterEnd, Nothing, May, AtMagic, due, holds, reason_of, Front, Why, Fails, Wrong}
 use Rattle.vms_stream.proofs.Facade.{Fault, Owes, cut_in, Advances, reading_on, is_bytes_drop, unit_read, Found, Whole, Cut, unit_at, Grammar, judge}
 use Rattle.vms_stream.proofs.Facade.{judge_found, by_row, owes, reading, by_units, Mirrored, Refuses, Ends, Accepts, IsThere, slice_set, slice_get, length-set}
-use Rattle.vms_stream.proofs.Facade.{length-map, slice_get_within, drop-nil, at_option, Image, default_image, Magic, Version, Configuration, Head, Number}
-use Rattle.vms_stream.proofs.Facade.{Constant, Filler, SubHead, Foot, End, put_version, id_of, device_named, come, part, image, fresh, slots, sub_named, at_set}
-use Rattle.vms_stream.proofs.Facade.{found_is, Field, AfterFields, AtHead, AtEnd, AtNumber, AtConstant, AtSubHead, AtFoot, AtOther, AtNext, due_field}
-use Rattle.vms_stream.proofs.Facade.{rules_hold, first_of, Spot, Before, Headed, Free, Inside, Ended, State, at_start, or_none, open_at, onward, inside}
-use Rattle.vms_stream.proofs.Facade.{slots_at, next_spot, due_by, known_at, after, by_state, Known, beyond, images, known, machine, passed, put_image, tail}
+use Rattle.vms_stream.proofs.Facade.{length-map, slice_get_within, at_option, Image, default_image, Magic, Version, Configuration, Head, Number, Constant}
+use Rattle.vms_stream.proofs.Facade.{Filler, SubHead, Foot, End, put_version, id_of, device_named, come, part, image, fresh, slots, sub_named, at_set, found_is}
+use Rattle.vms_stream.proofs.Facade.{Field, AfterFields, AtHead, AtEnd, AtNumber, AtConstant, AtSubHead, AtFoot, AtOther, AtNext, due_field, rules_hold}
+use Rattle.vms_stream.proofs.Facade.{first_of, Spot, Before, Headed, Free, Inside, Ended, State, at_start, or_none, open_at, onward, inside, slots_at}
+use Rattle.vms_stream.proofs.Facade.{next_spot, due_by, known_at, after, by_state, Known, beyond, images, known, machine, passed, put_image, tail}
 use Rattle.vms_stream.proofs.Finding.{only, Shows, shows, IsSolid, advances, due_solid, field_solid}
 use Rattle.vms_stream.specs.Faults.{Cut as IsCut}
 use Rattle.vms_spec.specs.declared.Reason.TheVariants as reasons
@@ -72,21 +72,20 @@ module _ {S : Type 0} (set : Set) (names : List (List ℕ)) (g : Grammar S) (sol
     on_row x n held w (Some (section, reason)) e = rw (← w.long) (Wrong x section reason held (record { may = w.may; more = drop n rest; there = w.there }) e)
 
     on_found : holds set u ≡ true → (f : Found) → unit_at (due set u) rest ≡ f → Shows (due set u) rest f → Judged u rest (judge_found g s rest f)
-    on_found held (Whole x n) e w = on_row x n held w (g.reason s x) (sym (m.reason_is u s x r w.may))
-    on_found held Cut e w = rw (m.due_is u s r, m.section_is u s r) (by_owes (owes (due set u) rest) refl)
+    on_found held (Whole x n) e w = on_row x n held w _ (sym (m.reason_is u s x r w.may))
+    on_found held Cut e w = rw (m.due_is u s r, m.section_is u s r) (by_owes _ refl)
       where
         by_owes : (b : Bool) → owes (due set u) rest ≡ b
             → Judged u rest (if b then Faulty (cut_in (due set u) rest (opened set u)) reasons.Truncated (length rest) else Over s)
-        by_owes true o =
-            IsCut held (owes_so (due set u) rest o) (λ x w. let k = sym e ∙ ap (unit_at (due set u)) w.there ∙ only (due set u) x w.more w.may in cc)
+        by_owes true o = IsCut held (owes_so _ rest o) (λ x w. let k = sym e ∙ ap (unit_at (due set u)) w.there ∙ only (due set u) x w.more w.may in cc)
         by_owes false o = (held, o, r)
 
     said : IsBytes rest → Judged u rest (judge g s rest)
-    said ok = rw (m.holds_is u s r, m.due_is u s r, m.section_is u s r) (by_holds (holds set u) refl)
+    said ok = rw (m.holds_is u s r, m.due_is u s r, m.section_is u s r) (by_holds _ refl)
       where
         by_holds : (b : Bool) → holds set u ≡ b
             → Judged u rest (if b then judge_found g s rest (unit_at (due set u) rest) else Faulty (opened set u) reasons.Invalid 0)
-        by_holds true h = on_found h (unit_at (due set u) rest) refl (shows (due set u) rest ok)
+        by_holds true h = on_found h _ refl (shows _ rest ok)
         by_holds false h = Fails h
 
     -- ---- the verdict on what is known of the units
@@ -102,13 +101,13 @@ module _ {S : Type 0} (set : Set) (names : List (List ℕ)) (g : Grammar S) (sol
         → judge g s rest ≡ Faulty section reason size
     told _ _ _ ok (Fails f) = rw (m.holds_is u s r, f, m.section_is u s r)
     told _ _ _ ok (IsCut held o never) =
-        verdict Cut held (cut_is (due set u) rest (unit_at (due set u) rest) (shows (due set u) rest ok)
+        verdict Cut held (cut_is _ rest _ (shows _ rest ok)
         (λ x more may e. never x (record { may = may; more = more; there = e })))
-        ∙ rw (m.due_is u s r, m.section_is u s r, owes_true (due set u) rest o)
-    told section reason _ ok (Wrong x _ _ held w taken) = by_reason x w.more (Some (section, reason)) held w.may w.there taken
+        ∙ rw (m.due_is u s r, m.section_is u s r, owes_true _ rest o)
+    told section reason _ ok (Wrong x _ _ held w taken) = by_reason x w.more _ held w.may w.there taken
 
     over_is : IsBytes rest → holds set u ≡ true → owes (due set u) rest ≡ false → judge g s rest ≡ Over s
-    over_is ok held o = by (unit_at (due set u) rest) refl (shows (due set u) rest ok)
+    over_is ok held o = by (unit_at (due set u) rest) refl (shows _ rest ok)
       where
         by : (f : Found) → unit_at (due set u) rest ≡ f → Shows (due set u) rest f → judge g s rest ≡ Over s
         by (Whole x n) e w = let h = owes_true (due set u) rest (rw w.there (may_owe (due set u) x (drop n rest) w.may)) in cc
@@ -173,8 +172,8 @@ module _ {S : Type 0} (set : Set) (names : List (List ℕ)) (g : Grammar S) (sol
         mirrors = m.after_is u t.state x t.mirrors front.1 front.2 front.3;
         reads = cc (
           append_assoc (spelled u) (spell x) rest,
-          unit_read (judge g) (advances g solid) t.state (g.after t.state x) (length (spelled u)) (spell x) rest
-              (by_reason u t.state (spell x ++ rest) t.mirrors x rest None front.1 front.2 refl front.3),
+          unit_read _ (advances g solid) _ _ _ _ rest
+              (by_reason u _ _ t.mirrors x rest None front.1 front.2 refl front.3),
           length-append (spelled u) (spell x),
         );
       }
@@ -187,10 +186,10 @@ module _ {S : Type 0} (set : Set) (names : List (List ℕ)) (g : Grammar S) (sol
           (Accepted n end) refl ok tt r refl h in (w.units, w.ends, w.mirrors);
       ends = λ input n u ok f.
           let t = reaches start u f.rest r f.front in
-          let ok2 = bytes_rest (spelled u) f.rest (subst IsBytes f.whole ok) in (
+          let ok2 = bytes_rest _ f.rest (subst IsBytes f.whole ok) in (
             t.state,
             ap (reading_on (judge g) start 0) f.whole ∙ t.reads
-                ∙ ap (reading_after (reading_from (judge g) (length f.rest)) (length (spelled u)) f.rest) (over_is u t.state f.rest t.mirrors ok2 f.held f.over)
+                ∙ ap (reading_after (reading_from (judge g) (length f.rest)) (length (spelled u)) f.rest) (over_is u _ f.rest t.mirrors ok2 f.held f.over)
                 ∙ ap (λ k. Some (Accepted k t.state)) f.long,
             t.mirrors,
           );
@@ -202,9 +201,9 @@ module _ {S : Type 0} (set : Set) (names : List (List ℕ)) (g : Grammar S) (sol
       refused = λ input place section reason size ok h. says (suc (length input)) [] start 0 input input
           (Refused place section reason size) refl ok tt r refl h;
       faulty = λ input place section reason size ok f.
-          let t = reaches start f.units f.rest r f.front in
+          let t = reaches start _ f.rest r f.front in
           ap (reading_on (judge g) start 0) f.whole ∙ t.reads ∙ ap (reading_after (reading_from (judge g) (length f.rest)) (length (spelled f.units)) f.rest)
-          (told f.units t.state f.rest t.mirrors section reason size (bytes_rest (spelled f.units) f.rest (subst IsBytes f.whole ok)) f.why)
+          (told _ _ f.rest t.mirrors _ reason size (bytes_rest _ f.rest (subst IsBytes f.whole ok)) f.why)
           ∙ ap (λ k. Some (Refused k section reason size)) f.long;
     }
 
@@ -213,7 +212,7 @@ module _ (set : Set) (names : List (List ℕ)) where
   units_mirror = search arith
 
   pub units_refuse : Refuses set names (by_units set names) []
-  units_refuse = refuses set names (by_units set names) (due_solid set) (λ u s. s ≡ u) units_mirror [] refl
+  units_refuse = refuses set names _ (due_solid set) (λ u s. s ≡ u) units_mirror [] refl
 
 -- ---- the state that a loader holds mirrors the units so far
 
@@ -248,8 +247,8 @@ module _ (set : Set) where
       → (length (put_image (images set u) (opened set u) y) ≡ length set.devices) × ((k : ℕ) → opened set u ≡ Some k → slice_get
       (put_image (images set u) (opened set u) y) k ≡ Some y)
   put_on u y r = (
-    long_put (images set u) (opened set u) y ∙ r.long,
-    λ k e. put_here (images set u) (opened set u) y k e
+    long_put _ _ y ∙ r.long,
+    λ k e. put_here _ _ y k e
         (slice_get_within (images set u) k (image set u) (r.here k e)),
   )
 
@@ -260,10 +259,10 @@ module _ (set : Set) where
       let y = fresh set (at_option set.devices o) v in
       let long = (images_of u).long in
       record {
-        long = cc (long_put (images set u) o y);
+        long = cc (long_put _ o y);
         here = λ k e.
             let f = found_is set.devices 0 name instance k e in
-            put_here (images set u) o y k e (omega (arith, slice_get_within set.devices f.i f.device f.there));
+            put_here _ o y k e (omega (arith, slice_get_within set.devices f.i f.device f.there));
       }
   images_of (Number c kind z ∷ u) = let r = put_on u _ (images_of u) in record { long = r.0; here = r.1 }
   images_of (SubHead name v ∷ u) = let r = put_on u _ (images_of u) in record { long = r.0; here = r.1 }
@@ -314,7 +313,7 @@ module _ (set : Set) where
       record { section = refl; due_is = refl; held = refl; known_is = λ i. absurd i; to_part = λ j. refl; next = refl; put = λ step. refl }
   reads (Foot id ∷ u) = record { section = refl; due_is = refl; held = refl; known_is = λ i. absurd i; to_part = λ j. refl; next = refl; put = λ step. refl }
   reads (End ∷ u) = record { section = refl; due_is = refl; held = refl; known_is = λ i. absurd i; to_part = λ j. refl; next = refl; put = λ step. refl }
-  reads (x ∷ u) = reads_part (x ∷ u) (opened set (x ∷ u)) refl refl refl
+  reads (x ∷ u) = reads_part _ _ refl refl refl
 
   -- ---- the rows
 
@@ -348,7 +347,7 @@ module _ (set : Set) where
     due_is = λ u s e. rw e (reads u).due_is;
     holds_is = λ u s e. rw e (reads u).held;
     section_is = λ u s e. rw e (reads u).section;
-    reason_is = λ u s x e may. rw (e, (reads u).due_is) (rows_so names (due set u) x may (known_at set (mirror u)) (known set u) refl (reads u).known_is);
+    reason_is = λ u s x e may. rw (e, (reads u).due_is) (rows_so names _ x may _ _ refl (reads u).known_is);
     after_is = λ u s x e held may none. rw e (after_is u x);
   }
 
@@ -357,7 +356,7 @@ module _ (set : Set) where
   solid s p = tt
 
   pub state_accepts : (names : List (List ℕ)) → Accepts set names (by_state set names) (λ u s. s ≡ mirror u) (at_start set)
-  state_accepts names = accepts set names (by_state set names) (λ s. solid s s.spot) (λ u s. s ≡ mirror u) (mirrored names) (at_start set) refl
+  state_accepts names = accepts set names _ (λ s. solid s s.spot) (λ u s. s ≡ mirror u) (mirrored names) _ refl
 
   pub state_refuses : (names : List (List ℕ)) → Refuses set names (by_state set names) (at_start set)
-  state_refuses names = refuses set names (by_state set names) (λ s. solid s s.spot) (λ u s. s ≡ mirror u) (mirrored names) (at_start set) refl
+  state_refuses names = refuses set names _ (λ s. solid s s.spot) (λ u s. s ≡ mirror u) (mirrored names) _ refl

@@ -218,7 +218,7 @@ headed = Head 0 (codes "timer") 0 1 ∷ start
 
 in_headed : Front set_0 set_0.machines headed
 unfolding first
-in_headed = (in_start set_0, refl, head_may true false (codes "timer"), refl)
+in_headed = (in_start set_0, refl, head_may true false _, refl)
 
 abbrev fielded : List Piece
 fielded = Number 0 U64 (pos 0) ∷ headed
@@ -243,7 +243,7 @@ abbrev boxed : List Piece
 boxed = Head 0 (codes "box") 0 1 ∷ start
 
 in_boxed : (set : Set) → reason_of set set.machines start (Head 0 (codes "box") 0 1) ≡ None → Front set set.machines boxed
-in_boxed set e = (in_start set, refl, head_may true false (codes "box"), e)
+in_boxed set e = (in_start set, refl, head_may true false _, e)
 
 byte : (n : ℕ) → n < 256 → InRange U8 (pos n)
 byte n lt = (omega (arith, ints), omega (arith, ints))
@@ -260,7 +260,7 @@ in_nine = (in_boxed subsection_set refl, refl, AtNumber 0 0 U8 [] (pos 9) (byte 
 
 in_q : Front subsection_set subsection_set.machines with_q
 unfolding first
-in_q = ((in_nine, refl, sub_may 0 1 (codes "box/q") (omega arith), refl), refl, AtNumber 0 2 U8 [] (pos 7) (byte 7 (omega arith)), refl)
+in_q = ((in_nine, refl, sub_may 0 1 _ (omega arith), refl), refl, AtNumber 0 2 U8 [] (pos 7) (byte 7 (omega arith)), refl)
 
 abbrev named_units : List Piece
 named_units = Configuration (codes "isa-0") ∷ start

@@ -33,7 +33,7 @@ further_holds set names input more place section reason size other f = record {
   front = f.front;
   whole = rw (f.whole) (append_assoc (spelled f.units) f.rest more);
   long = f.long;
-  why = why_on set names f.units f.rest more section reason size other f.why;
+  why = why_on set names _ f.rest more _ reason size other f.why;
 }
 
 shown : (d : Due) (rest : List ℕ) (x : Piece) (n : ℕ) → IsBytes rest → unit_at d rest ≡ Whole x n → IsThere d rest x n
@@ -50,12 +50,12 @@ found_holds d rest ok = record {
 pub told_holds : ToldLaw
 unfolding reading
 told_holds set names input =
-    told_from (judge (by_state set names)) (advances (by_state set names) (λ s. solid set s s.spot)) (suc (length input)) (at_start set) 0 input (omega arith)
+    told_from (judge (by_state set names)) (advances _ (λ s. solid set s s.spot)) (suc (length input)) (at_start set) 0 input (omega arith)
 
 pub local_holds : LocalLaw
 local_holds d r t x n ok e same =
     let w = shown d r x n ok e in
-    let s : spell x ≡ take n t = cc (front_take n (spell x) (drop n r) r w.there w.long) in
+    let s : spell x ≡ take n t = cc (front_take n _ _ r w.there w.long) in
     ap (unit_at d) (sym (take-append-drop n t) ∙ ap (λ l. l ++ drop n t) (sym s)) ∙ only d x (drop n t) w.may ∙ ap (Whole x) w.long
 
 pub accepted_holds : AcceptedLaw

@@ -4,7 +4,7 @@ use Rattle.vms_stream.proofs.Facade.{◌≡◌, ℕ, zero, suc, ◌<◌, List, �
 use Rattle.vms_stream.proofs.Facade.{[], slice_get, bytes_eq, le-ltb, eq-eqb, bytes_eq-Decides, Reason, at_option, position, Set, Device, Sub, IsVersionOf}
 use Rattle.vms_stream.proofs.Facade.{magic, is_one_of, Piece, Magic, Version, Configuration, Head, SubHead, Foot, End, Start, Mark, subs_of, device_named}
 use Rattle.vms_stream.proofs.Facade.{found_is, sub_is, find_sub, Known, Due, first_of, is_between, wants_foot, is_after_end, test_some, is_none, open_at}
-use Rattle.vms_stream.proofs.Facade.{known_at, after, by_state, ◌⊎◌, inl, inr, ◌+◌, ◌≤◌, ◌++◌, drop, slice_set, sym, ◌∙◌}
+use Rattle.vms_stream.proofs.Facade.{known_at, after, by_state, ◌⊎◌, inl, inr, ◌+◌, ◌≤◌, ◌++◌, slice_set, sym, ◌∙◌}
 use Rattle.vms_stream.proofs.Facade.{if◌then◌else◌, slice_get_within, IsBytes, LONGEST_NAME, default_image, section_head, configuration, Verdict, Faulty}
 use Rattle.vms_stream.proofs.Facade.{Over, Accepted, reading_after, spell, reading_on, Advances, one_unit, unit_read, Footed, behind, Between, May}
 use Rattle.vms_stream.proofs.Facade.{AtConfiguration, AtLongName, AtStart, AtHead, AtEnd, AtMark, cut_in, Found, Whole, Cut, unit_at, Grammar, judge}
@@ -28,13 +28,13 @@ device_at : (devices : List Device) (name : List ℕ) (instance k : ℕ) → fin
 device_at devices name instance k e =
     let f = found_is devices 0 name instance k e in
     let same : f.i ≡ k = omega arith in
-    record { item = f.device; there = rw same at f.there; is = ((bytes_eq-Decides f.device.desc.name name).0 f.name_is, f.instance_is) }
+    record { item = f.device; there = rw same at f.there; is = ((bytes_eq-Decides _ name).0 f.name_is, f.instance_is) }
 
 sub_at : (subs : List Sub) (name : List ℕ) (k : ℕ) → find_sub 0 subs name ≡ Some k → At subs k (λ (s : Sub). s.desc.name ≡ name)
 sub_at subs name k e =
     let f = sub_is subs 0 name k e in
     let same : f.i ≡ k = omega arith in
-    record { item = f.sub; there = rw same at f.there; is = (bytes_eq-Decides f.sub.desc.name name).0 f.name_is }
+    record { item = f.sub; there = rw same at f.there; is = (bytes_eq-Decides _ name).0 f.name_is }
 
 module _ (set : Set) (names : List (List ℕ)) (d : Due) (so_far : Known) where
   abbrev row_of : Piece → Line
@@ -94,7 +94,7 @@ module _ (set : Set) (names : List (List ℕ)) (d : Due) (so_far : Known) where
       by : (o : Option ℕ) → device_named set name instance ≡ o → HeadIs name instance v
       by None n = let f = rw n at e in cc
       by (Some j) n =
-          let found = device_at set.devices name instance j n in
+          let found = device_at _ name _ j n in
           let free = rw found.there at (rw n at e) in
           record { k = j; named = n; found = found; new = grind arith; version = (grind arith, grind arith) }
 
@@ -153,8 +153,7 @@ module _ (set : Set) (names : List (List ℕ)) where
   pub unit_on : (s : State) (x : Piece) (place : ℕ) (more : List ℕ) → g.holds s ≡ true → May (g.due s) x → g.reason s x ≡ None
       → reading_on (judge (by_state set names)) s place (spell x ++ more) ≡ reading_on (judge (by_state set names)) (after set s x)
       (place + length (spell x)) more
-  unit_on s x place more held may none =
-      unit_read (judge (by_state set names)) forward s (after set s x) place (spell x) more (rw (held, only (g.due s) x more may) (rw none))
+  unit_on s x place more held may none = unit_read _ forward s _ place _ more (rw (held, only (g.due s) x more may) (rw none))
 
 -- what is read of what, and how that ends
 pub record Run : Type 0 where
@@ -199,7 +198,7 @@ module _ {r : Run} {s : State} {place : ℕ} {rest : List ℕ} (ok : IsBytes res
   by_owes b e h = grind (arith, end_is)
 
   by_found : (f : Found) → Shows (gr.due s) rest f → Then (judge_found gr s rest f) → Steps r s place rest ⊎ Stops r s place rest
-  by_found (Whole x m) w h = inl (by_row_of x m w (gr.reason s x) refl h)
+  by_found (Whole x m) w h = inl (by_row_of x m w _ refl h)
   by_found Cut w h = inr (by_owes (owes (gr.due s) rest) refl h)
 
   by_holds : (b : Bool) → Then (if b then judge_found gr s rest (unit_at (gr.due s) rest) else Faulty (gr.section s) reasons.Invalid 0)
@@ -207,7 +206,7 @@ module _ {r : Run} {s : State} {place : ℕ} {rest : List ℕ} (ok : IsBytes res
   by_holds b h = grind (arith, by_found, unit_at, shows)
 
   pub next : Steps r s place rest ⊎ Stops r s place rest
-  next = by_holds (gr.holds s) (sym (one_unit (judge gr) (forward r.set r.names) s place rest) ∙ h.is)
+  next = by_holds (gr.holds s) (sym (one_unit _ (forward r.set _) s place rest) ∙ h.is)
 
   -- if a unit must come, it goes on by one
   pub steps : owes (gr.due s) rest ≡ true → Steps r s place rest
@@ -248,13 +247,13 @@ pub opening : {r : Run} (first c : Bool) (d : Due) (s : State) {place : ℕ} {re
     → (x : Piece) → May (Between first c) x → first_of r.set r.names d (known_at r.set s) x ≡ None → rest ≡ spell x ++ more
     → Goes r (after r.set s x) (place + length (spell x)) more → Opening r first (settled r.set s) place rest
 opening {r} _ c d s long b _ (AtConfiguration _ name le) none there goes =
-    Names name _ refl there (name_is_one r.set r.names d (known_at r.set s) name none) le goes
+    Names name _ refl there (name_is_one r.set _ d (known_at r.set s) name none) le goes
 opening _ c d s long b _ (AtLongName _ size lt f) none there goes = cc
 opening {r} _ _ d s long b _ (AtStart first c id name f) none there goes = absurd (start_never r.set r.names d (known_at r.set s) id name none)
 opening {r} _ _ d s long b _ (AtMark first c m e) none there goes = absurd (mark_never r.set r.names d (known_at r.set s) m b none)
 opening {r} _ _ d s long b _ (AtEnd first c) none there goes = Closes _ there (end_is r.set r.names d (known_at r.set s) none) goes
 opening {r} _ _ d s {more = more} long b _ (AtHead first c id name instance v f g i) none there goes =
-    let h = head_is r.set r.names d (known_at r.set s) id name instance v none in
+    let h = head_is r.set r.names d (known_at r.set s) id name _ v none in
     let d = h.found in
     let lt : h.k < length r.set.devices = slice_get_within r.set.devices h.k d.item d.there in
     Opens h.k id v d.item more f (rw (d.is.0, d.is.1) there) d.there (false_from s.came h.k (omega arith) h.new) h.version

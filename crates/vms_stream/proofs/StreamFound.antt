@@ -122,7 +122,7 @@ module _ (r : Run) (good : IsGood r.set) where
 
       pub section_found : HasRead r s place rest
       section_found =
-          by_taken (take_desc (takers r.set.structs (length r.set.structs)) d.desc v 0 start) refl
+          by_taken _ refl
           (body_read r.set r.names c.state d (record (default_image r.set d) { version = v }) k id None there room good.structs d.desc v 0
           (good.devices k d there) (λ m. refl) start)
 
@@ -145,14 +145,14 @@ module _ (r : Run) (good : IsGood r.set) where
         sections_are = (
           b.bytes,
           q.sections,
-          rw (b.there, (q.kept k (at_set s.came k true (omega arith)) ∙ at_set s.images k b.image (omega arith))) (b.id, b.is),
-          rw (same_footed b.footed q.footed q.agrees) at q.sections_are,
+          rw (b.there, (q.kept k (at_set s.came k true (omega arith)) ∙ at_set _ k _ (omega arith))) (b.id, b.is),
+          rw (same_footed _ _ q.agrees) at q.sections_are,
           refl,
         );
         long = cc (length-set s.images k b.image);
         kept = λ j e.
             let ne : j ≡ k → ⊥ = λ same. (let f = sym e ∙ ap (slice_get s.came) same ∙ b.new in cc) in
-            q.kept j (at_other s.came k j true ne ∙ e) ∙ at_other s.images k j b.image ne;
+            q.kept j (at_other s.came k j true ne ∙ e) ∙ at_other _ k j _ ne;
         came_last = q.came_last;
         tail_last = q.tail_last;
         goes = subst (λ (x : ℕ). Goes r (record s { images = q.states; came = q.came_last; tail = q.tail_last; spot = Ended }) (x + 1) q.after)
@@ -189,7 +189,7 @@ module _ (r : Run) (good : IsGood r.set) where
       sections_next came_long images_long h
       (sections_found most (came_to s b.number b.image b.footed) (length-set s.came b.number true ∙ came_long)
       (length-set s.images b.number b.image ∙ images_long) (omega (arith, ap length b.spelled, length-append b.bytes b.after, has_bytes b.is))
-      (bytes_rest b.bytes b.after (subst IsBytes b.spelled ok)) h.opens)
+      (bytes_rest _ _ (subst IsBytes b.spelled ok)) h.opens)
     where
       has_bytes : {d : Device} {image : Image} {footed : Bool} {bytes : List ℕ} {id : ℕ} → IsSection r.set d image id footed bytes → 0 < length bytes
       has_bytes s = omega (arith, simp length-append at (ap length s.whole))

@@ -71,7 +71,7 @@ module _ (set : Set) (names : List (List ℕ)) (good : IsGood set) (c : Section 
       let s = stands c image part i in
       record {
         state = over c image true;
-        free = free_is set names false false (over c image true) refl;
+        free = free_is set names false false _ refl;
         is = refl;
         at = λ e. refl;
         reads =
@@ -87,8 +87,8 @@ module _ (set : Set) (names : List (List ℕ)) (good : IsGood set) (c : Section 
           held = held_is c image part i done;
           head = λ id name instance v f g h.
               rw (due_is c image part i done)
-              (AtNext c.k c.state.tail (Head id name instance v) (next_is c.state.tail a).1 (AtHead false false id name instance v f g h));
-          end = rw (due_is c image part i done) (AtNext c.k c.state.tail End (next_is c.state.tail a).0 (AtEnd false false));
+              (AtNext c.k c.state.tail (Head id name instance v) (next_is _ a).1 (AtHead false false id name instance v f g h));
+          end = rw (due_is c image part i done) (AtNext c.k c.state.tail End (next_is _ a).0 (AtEnd false false));
         };
         is = refl;
         at = λ e. cc;
@@ -210,7 +210,7 @@ module _ (set : Set) (names : List (List ℕ)) (good : IsGood set) where
       let close = closing footed id in
       let more = is.body ++ (is.tail ++ close) in
       let r = section_read set names good c image is.normal is.valid is.fits footed fits
-      (place + length head) is.body is.tail rest is.order is.own is.each_once is.subs in
+      _ _ _ rest _ is.own is.each_once is.subs in
       let whole : front ≡ head ++ more = cc (append_assoc (head ++ is.body) is.tail close, append_assoc head is.body (is.tail ++ close)) in
       read_from s place front r
       (ap (λ l. J s place (l ++ rest)) whole
@@ -219,7 +219,7 @@ module _ (set : Set) (names : List (List ℕ)) (good : IsGood set) where
       (head_passes set names ((g set names).due s) (known_at set s) id d.desc.name d.instance image.version k d named there
       (subst (λ y. slice_get y.came k ≡ Some false) (sym e) new) is.normal.version)
       ∙ ap (λ y. J y (place + length head) (more ++ rest))
-      (head_after set s id d.desc.name d.instance image.version k d named there ∙ ap (λ y. opened set y k id d image.version) e) ∙ r.reads
+      (head_after set s id _ _ _ k d named there ∙ ap (λ y. opened set y k id d image.version) e) ∙ r.reads
       ∙ ap (λ y. J r.state y rest) (omega (arith, ap length whole, length-append head more)))
 
   pub sections_read : (footed : Bool) (images : List Image) → length images ≡ length set.devices → (order : List ℕ) (s to : State) → settled set s ≡ to
@@ -314,13 +314,13 @@ module _ (set : Set) (names : List (List ℕ)) where
     named_read : (machine : Option (List ℕ)) (st : IsStream set names bytes machine images text)
         → EndsIn machine images ((((8 + length st.named) + length st.sections) + 1) + length st.tail)
         (read_on (from None Unknown true false) 8 (st.named ++ (st.sections ++ (0x00 ∷ (st.tail ++ rest)))))
-    named_read None st = let is : st.named ≡ [] = st.configured in rw is (rest_read st Unknown true false tt 8)
+    named_read None st = let is : st.named ≡ [] = st.configured in rw is (rest_read st _ true false tt 8)
     named_read (Some name) st =
         let s = from None Unknown true false in
         let c = st.configured in
         rw c.2 (before (unit_on set names s (Configuration name) 8 (st.sections ++ (0x00 ∷ (st.tail ++ rest))) refl (AtConfiguration false name c.1)
         (name_passes set names (Between true false) (known_at set s) name c.0))
-        (rest_read st Footed false true (named_fits name st.footed st.bare) (8 + length (configuration name))))
+        (rest_read st Footed false true (named_fits name _ st.bare) _))
 
 -- what is taken is accepted
 pub read : (set : Set) (names : List (List ℕ)) → IsGood set → (input : List ℕ) (n : ℕ) (machine : Option (List ℕ)) (images : List Image)
@@ -351,4 +351,4 @@ read set names good input n machine images t =
     (ap (read_on set names s0 0) is
     ∙ unit_on set names s0 (Magic magic) 0 (be32 3 ++ (s.named ++ more)) refl (AtMagic magic refl) refl
     ∙ unit_on set names (record s0 { spot = Headed }) (Version 3) 4 (s.named ++ more) refl (AtVersion 3 (omega arith)) refl)
-    (named_read set names good t.rest t.all machine s))
+    (named_read set names good t.rest t.all _ s))

@@ -1,9 +1,9 @@
 -- What the writer gives is a stream with footers, and what a well-formed set writes is bytes.
 use Rattle.vms_stream.proofs.Facade.{◌≡◌, ℕ, suc, List, [], ◌∷◌, Some, refl, zero, ◌+◌, ◌<◌, ◌≤◌, ◌&&◌, nat_le, ◌++◌}
-use Rattle.vms_stream.proofs.Facade.{length, length-append, get_or, take, set_clean, drop, ℤ, pos, Bool, true, Option, None, IfSome, nat_lt, subst, arith}
-use Rattle.vms_stream.proofs.Facade.{slice_get, list_all, byte_at, bytes_high_first, replicate, bytes_eq, and_parts, ltb-true, leb-true, take-append-drop}
-use Rattle.vms_stream.proofs.Facade.{bytes_eq-Decides, Desc, Sub, Device, Set, width, residue, code, Kind, IsBytes, is_name, is_name_byte, is_sub_name, Image}
-use Rattle.vms_stream.proofs.Facade.{zeroed, own_cells, own_slots, sub_slots, Slot, Rule, desc_cells, struct_cells, be32, optional, configuration, section_head}
+use Rattle.vms_stream.proofs.Facade.{length, length-append, take, set_clean, drop, ℤ, Bool, true, Option, None, IfSome, nat_lt, subst, arith, slice_get}
+use Rattle.vms_stream.proofs.Facade.{list_all, byte_at, bytes_high_first, replicate, bytes_eq, and_parts, ltb-true, leb-true, take-append-drop}
+use Rattle.vms_stream.proofs.Facade.{bytes_eq-Decides, Desc, Sub, Device, Set, code, Kind, IsBytes, is_name, is_name_byte, is_sub_name, Image, zeroed}
+use Rattle.vms_stream.proofs.Facade.{own_cells, own_slots, sub_slots, Slot, Rule, desc_cells, struct_cells, be32, optional, configuration, section_head}
 use Rattle.vms_stream.proofs.Facade.{sub_head, foot, trailer, end_mark, stream_head, is_one_of, written, written_section, written_sections, written_subs}
 use Rattle.vms_stream.proofs.Facade.{WellFormed, every_one, name_byte_low, device_parts, sub_clean, map, false, sym, append_assoc, append-nil, set-append_seam}
 use Rattle.vms_stream.proofs.Facade.{drop-append_seam, sub_place, AreVersionsOf, sub_front, drop_next, zeroed_spells, sub_first}
@@ -86,7 +86,7 @@ be32_bytes n = high-bytes 4 n
 
 pub code_bytes : (kind : Kind) (z : ℤ) → AreBytes (code kind z)
 unfolding code
-code_bytes kind z = high-bytes (width kind) (residue (width kind) z)
+code_bytes kind z = high-bytes _ _
 
 pub zeros_bytes : (n : ℕ) → AreBytes (replicate n 0)
 zeros_bytes zero = tt
@@ -94,10 +94,9 @@ zeros_bytes (suc n) = (omega arith, zeros_bytes n)
 
 zeroed-bytes : (numbers : List ℤ) (slots : List Slot) → AreBytes (zeroed numbers slots)
 zeroed-bytes numbers [] = tt
-zeroed-bytes numbers (Number c kind capacities ∷ slots) =
-    bytes_append (code kind (get_or numbers c (pos 0))) (zeroed numbers slots) (code_bytes kind (get_or numbers c (pos 0))) (zeroed-bytes numbers slots)
-zeroed-bytes numbers (Constant kind z ∷ slots) = bytes_append (code kind z) (zeroed numbers slots) (code_bytes kind z) (zeroed-bytes numbers slots)
-zeroed-bytes numbers (Filler n ∷ slots) = bytes_append (replicate n 0) (zeroed numbers slots) (zeros_bytes n) (zeroed-bytes numbers slots)
+zeroed-bytes numbers (Number c kind capacities ∷ slots) = bytes_append _ _ (code_bytes kind _) (zeroed-bytes numbers slots)
+zeroed-bytes numbers (Constant kind z ∷ slots) = bytes_append _ _ (code_bytes kind z) (zeroed-bytes numbers slots)
+zeroed-bytes numbers (Filler n ∷ slots) = bytes_append _ _ (zeros_bytes n) (zeroed-bytes numbers slots)
 zeroed-bytes numbers (Rule b ∷ slots) = zeroed-bytes numbers slots
 
 -- ---- sections
@@ -133,9 +132,9 @@ module _ (set : Set) where
       let after : List ℕ = written_subs set d image (own_cells set d) d.subs image.came in
       bytes_append (head ++ body ++ after) (foot id)
       (bytes_append (head ++ body) after
-      (bytes_append head body (head_bytes id d.instance image.version d.desc.name named.octets named.short)
+      (bytes_append head body (head_bytes id _ _ _ named.octets named.short)
       (zeroed-bytes image.numbers (own_slots set d image.version image.numbers)))
-      (subs-bytes d image (own_cells set d) d.subs image.came subs)) (foot_bytes id)
+      (subs-bytes d image _ d.subs _ subs)) (foot_bytes id)
 
   sections-bytes : (id : ℕ) (devices : List Device) (images : List Image) → AreNamed devices → AreBytes (written_sections set id devices images)
   sections-bytes id (d ∷ devices) (image ∷ images) named =
@@ -182,7 +181,7 @@ sub_named device name d e =
     let r = and_parts (nat_le 1 (length rest) && nat_le (length rest) 64) (list_all is_name_byte rest) p.1 in
     let tail : length rest ≤ 64 = leb-true (length rest) 64 (and_parts (nat_le 1 (length rest)) (nat_le (length rest) 64) r.0).1 in
     subst IsNamed (rw ((bytes_eq-Decides (take (length device + 1) name) (device ++ 47 ∷ [])).0 p.0) at (take-append-drop (length device + 1) name)) (record {
-      octets = bytes_append (device ++ 47 ∷ []) rest (bytes_append device (47 ∷ []) own.octets (omega arith, tt)) (every_bytes rest r.1);
+      octets = bytes_append _ rest (bytes_append device _ own.octets (omega arith, tt)) (every_bytes rest r.1);
       short = omega (arith, length-append (device ++ 47 ∷ []) rest, length-append device (47 ∷ []));
     })
 
@@ -190,17 +189,16 @@ module _ (set : Set) (well : WellFormed set) where
   pub parts_named : EachPart (λ d. IsNamed d.name) set.devices
   parts_named k d e =
       let own : is_name 100 d.desc.name ≡ true = (device_parts set well k d e).0.own.0 in
-      (is_named 100 d.desc.name (omega arith) own, λ j s f. sub_named d.desc.name s.desc.name own (sub_clean set well k j d s e f).own.0)
+      (is_named 100 _ (omega arith) own, λ j s f. sub_named _ _ own (sub_clean set well k j d s e f).own.0)
 
   pub machine_bytes : (machine : Option (List ℕ)) → IfSome machine (λ m. is_one_of set.machines m ≡ true) → IfSome machine AreBytes
   machine_bytes None h = tt
-  machine_bytes (Some name) h = (is_named 64 name (omega arith) (every_one (is_name 64) set.machines name (set_clean set well).own.0 h)).octets
+  machine_bytes (Some name) h = (is_named 64 name (omega arith) (every_one _ _ name (set_clean set well).own.0 h)).octets
 
   -- with a machine's name and a description, if there are any
   pub written_are_bytes : (machine : Option (List ℕ)) (images : List Image) (text : Option (List ℕ)) → IfSome machine AreBytes → IfSome text AreBytes
       → AreBytes (written set machine images text)
-  written_are_bytes machine images text named told =
-      written-bytes set machine images text (all_parts (λ d. IsNamed d.name) set.devices parts_named) named told
+  written_are_bytes machine images text named told = written-bytes set _ images text (all_parts (λ d. IsNamed d.name) _ parts_named) named told
 
 -- ---- what the writer gives is a stream with footers
 
@@ -224,7 +222,7 @@ place_next : (set : Set) (at : ℕ) (subs : List Sub) (j : ℕ) (x : Sub) (more 
     → sub_place set at subs (suc j) ≡ sub_place set at subs j + length (desc_cells (struct_cells set) x.desc)
 place_next set at [] zero x more e = cc
 place_next set at [] (suc j) x more e = cc
-place_next set at (y ∷ subs) zero x more e = let same : y ≡ x = cc in rw same (sub_first set (at + length (desc_cells (struct_cells set) x.desc)) subs)
+place_next set at (y ∷ subs) zero x more e = let same : y ≡ x = cc in rw same (sub_first set _ subs)
 place_next set at (y ∷ subs) (suc j) x more e = place_next set (at + length (desc_cells (struct_cells set) y.desc)) subs j x more e
 
 -- the subsections that came, from j on
@@ -233,16 +231,15 @@ subs_spell : (set : Set) (d : Device) (image : Image) (subs : List Sub) (came : 
     → Streams.SubsSpell set d image (those_come j came) (Streams.written_subs set d image at subs came)
 subs_spell set d image [] [] at j v s c p = refl
 subs_spell set d image (x ∷ subs) (None ∷ came) at j v s c p =
-    subs_spell set d image subs came _ (suc j) v (drop_next d.subs j x subs s) (drop_next image.came j None came c)
-    (rw (← p) (place_next set (own_cells set d) d.subs j x subs s))
+    subs_spell set d image subs came _ (suc j) v (drop_next d.subs j x subs s) (drop_next _ j None came c) (rw (← p) (place_next set _ d.subs j x subs s))
 subs_spell set d image (x ∷ subs) (Some v ∷ came) at j vs s c p =
     let body = zeroed image.numbers (sub_slots set x v image.numbers at) in (
       Streams.sub_head x.desc.name v ++ body,
       Streams.written_subs set d image (at + length (desc_cells (struct_cells set) x.desc)) subs came,
-      sub_front set d image j v x body _ _ (sym (drop_head d.subs j x subs s)) (sym (drop_head image.came j (Some v) came c))
+      sub_front set d image j v x body _ _ (sym (drop_head d.subs j x subs s)) (sym (drop_head _ j _ came c))
           (rw p (zeroed_spells image.numbers (sub_slots set x v image.numbers at))),
-      subs_spell set d image subs came _ (suc j) vs.1 (drop_next d.subs j x subs s) (drop_next image.came j (Some v) came c)
-          (rw (← p) (place_next set (own_cells set d) d.subs j x subs s)),
+      subs_spell set d image subs came _ (suc j) vs.1 (drop_next d.subs j x subs s) (drop_next _ j _ came c)
+          (rw (← p) (place_next set _ d.subs j x subs s)),
       refl,
     )
 subs_spell set d image _ _ at j v s c p = absurd v
@@ -262,7 +259,7 @@ in_order (None ∷ came) before j e h =
     rw (← append_assoc before (None ∷ []) came)
     (in_order came (before ++ None ∷ []) (suc j) (omega (arith, length-append before (None ∷ []))) (all_none before h))
 in_order (Some v ∷ came) before j e h = (
-  (v, rw e (at_seam before (Some v) came)),
+  (v, rw e (at_seam before _ came)),
   rw (e, set-append_seam before (Some v) came None, ← append_assoc before (None ∷ []) came)
       (in_order came (before ++ None ∷ []) (suc (length before)) (omega (arith, length-append before (None ∷ []))) (all_none before h)),
 )
@@ -278,7 +275,7 @@ written_section_is set d image id fits r = record {
   order = those_come 0 image.came;
   each_once = in_order image.came [] 0 refl tt;
   tail = Streams.written_subs set d image (own_cells set d) d.subs image.came;
-  subs = subs_spell set d image d.subs image.came (own_cells set d) 0 r.normal.subs refl refl (sub_first set (own_cells set d) d.subs);
+  subs = subs_spell set d image d.subs _ _ 0 r.normal.subs refl refl (sub_first set _ d.subs);
   whole = refl;
 }
 
@@ -307,12 +304,12 @@ module _ (set : Set) (images : List Image)
   sections_spell [] left k long few ds is = refl
   sections_spell (d ∷ devices) [] k long few ds is = absurd (omega arith)
   sections_spell (d ∷ devices) (image ∷ left) k long few ds is =
-      let device = drop_head set.devices k d devices ds in
+      let device = drop_head _ k d _ ds in
       let found = drop_head images k image left is in (
         Streams.written_section set d image k,
         Streams.written_sections set (suc k) devices left,
         rw (device, found) (k, written_section_is set d image k (omega arith) (ready k d image device found)),
-        sections_spell devices left (suc k) (omega arith) (omega arith) (drop_next set.devices k d devices ds) (drop_next images k image left is),
+        sections_spell devices left (suc k) (omega arith) (omega arith) (drop_next _ k d _ ds) (drop_next images k image left is),
         refl,
       )
 
@@ -327,11 +324,11 @@ written_is_stream set names few machine text images c t long ready = record {
   configured = c;
   one_each = long;
   order = count_from 0 set.devices;
-  each_once = in_set_order set.devices [] 0 refl tt;
+  each_once = in_set_order _ [] 0 refl tt;
   sections = Streams.written_sections set 0 set.devices images;
   footed = true;
   bare = λ e. cc;
-  spelled = sections_spell set images ready set.devices images 0 long (omega arith) refl refl;
+  spelled = sections_spell set images ready _ images 0 long (omega arith) refl refl;
   tail = Streams.optional Streams.trailer text;
   described = t;
   whole = refl;

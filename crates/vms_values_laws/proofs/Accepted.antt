@@ -3,12 +3,12 @@ use Rattle.vms_values_laws.proofs.{BadLines.fine_text, BadLines.NoneBad, Meeting
 use Rattle.vms_values_laws.proofs.{AllCome.images_of, AllCome.short_are, Facade.DefaultsFit, Facade.device_cells}
 use Rattle.vms_values_laws.proofs.Facade.{all_both, all_from, all_parts, ◌≡◌, ℕ, suc, ◌+◌, Bool, true, false, ◌==◌, List, [], ◌∷◌}
 use Rattle.vms_values_laws.proofs.Facade.{◌++◌, length, get_or, map, Option, Some, None, ℤ, pos, append_cancel_left, refl, sym, ap, ◌∙◌, arith}
-use Rattle.vms_values_laws.proofs.Facade.{codes, zero, ◌≤◌, AllByRecursion, slice_get, eqb-true, leb-true, ext_get_or, Sub, Device, Set, desc_cells}
-use Rattle.vms_values_laws.proofs.Facade.{struct_cells, Image, own_cells, version_text, Element, elements_in, printed, sub_line, Entry, OfMachine, OfSub}
-use Rattle.vms_values_laws.proofs.Facade.{OfNumber, number_entries, subs_entries, devices_entries, entry_line, device_entries, entries, part_reason, is_of_cell}
-use Rattle.vms_values_laws.proofs.Facade.{has_line, IsShaped, AreShaped, AreUnsaid, AllUnsaid, IsAtVersion, AreAtVersions, IsMachineOf, AreFine, Says, Demand}
-use Rattle.vms_values_laws.proofs.Facade.{ForSection, ForNumber, demand_of, Taken, lines_of, Follows, Along, ValuesReason, first_line, IsReady, AreReady}
-use Rattle.vms_values_laws.proofs.Facade.{BadLine, ValuesRead, Values, Bad, machine_named, or_bad, WellFormed, IsGood, device_parts, sub_clean, OfSection}
+use Rattle.vms_values_laws.proofs.Facade.{codes, zero, ◌≤◌, AllByRecursion, slice_get, leb-true, ext_get_or, Sub, Device, Set, desc_cells, struct_cells}
+use Rattle.vms_values_laws.proofs.Facade.{Image, own_cells, version_text, Element, elements_in, printed, sub_line, Entry, OfSub, OfNumber, number_entries}
+use Rattle.vms_values_laws.proofs.Facade.{subs_entries, devices_entries, entry_line, device_entries, entries, part_reason, is_of_cell, has_line, IsShaped}
+use Rattle.vms_values_laws.proofs.Facade.{AreShaped, AreUnsaid, AllUnsaid, IsAtVersion, AreAtVersions, IsMachineOf, AreFine, Says, Demand, ForSection}
+use Rattle.vms_values_laws.proofs.Facade.{ForNumber, demand_of, Taken, lines_of, Follows, Along, ValuesReason, first_line, IsReady, AreReady, BadLine}
+use Rattle.vms_values_laws.proofs.Facade.{ValuesRead, Values, Bad, machine_named, or_bad, WellFormed, IsGood, device_parts, sub_clean}
 use Rattle.vms_values_laws.proofs.SecondPass.{AreShort, of_numbers, number_same, as_bad, parts_from}
 
 -- ---- Two states with the same lines, and with defaults where there is no line, are the same.
@@ -48,8 +48,7 @@ BeginsNew [] = Unit {0}
 BeginsNew (e ∷ es) = for_section (demand_of e) ≡ true
 
 other : (n : List ℤ) (e f : Entry) → IsOwn n e → for_section (demand_of f) ≡ true → demand_of e ≡ demand_of f → ⊥
-other n (OfSection d image) f a b c = absurd a
-other n _ f a b c = let g = ap for_section c ∙ b in cc
+other n e f a b c = grind arith
 
 record Parted (es fs es' fs' : List Entry) : Type 0 where
   inside : Match es es'
@@ -86,14 +85,12 @@ of_demand c (ForNumber x) = x.cell == c
 of_demand c _ = false
 
 by_demand : (c : ℕ) (e : Entry) → is_of_cell c e ≡ of_demand c (demand_of e)
-by_demand c (OfMachine name) = refl
-by_demand c _ = refl
+by_demand c e = grind arith
 
 module _ (n m : List ℤ) (short : AreShort n) (short' : AreShort m) where
   one_number : (e f : Entry) (c : ℕ) → IsOwn n e → IsOwn m f → demand_of e ≡ demand_of f → entry_line e ≡ entry_line f → is_of_cell c e ≡ true
       → get_or n c (pos 0) ≡ get_or m c (pos 0)
-  one_number (OfNumber x k) (OfNumber y l) c is of demand line at = grind (arith, number_same)
-  one_number _ _ c is of demand line at = absurd (cc)
+  one_number e f c is of demand line at = grind (arith, number_same)
 
   -- a number has the same line in both, or it is this default in both
   same_at : (c : ℕ) (z : ℤ) (es fs : List Entry) → AreOwn n es → AreOwn m fs → Match es fs → (has_line es c ≡ false → get_or n c (pos 0) ≡ z)
@@ -132,10 +129,7 @@ one_came s t (Some v) None same a b e = absurd (not_both t v (sym (rw same at e)
 
 came_one : (n m : List ℤ) (e f : Entry) (came : List (Option ℕ)) → IsOwn n e → IsOwn m f → demand_of e ≡ demand_of f → entry_line e ≡ entry_line f
     → came_with e came ≡ came_with f came
-came_one n m (OfSub d image j s at o) (OfSub d' image' j' t at' p) came a b h l = grind (arith, one_came)
-came_one n m (OfSub d image j s at o) _ came a b h l = absurd (cc)
-came_one n m _ (OfSub d image j s at o) came a b h l = absurd (cc)
-came_one n m _ _ came a b h l = refl
+came_one n m e f came a b h l = grind (arith, one_came)
 
 came_same : (n m : List ℤ) (es fs : List Entry) → AreOwn n es → AreOwn m fs → Match es fs → came_of es ≡ came_of fs
 came_same n m [] [] a b h = refl
@@ -191,7 +185,7 @@ named_machine set text (Some name) e = named_is set.machines (first_line text) n
 pub none_says : (set : Set) (text : List ℕ) (v : ValuesRead) (n : NoneBad set text v) → Says set text n.machine (images_of n.all.devices)
 none_says set text v n =
     let fine = fine_text set text v n in
-    record { named = named_machine set text n.machine n.named; shaped = n.shaped; unsaid = n.unsaid; fine = fine.0; printed = fine.1 }
+    record { named = named_machine set text _ n.named; shaped = n.shaped; unsaid = n.unsaid; fine = fine.0; printed = fine.1 }
 
 abbrev pub answer_by : Option (List ℕ) → List Image → Option BadLine → ValuesRead
 answer_by machine images (Some b) = Bad b.line b.reason
@@ -250,8 +244,7 @@ module _ (set : Set) (well : WellFormed set) (good : IsGood set) where
 
   machine_good : (machine : Option (List ℕ)) (images : List Image) → AreFine (entries set machine images) → AreGood set (entries set machine images)
       → AreFine (devices_entries set set.devices images) × AreGood set (devices_entries set set.devices images)
-  machine_good None images f g = (f, g)
-  machine_good (Some name) images f g = (f.1, g.1)
+  machine_good machine images f g = grind arith
 
   pub says_ready : (text : List ℕ) (machine : Option (List ℕ)) (images : List Image) → Says set text machine images → AreGood set (entries set machine images)
       → AreReady set images

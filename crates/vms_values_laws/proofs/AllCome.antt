@@ -1,13 +1,13 @@
 -- All devices, read as entries, and which devices reading requires.
 use Rattle.vms_values_laws.proofs.Facade.{all_from, ◌≡◌, ℕ, suc, ◌+◌, List, ◌∷◌, ◌++◌, length, map, true, false, Option, Some, None, ℤ}
 use Rattle.vms_values_laws.proofs.Facade.{Ok, Err, Result, refl, sym, ap, ◌∙◌, subst, arith, [], length-append, length-map, bytes_eq-Decides, zero}
-use Rattle.vms_values_laws.proofs.Facade.{◌<◌, get_or, slice_set, Bool, ⊎_elim, AllByRecursion, or_right, cases_eq, if◌then◌else◌, pos, negsuc}
+use Rattle.vms_values_laws.proofs.Facade.{◌<◌, get_or, slice_set, Bool, ⊎_elim, AllByRecursion, or_right, cases_eq, if◌then◌else◌, pos}
 use Rattle.vms_values_laws.proofs.Facade.{get_or-set_other, append-nil, list_all, and_parts, length-set, get_or-set_same, get_or-map, Device, Set, desc_cells}
 use Rattle.vms_values_laws.proofs.Facade.{struct_cells, device_cells, Image, default_image, own_cells, first_line, Standing, BadLine, ReadSubs, readers}
 use Rattle.vms_values_laws.proofs.Facade.{read_desc, read_subs, then_subs, next_line, rest_of, is_line, IsSound, AreSound, section_line, Entry, OfSection}
 use Rattle.vms_values_laws.proofs.Facade.{device_entries, Said, ForSection, reason_for, Taken, Follows, Along, Begins, Moved, either_of, no_cell, Cell}
 use Rattle.vms_values_laws.proofs.Facade.{ReadDevice, ReadAll, read_devices, device_read, with_device, IsShort, devices_entries, is_short, IsShaped, AreShaped}
-use Rattle.vms_values_laws.proofs.Facade.{AreUnsaid, AllUnsaid, put_all, Demand, IsGood, DefaultsFit, ranged, I64, U64, and_from, le-leb}
+use Rattle.vms_values_laws.proofs.Facade.{AreUnsaid, AllUnsaid, put_all, Demand, IsGood, DefaultsFit, ranged, I64, U64, and_from}
 use Rattle.vms_values_laws.proofs.SaidLaws.{moved_none, moved_one, moved_then, unsaid_kept, AreShortSaid, short}
 use Rattle.vms_values_laws.proofs.SecondPass.{AreShort, numbers_come, follows_then, along_then, short_within, AreLined}
 use Rattle.vms_values_laws.proofs.SubsCome.{line_taken, AreSoundSubs, cells_long, none_at, subs_come, Went, Come, stopped_first, behind_numbers, numbers_first}
@@ -81,9 +81,8 @@ module _ (set : Set) (d : Device) (line : ℕ) (text : List ℕ) where
       → DeviceComes (then_subs (read_desc (readers set) d.desc d.desc.version [] true 0 start) (read_subs set (own_cells set d) d.subs))
   inside_comes structs sound subs headed =
       device_comes headed _
-      (numbers_first set d d.desc 0 0 (own_cells set d) d.subs start (omega arith) (read_desc (readers set) d.desc d.desc.version [] true 0 start) _
-      (numbers_come set d.desc 0 start structs sound (omega (arith, cells_are)))
-      (λ q n. subs_come set d structs d.subs 0 (own_cells set d) q subs (omega (arith, cells_are, n.told.long))))
+      (numbers_first set d d.desc 0 0 _ d.subs start (omega arith) _ _ (numbers_come set d.desc 0 start structs sound (omega (arith, cells_are)))
+      (λ q n. subs_come set d structs d.subs 0 _ q subs (omega (arith, cells_are, n.told.long))))
 
 pub section_read : (d : Device) (text : List ℕ) (o : Option (List ℕ × List ℕ)) → first_line text ≡ o → is_line (section_line d d.desc.version) o ≡ true
     → (line : ℕ) → Moved line text (record { demand = ForSection d; line = section_line d d.desc.version } ∷ []) (suc line) (rest_of (first_line text))
@@ -95,8 +94,7 @@ section_read d text (Some (first, rest)) e h line =
 
 pub section_not : (d : Device) (o : Option (List ℕ × List ℕ)) → is_line (section_line d d.desc.version) o ≡ false
     → reason_for (ForSection d) o ≡ Some reasons.Form
-section_not d None h = refl
-section_not d (Some (first, rest)) h = rw h refl
+section_not d o h = grind arith
 
 -- ---- The devices of a set one after the other, read as entries.
 
@@ -111,8 +109,7 @@ short_all n (s ∷ said) h short = short_all (slice_set n s.element.cell s.numbe
 
 -- as a test that computes
 is_short_one : (z : ℤ) → IsShort z → is_short z ≡ true
-is_short_one (pos n) h = grind (arith, or_right, and_from)
-is_short_one (negsuc n) h = grind arith
+is_short_one z h = grind (arith, or_right, and_from)
 
 pub are_short : (n : List ℤ) → AreShort n → list_all is_short n ≡ true
 are_short [] h = refl
@@ -261,8 +258,7 @@ module _ (set : Set) (d : Device) (devices : List Device) (line : ℕ) (text : L
 
   by_device : (r : Result ReadSubs BadLine) (go : ℕ → List ℕ → Result ReadAll BadLine) → AreGoodDevices set devices → DeviceComes set d line text r
       → ((line : ℕ) (text : List ℕ) → AllCome set devices line text (go line text)) → AllCome set (d ∷ devices) line text (device_read d line r go)
-  by_device (Ok r) go later x h = others_come r x _ (h r.place.line r.place.rest)
-  by_device (Err e) go later x h = stopped_here e later x
+  by_device r go later x h = grind (arith, others_come, stopped_here)
 
   by_section : (b : Bool) → is_line (section_line d d.desc.version) (first_line text) ≡ b → AreSound set.structs → IsSound d.desc → AreSoundSubs d.subs
       → AreGoodDevices set devices → (go : ℕ → List ℕ → Result ReadAll BadLine) → ((line : ℕ) (text : List ℕ) → AllCome set devices line text (go line text))

@@ -97,14 +97,12 @@ machine_taken (Some name) = record { demand = ForMachine name; line = codes "mac
 behind_machine : (set : Set) (machine : Option (List ℕ)) (images : List Image) (taken : List Taken) (P : List Entry → Type 0)
     → (Follows taken P (devices_entries set set.devices images) → Follows (machine_taken machine ++ taken) P (entries set machine images))
     × (Along taken P (devices_entries set set.devices images) → Along (machine_taken machine ++ taken) P (entries set machine images))
-behind_machine set None images taken P = (λ f. f, λ f. f)
-behind_machine set (Some name) images taken P = (λ f. (refl, λ e. f), λ f. (refl, f))
+behind_machine set machine images taken P = grind arith
 
 -- the machine is no part
 parts_machine : (set : Set) (machine : Option (List ℕ)) (line : ℕ) (images : List Image) → line ≡ 1 + length (machine_taken machine)
     → parts_from set line (devices_entries set set.devices images) ≡ parts_from set 1 (entries set machine images)
-parts_machine set None line images e = rw e refl
-parts_machine set (Some name) line images e = rw e refl
+parts_machine set machine line images e = grind arith
 
 module _ (set : Set) (text : List ℕ) (machine : Option (List ℕ)) (line : ℕ) (after : List ℕ)
     (named : machine ≡ machine_named set.machines (first_line text)) (headed : Moved 1 text (machine_taken machine) line after) where

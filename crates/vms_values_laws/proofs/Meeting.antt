@@ -2,16 +2,15 @@
 use Rattle.vms_values_laws.proofs.{SecondPass.reason_same, SaidLaws.if_none, SaidLaws.some_if, SaidLaws.short}
 use Rattle.vms_values_laws.proofs.Facade.{name_byte_high, IsMachineOf, decimal_all, if_both, elements_each, all_both, all_from, ◌≡◌, ℕ, suc, ◌+◌}
 use Rattle.vms_values_laws.proofs.Facade.{Bool, true, false, ◌==◌, if◌then◌else◌, List, ◌∷◌, ◌++◌, length, drop, Option, Some, None, ℤ}
-use Rattle.vms_values_laws.proofs.Facade.{pos, negsuc, refl, sym, ap, ◌∙◌, arith, codes, [], map, append_assoc, ne_eqb, decimal, signed_decimal, bytes_eq}
+use Rattle.vms_values_laws.proofs.Facade.{refl, sym, ap, ◌∙◌, arith, codes, [], map, append_assoc, ne_eqb, decimal, signed_decimal, bytes_eq}
 use Rattle.vms_values_laws.proofs.Facade.{bytes_eq-Decides, some_pair_parts, AllByRecursion, ◌&&◌, get_or, nat_le, take, slice_get, list_all, and_parts}
 use Rattle.vms_values_laws.proofs.Facade.{get_or_from_slice_get, take-append-drop, or_else_none, either_of, Cell, first_line, begins_with, number_spelled}
-use Rattle.vms_values_laws.proofs.Facade.{spelled_holds, begun, What, Number, Element, sub_line, text_of, if_not, element_reason, spelled_reason, Entry}
-use Rattle.vms_values_laws.proofs.Facade.{entry_line, line_reason, front_reason, Demand, ForMachine, ForSection, ForSub, ForNumber, reason_for, demand_of}
-use Rattle.vms_values_laws.proofs.Facade.{Taken, lines_of, AreFineTaken, Follows, ValuesReason, AreFine, or_else, Count, One, Field, Desc, Sub, Device, Set}
-use Rattle.vms_values_laws.proofs.Facade.{no_desc, counted, desc_cells, struct_cells, Image, index_text, is_number, printed, OfNumber, number_entries}
-use Rattle.vms_values_laws.proofs.Facade.{subs_entries, device_entries, devices_entries, entries, Place, first_answer, is_name_byte, is_name, is_sub_name}
-use Rattle.vms_values_laws.proofs.Facade.{is_one_of, machine_named, WellFormed, first_fault, failing, here, set_rules, struct_fault, device_fault, size_rules}
-use Rattle.vms_values_laws.proofs.Facade.{Clean, struct_clean, device_parts, sub_clean, get_none}
+use Rattle.vms_values_laws.proofs.Facade.{spelled_holds, begun, What, Number, Element, text_of, if_not, element_reason, spelled_reason, Entry, entry_line}
+use Rattle.vms_values_laws.proofs.Facade.{line_reason, front_reason, Demand, ForMachine, ForSection, ForSub, ForNumber, reason_for, demand_of, Taken, lines_of}
+use Rattle.vms_values_laws.proofs.Facade.{AreFineTaken, Follows, ValuesReason, AreFine, Count, Field, Desc, Sub, Device, Set, no_desc, counted, desc_cells}
+use Rattle.vms_values_laws.proofs.Facade.{struct_cells, Image, index_text, is_number, printed, OfNumber, number_entries, subs_entries, device_entries}
+use Rattle.vms_values_laws.proofs.Facade.{devices_entries, entries, Place, is_name_byte, is_name, is_sub_name, is_one_of, machine_named, WellFormed}
+use Rattle.vms_values_laws.proofs.Facade.{first_fault, failing, here, Clean, struct_clean, device_parts, sub_clean, get_none}
 use Rattle.vms_spec.specs.declared.ValuesReason.TheVariants as reasons
 use Rattle.vms_spec.specs.declared.Part.TheVariants as parts
 
@@ -32,8 +31,7 @@ decimal_feed : (n : ℕ) → NoFeed (decimal n)
 decimal_feed n = decimal_all _ (λ d lt. ne_eqb (48 + d) 10 (λ e. omega arith)) n
 
 pub signed_feed : (z : ℤ) → NoFeed (signed_decimal z)
-signed_feed (pos n) = decimal_feed n
-signed_feed (negsuc n) = (refl, decimal_feed (suc n))
+signed_feed z = grind (arith, decimal_feed)
 
 -- what is demanded has no line feed
 abbrev pub IsClean : Demand → Type 0
@@ -63,22 +61,14 @@ by_front x a false e f h = cc
 
 pub section_feed : (name : List ℕ) (instance version : ℕ) → NoFeed name
     → NoFeed (codes "section " ++ (name ++ (codes " " ++ (decimal instance ++ (codes " v" ++ decimal version)))))
-section_feed name instance version h =
-    feed_append (codes "section ") _ (refl, (refl, (refl, (refl, (refl, (refl, (refl, (refl, tt))))))))
-    (feed_append name _ h (refl, feed_append _ _ (decimal_feed instance) (refl, (refl, decimal_feed version))))
+section_feed name instance version h = grind (arith, feed_append, decimal_feed)
 
 pub sub_feed : (name text : List ℕ) → NoFeed name → NoFeed text → NoFeed (codes "sub " ++ (name ++ (codes " " ++ text)))
 sub_feed name text h g = (refl, (refl, (refl, (refl, feed_append name _ h (refl, g)))))
 
 -- a fine line has none
 pub fine_feed : (demand : Demand) (a : List ℕ) → IsClean demand → reason_for demand (Some (a, [])) ≡ None → NoFeed a
-fine_feed (ForMachine name) a h e = by_bytes a _ e (refl, (refl, (refl, (refl, (refl, (refl, (refl, (refl, h))))))))
-fine_feed (ForSection d) a h e = by_bytes a _ e (section_feed _ _ _ h)
-fine_feed (ForSub s) a h e =
-    either_of (bytes_eq a (sub_line s (Some s.desc.version))) (bytes_eq a (sub_line s None)) (if_none _ _ e)
-    (λ t. rw ((bytes_eq-Decides a _).0 t) (sub_feed s.desc.name _ h (refl, decimal_feed s.desc.version)))
-    (λ t. rw ((bytes_eq-Decides a _).0 t) (sub_feed _ _ h (refl, tt)))
-fine_feed (ForNumber x) a h e = by_front x a _ refl e h
+fine_feed demand a h e = grind (arith, by_bytes, section_feed, either_of, if_none, bytes_eq-Decides, sub_feed, decimal_feed, by_front)
 
 -- ---- A text leads along one list of lines: those that were taken are those of each state that has the text's lines.
 
@@ -97,18 +87,12 @@ pub record Same (taken : List Taken) (before : List Entry) (o o' : Option Values
   pub reason : o ≡ o'
 
 both_end : (o o' : Option ValuesReason) (rest : List ℕ) (es : List Entry) → Ends o rest es → Ends o' rest es → o ≡ o'
-both_end None None rest es f g = refl
-both_end None (Some r) rest es f g = rw (f.0, f.1) at g
-both_end (Some r) None rest es f g = sym (rw (g.0, g.1) at f)
-both_end (Some r) (Some r') rest es f g = cc
+both_end o o' rest es f g = grind arith
 
 -- a fine line doesn't end them
 not_ended : (o : Option ValuesReason) (e : Entry) (es : List Entry) (line rest : List ℕ) → NoFeed line → reason_for (demand_of e) (Some (line, [])) ≡ None
     → Ends o (line ++ 10 ∷ rest) (e ∷ es) → ⊥
-not_ended None e es line rest feed fine h = let f = h.0 in cc
-not_ended (Some r) e es line rest feed fine h =
-    let f : None ≡ Some r = sym fine ∙ sym (reason_same e (Some (line, rest))) ∙ rw (line_first line rest feed) at h in
-    cc
+not_ended o e es line rest feed fine h = grind (arith, reason_same, line_first)
 
 fine_entry : (e : Entry) → line_reason e (entry_line e) ≡ None → reason_for (demand_of e) (Some (entry_line e, [])) ≡ None
 fine_entry e h = cc (reason_same e (Some (entry_line e, [])))
@@ -126,7 +110,7 @@ meet (t ∷ taken) [] [] rest rest' o o' f clean fine fine' e ends = absurd f
 meet (t ∷ taken) [] (x ∷ after) rest rest' o o' f clean fine fine' e ends =
     let same : reason_for (demand_of x) (Some (t.line, [])) ≡ None = rw (f.0) fine.0 in
     let is : rest' ≡ t.line ++ 10 ∷ (text_of (lines_of taken) ++ rest) = cc (append_assoc t.line (10 ∷ text_of (lines_of taken)) rest) in
-    absurd (not_ended o' x after t.line (text_of (lines_of taken) ++ rest) (fine_feed (demand_of x) t.line clean.0 same) same (rw (is) at ends))
+    absurd (not_ended o' x after t.line _ (fine_feed _ t.line clean.0 same) same (rw (is) at ends))
 meet (t ∷ taken) (x ∷ before) after rest rest' o o' f clean fine fine' e ends =
     let feed' = fine_feed _ _ clean.0 (fine_entry x fine'.0) in
     let feed = fine_feed _ t.line clean.0 (rw (f.0) fine.0) in
@@ -144,8 +128,7 @@ abbrev pub AreCleanFields : List Field → Type 0
 AreCleanFields = AllByRecursion (λ (f : Field). NoFeed f.name)
 
 index_feed : (count : Count) (e : ℕ) → NoFeed (index_text count e)
-index_feed One e = tt
-index_feed _ e = (refl, feed_append _ _ (decimal_feed e) (refl, tt))
+index_feed count e = grind (arith, feed_append, decimal_feed)
 
 clean_numbers : (n : List ℤ) (xs : List Element) → AreNamed xs → AreClean (map (λ x. OfNumber x n) (printed xs))
 clean_numbers n [] h = tt
@@ -208,8 +191,7 @@ clean_fields : (k : ℕ) (d : Desc) (rules : List Bool) → Clean k d rules → 
 clean_fields k d rules c = all_from _ _ (λ i f e. clean_name 32 f.name (and_parts (is_name 32 f.name) (list_all (is_name 32) f.former) (c.fields i f e).0).0)
 
 first_true : (b : Bool) (rules : List Bool) (place : Place) → failing 1 (b ∷ rules) place ≡ None → b ≡ true
-first_true true rules place e = refl
-first_true false rules place e = cc
+first_true b rules place e = grind arith
 
 named_one : (machines : List (List ℕ)) (name : List ℕ) → list_all (is_name 64) machines ≡ true → is_one_of machines name ≡ true → NoFeed name
 named_one [] name e h = cc
@@ -219,8 +201,7 @@ named_one (m ∷ machines) name e h =
 
 -- a machine that is named is one of the set
 pub named_is : (machines : List (List ℕ)) (o : Option (List ℕ × List ℕ)) (name : List ℕ) → machine_named machines o ≡ Some name → is_one_of machines name ≡ true
-named_is machines None name e = cc
-named_is machines (Some (line, rest)) name e = grind (arith, some_if)
+named_is machines o name e = grind (arith, some_if)
 
 module _ (set : Set) (well : WellFormed set) where
   clean_structs : (j : ℕ) → AreCleanFields (get_or set.structs j no_desc).fields
@@ -245,15 +226,10 @@ module _ (set : Set) (well : WellFormed set) where
 
   machines_named : list_all (is_name 64) set.machines ≡ true
   unfolding first_fault
-  machines_named =
-      first_true (list_all (is_name 64) set.machines) _ (here parts.Set)
-      (or_else_none (failing 1 (set_rules set) (here parts.Set))
-      (or_else (first_answer (struct_fault set.structs) 0 set.structs)
-      (or_else (first_answer (device_fault set) 0 set.devices) (failing 1 (size_rules set) (here parts.Set)))) well).0
+  machines_named = grind (arith, first_true, here, or_else_none, failing)
 
   pub clean_named : (name : List ℕ) → is_one_of set.machines name ≡ true → NoFeed name
   clean_named name h = named_one _ name machines_named h
 
   pub clean_entries : (machine : Option (List ℕ)) (images : List Image) → IsMachineOf set machine → AreClean (entries set machine images)
-  clean_entries None images h = clean_images set clean_structs _ images clean_devices
-  clean_entries (Some name) images h = (clean_named name h, clean_images set clean_structs _ images clean_devices)
+  clean_entries machine images h = grind (arith, clean_images, clean_structs, clean_devices, clean_named)

@@ -6,7 +6,7 @@ use Rattle.vms_values_laws.proofs.Facade.{ValuesReason, or_else, Desc, Sub, Devi
 use Rattle.vms_values_laws.proofs.Facade.{own_cells, own_slots, sub_slots, came_slots, image_slots, RulesHold, AreVersionsOf, is_needed, ComeAsNeeded, IsReady}
 use Rattle.vms_values_laws.proofs.Facade.{DefaultsFit, rules_append, rules_decide, elements_in, Entry, OfSub, number_entries, subs_entries, device_entries}
 use Rattle.vms_values_laws.proofs.Facade.{if_not, have_defaults, came_well, part_reason, AreFine, IsShaped, AreUnsaid, AreAtVersions, walks, elements_slots}
-use Rattle.vms_values_laws.proofs.Facade.{BadLine, or_bad, pos, codes, ranged, devices_entries, entries, AreShaped, AllUnsaid, IsText, Says, entry_law, text_is}
+use Rattle.vms_values_laws.proofs.Facade.{BadLine, or_bad, pos, ranged, devices_entries, entries, AreShaped, AllUnsaid, IsText, Says, entry_law, text_is}
 use Rattle.vms_values_laws.proofs.Facade.{OfSection, bytes_eq, bytes_eq-Decides, entry_line, is_of_cell, line_reason, or_right, rules_split, section_line}
 use Rattle.vms_values_laws.proofs.Rights.{right_none, part, right_by, known_both, Known, defaults_are, AreGood, IfDefaults}
 use Rattle.vms_values_laws.proofs.SecondPass.{of_numbers, AreShort, short_within, desc_rules, as_bad, parts_from}
@@ -23,12 +23,10 @@ two_none a b e = let p = or_else_none _ _ e in (if_none a _ p.0, if_none b _ p.1
 
 -- what has come was to come, and what hasn't is at its defaults
 well_come : (b : Bool) (v : ℕ) (have : Bool) → came_well b (Some v) have ≡ true → b ≡ true
-well_come true v have e = refl
-well_come false v have e = cc
+well_come b v have e = grind arith
 
 well_away : (b have : Bool) → came_well b None have ≡ true → (b ≡ false) × (have ≡ true)
-well_away true have e = cc
-well_away false have e = (refl, e)
+well_away b have e = grind arith
 
 -- a line that is no number's, before those of a part's numbers
 head_known : {set : Set} {n : List ℤ} {at : ℕ} {es : List Entry} {cells : List Cell} {ss : List Slot} {N : Type 0} (e : Entry)
@@ -67,7 +65,7 @@ module _ (set : Set) (d : Device) (image : Image) (short : AreShort image.number
     own = desc_cells (struct_cells set) s.desc
 
     its : Known set n at (number_entries set s.desc n at) own (sub_slots set s s.desc.version n at) (Unit {0})
-    its = desc_part set n short s.desc s.desc.version at
+    its = desc_part set n short s.desc _ at
 
     came_known : (v : ℕ) → v ≡ s.desc.version → Known set n at (OfSub d image j s at (Some v) ∷ number_entries set s.desc n at) own (sub_slots set s v n at)
         (RulesHold (sub_slots set s v n at) × (is_needed set d image s j ≡ true))
@@ -115,13 +113,13 @@ module _ (set : Set) (d : Device) (image : Image) (short : AreShort image.number
   device_known version long versions =
       let ss = own_slots set d image.version n in
       let later = came_slots set d n (own_cells set d) d.subs image.came in
-      let line = bytes_same (section_line d image.version) (section_line d d.desc.version) (ap (section_line d) version) in
-      let rules = desc_rules set d.desc image.version n 0 in
+      let line = bytes_same _ _ (ap (section_line d) version) in
+      let rules = desc_rules set d.desc _ n 0 in
       let own : Known set n 0 (OfSection d image ∷ number_entries set d.desc n 0) (desc_cells (struct_cells set) d.desc) ss (RulesHold ss) =
-      head_known (OfSection d image) (λ k. refl) line (λ g. (rules_decide ss).0 (sym rules ∙ if_none _ _ g))
-      (λ m. rw (rules ∙ (rules_decide ss).1 m) refl) (rw version (desc_part set n short d.desc d.desc.version 0)) in
+      head_known _ (λ k. refl) line (λ g. (rules_decide ss).0 (sym rules ∙ if_none _ _ g))
+      (λ m. rw (rules ∙ (rules_decide ss).1 m) refl) (rw version (desc_part set n short d.desc _ 0)) in
       known_both (λ a b. (rules_append ss later a b.0, b.1)) (λ m. let r = rules_split ss later m.0 in (r.0, (r.1, m.1))) (omega arith) own
-      (subs_known 0 (own_cells set d) d.subs _ long versions)
+      (subs_known 0 _ d.subs _ long versions)
 
   -- ---- A state that a text says, with good parts, is ready.
 
@@ -266,8 +264,7 @@ pub record SaysWell (set : Set) (text : List ℕ) (machine : Option (List ℕ)) 
 
 with_machine : (set : Set) (machine : Option (List ℕ)) (images : List Image) → AllSay set set.devices images
     → AreFine (entries set machine images) × AreGood set (entries set machine images)
-with_machine set None images a = (a.fine, a.good)
-with_machine set (Some name) images a = ((bytes_same (codes "machine " ++ name) (codes "machine " ++ name) refl, a.fine), (refl, a.good))
+with_machine set machine images a = grind (arith, bytes_same)
 
 pub text_says : (set : Set) (text : List ℕ) (machine : Option (List ℕ)) (images : List Image) → IsText set text machine images
     → SaysWell set text machine images

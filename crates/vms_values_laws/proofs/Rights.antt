@@ -2,13 +2,13 @@
 use Rattle.vms_values_laws.proofs.{SaidLaws.if_none, SaidLaws.lines_both, SecondPass.AreShort, SecondPass.of_numbers}
 use Rattle.vms_values_laws.proofs.Facade.{has_default, if_both, all_both, all_parts, ◌≡◌, ℕ, Bool, true, false, List, ◌∷◌, ◌++◌, length}
 use Rattle.vms_values_laws.proofs.Facade.{get_or, drop, Some, None, ℤ, pos, refl, sym, ap, ◌∙◌, codes, or_from, and_from, and-true, and-false, not-true}
-use Rattle.vms_values_laws.proofs.Facade.{append_assoc, if◌then◌else◌, ◌||◌, [], zero, suc, ◌+◌, ◌-◌, ◌<◌, ◌≤◌, ◌&&◌, ◌==◌}
-use Rattle.vms_values_laws.proofs.Facade.{subst, arith, ⊎_elim, signed_decimal, eq-eqb, ne_eqb, and_parts, or_parts, drop-append_seam, get_or_append_left}
-use Rattle.vms_values_laws.proofs.Facade.{get_or-append-add, length-append, cases_lt, Entry, AreCounted, or_else_none, same_number, Cell, no_cell, Slot}
-use Rattle.vms_values_laws.proofs.Facade.{FitsCell, has_cell, begins_with, is_same, ranged, ranges, or_second, same_number_is, within_all, not_exceeds, IsShort}
-use Rattle.vms_values_laws.proofs.Facade.{number_holds, Number, Element, What, number_line, printed, OfNumber, if_not, number_reason, element_reason}
-use Rattle.vms_values_laws.proofs.Facade.{line_reason, have_defaults, DefaultsFit, names_append, cells_of, slots_of, numbers_in, CountsUp, AreFine, has_line}
-use Rattle.vms_values_laws.proofs.Facade.{Set, AllByRecursion, part_reason, none_joined, is_number, cells_with, slot_of}
+use Rattle.vms_values_laws.proofs.Facade.{append_assoc, if◌then◌else◌, ◌||◌, [], suc, ◌+◌, ◌-◌, ◌<◌, ◌≤◌, ◌&&◌, subst, arith}
+use Rattle.vms_values_laws.proofs.Facade.{⊎_elim, signed_decimal, ne_eqb, and_parts, or_parts, drop-append_seam, get_or_append_left, get_or-append-add}
+use Rattle.vms_values_laws.proofs.Facade.{length-append, cases_lt, Entry, AreCounted, or_else_none, same_number, Cell, no_cell, Slot, FitsCell, has_cell}
+use Rattle.vms_values_laws.proofs.Facade.{begins_with, is_same, ranged, ranges, or_second, same_number_is, within_all, not_exceeds, IsShort, number_holds}
+use Rattle.vms_values_laws.proofs.Facade.{Number, Element, What, number_line, printed, OfNumber, if_not, number_reason, element_reason, line_reason}
+use Rattle.vms_values_laws.proofs.Facade.{have_defaults, DefaultsFit, names_append, cells_of, slots_of, numbers_in, CountsUp, AreFine, has_line, Set}
+use Rattle.vms_values_laws.proofs.Facade.{AllByRecursion, part_reason, none_joined, is_number, cells_with, slot_of}
 use Rattle.vms_spec.specs.declared.ValuesReason.TheVariants as reasons
 use Rattle.vms_spec.specs.Layout as slots
 
@@ -97,8 +97,7 @@ AreBare n at cells test = (c k : ℕ) → c < length cells → k ≡ at + c → 
 
 pub fine_rest : (n : List ℤ) (x : Element) (xs : List Element) (b : Bool) → AreFine (of_numbers n (if b then x ∷ printed xs else printed xs))
     → AreFine (of_numbers n (printed xs))
-fine_rest n x xs true f = f.1
-fine_rest n x xs false f = f
+fine_rest n x xs b f = grind arith
 
 pub none_in : (es fs : List Entry) (k : ℕ) → has_line es k ≡ false → has_line fs k ≡ false → has_line (es ++ fs) k ≡ false
 none_in es fs k a b = lines_both es fs k ∙ or_from _ _ a b
@@ -181,13 +180,10 @@ module _ (set : Set) (n : List ℤ) (short : AreShort n) (x : Element) (cell : C
   byte b = if b then slot ∷ [] else []
 
   number_unsaid : (k : ℕ) (b t : Bool) → (b ≡ true → t ≡ true) → has_line (line t) k ≡ false → has_cell (byte b) k ≡ false
-  number_unsaid k true true c e = e
-  number_unsaid k true false c e = let f = c refl in cc
-  number_unsaid k false t c e = refl
+  number_unsaid k b t c e = grind arith
 
   hidden : (b : Bool) → has_cell (byte b) at ≡ false → b ≡ false
-  hidden true h = grind (arith, here, or_parts)
-  hidden false h = refl
+  hidden b h = grind (arith, here, or_parts)
 
   number_said : (b t : Bool) → x.present ≡ b → AreFine (line t) → FitsCell cell cell.default
       → (has_line (line t) at ≡ false → get_or n at (pos 0) ≡ cell.default) → IsRight n (byte b) at cell
@@ -249,8 +245,7 @@ part set n short at (x ∷ xs) up counted = by_what x.what refl (λ at u. part s
 
 first_bare : (n : List ℤ) (at : ℕ) (cell : Cell) (cells : List Cell) (c k : ℕ) → c < suc (length cells) → k ≡ at + c → get_or n at (pos 0) ≡ cell.default
     → AreBare n (at + 1) cells (λ k. false) → get_or n k (pos 0) ≡ (get_or (cell ∷ cells) c no_cell).default
-first_bare n at cell cells zero k lt e is later = let same : k ≡ at = omega arith in rw same is
-first_bare n at cell cells (suc c) k lt e is later = later c k (omega arith) (omega arith) refl
+first_bare n at cell cells c k lt e is later = grind arith
 
 -- all are defaults exactly if this test is true
 abbrev pub IfDefaults : List ℤ → ℕ → List Cell → Bool → Type 0

@@ -1,22 +1,19 @@
 -- What is known of a state that agrees with what lines said, and what was said in two parts.
 use Rattle.vms_values_laws.proofs.Facade.{◌≡◌, ℕ, ◌≤◌, List, [], ◌∷◌, ◌++◌, get_or, map, slice_set, ℤ, pos, refl, sym, ◌∙◌}
-use Rattle.vms_values_laws.proofs.Facade.{arith, append_assoc, true, false, if◌then◌else◌, Some, None, same_Some, suc, get_or-set_other, Bool, ◌==◌}
-use Rattle.vms_values_laws.proofs.Facade.{◌||◌, length, map-append, all_both, all_more, all_parts, length-append, eq-eqb, or_parts, or_assoc}
-use Rattle.vms_values_laws.proofs.Facade.{AllByRecursion, ValuesReason, if_not, Standing, Element, text_of, ranges, text_append, Said, said_line, Agrees, Meets}
-use Rattle.vms_values_laws.proofs.Facade.{AreBelow, AreFrom, put_all, Entry, OfNumber, is_of_cell, has_line, ints, IsShort, ◌<◌, drop, Option, negsuc, Ok}
-use Rattle.vms_values_laws.proofs.Facade.{Err, codes, ◌+◌, get_or-set_same, length-set, signed_decimal, Read, BadLine, CellLine, put_number, put_line}
-use Rattle.vms_values_laws.proofs.Facade.{◌>>=◌, Number, number_reason, spelled_reason, line_reason, wanted_reason, Kind, U8, same_number, exceeds}
-use Rattle.vms_values_laws.proofs.Facade.{in_range, Cell, first_line, begins_with, number_spelled, spelled_holds, line_splits, begun, ForNumber, Moved, Taken}
-use Rattle.vms_values_laws.proofs.Facade.{lines_of, reason_for}
+use Rattle.vms_values_laws.proofs.Facade.{arith, append_assoc, true, false, if◌then◌else◌, Some, None, suc, get_or-set_other, Bool, ◌==◌, ◌||◌}
+use Rattle.vms_values_laws.proofs.Facade.{length, map-append, all_both, all_more, all_parts, length-append, eq-eqb, or_parts, or_assoc, AllByRecursion}
+use Rattle.vms_values_laws.proofs.Facade.{ValuesReason, if_not, Standing, Element, text_of, ranges, text_append, Said, said_line, Agrees, Meets, AreBelow}
+use Rattle.vms_values_laws.proofs.Facade.{AreFrom, put_all, Entry, OfNumber, has_line, IsShort, ◌<◌, drop, Option, Ok, Err, codes, ◌+◌, get_or-set_same}
+use Rattle.vms_values_laws.proofs.Facade.{length-set, signed_decimal, Read, BadLine, CellLine, put_number, put_line, ◌>>=◌, Number, number_reason}
+use Rattle.vms_values_laws.proofs.Facade.{spelled_reason, line_reason, wanted_reason, Kind, same_number, exceeds, in_range, Cell, first_line, begins_with}
+use Rattle.vms_values_laws.proofs.Facade.{number_spelled, spelled_holds, line_splits, begun, ForNumber, Moved, Taken, lines_of, reason_for}
 use Rattle.vms_spec.specs.declared.ValuesReason.TheVariants as reasons
 
 pub some_if : {A : Type 0} (b : Bool) (x y : A) → (if b then Some x else None) ≡ Some y → (b ≡ true) × (x ≡ y)
-some_if true x y e = (refl, same_Some x y e)
-some_if false x y e = cc
+some_if b x y e = grind arith
 
 pub if_none : (b : Bool) (reason : ValuesReason) → if_not b reason ≡ None → b ≡ true
-if_none true reason e = refl
-if_none false reason e = cc
+if_none b reason e = grind arith
 
 pub meets_left : (said : List Said) (left left' : List Element) (n : List ℤ) (xs : List Element) → Meets said left n xs → (Agrees said n → left ≡ left')
     → Meets said left' n xs
@@ -156,10 +153,7 @@ Stepped x p o (Err e) = NotPut x p o e
 
 -- a number in the range of a kind has at most 64 bits
 pub short : (kind : Kind) (z : ℤ) → in_range kind z ≡ true → IsShort z
-short U8 (pos n) e = let r = ranges U8 (pos n) e in omega (arith, ints)
-short U8 (negsuc n) e = let r = ranges U8 (negsuc n) e in omega (arith, ints)
-short kind (pos n) e = let r = ranges kind (pos n) e in omega (arith, ints)
-short kind (negsuc n) e = let r = ranges kind (negsuc n) e in omega (arith, ints)
+short kind z e = grind (arith, ranges)
 
 module _ (steps : List (ℕ × ℕ)) (path : List ℕ) (present : Bool) (at : ℕ) (c : Cell) (p : Standing) where
   abbrev here : Element
@@ -180,7 +174,7 @@ module _ (steps : List (ℕ × ℕ)) (path : List ℕ) (present : Bool) (at : �
 
     refused : (z : ℤ) (reason : Rattle.vms_spec.specs.declared.ValuesReason.ValuesReason) → number_spelled text ≡ Some z
         → number_reason c present z ≡ Some reason → NotPut here p (Some (line, rest)) (record { line = p.line; reason = reason })
-    refused z reason e f = record { line = refl; bad = wanted (Some z) e ∙ f }
+    refused z reason e f = record { line = refl; bad = wanted _ e ∙ f }
 
     taken : (z : ℤ) → number_spelled text ≡ Some z → in_range c.kind z ≡ true → number_reason c present z ≡ None
         → Put here p (record { numbers = slice_set p.numbers at z; line = suc p.line; rest = rest })
@@ -206,7 +200,7 @@ module _ (steps : List (ℕ × ℕ)) (path : List ℕ) (present : Bool) (at : �
 
     spelled : (o : Option ℤ) → number_spelled text ≡ o → Stepped here p (Some (line, rest)) (put_number its p rest o)
     spelled None e = record { line = refl; bad = wanted None e }
-    spelled (Some z) e = judged z e _ (exceeds c.capacities z) _ refl refl refl
+    spelled (Some z) e = judged z e _ _ _ refl refl refl
 
   by_front : (line rest : List ℕ) → p.rest ≡ line ++ 10 ∷ rest → (b : Bool) → begins_with front line ≡ b
       → Stepped here p (Some (line, rest)) (put_line path its p (Some (line, rest)))
@@ -215,10 +209,10 @@ module _ (steps : List (ℕ × ℕ)) (path : List ℕ) (present : Bool) (at : �
 
   by_line : (o : Option (List ℕ × List ℕ)) → first_line p.rest ≡ o → Stepped here p o (put_line path its p o)
   by_line None e = record { line = refl; bad = refl }
-  by_line (Some (line, rest)) e = by_front line rest (line_splits p.rest line rest e) (begins_with front line) refl
+  by_line (Some (line, rest)) e = by_front line rest (line_splits p.rest line rest e) _ refl
 
   pub one_line : Stepped here p (first_line p.rest) (put_line path its p (first_line p.rest))
-  one_line = by_line (first_line p.rest) refl
+  one_line = by_line _ refl
 
 -- ---- Reading line by line, beside the elements of a state by its numbers.
 

@@ -8,9 +8,9 @@ use Rattle.vms_values_laws.proofs.Facade.{sub_fails, is_said_well, judge_subs, j
 use Rattle.vms_values_laws.proofs.Facade.{cells_of, slots_of, numbers_in, CountsUp, elements_in, slot_of, printed, Entry, OfSub, OfNumber, subs_entries}
 use Rattle.vms_values_laws.proofs.Facade.{device_entries, devices_entries, if_not, rules_hold, has_default, have_defaults, sub_holds, came_well, part_reason}
 use Rattle.vms_values_laws.proofs.Facade.{rule_holds, AreShaped, walks, elements_slots, ◌<◌, same_Some, append_cancel_left, map-id, get_or, Ok, Err}
-use Rattle.vms_values_laws.proofs.Facade.{append-nil, codes, length-map, signed_decimal, ⊎_elim, cases_lt, get_or-eq_default, OfMachine, wanted_reason}
-use Rattle.vms_values_laws.proofs.Facade.{number_entries, demand_of, reason_for, Taken, Follows, Along, Moved, ForNumber, Begins, first_line, number_spelled}
-use Rattle.vms_values_laws.proofs.Facade.{Standing, Read, readers, read_desc, IsSound, AreSound, IsShort, number_holds, shapes, desc_elements, Said, Agrees}
+use Rattle.vms_values_laws.proofs.Facade.{append-nil, codes, length-map, signed_decimal, ⊎_elim, cases_lt, get_or-eq_default, wanted_reason, number_entries}
+use Rattle.vms_values_laws.proofs.Facade.{demand_of, reason_for, Taken, Follows, Along, Moved, ForNumber, Begins, first_line, number_spelled, Standing, Read}
+use Rattle.vms_values_laws.proofs.Facade.{readers, read_desc, IsSound, AreSound, IsShort, number_holds, shapes, desc_elements, Said, Agrees}
 use Rattle.vms_values_laws.proofs.SaidLaws.{all_taken, moved_none, ComesTo, At, meets_all, taken_of, Told, told_none, has_said, said_both, lines_both}
 use Rattle.vms_spec.specs.declared.ValuesReason.TheVariants as reasons
 use Rattle.vms_spec.specs.ValuesReading as reading
@@ -41,8 +41,7 @@ parts_past set line n [] es = ap (λ l. parts_from set l es) (omega arith)
 parts_past set line n (x ∷ xs) es = grind (arith, parts_past set (suc line) n xs es)
 
 pub or_bad_assoc : (a b c : Option BadLine) → or_bad (or_bad a b) c ≡ or_bad a (or_bad b c)
-or_bad_assoc (Some a) b c = refl
-or_bad_assoc None b c = refl
+or_bad_assoc a b c = grind arith
 
 pub parts_both : (set : Set) (line : ℕ) (es fs : List Entry)
     → parts_from set line (es ++ fs) ≡ or_bad (parts_from set line es) (parts_from set (line + length es) fs)
@@ -93,8 +92,7 @@ module _ (set : Set) where
   one_part : (a b : Bool) (line : ℕ) (o : Option BadLine)
       → or_bad (if_bad (not a) line reasons.Invalid) (or_bad (if_bad (not b) line reasons.Needed) o) ≡ or_bad
       (as_bad line (or_else (if_not a reasons.Invalid) (if_not b reasons.Needed))) o
-  one_part true true line o = refl
-  one_part _ _ line o = refl
+  one_part a b line o = grind arith
 
   abbrev cells_long : List Sub → ℕ
   cells_long subs = length (flat_map (λ s. desc_cells (struct_cells set) s.desc) subs)
@@ -111,9 +109,8 @@ module _ (set : Set) where
       let next = suc line + length xs in
       let well = came_well (is_needed set d image s j) o (have_defaults image.numbers (elements_in set s.desc s.desc.version image.numbers at)) in
       let well_is : (is_said_well set d image j s o at) ≡ well =
-      well_same (is_needed set d image s j) o (are_defaults (desc_cells (struct_cells set) s.desc) (drop at image.numbers))
-      (have_defaults image.numbers (elements_in set s.desc s.desc.version image.numbers at))
-      (sym (desc_defaults s.desc s.desc.version image.numbers at (omega arith))) in
+      well_same _ o _
+      _ (sym (desc_defaults s.desc _ _ at (omega arith))) in
       rw (
         subs_past (suc line) image.numbers xs others,
         subs_judged d image (suc j) (at + size) subs came next (omega arith),
@@ -134,8 +131,7 @@ module _ (set : Set) where
 
   section_judged : (a : Bool) (line : ℕ) (o : Option BadLine)
       → or_bad (if_bad (not a) line reasons.Invalid) o ≡ or_bad (as_bad line (if_not a reasons.Invalid)) o
-  section_judged true line o = refl
-  section_judged _ line o = refl
+  section_judged a line o = grind arith
 
   device_judged : (d : Device) (line : ℕ) (r : ReadDevice) → IsLined d line r → length r.image.numbers ≡ length (device_cells set d)
       → judge_device set d r ≡ parts_from set line (device_entries set d r.image)
@@ -167,8 +163,7 @@ module _ (set : Set) where
 
 -- what may be somewhere doesn't depend on the state
 pub reason_same : (e : Entry) (o : Option (List ℕ × List ℕ)) → wanted_reason e o ≡ reason_for (demand_of e) o
-reason_same (OfMachine name) o = refl
-reason_same _ _ = refl
+reason_same e o = grind arith
 
 pub follows_then : (taken more : List Taken) (P Q : List Entry → Type 0) (es : List Entry) → Follows taken P es
     → ((xs : List Entry) → P xs → Follows more Q xs) → Follows (taken ++ more) Q es
@@ -300,5 +295,5 @@ module _ (set : Set) (d : Desc) (at : ℕ) (p : Standing) where
       → NumbersCome set d at p (read_desc (readers set) d d.version [] true at p)
   numbers_come structs sound room =
       let started : At total p at at p [] (λ m. total m ++ []) =
-      record { meets = λ m. sym (append-nil (total m)); below = tt; up = omega arith; told = told_none at p.numbers; moved = moved_none p.line p.rest } in
+      record { meets = λ m. sym (append-nil (total m)); below = tt; up = omega arith; told = told_none at _; moved = moved_none p.line p.rest } in
       from_comes _ (part_comes total p at set d at p [] (λ m. []) structs sound room started).comes

@@ -1,18 +1,17 @@
 -- The laws of values texts, as they are stated.
 use Rattle.vms_values_laws.proofs.{Meeting.clean_devices, SecondPass.parts_from, AllCome.images_of, AllCome.good_devices}
-use Rattle.vms_values_laws.proofs.Accepted.{Match, inside_of, matched, devices_same, answer_by, none_answers, none_says, none_good, says_ready, named_machine}
+use Rattle.vms_values_laws.proofs.Accepted.{Match, matched, devices_same, answer_by, none_answers, none_says, none_good, says_ready, named_machine}
 use Rattle.vms_values_laws.proofs.BadLines.{FirstPass, NoneBad, first_pass, TakenOf}
-use Rattle.vms_values_laws.proofs.Facade.{if_both, ◌≡◌, inl, inr, ℕ, List, ◌++◌, Option, Some, None, sym, ap, ◌∙◌, subst, arith, ◌∷◌}
-use Rattle.vms_values_laws.proofs.Facade.{map, refl, codes, append-nil, [], ◌+◌, length, suc, ◌≤◌, sum_by, ℤ, length-append, length-map}
-use Rattle.vms_values_laws.proofs.Facade.{sum_by-cons, ValuesReason, Set, Device, Desc, Sub, ValuesRead, Bad, machine_named, BadLine, Values, values_read}
-use Rattle.vms_values_laws.proofs.Facade.{Entry, entries, devices_entries, entry_line, OfNumber, number_entries, subs_entries, device_entries, IsBadLine}
-use Rattle.vms_values_laws.proofs.Facade.{IsMachineOf, Says, IsText, Refused, Reads, Taken, Image, own_cells, first_line, IsConfiguration, IsTrailer, optional}
-use Rattle.vms_values_laws.proofs.Facade.{configuration, trailer, written, AreReady, WellFormed, text_of, section_line, printed, values_text, IsFit, well_good}
-use Rattle.vms_values_laws.proofs.Facade.{entry_law, text_is, ReadLaw, OnlyLaw, AcceptedLaw, PrintedLaw, device_lines, most_lines, LineLaw, machine_short}
-use Rattle.vms_values_laws.proofs.Facade.{few_devices, Takes, one_stream_holds, written_holds, FitsText, WrittenLaw, PackedLaw, ShownLaw, desc_cells}
-use Rattle.vms_values_laws.proofs.Facade.{struct_cells, Element, cells_of, elements_in, walks, AreShaped, AreFine, is_number, cells_with, Number, What}
-use Rattle.vms_values_laws.proofs.Facade.{and-true, and-false, if◌then◌else◌, ◌&&◌}
-use Rattle.vms_values_laws.proofs.Meeting.{clean_named, AreClean, Ends, Same, meet, NoFeed, line_first, section_feed, AreCleanDevices, clean_entries}
+use Rattle.vms_values_laws.proofs.Facade.{◌≡◌, inl, inr, ℕ, List, ◌++◌, Option, Some, None, sym, ap, ◌∙◌, subst, arith, ◌∷◌, map, refl}
+use Rattle.vms_values_laws.proofs.Facade.{append-nil, [], ◌+◌, length, suc, ◌≤◌, sum_by, ℤ, length-append, length-map, sum_by-cons, ValuesReason}
+use Rattle.vms_values_laws.proofs.Facade.{Set, Device, Desc, Sub, ValuesRead, Bad, machine_named, BadLine, Values, values_read, Entry, entries, devices_entries}
+use Rattle.vms_values_laws.proofs.Facade.{entry_line, OfNumber, number_entries, subs_entries, device_entries, IsBadLine, IsMachineOf, Says, IsText, Refused}
+use Rattle.vms_values_laws.proofs.Facade.{Reads, Taken, Image, own_cells, first_line, IsConfiguration, IsTrailer, optional, configuration, trailer, written}
+use Rattle.vms_values_laws.proofs.Facade.{AreReady, WellFormed, text_of, printed, values_text, IsFit, well_good, entry_law, text_is, ReadLaw, OnlyLaw}
+use Rattle.vms_values_laws.proofs.Facade.{AcceptedLaw, PrintedLaw, device_lines, most_lines, LineLaw, machine_short, few_devices, Takes, one_stream_holds}
+use Rattle.vms_values_laws.proofs.Facade.{written_holds, FitsText, WrittenLaw, PackedLaw, ShownLaw, desc_cells, struct_cells, Element, cells_of, elements_in}
+use Rattle.vms_values_laws.proofs.Facade.{walks, AreShaped, AreFine, is_number, cells_with, Number, What, and-true, and-false, if◌then◌else◌, ◌&&◌}
+use Rattle.vms_values_laws.proofs.Meeting.{clean_named, AreClean, Ends, Same, meet, NoFeed, line_first, AreCleanDevices, clean_entries}
 use Rattle.vms_values_laws.proofs.ReadyParts.{sub_cells, first_part, bad_part_found, good_none, text_says}
 
 -- ---- the machine that a text names
@@ -28,12 +27,7 @@ by_devices set text _ _ clean e = rw e
 
 named_by : (set : Set) → WellFormed set → (text : List ℕ) (machine : Option (List ℕ)) (images : List Image) → IsMachineOf set machine
     → text ≡ text_of (map entry_line (entries set machine images)) → machine_named set.machines (first_line text) ≡ machine
-named_by set well text None images named e = by_devices set text _ images (clean_devices set well) e
-named_by set well text (Some name) images named e =
-    let lines = map entry_line (devices_entries set set.devices images) in
-    ap (machine_named set.machines)
-    (first_is text (codes "machine " ++ name) lines (refl, (refl, (refl, (refl, (refl, (refl, (refl, (refl, clean_named set well name named)))))))) e)
-    ∙ rw named refl
+named_by set well text machine images named e = grind (arith, by_devices, clean_devices, machine_named, first_is, clean_named)
 
 -- ---- What was taken, beside what is stated: a bad line by the relation is the one that is found, and so are the lines of a state.
 
@@ -55,7 +49,7 @@ module _ {set : Set} {text : List ℕ} {machine' : Option (List ℕ)} {taken : L
       → Same taken (entries set machine images) o None
   its_lines well machine images says =
       let es = entries set machine images in
-      let clean : AreClean (es ++ []) = subst AreClean (sym (append-nil es)) (clean_entries set well machine images says.named) in
+      let clean : AreClean (es ++ []) = subst AreClean (sym (append-nil es)) (clean_entries set well _ images says.named) in
       beside _ images es [] [] None (sym (named_by set well text _ images says.named says.printed)) says.shaped (sym (append-nil es)) clean
       says.fine (says.printed ∙ sym (append-nil _)) (refl, refl)
 
@@ -73,8 +67,7 @@ bad_back set text line reason x clean v (inr n) = let e = (against n.took x clea
 module _ (set : Set) (well : WellFormed set) (text : List ℕ) (machine : Option (List ℕ)) (images : List Image) (says : Says set text machine images) where
   same_devices : (machine : Option (List ℕ)) (i j : List Image) → Match (entries set machine i) (entries set machine j)
       → Match (devices_entries set set.devices i) (devices_entries set set.devices j)
-  same_devices None i j m = m
-  same_devices (Some name) i j m = m.2
+  same_devices machine i j m = grind arith
 
   module _ (v : ValuesRead) (n : NoneBad set text v) where
     same_machine : n.machine ≡ machine
@@ -133,16 +126,15 @@ text_back : (set : Set) (text : List ℕ) (machine : Option (List ℕ)) (images 
     → values_read set text ≡ Values machine images
 text_back set text machine images fit t =
     let s = text_says set text _ images t in
-    says_answers set fit.well text machine images s.says (values_read set text) (its_first_pass set text fit) ∙ rw (good_none set 1 _ s.good) refl
+    says_answers set fit.well text _ images s.says _ (its_first_pass set text fit) ∙ rw (good_none set 1 _ s.good) refl
 
 refused_back : (set : Set) (text : List ℕ) (line : ℕ) (reason : ValuesReason) → IsFit set → Refused set text line reason
     → values_read set text ≡ Bad line reason
 refused_back set text line reason fit (inl x) =
-    bad_back set text line reason x (clean_entries set fit.well x.machine x.images (named_machine set text x.machine x.named)) _ (its_first_pass set text fit)
+    bad_back set text line reason x (clean_entries set fit.well _ _ (named_machine set text _ x.named)) _ (its_first_pass set text fit)
 refused_back set text line reason fit (inr x) =
     let here : 1 + length x.before ≡ line = omega (arith, x.number) in
-    says_answers set fit.well text x.machine x.images x.says (values_read set text) (its_first_pass set text fit)
-    ∙ rw (x.state, bad_part_found set 1 x.before x.entry x.after reason x.good x.bad, here) refl
+    says_answers set fit.well text _ _ x.says _ (its_first_pass set text fit) ∙ rw (x.state, bad_part_found set 1 _ _ _ reason x.good x.bad, here) refl
 
 pub only_holds : OnlyLaw
 only_holds set text (Values machine images) fit r = text_back set text _ images fit r
@@ -156,12 +148,10 @@ printed_holds set machine images fit named ready =
 
 module _ (set : Set) (well : WellFormed set) where
   configured : (machine : Option (List ℕ)) → IsMachineOf set machine → IsConfiguration set.machines machine (optional configuration machine)
-  configured None h = refl
-  configured (Some name) h = (h, let s = machine_short set well name h in omega arith, refl)
+  configured machine h = grind (arith, machine_short)
 
 trailed : (described : Option (List ℕ)) → FitsText described → IsTrailer described (optional trailer described)
-trailed None h = refl
-trailed (Some text) h = (h, refl)
+trailed described h = grind arith
 
 -- all of it is taken
 pub takes : (set : Set) → WellFormed set → (machine described : Option (List ℕ)) (images : List Image) → IsMachineOf set machine → FitsText described

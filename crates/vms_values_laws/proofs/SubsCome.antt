@@ -93,7 +93,7 @@ stopped_first es subs at p demand begins wrong = record {
   before = record {
     said = [];
     taken = [];
-    told = told_none at p.numbers;
+    told = told_none at _;
     one_each = length-map subs (λ s. None);
     versions = none_at subs;
     follows = λ image came more long short. begins image came more long;
@@ -176,8 +176,7 @@ module _ (set : Set) (d : Device) where
     pub numbers_first : (r : Read) (go : Standing → Result ReadSubs BadLine) → NumbersCome set desc at p r
         → ((q : Standing) → NumbersRead set desc at p q → Come (those j next subs) subs next q (go q))
         → Come (behind_numbers desc at j next subs) subs at p (then_subs r go)
-    numbers_first (Ok q) go n h = behind q (go q) n (h q n)
-    numbers_first (Err e) go n h = stopped_inside e n
+    numbers_first r go n h = grind (arith, behind, stopped_inside)
 
   module _ (s : Sub) (subs : List Sub) (j at : ℕ) (p : Standing) where
     refused : reason_for (ForSub s) (first_line p.rest) ≡ Some reasons.Form
@@ -199,8 +198,7 @@ module _ (set : Set) (d : Device) where
       follows_head : (taken : List Taken) (P : List Entry → Type 0) (image : Image) (came : List (Option ℕ)) (more : List Entry)
           → length came ≡ suc (length subs) → ((came : List (Option ℕ)) → length came ≡ length subs → Follows taken P (own image came ++ more))
           → Follows (head_taken ∷ taken) P (subs_entries set d image j at (s ∷ subs) came ++ more)
-      follows_head taken P image [] more long h = absurd (omega arith)
-      follows_head taken P image (o ∷ came) more long h = (refl, λ e. h came (omega arith))
+      follows_head taken P image came more long h = grind arith
 
       abbrev headed : {others : List (Option ℕ)} {numbers : List ℤ} {line : ℕ} {rest : List ℕ} {Then : List Entry → List Entry → Type 0}
           → Went own subs at (next_line p) others numbers line rest Then → Went (those j at (s ∷ subs)) (s ∷ subs) at p (came ∷ others) numbers line rest Then
@@ -227,7 +225,7 @@ module _ (set : Set) (d : Device) where
   by_head s subs j at p None structs sound e here later = refused s subs j at p e
   by_head s subs j at p (Some came) structs sound e here later =
       sub_comes s subs j at p came e _
-      (numbers_first s.desc at _ _ subs (next_line p) refl _ _
+      (numbers_first s.desc at _ _ subs _ refl _ _
       (numbers_come set s.desc at _ structs sound here) (λ q n. later q n.told.long))
 
   pub subs_come : AreSound set.structs → (subs : List Sub) (j at : ℕ) (p : Standing) → AreSoundSubs subs → at + cells_long subs ≤ length p.numbers
@@ -236,7 +234,7 @@ module _ (set : Set) (d : Device) where
     whole = record {
       said = [];
       taken = [];
-      told = told_none at p.numbers;
+      told = told_none at _;
       one_each = refl;
       versions = tt;
       follows = λ image came more long short. refl;

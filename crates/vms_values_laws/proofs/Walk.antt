@@ -1,15 +1,14 @@
 -- Reading the fields of a description, beside its elements.
 use Rattle.vms_values_laws.proofs.Facade.{◌≡◌, ℕ, List, ◌∷◌, ◌++◌, map, refl, sym, ap, ◌∙◌, Bool, true, false, ◌&&◌}
-use Rattle.vms_values_laws.proofs.Facade.{if◌then◌else◌, append_assoc, codes, [], ◌<◌, zero, suc, ◌+◌, ◌*◌, ◌≤◌, length, get_or, drop}
-use Rattle.vms_values_laws.proofs.Facade.{ℤ, arith, append-nil, map-append, length-append, and_assoc, and-true, decimal, le-ltb, lt-ltb, ⊎_elim, cases_lt}
-use Rattle.vms_values_laws.proofs.Facade.{Element, dotted, behind, Shape, no_shape, shape, shapes, cells_in, single, Rule, item_elements, Stand, stand_of}
-use Rattle.vms_values_laws.proofs.Facade.{array_elements, field_elements, elements_from, desc_elements, index_text, is_number, printed, printed_append, Item}
-use Rattle.vms_values_laws.proofs.Facade.{Num, Struct, Count, One, Fixed, Counted, Field, Desc, Set, Cell, no_desc, no_field, first, counted, capacity_of}
-use Rattle.vms_values_laws.proofs.Facade.{elements_of, item_size, field_cells, cells_from, desc_cells, struct_cells, numbers_of, place_of, all_hold, Standing}
-use Rattle.vms_values_laws.proofs.Facade.{Read, Reader, no_reader, reader, readers, read_item, read_elements, read_array, read_field, read_fields, read_desc}
-use Rattle.vms_values_laws.proofs.Facade.{elements_fit, field_size, IsNumber, IsOne, IsEarlier, IsSoundField, AreSoundFields, IsSound, AreSound, there_same}
-use Rattle.vms_values_laws.proofs.Facade.{elements_same, place_next, drop_next, zero_plus, place_first, first_long, readers_cells, two_more, shapes_cells, Said}
-use Rattle.vms_values_laws.proofs.Facade.{Agrees}
+use Rattle.vms_values_laws.proofs.Facade.{if◌then◌else◌, append_assoc, codes, [], zero, suc, ◌+◌, ◌*◌, ◌≤◌, length, get_or, drop, ℤ}
+use Rattle.vms_values_laws.proofs.Facade.{arith, append-nil, map-append, length-append, and_assoc, and-true, decimal, Element, dotted, behind, Shape, no_shape}
+use Rattle.vms_values_laws.proofs.Facade.{shape, shapes, cells_in, single, Rule, item_elements, Stand, stand_of, array_elements, field_elements, elements_from}
+use Rattle.vms_values_laws.proofs.Facade.{desc_elements, index_text, is_number, printed, printed_append, Item, Num, Struct, Count, One, Fixed, Counted, Field}
+use Rattle.vms_values_laws.proofs.Facade.{Desc, Set, Cell, no_desc, no_field, first, counted, capacity_of, elements_of, item_size, field_cells, cells_from}
+use Rattle.vms_values_laws.proofs.Facade.{desc_cells, struct_cells, numbers_of, place_of, all_hold, Standing, Read, Reader, no_reader, reader, readers}
+use Rattle.vms_values_laws.proofs.Facade.{read_item, read_elements, read_array, read_field, read_fields, read_desc, elements_fit, field_size, IsNumber, IsOne}
+use Rattle.vms_values_laws.proofs.Facade.{IsEarlier, IsSoundField, AreSoundFields, IsSound, AreSound, there_same, elements_same, place_next, drop_next}
+use Rattle.vms_values_laws.proofs.Facade.{zero_plus, place_first, first_long, readers_cells, two_more, shapes_cells, Said, Agrees}
 use Rattle.vms_values_laws.proofs.SaidLaws.{Knows, AllKnown, At, Comes, at_left, stay, then_comes, one_line, by_read}
 use Rattle.vms_spec.specs.ValuesReading.{cells_of}
 
@@ -84,22 +83,14 @@ known_cell One item at = single_cell item at
 known_cell count item at = []
 
 is_known : (count : Count) (item : Item) (at : ℕ) (said : List Said) → IsNumber item → IsOne count → AllKnown (known_cell count item at) said → Knows said at
-is_known One (Num kind) at said n o k = k.0
-is_known One _ at said n o k = absurd n
-is_known _ item at said n o k = absurd o
+is_known count item at said n o k = grind arith
 
 -- what is known of the fields before the next one
 known_next : (cs : List (List Cell)) (d : Desc) (base i at : ℕ) (f : Field) (fs : List Field) (said more : List Said) → drop i d.fields ≡ f ∷ fs
     → at ≡ place_of cs d.fields 0 base d.fields i → ((m : List ℤ) → Agrees more m → Agrees said m)
     → ((j : ℕ) → IsEarlier d.fields i j → Knows said (place_of cs d.fields 0 base d.fields j)) → AllKnown (known_cell f.count f.item at) more
     → (j : ℕ) → IsEarlier d.fields (suc i) j → Knows more (place_of cs d.fields 0 base d.fields j)
-known_next cs d base i at f fs said more is here grows known k j x =
-    ⊎_elim (λ (lt : j < i).
-    record { known = λ m n a b. (known j (record { earlier = lt; there = x.there; number = x.number; one = x.one })).known m n (grows m a) (grows n b) })
-    (λ (ge : i ≤ j).
-    let same : j ≡ i = omega arith in
-    let this : get_or d.fields j no_field ≡ f = rw same (dropped _ i f fs is) in
-    rw (same, ← here) (is_known _ f.item at more (rw this at x.number) (rw this at x.one) k)) (cases_lt j i)
+known_next cs d base i at f fs said more is here grows known k j x = grind (arith, dropped, is_known)
 
 module _ (total : List ℤ → List Element) (start : Standing) (low : ℕ) where
   abbrev Here : ℕ → Standing → List Said → (List ℤ → List Element) → Type 0
@@ -239,7 +230,7 @@ module _ (total : List ℤ → List Element) (start : Standing) (low : ℕ) wher
           ∙ ap (λ cs. (lines (first m) ++ lines (rest m (length (field_cells cs d.fields i f)))) ++ left m) cells
           ∙ append_assoc (lines (first m)) _ (left m)) a))
           (λ q done a' grows k.
-          fields_comes (suc i) next end fs q done left sound.1 there (drop_next d.fields i f fs is)
+          fields_comes (suc i) next end fs q done left sound.1 there (drop_next _ i f fs is)
           (λ j x. known_next cs d base i at f fs said done is here grows known k j x) e' room a')
 
       -- a description's lines are those of its elements
@@ -282,5 +273,5 @@ module _ (total : List ℤ → List Element) (start : Standing) (low : ℕ) wher
   part_comes set d at p said left structs sound room a =
       let k = length set.structs in
       let same : length (desc_cells (struct_cells set) d) ≡ length (desc_cells (cells_of (readers set)) d) = rw (sym (readers_cells set.structs k)) in
-      desc_comes (readers set) (shapes set) (same_cells set.structs k)
+      desc_comes (readers set) _ (same_cells set.structs k)
       (all_read set.structs structs k (omega arith)) d d.version [] [] true at _ p said left sound (omega arith) room a

@@ -1,4 +1,4 @@
-use Rattle.dev_pit.proofs.Facade.{rules, subst, get_or_default, powered_on, AreTurns, Counter}
+use Rattle.dev_pit.proofs.Facade.{rules, get_or_default, powered_on}
 use Rattle.dev_pit.proofs.pit.Pit.turns.Goals as goal
 
 pub returns : goal.returns
