@@ -7,8 +7,8 @@ use Rattle.vms_analyze.proofs.Facade.{width, MOST_UNUSED, LONGEST_NAME, in_range
 use Rattle.vms_analyze.proofs.Facade.{LONGEST_PATH, Told, Sent, Kept, Fixed, Skipped, inr, told_entry, is_path, is_good, ToldSub, told_sub, ToldDevice}
 use Rattle.vms_analyze.proofs.Facade.{told_device, told_tree, fits_four, is_kept, is_good_sub, is_good_device, IsSorted, AreSorted, HoldSorted, only, text_at}
 use Rattle.vms_analyze.proofs.Facade.{path_at, natural_at, whole_at, sent_keys, kept_keys, unprinted, sent_as, sent_in, kept_as, kept_in, element_in, next}
-use Rattle.vms_analyze.proofs.Facade.{four_at, flag_at, list_at, each, sub_keys, sub_in, subs_in, device_keys, device_in, devices_in, items_of, read, value_in, is_width}
-use Rattle.vms_analyze.proofs.Facade.{Tells, ◌⊎◌, false}
+use Rattle.vms_analyze.proofs.Facade.{four_at, flag_at, list_at, each, sub_keys, sub_in, subs_in, device_keys, device_in, devices_in, items_of, read, value_in}
+use Rattle.vms_analyze.proofs.Facade.{is_width, Tells, ◌⊎◌, false}
 use Rattle.vms_analyze.proofs.MembersRead.{is_picked, after, first_then, only_is, only_so, text_is, path_is, natural_is, whole_is, whole_back, Says, under}
 use Rattle.vms_analyze.proofs.MembersRead.{IsPathAt, four_is, flag_is, list_is, each_says, each_back, read_sorted}
 use Rattle.vms_analyze.proofs.Shapes.{sub_parts, sub_from, device_parts, device_from}
@@ -175,7 +175,7 @@ module _ {A : Type 0} (tree : A → Data) (good : A → Bool) (says : Data → O
   list_says one key d sorted list e =
       let a = after (list_at key d) (each says) list e in
       let s = each_says tree good says one a.value (list_sorted key d a.value sorted a.first) list a.then in
-      record { is = list_is (get key d) a.value a.first ∙ ap array s.trees_are; fine = s.good_are }
+      record { is = rw (list_is (get key d) a.value a.first, s.trees_are); fine = s.good_are }
 
 entries_back : (ts : List Told) → list_all is_good ts ≡ true → each element_in (items_of (map entry_tree (map told_entry ts))) ≡ Some ts
 entries_back ts h = rw (map-map entry_tree told_entry ts) (each_back element_tree is_good element_in element_back ts h)
@@ -261,7 +261,7 @@ devices_say d sorted ts e =
     let k = when_gives (fits (codes "devices" ∷ []) [] d) _ ts e in
     let l = list_says told_device is_good_device device_in device_says (codes "devices") d sorted ts k.1 in
     record {
-      tree_is = is_picked (codes "devices" ∷ []) (tt, tt) d sorted k.0 ∙ ap (λ (x : Data). object (member (codes "devices") x no_members)) l.is;
+      tree_is = is_picked (codes "devices" ∷ []) (tt, tt) d sorted k.0 ∙ rw l.is;
       good_is = l.fine;
     }
 
@@ -274,7 +274,7 @@ pub tells_if : (input : List ℕ) (p : ℕ) (devices : List ToldDevice) → next
 tells_if input p devices e =
     let a = after (value_in (drop (p + 5) input)) devices_in devices e in
     let s = devices_say a.value (value_sorted (drop (p + 5) input) a.value a.first) devices a.then in
-    record { tree = a.first ∙ ap (λ (d : Data). Some d) s.tree_is; good = s.good_is }
+    record { tree = rw (a.first, s.tree_is); good = s.good_is }
 
 pub told_back : (input : List ℕ) (p : ℕ) (devices : List ToldDevice) → Tells input p devices → next (value_in (drop (p + 5) input)) devices_in ≡ Some devices
 told_back input p devices t = first_then devices_in t.tree (each_back told_device is_good_device device_in device_back devices t.good)

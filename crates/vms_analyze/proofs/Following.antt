@@ -1,9 +1,9 @@
 -- What is required, one after the other, is taken if it is at the front.
-use Rattle.vms_analyze.proofs.Facade.{◌≡◌, ℕ, ◌+◌, ◌<◌, ◌^◌, Bool, true, ◌&&◌, nat_le, List, [], ◌∷◌, ◌++◌, length, length-append, append_assoc, Some, ℤ}
-use Rattle.vms_analyze.proofs.Facade.{refl, sym, ap, ◌∙◌, arith, codes, decimal, le-leb, and_from, Kind, width, code, InRange, number_at, in_range, be32}
-use Rattle.vms_analyze.proofs.Facade.{section_head, foot, length-code, value_code, be32_read, front_take, front_drop, ranged, begins_itself, Want, Bytes, Any}
-use Rattle.vms_analyze.proofs.Facade.{Number, Head, Foot, Line, number_line, Took, took, only_if, take_number, taken, Found, Lines, Differs, behind}
-use Rattle.vms_analyze.proofs.Facade.{found_after, found}
+use Rattle.vms_analyze.proofs.Facade.{◌≡◌, ℕ, ◌+◌, ◌<◌, ◌^◌, Bool, true, ◌&&◌, nat_le, List, [], ◌∷◌, ◌++◌, length}
+use Rattle.vms_analyze.proofs.Facade.{length-append, append_assoc, Some, ℤ, refl, sym, ap, ◌∙◌, arith, codes, decimal, le-leb, and_from, Kind, width}
+use Rattle.vms_analyze.proofs.Facade.{code, InRange, number_at, in_range, be32, section_head, foot, length-code, value_code, be32_read, front_take, front_drop}
+use Rattle.vms_analyze.proofs.Facade.{ranged, begins_itself, Want, Bytes, Any, Number, Head, Foot, Line, number_line, Took, took, only_if, take_number, taken}
+use Rattle.vms_analyze.proofs.Facade.{Found, Lines, Differs, behind, found_after, found}
 
 -- ---- one
 
@@ -63,7 +63,7 @@ behind_none (Lines more) = refl
 behind_none (Differs place) = refl
 
 pub behind_both : (xs ys : List (List ℕ)) (f : Found) → behind xs (behind ys f) ≡ behind (xs ++ ys) f
-behind_both xs ys (Lines more) = ap Lines (sym (append_assoc xs ys more))
+behind_both xs ys (Lines more) = rw (append_assoc xs ys more)
 behind_both xs ys (Differs place) = refl
 
 -- what is required takes these bytes, with these lines, and what is required next is looked for after them

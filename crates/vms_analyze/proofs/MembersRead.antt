@@ -1,6 +1,6 @@
 -- What was read of an object's members and of a list's items, and keys in order.
 use Rattle.vms_analyze.proofs.Facade.{natural_at, four_at, whole_of, whole_at, each, Ordering, Less, Equal, Greater, ◌≡◌, ℕ, Bool, true, false}
-use Rattle.vms_analyze.proofs.Facade.{◌&&◌, List, [], ◌∷◌, ◌++◌, append-nil, is_some, unwrap_or, Option, Some, None, refl, sym, ap, ap₂}
+use Rattle.vms_analyze.proofs.Facade.{◌&&◌, List, [], ◌∷◌, ◌++◌, append-nil, unwrap_or, Option, Some, None, refl, sym, ap}
 use Rattle.vms_analyze.proofs.Facade.{◌∙◌, IfSome, option_map, option_and_then, map, ℤ, pos, negsuc, arith, and_parts, le-ltb, nat_list_cmp_total}
 use Rattle.vms_analyze.proofs.Facade.{exact_bytes, is_eq-slice_cmp, nat_cmp, match_ordering, ordering_reverse, is_eq, slice_cmp, list_all, Data, null, boolean}
 use Rattle.vms_analyze.proofs.Facade.{number, string, array, object, Members, no_members, member, put, Items, item, unsigned, negative, no_items, get}
@@ -65,15 +65,14 @@ others_left k keys no_members h e = refl
 others_left k keys (member l d ms) h e =
     let p = and_parts (is_one_of (k ∷ keys) l) (has_no_others (k ∷ keys) ms) e in
     let here : is_one_of keys l ≡ true = sym (rw (sym (is_eq-slice_cmp k l) ∙ ap is_eq h.0)) ∙ p.0 in
-    ap (λ b. b && has_no_others keys ms) here ∙ others_left k keys ms h.1 p.1
+    rw here (others_left k keys ms h.1 p.1)
 
 all_left : (l : List ℕ) (d : Data) (ms : Members) (keys : List (List ℕ)) → IsBefore l keys → has_all keys (object (member l d ms)) ≡ true
     → has_all keys (object ms) ≡ true
 all_left l d ms [] h e = refl
 all_left l d ms (k ∷ keys) h e =
     let p = and_parts (has k (object (member l d ms))) (has_all keys (object (member l d ms))) e in
-    let same : has k (object (member l d ms)) ≡ has k (object ms) =
-    ap (λ o. is_some (match_ordering o (get_member k ms) (Some d) (get_member k ms))) (greater_turned k l h.0) in
+    let same : has k (object (member l d ms)) ≡ has k (object ms) = rw (greater_turned k l h.0) in
     ap (λ b. b && has_all keys (object ms)) (sym same ∙ p.0) ∙ all_left l d ms keys h.1 p.1
 
 pub just_keys : (keys : List (List ℕ)) (ms : Members) → AreOrdered keys → AreOrdered (keys_of ms) → has_no_others keys ms ≡ true
@@ -110,9 +109,7 @@ picked (k ∷ keys) d = member k (unwrap_or (get k d) null) (picked keys d)
 
 picked_behind : (keys : List (List ℕ)) (l : List ℕ) (e : Data) (ms : Members) → IsBefore l keys → picked keys (object (member l e ms)) ≡ picked keys (object ms)
 picked_behind [] l e ms h = refl
-picked_behind (k ∷ keys) l e ms h =
-    ap₂ (λ (o : Option Data) (rest : Members). member k (unwrap_or o null) rest)
-    (ap (λ o. match_ordering o (get_member k ms) (Some e) (get_member k ms)) (greater_turned k l h.0)) (picked_behind keys l e ms h.1)
+picked_behind (k ∷ keys) l e ms h = rw (greater_turned k l h.0, picked_behind keys l e ms h.1)
 
 is_itself : (k : List ℕ) → slice_cmp nat_cmp k k ≡ Equal
 is_itself k = itself (slice_cmp nat_cmp k k) (nat_list_cmp_total.antisymm k k)
@@ -123,16 +120,14 @@ is_itself k = itself (slice_cmp nat_cmp k k) (nat_list_cmp_total.antisymm k k)
 
 all_picked : (ms : Members) → AreOrdered (keys_of ms) → ms ≡ picked (keys_of ms) (object ms)
 all_picked no_members h = refl
-all_picked (member l d ms) h =
-    let there : get_member l (member l d ms) ≡ Some d = ap (λ o. match_ordering o (get_member l ms) (Some d) (get_member l ms)) (is_itself l) in
-    ap₂ (λ (e : Data) (rest : Members). member l e rest) (sym (ap (λ o. unwrap_or o null) there))
-    (all_picked ms h.1 ∙ sym (picked_behind (keys_of ms) l d ms h.0))
+all_picked (member l d ms) h = rw (is_itself l, picked_behind (keys_of ms) l d ms h.0) (ap (member l d) (all_picked ms h.1))
 
 -- an object of exactly these keys
 pub is_picked : (keys : List (List ℕ)) → AreOrdered keys → (d : Data) → IsSorted d → fits keys [] d ≡ true → d ≡ object (picked keys d)
 is_picked keys h (object ms) sorted e =
     let p = and_parts (has_no_others (keys ++ []) ms) (has_all keys (object ms)) e in
-    ap object (all_picked ms sorted.0 ∙ ap (λ (l : List (List ℕ)). picked l (object ms)) (just_keys keys ms h sorted.0 (rw (sym (append-nil keys)) (p.0)) p.1))
+    let same = just_keys keys ms h sorted.0 (rw append-nil at p.0) p.1 in
+    ap object (all_picked ms sorted.0 ∙ rw same)
 is_picked keys h _ sorted e = cc
 
 -- ---- A value that was read has the keys of each object in order.
@@ -218,7 +213,7 @@ pub path_is : (most : ℕ) (key : List ℕ) (d : Data) (t : List ℕ) → path_a
 path_is most key d t e =
     let a = after (text_at key d) (λ text. only (is_path most text) text) t e in
     let o = only_is (is_path most a.value) a.value t a.then in
-    record { is = text_is (get key d) t (a.first ∙ ap (λ (x : List ℕ). Some x) o.same); good = ap (is_path most) (sym o.same) ∙ o.so }
+    record { is = text_is (get key d) t (rw (a.first, o.same)); good = rw o.same at o.so }
 
 pub flag_is : (o : Option Data) (b : Bool) → next o as_bool ≡ Some b → unwrap_or o null ≡ boolean b
 flag_is (Some (boolean b)) t e = cc
@@ -239,7 +234,7 @@ unsigned_is _ k e = cc
 pub natural_is : (key : List ℕ) (d : Data) (k : ℕ) → natural_at key d ≡ Some k → under key d ≡ natural k
 natural_is key d k e =
     let a = after (next (get key d) as_number) as_u64 k e in
-    number_in (get key d) a.value a.first ∙ ap number (unsigned_is a.value k a.then)
+    rw (number_in (get key d) a.value a.first, unsigned_is a.value k a.then)
 
 pub record IsFourAt (key : List ℕ) (d : Data) (k : ℕ) : Type 0 where
   pub is : under key d ≡ natural k
@@ -249,7 +244,7 @@ pub four_is : (key : List ℕ) (d : Data) (k : ℕ) → four_at key d ≡ Some k
 four_is key d k e =
     let a = after (natural_at key d) (λ n. only (fits_four n) n) k e in
     let o = only_is (fits_four a.value) a.value k a.then in
-    record { is = natural_is key d k (a.first ∙ ap (λ (x : ℕ). Some x) o.same); good = ap fits_four (sym o.same) ∙ o.so }
+    record { is = natural_is key d k (rw (a.first, o.same)); good = rw o.same at o.so }
 
 whole_is_of : (n : Num) (z : ℤ) → whole_of n ≡ Some z → n ≡ of_integer z
 whole_is_of (negative (pos m)) z e = let f = rw (le-ltb m 0 (omega arith)) at e in cc
@@ -258,7 +253,7 @@ whole_is_of _ _ e = cc
 pub whole_is : (key : List ℕ) (d : Data) (z : ℤ) → whole_at key d ≡ Some z → under key d ≡ number (of_integer z)
 whole_is key d z e =
     let a = after (next (get key d) as_number) whole_of z e in
-    number_in (get key d) a.value a.first ∙ ap number (whole_is_of a.value z a.then)
+    rw (number_in (get key d) a.value a.first, whole_is_of a.value z a.then)
 
 pub whole_back : (z : ℤ) → whole_of (of_integer z) ≡ Some z
 whole_back (pos m) = refl
@@ -294,10 +289,7 @@ module _ {A : Type 0} (tree : A → Data) (good : A → Bool) (says : Data → O
       go (y ∷ others) x rest s more e =
           let first : x ≡ y = cc in
           let later : rest ≡ others = cc in
-          record {
-            trees_are = ap₂ item (s.tree_is ∙ ap tree first) (more.trees_are ∙ ap (λ (l : List A). items_of (map tree l)) later);
-            good_are = ap₂ (λ (b c : Bool). b && c) (ap good (sym first) ∙ s.good_is) (ap (list_all good) (sym later) ∙ more.good_are);
-          }
+          record { trees_are = rw (s.tree_is, more.trees_are, first, later); good_are = rw (← first, s.good_is, ← later, more.good_are) }
 
   pub each_back : ((a : A) → good a ≡ true → says (tree a) ≡ Some a) → (list : List A) → list_all good list ≡ true
       → each says (items_of (map tree list)) ≡ Some list

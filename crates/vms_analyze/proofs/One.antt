@@ -1,14 +1,14 @@
 -- Each input has exactly one listing.
-use Rattle.vms_analyze.proofs.{Facade.TotalLaw, Facade.devices_in, DevicesRead.told_back, DevicesRead.tells_if, DevicesRead.not_told}
-use Rattle.vms_analyze.proofs.Facade.{◌≡◌, ℕ, ◌+◌, ◌<◌, ◌≤◌, Bool, true, false, ◌==◌, List, length, take, refl, ◌∙◌, arith}
-use Rattle.vms_analyze.proofs.Facade.{slice_index, ◌++◌, length-append, Err, sym, ap, subst, append-nil, Vec, Global, Result, ◌≢◌, [], ◌∷◌}
-use Rattle.vms_analyze.proofs.Facade.{drop, ◌-◌, Ok, length-drop, map, Option, Some, None, append_assoc, ⊎_elim, eq-eqb, cases_lt, get_or-take, drop_all}
-use Rattle.vms_analyze.proofs.Facade.{take_all, map-append, NoneAfter, Nowhere, Passes, is_byte, IsPlace, IsLastPlace, longest_input, Listing, Refused}
-use Rattle.vms_analyze.proofs.Facade.{listing_of, Lists, IsTooLong, HasNone, HasNoShape, IsRead, Text, Intake, takes_both, takes_as, breaks_more}
+use Rattle.vms_analyze.proofs.DevicesRead.{told_back, tells_if, not_told}
+use Rattle.vms_analyze.proofs.Facade.{TotalLaw, devices_in, ◌≡◌, ℕ, ◌+◌, ◌<◌, ◌≤◌, Bool, true, false, ◌==◌, List, length, take, refl}
+use Rattle.vms_analyze.proofs.Facade.{◌∙◌, arith, slice_index, ◌++◌, length-append, Err, sym, ap, append-nil, Vec, Global, Result, ◌≢◌, []}
+use Rattle.vms_analyze.proofs.Facade.{◌∷◌, drop, ◌-◌, Ok, length-drop, map, Option, Some, None, append_assoc, ⊎_elim, eq-eqb, cases_lt, get_or-take}
+use Rattle.vms_analyze.proofs.Facade.{drop_all, take_all, map-append, NoneAfter, Nowhere, Passes, is_byte, IsPlace, IsLastPlace, longest_input, Listing}
+use Rattle.vms_analyze.proofs.Facade.{Refused, listing_of, Lists, IsTooLong, HasNone, HasNoShape, IsRead, Text, Intake, takes_both, takes_as, breaks_more}
 use Rattle.vms_analyze.proofs.Facade.{nothing_follows, Takes, Appended, IsWhole, TakesPiece, TakesInput, HasMore, NoInput, AnalyzeFault, ListsAs, IsListed}
-use Rattle.vms_analyze.proofs.Facade.{IsTooMuch, ListsTaken, ShowsAs, Found, Lines, Differs, Want, behind, found, text_of, Walk, left, Goes, WhyStopped}
-use Rattle.vms_analyze.proofs.Facade.{AtStart, WhyNone, Stop, Data, Items, no_items, item, next, each, ReadsAs, Unread, same_Some, ap₂, ToldDevice, wants}
-use Rattle.vms_analyze.proofs.Facade.{OneLaw, LongestLaw, zero, suc, ◌&&◌, get_or, and_parts, eqb-true, value_in, number_at, TellsPlace, HasListing}
+use Rattle.vms_analyze.proofs.Facade.{IsTooMuch, ListsTaken, ShowsAs, Found, Lines, Differs, Want, behind, found, Walk, left, Goes, WhyStopped, AtStart}
+use Rattle.vms_analyze.proofs.Facade.{WhyNone, Stop, Data, Items, no_items, item, next, each, ReadsAs, Unread, same_Some, ap₂, ToldDevice, wants, OneLaw}
+use Rattle.vms_analyze.proofs.Facade.{LongestLaw, zero, suc, ◌&&◌, get_or, and_parts, eqb-true, value_in, number_at, TellsPlace, HasListing}
 use Rattle.std.proofs.lemmas.List.{length-take}
 use Rattle.vms_analyze.specs.declared.input.NoInput.TheVariants as none
 use Rattle.vms_analyze.specs.declared.fault.AnalyzeFault.TheVariants as faults
@@ -99,8 +99,7 @@ module _ (old new : Intake) (input : List ℕ) (whole : IsWhole old new input) w
       takes = whole.takes;
       long = whole.few;
       says = λ more f.
-          let same : input ++ more ≡ input = ap (λ x. input ++ x) (nothing_follows new.left more whole.end f) ∙ append-nil input in
-          subst (λ x. Lists x l) (sym same) lists;
+          rw (nothing_follows new.left more whole.end f, append-nil input) lists;
       cause = tt;
     };
     end = whole.end;
@@ -138,8 +137,7 @@ pub is_shown : (ws : List Want) (old new : Walk) (stream : List ℕ) → AtStart
     → listing_of (found ws 0 0 stream) ≡ Text new.text.items
 is_shown ws old new stream s g e =
     let none : left new ≡ [] = drop_all new.place new.input.now (omega (arith, ap length (g.input ∙ s.2))) in
-    ap listing_of (whole_is ws old new stream [] s g none) ∙ ap (λ (l : List (List ℕ)). Text (text_of l)) (append-nil g.lines)
-    ∙ ap Text (sym (g.printed ∙ ap (λ (l : List ℕ). l ++ text_of g.lines) s.3))
+    rw (whole_is ws old new stream [] s g none, append-nil g.lines, g.printed, s.3)
 
 -- which ends before it
 pub has_more : (ws : List Want) (old new : Walk) (stream : List ℕ) → AtStart old stream → Goes ws old new → new.place ≢ length stream

@@ -1,7 +1,7 @@
 -- The description of a well-formed set has the right shape, and what its parts consist of.
-use Rattle.vms_analyze.proofs.Facade.{nat_tests, ◌≡◌, ℕ, suc, ◌<◌, ◌≤◌, ◌==◌, List, [], ◌∷◌, length, get_or, arith, true, ◌&&◌}
-use Rattle.vms_analyze.proofs.Facade.{◌||◌, list_all, AllByRecursion, Bool, and_parts, and_from, LONGEST_NAME, ToldSub, ToldDevice, is_path, fits_four}
-use Rattle.vms_analyze.proofs.Facade.{is_good, is_kept, is_width, is_good_sub, is_good_device, ◌+◌, false, is_some, map, Option, ℤ, refl, ap, ◌∙◌, codes}
+use Rattle.vms_analyze.proofs.Facade.{nat_tests, ◌≡◌, ℕ, suc, ◌<◌, ◌≤◌, List, [], ◌∷◌, length, get_or, arith, true, ◌&&◌, ◌||◌}
+use Rattle.vms_analyze.proofs.Facade.{list_all, AllByRecursion, Bool, and_parts, and_from, LONGEST_NAME, ToldSub, ToldDevice, is_path, fits_four, is_good}
+use Rattle.vms_analyze.proofs.Facade.{is_kept, is_width, is_good_sub, is_good_device, ◌+◌, false, is_some, map, Option, ℤ, refl, ap, ◌∙◌, codes}
 use Rattle.vms_analyze.proofs.Facade.{◌*◌, nat_le, length-append, zero, is_none, Some, None, ⊎_elim, map-append, length-map, lt-ltb, cases_lt}
 use Rattle.vms_analyze.proofs.Facade.{get_or-eq_default, slice_get-get_or, list_all-append, no_members, Members, member, number, string, Desc, Sub, Device, Set}
 use Rattle.vms_analyze.proofs.Facade.{AtLeast, desc_cells, struct_cells, no_desc, no_field, counted, Image, own_cells, What, Constant, Filler, shapes}

@@ -1,17 +1,17 @@
 -- What is written of ready images with their description lists the values text.
+use Rattle.vms_analyze.proofs.{Facade.is_width, Streams.front, Streams.front_found}
 use Rattle.vms_analyze.proofs.Facade.{◌≡◌, ℕ, ◌+◌, ◌<◌, ◌≤◌, true, List, [], ◌∷◌, ◌++◌, length, length-append, append_assoc}
 use Rattle.vms_analyze.proofs.Facade.{take, drop, is_none, Option, Some, refl, sym, ap, ◌∙◌, subst, arith, Bool, if◌then◌else◌, None, is_utf8}
-use Rattle.vms_analyze.proofs.Facade.{flat_map, same_Some, ◌*◌, false, ◌&&◌, ◌||◌, ◌==◌, nat_le, length-drop, get_or, map, ℤ, and_parts}
-use Rattle.vms_analyze.proofs.Facade.{leb-true, list_all, compact_text, value_in, escape_byte, read, FitsHeads, Set, Image, AreReady, be32, end_mark, trailer}
-use Rattle.vms_analyze.proofs.Facade.{written, WellFormed, few_devices, front_take, front_drop, IsMachineOf, values_lines, text_law, few_items, IsSound}
-use Rattle.vms_analyze.proofs.Facade.{described_tree, described_text, short_holds, described_plain, reads_whole, told_tree, Bytes, Lines, device_wants, wants}
-use Rattle.vms_analyze.proofs.Facade.{found, IsLastPlace, Tells, Text, listing_of, Lists, IsRead, told, ReadBackLaw, ShownLaw, width, LONGEST_NAME, MOST_UNUSED}
+use Rattle.vms_analyze.proofs.Facade.{flat_map, same_Some, ◌*◌, false, ◌&&◌, ◌==◌, nat_le, length-drop, get_or, map, ℤ, and_parts, leb-true}
+use Rattle.vms_analyze.proofs.Facade.{list_all, compact_text, value_in, escape_byte, read, FitsHeads, Set, Image, AreReady, be32, end_mark, trailer, written}
+use Rattle.vms_analyze.proofs.Facade.{WellFormed, few_devices, front_take, front_drop, IsMachineOf, values_lines, text_law, few_items, IsSound, described_tree}
+use Rattle.vms_analyze.proofs.Facade.{described_text, short_holds, described_plain, reads_whole, told_tree, Bytes, Lines, device_wants, wants, found}
+use Rattle.vms_analyze.proofs.Facade.{IsLastPlace, Tells, Text, listing_of, Lists, IsRead, told, ReadBackLaw, ShownLaw, width, LONGEST_NAME, MOST_UNUSED}
 use Rattle.vms_analyze.proofs.Facade.{number_at, bytes_at, is_name_byte, Sub, Device, Desc, desc_cells, struct_cells, own_cells, begins_with, configuration}
 use Rattle.vms_analyze.proofs.Facade.{struct_items, items_in, subs_items, devices_items, width_small, LONGEST_PATH, Told, Sent, Kept, Fixed, Skipped, is_path}
 use Rattle.vms_analyze.proofs.Facade.{is_good, Want, Any, Number, Machine, Head, Foot, Line, element_want, sub_wants, Took, took, only_if, take_machine}
-use Rattle.vms_analyze.proofs.Facade.{is_machine, taken, Found, Differs, behind, found_after, told_part, told_subs, told_devices, told_device_of, told_sub_of, is_width}
+use Rattle.vms_analyze.proofs.Facade.{is_machine, taken, Found, Differs, behind, found_after, told_part, told_subs, told_devices, told_device_of, told_sub_of}
 use Rattle.vms_analyze.proofs.Shapes.{each_good, width_few, all_good, told_good, tree_same, IsGoodPart, AreGoodSubs, IsGoodDevice, AreGoodDevices}
-use Rattle.vms_analyze.proofs.Streams.{front, front_found}
 use Rattle.vms_analyze.proofs.Texts.{told_text, HasNoMark, last_place, tree_sound, text_printed, no_mark}
 
 -- ---- How many bytes are as required: no more than the description allows.
@@ -157,7 +157,7 @@ module _ (set : Set) (well : WellFormed set) (heads : FitsHeads set) (images : L
   placed before =
       let e = begins set images in
       let none : HasNoMark (0x7b ∷ 0x22 ∷ 0x64 ∷ 0x65 ∷ drop 4 text) = subst HasNoMark e (no_mark text (text_printed (described_tree set images))) in
-      let few : length (0x7b ∷ 0x22 ∷ 0x64 ∷ 0x65 ∷ drop 4 text) < 16777216 = subst (λ l. length l < 16777216) e short in
+      let few : length (0x7b ∷ 0x22 ∷ 0x64 ∷ 0x65 ∷ drop 4 text) < 16777216 = omega (arith, ap length e, short) in
       subst (λ l. IsLastPlace (before ++ trailer l) (length before)) (sym e) (last_place before (drop 4 text) none few)
 
   -- and it is a text

@@ -1,20 +1,20 @@
 -- What is written for ready images is found as described: elements, devices and streams.
-use Rattle.vms_analyze.proofs.Facade.{front_take, text_says, ◌≡◌, ℕ, Bool, true, false, ◌&&◌, List, [], ◌∷◌, ◌++◌, append_assoc, append-nil, get_or, map}
-use Rattle.vms_analyze.proofs.Facade.{replicate, None, ℤ, pos, refl, sym, ap, ◌∙◌, codes, if◌then◌else◌, suc, ◌+◌, ◌<◌, ◌≤◌, ◌^◌, length, Option, Some, arith}
-use Rattle.vms_analyze.proofs.Facade.{◌==◌, nat_le, signed_decimal, map-append, length-replicate, and_parts, le-leb, and_from, and-false, and-true, flat_map}
-use Rattle.vms_analyze.proofs.Facade.{list_all, width, code, InRange, length-code, be32_read, Slot, desc_cells, struct_cells, meanings, desc_slots, Cell}
-use Rattle.vms_analyze.proofs.Facade.{zeroed, Image, own_cells, sub_slots, same_number_is, What, Constant, Filler, Rule, is_number, slot_of, slots_of}
-use Rattle.vms_analyze.proofs.Facade.{elements_in, printed, number_lines, sub_line, subs_lines, device_lines, devices_lines, machine_lines, values_lines}
-use Rattle.vms_analyze.proofs.Facade.{OfNumber, has_default, have_defaults, line_reason, if_not, came_well, number_entries, subs_entries, device_entries}
-use Rattle.vms_analyze.proofs.Facade.{devices_entries, entries, AreFine, AreAtVersions, IsShaped, AreShaped, IsMachineOf, Each, line_number, reason_fits}
-use Rattle.vms_analyze.proofs.Facade.{fine_rest, begins_itself, IsFitting, AreShort, of_numbers, IsCounted, AreCounted, walks, element_want, Bytes, sub_wants}
-use Rattle.vms_analyze.proofs.Facade.{device_wants, Want, Machine, wants, took, is_machine, taken, Found, Lines, behind, found, told_what, tolds, told_part}
-use Rattle.vms_analyze.proofs.Facade.{told_subs, told_device_of, told_devices, told, Desc, Sub, Device, Set, sub_head, is_needed, written_subs, written_section}
-use Rattle.vms_analyze.proofs.Facade.{written_sections, AreReady, is_one_of, be32, magic, stream_head, configuration, end_mark, optional, elements_slots}
-use Rattle.vms_analyze.proofs.Facade.{short_are, AreGood, all_parts, LONGEST_NAME, number_at, bytes_at, is_name, is_name_byte, values_text}
-use Rattle.vms_analyze.proofs.Facade.{WellFormed, failing, first_fault, here, set_rules, machine_short, few_devices, all_true, or_else_none, every_one}
+use Rattle.vms_analyze.proofs.{Facade.all_true, Facade.or_else_none, Facade.every_one, Following.takes_any, Following.takes_number, Following.takes_bytes}
+use Rattle.vms_analyze.proofs.Facade.{front_take, text_says, ◌≡◌, ℕ, Bool, true, false, ◌&&◌, List, [], ◌∷◌, ◌++◌, append_assoc}
+use Rattle.vms_analyze.proofs.Facade.{append-nil, get_or, map, replicate, None, ℤ, pos, refl, sym, ap, ◌∙◌, codes, if◌then◌else◌, suc, ◌+◌}
+use Rattle.vms_analyze.proofs.Facade.{◌<◌, ◌≤◌, ◌^◌, length, Option, Some, arith, ◌==◌, nat_le, signed_decimal, map-append, length-replicate}
+use Rattle.vms_analyze.proofs.Facade.{and_parts, le-leb, and_from, and-false, and-true, flat_map, list_all, width, code, InRange, length-code, be32_read, Slot}
+use Rattle.vms_analyze.proofs.Facade.{desc_cells, struct_cells, meanings, desc_slots, Cell, zeroed, Image, own_cells, sub_slots, same_number_is, What, Constant}
+use Rattle.vms_analyze.proofs.Facade.{Filler, Rule, is_number, slot_of, slots_of, elements_in, printed, number_lines, sub_line, subs_lines, device_lines}
+use Rattle.vms_analyze.proofs.Facade.{devices_lines, machine_lines, values_lines, OfNumber, has_default, have_defaults, line_reason, if_not, came_well}
+use Rattle.vms_analyze.proofs.Facade.{number_entries, subs_entries, device_entries, devices_entries, entries, AreFine, AreAtVersions, IsShaped, AreShaped}
+use Rattle.vms_analyze.proofs.Facade.{IsMachineOf, Each, line_number, reason_fits, fine_rest, begins_itself, IsFitting, AreShort, of_numbers, IsCounted}
+use Rattle.vms_analyze.proofs.Facade.{AreCounted, walks, element_want, Bytes, sub_wants, device_wants, Want, Machine, wants, took, is_machine, taken, Found}
+use Rattle.vms_analyze.proofs.Facade.{Lines, behind, found, told_what, tolds, told_part, told_subs, told_device_of, told_devices, told, Desc, Sub, Device, Set}
+use Rattle.vms_analyze.proofs.Facade.{sub_head, is_needed, written_subs, written_section, written_sections, AreReady, is_one_of, be32, magic, stream_head}
+use Rattle.vms_analyze.proofs.Facade.{configuration, end_mark, optional, elements_slots, short_are, AreGood, all_parts, LONGEST_NAME, number_at, bytes_at}
+use Rattle.vms_analyze.proofs.Facade.{is_name, is_name_byte, values_text, WellFormed, failing, first_fault, here, set_rules, machine_short, few_devices}
 use Rattle.vms_analyze.proofs.Following.{takes_foot, takes_head, Takes, if_so, Follows, none_follows, one_follows, both_follow, follows_as, takes_line}
-use Rattle.vms_analyze.proofs.Following.{takes_any, takes_number, takes_bytes}
 use Rattle.vms_elements.specs.{Elements.Number, Elements.Element, Lines.number_line}
 use Rattle.vms_spec.specs.declared.ValuesReason.TheVariants as reasons
 use Rattle.vms_spec.specs.declared.Part.TheVariants as parts
@@ -254,8 +254,8 @@ module _ (set : Set) (well : WellFormed set) (images : List Image) (us : List Wa
       → (place : ℕ) → found (Machine ∷ us) 0 place (optional configuration machine ++ sections) ≡ behind (machine_lines machine) f
   machine_found None named other is place = cc (no_machine 0 sections other, is (place + 0))
   machine_found (Some name) named other is place =
-      (one_follows (takes_machine name 0 (machine_good set well name named) (omega (arith, machine_short set well name named)))).goes us place sections
-      ∙ ap (behind ((codes "machine " ++ name) ∷ [])) (is (place + length (configuration name)))
+      let m = one_follows (takes_machine name 0 (machine_good set well name named) (omega (arith, machine_short set well name named))) in
+      rw (m.goes us place sections, is (place + length (configuration name)))
 
 -- ---- the whole
 
@@ -276,11 +276,9 @@ front_found set well machine named images ready =
     let sections = written_sections set 0 set.devices images in
     let said = devices_said set machine images says.says.fine says.good in
     let all = devices_follow set 0 0 set.devices images (omega (arith, few_devices set well)) says.says.shaped said.0 said.1 in
-    let end = last 0 0 set.devices images in
     let us = flat_map device_wants (told set images) ++ Bytes end_mark ∷ [] in
     let tail : (place : ℕ) → found us 0 place (sections ++ end_mark) ≡ Lines lines =
-    λ place. all.goes (Bytes end_mark ∷ []) place end_mark ∙ ap (behind lines) ((one_follows (takes_bytes end_mark end)).goes [] (place + length sections) [])
-    ∙ ap Lines (append-nil lines) in
+    λ place. rw (all.goes (Bytes end_mark ∷ []) place end_mark, append-nil lines) in
     let head = both_follow (one_follows (takes_bytes magic 0)) (one_follows (takes_bytes (be32 3) 0)) in
     ap (λ (l : List ℕ). found (wants (told set images)) 0 0 l)
     (append_assoc (stream_head ++ optional configuration machine) sections end_mark ∙ append_assoc stream_head (optional configuration machine)

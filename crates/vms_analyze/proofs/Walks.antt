@@ -1,12 +1,12 @@
 -- A walk over what is required, part after part.
-use Rattle.vms_analyze.proofs.Facade.{section_line, map-map, ◌≡◌, ℕ, ◌+◌, List, [], ◌∷◌, ◌++◌, length, append_assoc, append-nil, take, drop, ℤ, refl, sym, ap}
-use Rattle.vms_analyze.proofs.Facade.{◌∙◌, arith, ◌<◌, get_or, ◌≤◌, true, ◌&&◌, nat_le, map, take-append-drop, drop-drop, take_more, flat_map, list_all}
-use Rattle.vms_analyze.proofs.Facade.{flat_map-append, and_parts, leb-true, flat_map_single, flat_map-map, Result, Ok, Err, OnOk, IfErr, ◌^◌, false, ◌==◌}
-use Rattle.vms_analyze.proofs.Facade.{length-append, length-drop, ◌-◌, take_all, Kind, code, InRange, text_of, Want, Number, Line, number_line, behind, found}
-use Rattle.vms_analyze.proofs.Facade.{Bytes, Machine, Head, Foot, element_want, sub_wants, device_wants, start_wants, wants, left, IsInside, Goes, Stops}
-use Rattle.vms_analyze.proofs.Facade.{Prints, WhyStopped, Walks, Walk, text_append, Stop, LONGEST_NAME, end_mark, is_path, is_path_byte, told_of, sub_of}
-use Rattle.vms_analyze.proofs.Facade.{device_of, element_wants, subs_wants, devices_wants, Element, number_at, bytes_at, is_name_byte, begins_with}
-use Rattle.vms_analyze.proofs.Facade.{configuration, section_head, is_machine, machine_line, taken, found_after, begun}
+use Rattle.vms_analyze.proofs.Facade.{section_line, map-map, ◌≡◌, ℕ, ◌+◌, List, [], ◌∷◌, ◌++◌, length, append_assoc, append-nil, take}
+use Rattle.vms_analyze.proofs.Facade.{drop, ℤ, refl, sym, ap, ◌∙◌, arith, ◌<◌, get_or, ◌≤◌, true, ◌&&◌, nat_le, map, take-append-drop}
+use Rattle.vms_analyze.proofs.Facade.{drop-drop, take_more, flat_map, list_all, flat_map-append, and_parts, leb-true, flat_map_single, flat_map-map, Result, Ok}
+use Rattle.vms_analyze.proofs.Facade.{Err, OnOk, IfErr, ◌^◌, false, ◌==◌, length-append, length-drop, ◌-◌, take_all, Kind, code, InRange, text_of}
+use Rattle.vms_analyze.proofs.Facade.{Want, Number, Line, number_line, behind, found, Bytes, Machine, Head, Foot, element_want, sub_wants, device_wants}
+use Rattle.vms_analyze.proofs.Facade.{start_wants, wants, left, IsInside, Goes, Stops, Prints, WhyStopped, Walks, Walk, text_append, Stop, LONGEST_NAME}
+use Rattle.vms_analyze.proofs.Facade.{end_mark, is_path, is_path_byte, told_of, sub_of, device_of, element_wants, subs_wants, devices_wants, Element, number_at}
+use Rattle.vms_analyze.proofs.Facade.{bytes_at, is_name_byte, begins_with, configuration, section_head, is_machine, machine_line, found_after, begun}
 use Rattle.vms_analyze.proofs.Following.{Takes, one_follows, takes_line, takes_number, behind_both, takes_head}
 use Rattle.vms_analyze.proofs.Streams.{takes_machine, no_machine}
 use Rattle.vms_analyze.specs.declared.told.Device.{Device}
@@ -55,8 +55,7 @@ pub goes_then : {ws vs : List Want} {a b c : Walk} → Goes ws a b → Goes vs b
 goes_then {ws = ws} {vs = vs} {a = a} {c = c} g h = record {
   lines = g.lines ++ h.lines;
   taken = λ more.
-      ap (λ (l : List Want). found l a.id a.place (left a)) (append_assoc ws vs more) ∙ g.taken (vs ++ more) ∙ ap (behind g.lines) (h.taken more)
-      ∙ behind_both g.lines h.lines (found more c.id c.place (left c));
+      rw (append_assoc ws vs more, g.taken (vs ++ more), h.taken more) (behind_both g.lines h.lines (found more c.id c.place (left c)));
   printed = rw (h.printed, g.printed, text_append g.lines h.lines) (append_assoc a.text.items (text_of g.lines) (text_of h.lines));
   inside = h.inside;
   input = cc;
@@ -69,7 +68,7 @@ stops_before ws vs a c s = record { differs = λ more. rw (append_assoc ws vs mo
 stops_then : {ws vs : List Want} {a b c : Walk} → Goes ws a b → Stops vs b c → Stops (ws ++ vs) a c
 stops_then {ws = ws} {vs = vs} {a = a} g s = record {
   differs = λ more.
-      rw (append_assoc ws vs more) (g.taken (vs ++ more) ∙ ap (behind g.lines) (s.differs more));
+      rw (append_assoc ws vs more, g.taken (vs ++ more), s.differs more);
 }
 
 pub line_goes : (line : List ℕ) (old new : Walk) → IsInside old → Prints old new line → Goes (Line line ∷ []) old new

@@ -4,10 +4,10 @@ pub use Rattle.std.proofs.{lemmas.Slice.Eq.bytes_eq-Decides, lemmas.Str.IsUtf8-f
 pub use Rattle.std.proofs.Common.{Bool, Equal, Err, Greater, IfOk, IsUtf8, Less, List, None, Ok, Option, Ordering, Result, Some, [], ap, append_assoc, ap₂}
 pub use Rattle.std.proofs.Common.{arith, codes, cond, decimal, drop, eqb, false, get_or, if◌then◌else◌, is_eq, is_some, length, length-drop, length-take}
 pub use Rattle.std.proofs.Common.{ltb, map, option_and_then, option_map, refl, rules, slice_set, string_bytes, suc, sym, take, take_all, true, zero, ℕ}
-pub use Rattle.std.proofs.Common.{⊎_elim, ◌&&◌, ◌*◌, ◌++◌, ◌+◌, ◌-◌, ◌<◌, ◌||◌, ◌∙◌, ◌∷◌, ◌≡◌, ◌≤◌}
+pub use Rattle.std.proofs.Common.{◌&&◌, ◌*◌, ◌++◌, ◌+◌, ◌-◌, ◌<◌, ◌||◌, ◌∙◌, ◌∷◌, ◌≡◌, ◌≤◌}
 pub use Rattle.std.proofs.Math.Bool.{and-false, and_self_left, or-false, or-true}
 pub use Rattle.std.proofs.Math.Seq.{drop-append_seam, set-append_seam, take-append_seam}
-pub use Rattle.std.proofs.lemmas.Bool.{MatchBool-at_false, MatchBool-at_true, cases_lt, eq-eqb, eqb-false, eqb-true, false≢true, le-ltb, lt-ltb, ne_eqb}
+pub use Rattle.std.proofs.lemmas.Bool.{MatchBool-at_false, MatchBool-at_true, eqb-false, eqb-true, false≢true}
 pub use Rattle.std.proofs.lemmas.List.{append-nil, get_or_at, get_or_default, length-append, length-set, map-append, nil_from_length, same_from_push}
 pub use Rattle.std.proofs.lemmas.Map.Text.{btree_map_updates_text, is_eq-slice_cmp}
 pub use Rattle.std.specs.{Borrow.Bor, Cmp.Lexicographic.slice_cmp, List.list_all, List.list_any, List.position, List.position_or_len, Ordering.match_ordering}

@@ -5,11 +5,11 @@ use Rattle.vms_json.proofs.Facade.{if◌then◌else◌, Option, Some, None, is_s
 use Rattle.vms_json.proofs.Facade.{slice_cmp, nat_cmp, match_ordering, list_all, list_any, bytes_eq, is_utf8, and-false, and_self_left, Bor, append-nil}
 use Rattle.vms_json.proofs.Facade.{map-append, IsUtf8-from_is_utf8, is_utf8-from_IsUtf8, Data, object, Members, no_members, member, put, Items, no_items, item}
 use Rattle.vms_json.proofs.Facade.{as_object, Row, front, data_in, members_in, tree_view, is_one_of, one_of_both, has, has_all, has_no_others, Fault, Answer}
-use Rattle.vms_json.proofs.Facade.{good, bad, under, next, changed, each_from, Refuses, read, value_in, Tree, NoNode, ◌<◌, ◌≤◌, cond, eqb, ltb}
-use Rattle.vms_json.proofs.Facade.{option_and_then, length, codes, arith, ⊎_elim, position, position_or_len, cases_lt, lt-ltb, le-ltb, eq-eqb, ne_eqb}
-use Rattle.vms_json.proofs.Facade.{false≢true, length-append, position_or_len_push, prefix_len-le-length, get, as_str, or_else, at_name, text_or_none}
-use Rattle.vms_json.proofs.Facade.{names_of, first_of}
+use Rattle.vms_json.proofs.Facade.{good, bad, under, next, changed, each_from, Refuses, read, value_in, Tree, NoNode, ◌≤◌, cond, eqb, ltb}
+use Rattle.vms_json.proofs.Facade.{option_and_then, length, codes, arith, position, position_or_len, false≢true, length-append, position_or_len_push}
+use Rattle.vms_json.proofs.Facade.{prefix_len-le-length, get, as_str, or_else, at_name, text_or_none, names_of, first_of}
 use Rattle.vms_json.specs.Answers.{IsUnder}
+use Rattle.std.proofs.lemmas.Bool.Decides.{nat_tests}
 use Rattle.vms_json.specs.declared.node.Row.TheVariants as rows
 use Rattle.vms_json.specs.declared.fault.Fault.TheVariants as faults
 
@@ -133,22 +133,8 @@ none_left (Some a) P Q e m = absurd (cc)
 -- the first number below n, or one more, if the first q fail
 one_more : (n q : ℕ) (b : Bool) → q ≤ n → cond (ltb (cond (eqb q n) (n + cond b 0 1) q) (n + 1)) (Some (cond (eqb q n) (n + cond b 0 1) q)) None
     ≡ or_else (cond (ltb q n) (Some q) None) (if b then Some n else None)
-one_more n q b le = ⊎_elim before after (cases_lt q n)
-  where
-    at : Bool → Option ℕ
-    at same = cond (ltb (cond same (n + cond b 0 1) q) (n + 1)) (Some (cond same (n + cond b 0 1) q)) None
-
-    last : (c : Bool) → cond (ltb (n + cond c 0 1) (n + 1)) (Some (n + cond c 0 1)) None ≡ (if c then Some n else None)
-    last true =
-        let same : n + 0 ≡ n = omega arith in
-        ap (λ k. cond (ltb k (n + 1)) (Some k) None) same ∙ ap (λ t. cond t (Some n) None) (lt-ltb n (n + 1) (omega arith))
-    last false = rw (le-ltb (n + 1) (n + 1) (omega arith))
-
-    before : q < n → at (eqb q n) ≡ or_else (cond (ltb q n) (Some q) None) (if b then Some n else None)
-    before lt = ap at (ne_eqb q n (λ e. omega arith)) ∙ ap (λ t. cond t (Some q) None) (lt-ltb q (n + 1) (omega arith)) ∙ sym (rw (lt-ltb q n lt))
-
-    after : n ≤ q → at (eqb q n) ≡ or_else (cond (ltb q n) (Some q) None) (if b then Some n else None)
-    after ge = ap at (eq-eqb q n (omega arith)) ∙ last b ∙ sym (rw (le-ltb q n ge))
+one_more n q true le = grind (arith, nat_tests)
+one_more n q false le = grind (arith, nat_tests)
 
 pub position_push : {X : Type 0} (p : X → Bool) (xs : List X) (y : X)
     → position p (xs ++ y ∷ []) ≡ or_else (position p xs) (if p y then Some (length xs) else None)

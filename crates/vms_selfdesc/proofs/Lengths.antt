@@ -1,15 +1,15 @@
 -- How long the text of the described tree is, and that ready images are images of their devices.
-use Rattle.vms_selfdesc.proofs.{Facade.clock_formed, Facade.fit_number, Facade.ShortLaw, ReadBack.reads_whole}
-use Rattle.vms_selfdesc.proofs.Facade.{ShippedLaw, ClockLaw, ◌≡◌, ℕ, suc, ◌+◌, ◌≤◌, length, List, ◌∷◌, map, Bool, false, Option, Some}
-use Rattle.vms_selfdesc.proofs.Facade.{None, ℤ, pos, negsuc, refl, arith, is_some, [], ◌||◌, or_from, Data, object, array, depth, items_depth, items_of}
-use Rattle.vms_selfdesc.proofs.Facade.{has_float, items_have_float, Sub, Device, Set, desc_cells, struct_cells, Image, own_cells, Entry, with_value}
-use Rattle.vms_selfdesc.proofs.Facade.{sent_members, entry_tree, list_tree, sub_members, sub_trees, device_members, device_trees, described_tree}
-use Rattle.vms_selfdesc.proofs.Facade.{described_text, get_or, ◌*◌, ◌<◌, length-append, true, codes, mul-le-mul_left, mul-le-mul_right, AtLeast}
-use Rattle.vms_selfdesc.proofs.Facade.{no_desc, escape_byte, Members, no_members, member, quoted, members_text, boolean, compact_text, items_text, MOST_ITEMS}
-use Rattle.vms_selfdesc.proofs.Facade.{Field, Desc, items_in, struct_items, subs_items, devices_items, struct_depths, deepest, is_well_formed, shapes}
-use Rattle.vms_selfdesc.proofs.Facade.{part_entries, ap, sym, ◌∙◌, zero, is_none, slice_get-get_or, list_all, ltb-true, first, AreReady, longest_text}
-use Rattle.vms_selfdesc.proofs.Facade.{versions_long, device_at, shipped_set, clock_set, few_cells, IsOfDevice, read, FitsHeads, first_fault, none_is}
-use Rattle.vms_selfdesc.proofs.Facade.{few_items, few_devices, IsSound, shipped_sets, sub_at, few_subs, device_clean, sub_clean, clock_heads, by_number}
+use Rattle.vms_selfdesc.proofs.{Facade.clock_heads, Facade.by_number, ReadBack.reads_whole}
+use Rattle.vms_selfdesc.proofs.Facade.{clock_formed, fit_number, ShortLaw, ShippedLaw, ClockLaw, ◌≡◌, ℕ, suc, ◌+◌, ◌≤◌, length, List}
+use Rattle.vms_selfdesc.proofs.Facade.{◌∷◌, map, Bool, false, Option, Some, None, ℤ, pos, negsuc, refl, arith, is_some, [], ◌||◌, or_from, Data}
+use Rattle.vms_selfdesc.proofs.Facade.{object, array, depth, items_depth, items_of, has_float, items_have_float, Sub, Device, Set, desc_cells, struct_cells}
+use Rattle.vms_selfdesc.proofs.Facade.{Image, own_cells, Entry, with_value, sent_members, entry_tree, list_tree, sub_members, sub_trees, device_members}
+use Rattle.vms_selfdesc.proofs.Facade.{device_trees, described_tree, described_text, get_or, ◌*◌, ◌<◌, length-append, true, codes, mul-le-mul_left}
+use Rattle.vms_selfdesc.proofs.Facade.{mul-le-mul_right, AtLeast, no_desc, escape_byte, Members, no_members, member, quoted, members_text, boolean}
+use Rattle.vms_selfdesc.proofs.Facade.{compact_text, items_text, MOST_ITEMS, Field, Desc, items_in, struct_items, subs_items, devices_items, struct_depths}
+use Rattle.vms_selfdesc.proofs.Facade.{deepest, is_well_formed, shapes, part_entries, ap, sym, ◌∙◌, zero, is_none, slice_get-get_or, list_all, ltb-true}
+use Rattle.vms_selfdesc.proofs.Facade.{first, AreReady, longest_text, versions_long, device_at, shipped_set, clock_set, few_cells, IsOfDevice, read, FitsHeads}
+use Rattle.vms_selfdesc.proofs.Facade.{first_fault, none_is, few_items, few_devices, IsSound, shipped_sets, sub_at, few_subs, device_clean, sub_clean}
 use Rattle.vms_selfdesc.proofs.Fits.{part_sound, fields_flat, AreLong, longer, AreSound, FitTables, tables_fit, entries_few, entries_long}
 use Rattle.vms_selfdesc.proofs.Plain.{quoted_long, IsShort, member_long, number_short, name_short, sub_name_short}
 use Rattle.std.specs.Prelude.{nat_lt}
@@ -26,16 +26,9 @@ abbrev pub ArePlain : ℕ → List Data → Type 0
 ArePlain deepest [] = Unit {0}
 ArePlain deepest (d ∷ ds) = IsPlainTree deepest d × ArePlain deepest ds
 
-items_whole : (deepest : ℕ) (ds : List Data) → ArePlain deepest ds → items_have_float (items_of ds) ≡ false
-items_whole deepest [] p = refl
-items_whole deepest (d ∷ ds) p = or_from (has_float d) (items_have_float (items_of ds)) p.0.whole (items_whole deepest ds p.1)
-
-items_flat : (deepest : ℕ) (ds : List Data) → ArePlain deepest ds → items_depth (items_of ds) ≤ deepest
-items_flat deepest [] p = omega arith
-items_flat deepest (d ∷ ds) p = omega (arith, items_flat deepest ds p.1)
-
 list_plain : (deepest : ℕ) (ds : List Data) → ArePlain deepest ds → IsPlainTree (suc deepest) (array (items_of ds))
-list_plain deepest ds p = record { whole = items_whole deepest ds p; flat = omega (arith, items_flat deepest ds p) }
+list_plain deepest [] p = record { whole = refl; flat = omega arith }
+list_plain deepest (d ∷ ds) p = let rest = list_plain deepest ds p.1 in record { whole = rw (p.0.whole, rest.whole); flat = omega (arith, rest.flat) }
 
 entry_plain : (e : Entry) → IsPlainTree 1 (entry_tree e)
 entry_plain e = by_absent e.absent
@@ -52,7 +45,7 @@ entries_plain (e ∷ es) = (entry_plain e, entries_plain es)
 sub_plain : (es : List Entry) (name : List ℕ) (sent : Bool) (version : ℕ) → IsPlainTree 3 (object (sub_members es name sent version))
 sub_plain es name sent version =
     let list = list_plain 1 (map entry_tree es) (entries_plain es) in
-    record { whole = or_from (has_float (list_tree entry_tree es)) false list.whole refl; flat = omega (arith, list.flat) }
+    record { whole = rw list.whole; flat = omega (arith, list.flat) }
 
 subs_plain : (set : Set) (n : List ℤ) (at : ℕ) (subs : List Sub) (came : List (Option ℕ)) → ArePlain 3 (sub_trees set n at subs came)
 subs_plain set n at (s ∷ subs) (c ∷ came) =
@@ -64,11 +57,7 @@ device_plain : (es : List Entry) (instance : ℕ) (name : List ℕ) (subs : List
 device_plain es instance name subs version p =
     let list = list_plain 1 (map entry_tree es) (entries_plain es) in
     let inner = list_plain 3 subs p in
-    record {
-      whole = or_from (has_float (list_tree entry_tree es)) (has_float (array (items_of subs)) || false) list.whole
-          (or_from (has_float (array (items_of subs))) false inner.whole refl);
-      flat = omega (arith, list.flat, inner.flat);
-    }
+    record { whole = rw (list.whole, inner.whole); flat = omega (arith, list.flat, inner.flat) }
 
 devices_plain : (set : Set) (devices : List Device) (images : List Image) → ArePlain 5 (device_trees set devices images)
 devices_plain set (d ∷ devices) (image ∷ images) = (
@@ -80,7 +69,7 @@ devices_plain set _ _ = tt
 pub described_plain : (set : Set) (images : List Image) → IsPlainTree 7 (described_tree set images)
 described_plain set images =
     let list = list_plain 5 (device_trees set set.devices images) (devices_plain set set.devices images) in
-    record { whole = or_from (has_float (array (items_of (device_trees set set.devices images)))) false list.whole refl; flat = omega arith }
+    record { whole = rw list.whole; flat = omega arith }
 
 -- ---- how long the text of the described tree is, by the depth of structures and the number of items: at most 300 bytes for each
 -- item, subsection and device, and fewer for the items of a part without structures
@@ -219,7 +208,8 @@ module _ (set : Set) (well : is_well_formed set ≡ true) where
       let count = entries_few (shapes set) sizes depths fit d d.version sent [] n at in
       omega (arith, entries_weight es most long, mul-le-mul_left {m = length es} {n = items_in sizes d.fields} (most + 1) count)
 
-  subs_weight : (n : List ℤ) (at : ℕ) (subs : List Sub) (came : List (Option ℕ)) → AreShortSubs subs → subs_items (struct_items set.structs) subs ≤ MOST_ITEMS
+  subs_weight : (n : List ℤ) (at : ℕ) (subs : List Sub) (came : List (Option ℕ)) → AreShortSubs subs
+      → subs_items (struct_items set.structs) subs ≤ MOST_ITEMS
       → weight (sub_trees set n at subs came) ≤ subs_room (struct_items set.structs) (struct_depths set.structs) subs
   subs_weight n at (s ∷ subs) (c ∷ came) p few =
       let short = p 0 (omega arith) in
@@ -271,7 +261,8 @@ module _ (set : Set) (well : is_well_formed set ≡ true) where
 
 -- ---- ready images are images of their devices
 
-pub ready_device : (set : Set) → is_well_formed set ≡ true → (images : List Image) → AreReady set images → (i : ℕ) (image : Image) → i < length images
+pub ready_device : (set : Set) → is_well_formed set ≡ true → (images : List Image) → AreReady set images → (i : ℕ) (image : Image)
+    → i < length images
     → image ≡ get_or images i image → IsOfDevice set i image
 ready_device set well images ready i image lt is =
     let there : i < length set.devices = omega arith in
@@ -347,7 +338,8 @@ clock_holds = record { clock = λ s images. omega (arith, set_long (clock_set s)
 -- ---- What is known of a description by its text.
 
 module _ (set : Set) (images : List Image) where
-  pub text_reads : IsSound (described_tree set images) → (bytes : List ℕ) → bytes ≡ described_text set images → read bytes ≡ Some (described_tree set images)
+  pub text_reads : IsSound (described_tree set images) → (bytes : List ℕ) → bytes ≡ described_text set images
+      → read bytes ≡ Some (described_tree set images)
   text_reads sound bytes is = reads_whole (described_tree set images) bytes is sound (omega (arith, described_plain set images))
 
   pub text_short : is_well_formed set ≡ true → FitsHeads set → length (described_text set images) < longest_text

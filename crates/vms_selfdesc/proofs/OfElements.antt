@@ -248,8 +248,8 @@ module _ (n m : List ℤ) where
       → elements_from ss fields v own n i at fs ≡ elements_from ss fields v other m i at fs
   fields_same ss fields v own other i at [] h = refl
   fields_same ss fields v own other i at (f ∷ fs) h =
-      ap₂ (λ (x y : List Element). x ++ y) (field_same ss fields v own other i at f h.0)
-      (fields_same ss fields v own other (suc i) (at + length (field_cells (cells_in ss) fields i f)) fs h.1)
+      let next = at + length (field_cells (cells_in ss) fields i f) in
+      rw (field_same ss fields v own other i at f h.0, fields_same ss fields v own other (suc i) next fs h.1)
 
   -- a part's entries, if its fields are alike
   pub part_same : (set : Set) (d : Desc) (at : ℕ) (sent : Bool)
@@ -257,13 +257,12 @@ module _ (n m : List ℤ) where
       → part_entries set d sent n at ≡ part_entries set d sent m at
   part_same set d at sent h =
       let ss = shapes set in
-      let here : AreFieldsAlike d.version (numbers_of (cells_in ss) d n at) (numbers_of (cells_in ss) d m at) d.fields = rw (cells_are set) h in
-      of_desc ss d d.version sent [] n at ∙ ap (entries_of sent []) (fields_same ss d.fields d.version _ _ 0 at d.fields here)
-      ∙ sym (of_desc ss d d.version sent [] m at)
+      let own = numbers_of (cells_in ss) d in
+      let same = fields_same ss d.fields d.version (own n at) (own m at) 0 at d.fields (rw (cells_are set) h) in
+      rw (of_desc ss d d.version sent [] n at, of_desc ss d d.version sent [] m at, same)
 
 -- a subsection's tree, if it came in both or in neither
 pub sub_same : (set : Set) (s : Sub) (at : ℕ) (n m : List ℤ) (came other : Option ℕ) → is_some came ≡ is_some other
     → ((sent : Bool) → part_entries set s.desc sent n at ≡ part_entries set s.desc sent m at) → sub_tree set n at s came ≡ sub_tree set m at s other
 sub_same set s at n m came other e h =
-    ap (λ (sent : Bool). object (sub_members (part_entries set s.desc sent n at) s.desc.name sent s.desc.version)) e
-    ∙ ap (λ (es : List Entry). object (sub_members es s.desc.name (is_some other) s.desc.version)) (h (is_some other))
+    rw (e, h (is_some other))

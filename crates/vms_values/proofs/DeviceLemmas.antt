@@ -1,16 +1,17 @@
 -- Devices that are read one after the other: their images, their subsections, and what is judged of them.
-use Rattle.vms_values.proofs.Facade.{length-take-le, ◌≡◌, ℕ, ◌+◌, ◌<◌, true, zero, suc, List, [], ◌∷◌, ◌++◌, Some, length, ap, sym, ◌∙◌, subst, arith}
-use Rattle.vms_values.proofs.Facade.{length-append, Option, None, Result, Ok, Err, refl, rules, Bool, false, map, take, drop, if◌then◌else◌, append_assoc}
-use Rattle.vms_values.proofs.Facade.{append-nil, slice_set, flat_map, slice_get, length-map, drop_more, drop_all, take_more, take_all, map-append}
-use Rattle.vms_values.proofs.Facade.{take_more_set, ForSome, Set, Device, Sub, Typed, state_of, default_at, IsOfDevice, IsImageOf, device_cells, desc_cells}
-use Rattle.vms_values.proofs.Facade.{struct_cells, device_at, is_well_formed, few_cells, sub_next, HasSpot, IsKept, place_of, IsAlike, with_came, said_read}
-use Rattle.vms_values.proofs.Facade.{sub_read, SubReached, SubsReached, first_line, BadLine, ReadDevice, ReadAll, ValuesRead, read_devices, ended, values_read}
-use Rattle.vms_values.proofs.Facade.{after_machine, machine_named, rest_of, Standing, ReadSubs, readers, read_desc, read_subs, next_line, then_subs}
-use Rattle.vms_values.proofs.Facade.{section_line, is_line, with_device, read_device, or_bad, judge_device, judge_devices, Read, sub_said, also, read_sub}
-use Rattle.vms_values.proofs.Facade.{LineFault, StartsAt, NamesMachine, Start, machine_of, Image, own_cells, Reading, bad_of, found, device_read, start_of}
-use Rattle.vms_values.proofs.Facade.{DeviceRead, AllRead, or_bad_assoc, first_cell, sub_at, Taken, ReadsBy}
-use Rattle.vms_spec.specs.ValuesReading.{device_read as device_reads}
+use Rattle.std.proofs.Common.{ap₂}
+use Rattle.vms_values.proofs.Facade.{AtLeast, no_desc, length-take-le, ◌≡◌, ℕ, ◌+◌, ◌<◌, true, zero, suc, List, [], ◌∷◌, ◌++◌, Some}
+use Rattle.vms_values.proofs.Facade.{length, ap, sym, ◌∙◌, subst, arith, length-append, Option, None, Result, Ok, Err, refl, rules, Bool, false, map}
+use Rattle.vms_values.proofs.Facade.{take, drop, if◌then◌else◌, append_assoc, append-nil, slice_set, flat_map, slice_get, length-map, drop_more, drop_all}
+use Rattle.vms_values.proofs.Facade.{take_more, take_all, map-append, take_more_set, ForSome, Set, Device, Sub, Typed, state_of, default_at, IsOfDevice}
+use Rattle.vms_values.proofs.Facade.{IsImageOf, device_cells, desc_cells, struct_cells, device_at, is_well_formed, few_cells, sub_next, HasSpot, IsKept}
+use Rattle.vms_values.proofs.Facade.{place_of, IsAlike, with_came, said_read, sub_read, SubReached, SubsReached, first_line, BadLine, ReadDevice, ReadAll}
+use Rattle.vms_values.proofs.Facade.{ValuesRead, read_devices, ended, values_read, after_machine, machine_named, Standing, ReadSubs, readers}
+use Rattle.vms_values.proofs.Facade.{read_desc, read_subs, next_line, then_subs, section_line, is_line, with_device, read_device, or_bad, judge_device}
+use Rattle.vms_values.proofs.Facade.{judge_devices, Read, sub_said, also, read_sub, LineFault, StartsAt, NamesMachine, Start, machine_of, Image, own_cells}
+use Rattle.vms_values.proofs.Facade.{Reading, bad_of, found, device_read, start_of, DeviceRead, AllRead, or_bad_assoc, first_cell, sub_at, Taken, ReadsBy}
 use Rattle.vms_values.specs.declared.fault.Values.{Values}
+use Rattle.vms_spec.specs.ValuesReading.{device_read as device_reads}
 use Rattle.vms_spec.specs.declared.Part.TheVariants as parts
 use Rattle.vms_spec.specs.declared.ValuesReason.TheVariants as reasons
 use Rattle.vms_values.specs.declared.fault.LineFault.TheVariants as faults
@@ -51,7 +52,7 @@ pub record AreFirstImages (set : Set) (n : ℕ) (images : List Typed) : Type 0 w
 
 pub first_more : (set : Set) (n : ℕ) (images more : List Typed) (image : Typed) → AreFirstImages set n images → IsImageOf set n image → more ≡ images ++ image ∷ [] → AreFirstImages set (n + 1) more
 first_more set n images more image a o e = record {
-  count = ap length e ∙ length-append images (image ∷ []) ∙ ap (λ k. k + 1) a.count;
+  count = rw (e, length-append images (image ∷ []), a.count);
   each = λ k other f.
       at_more (IsImageOf set) images image a.each (rw a.count o) k other (rw (sym e) (f));
 }
@@ -73,8 +74,8 @@ from_start : (set : Set) (text : List ℕ) (start : Start) (o : Option (List ℕ
 from_start set text start None v e s =
     record {
       name = None;
-      is = e ∙ ap (λ n. ended set None (read_devices set set.devices n text)) (sym s.1) ∙ ap (λ l. ended set None (read_devices set set.devices start.lines.line l)) (sym s.2);
-      machine = ap (machine_of set) s.0;
+      is = rw (s.1, s.2) e;
+      machine = rw s.0;
       known = rw s.0 (search rules);
     }
 from_start set text start (Some name) v e s = by start.machine refl s.0 where
@@ -83,9 +84,8 @@ from_start set text start (Some name) v e s = by start.machine refl s.0 where
   by (Some m) q h =
       record {
         name = Some name;
-        is = e ∙ ap (λ n. ended set (Some name) (read_devices set set.devices n (rest_of (first_line text)))) (sym s.1)
-            ∙ ap (λ l. ended set (Some name) (read_devices set set.devices start.lines.line l)) (sym s.2);
-        machine = ap (machine_of set) q ∙ ap (λ n. Some n) h.1;
+        is = rw (s.1, s.2) e;
+        machine = rw (q, h.1);
         known = rw q (search (rules, h.0));
       }
 
@@ -126,7 +126,7 @@ judge_more : (set : Set) (ds : List Device) (rs : List ReadDevice) (d : Device) 
 judge_more set [] [] d r e = or_none (judge_device set d r)
 judge_more set (c ∷ ds) (x ∷ rs) d r e =
     let less : length ds ≡ length rs = omega arith in
-    ap (or_bad (judge_device set c x)) (judge_more set ds rs d r less) ∙ sym (or_bad_assoc (judge_device set c x) (judge_devices set ds rs) (judge_device set d r))
+    rw (judge_more set ds rs d r less, or_bad_assoc (judge_device set c x) (judge_devices set ds rs) (judge_device set d r))
 judge_more set _ _ d r e = cc
 
 -- the first n devices have these images and this first bad line of the second pass; the rest is the whole reading
@@ -145,8 +145,8 @@ module _ (set : Set) (i : ℕ) (lt : i < length set.devices) where
   next_device : (old : Reading) → read_devices set (drop i set.devices) old.lines.line old.lines.rest.now
       ≡ after_device (λ line rest. read_devices set (drop (i + 1) set.devices) line rest) (device_read set (device_at set i) (start_of set (device_at set i) old))
   next_device old =
-      ap (λ l. read_devices set l old.lines.line old.lines.rest.now) (drop_more set.devices i _ lt)
-      ∙ one_device set (device_at set i) (start_of set (device_at set i) old) (λ line rest. read_devices set (drop (i + 1) set.devices) line rest)
+      rw (drop_more set.devices i (record { instance = 0; desc = no_desc; subs = [] }) lt)
+      (one_device set (device_at set i) (start_of set (device_at set i) old) (λ line rest. read_devices set (drop (i + 1) set.devices) line rest))
 
   -- the result for one device
   record Given (old new : Reading) (image : Image) : Type 0 where
@@ -186,15 +186,17 @@ module _ (set : Set) (i : ℕ) (lt : i < length set.devices) where
       let rest = λ (line : ℕ) (rest : List ℕ). read_devices set (drop (i + 1) set.devices) line rest in
       record {
         done = g.done ++ k.r ∷ [];
-        count = length-append g.done (k.r ∷ []) ∙ ap (λ n. n + 1) g.count;
+        count = rw (length-append g.done (k.r ∷ []), g.count);
         images_are = map-append (λ r. r.image) g.done (k.r ∷ []) ∙ ap (λ l. l ++ k.r.image ∷ []) g.images_are ∙ ap (λ x. images ++ x ∷ []) (sym k.same) ∙ sym m;
-        whole = ap (λ n. with_devices (g.done ++ k.r ∷ []) (rest n new.lines.rest.now)) k.line
-            ∙ ap (λ l. with_devices (g.done ++ k.r ∷ []) (rest k.p.line l)) k.rest ∙ sym (more_devices g.done k.r (rest k.p.line k.p.rest))
-            ∙ ap (with_devices g.done) (sym (next_device old ∙ ap (after_device rest) k.read)) ∙ g.whole;
-        so_far = k.judged ∙ ap (λ o. or_bad o (judge_device set d k.r)) g.so_far
-            ∙ or_bad_assoc first (judge_devices set (take i set.devices) g.done) (judge_device set d k.r)
-            ∙ ap (or_bad first) (sym (judge_more set (take i set.devices) g.done d k.r (length-take-le i set.devices (omega arith) ∙ sym g.count)))
-            ∙ ap (λ l. or_bad first (judge_devices set l (g.done ++ k.r ∷ []))) (sym (take_more set.devices i _ lt));
+        whole = ap₂ (λ n l. with_devices (g.done ++ k.r ∷ []) (rest n l)) k.line k.rest ∙ sym (more_devices g.done k.r (rest k.p.line k.p.rest))
+            ∙ rw (next_device old, k.read) at g.whole;
+        so_far = rw (
+          k.judged,
+          g.so_far,
+          or_bad_assoc first (judge_devices set (take i set.devices) g.done) (judge_device set d k.r),
+          take_more set.devices i (record { instance = 0; desc = no_desc; subs = [] }) lt,
+          judge_more set (take i set.devices) g.done d k.r (length-take-le i set.devices (omega arith) ∙ sym g.count),
+        );
       }
 
 -- all devices are read
@@ -232,9 +234,9 @@ next_sub set i j p lt =
     let d = device_at set i in
     let s = sub_at d j in
     let at = first_cell set (parts.Sub i j) in
-    ap (λ l. read_subs set at l p) (drop_more d.subs j _ lt)
-    ∙ one_sub set s at p (sub_said s (first_line p.rest)) (λ q. read_subs set (at + length (desc_cells (struct_cells set) s.desc)) (drop (j + 1) d.subs) q)
-    ∙ ap (λ x. after_sub p.line (λ q. read_subs set x (drop (j + 1) d.subs) q) (sub_read set s at p)) (sym (sub_next set (own_cells set d) d.subs j _ lt))
+    let none : Sub = record { desc = no_desc; needed = AtLeast 0 } in
+    rw (drop_more d.subs j none lt, sub_next set (own_cells set d) d.subs j none lt)
+    (one_sub set s at p (sub_said s (first_line p.rest)) (λ q. read_subs set (at + length (desc_cells (struct_cells set) s.desc)) (drop (j + 1) d.subs) q))
 
 abbrev pub with_subs : List (Option ℕ) → List ℕ → Result ReadSubs BadLine → Result ReadSubs BadLine
 with_subs came lines (Err b) = Err b

@@ -1,10 +1,10 @@
 -- The names of other crates, and of this crate's `specs`, that the proofs use.
 pub use Rattle.std.proofs.{Math.Facts.to_z-of_z, Math.Nat.mod-lt, Math.Nat.pow-suc, Math.Seq.drop-append_seam, Math.Seq.get_or-append_right}
-pub use Rattle.std.proofs.{lemmas.Nat.div-add-mod', lemmas.Option.slice_get-get_or, lemmas.Result.err_from_is_err_and}
+pub use Rattle.std.proofs.{lemmas.Nat.div-add-mod', lemmas.Option.slice_get-get_or, lemmas.Result.err_from_is_err_and, Common.◌≤◌}
 pub use Rattle.std.proofs.Common.{Bool, Err, IfOk, List, MatchOption, None, Ok, Option, Result, Some, [], ap, append-nil, append_assoc, arith, codes, drop}
-pub use Rattle.std.proofs.Common.{drop-drop, false, get_or, if◌then◌else◌, length, length-append, length-drop, length-take, lt_of_mul-lt-mul_right, map, nat_le}
-pub use Rattle.std.proofs.Common.{nat_lt, not, pos, refl, rules, slice_set, subst, suc, sum_by, sym, take, true, zero, ℕ, ℤ, ◌%◌, ◌&&◌, ◌*◌, ◌++◌, ◌+◌, ◌-◌}
-pub use Rattle.std.proofs.Common.{◌/◌, ◌<◌, ◌==◌, ◌^◌, ◌||◌, ◌∙◌, ◌∷◌, ◌≡◌, ◌≤◌}
+pub use Rattle.std.proofs.Common.{drop-drop, false, get_or, if◌then◌else◌, length, length-append, length-drop, length-take, lt_of_mul-lt-mul_right, map}
+pub use Rattle.std.proofs.Common.{nat_le, nat_lt, not, pos, refl, rules, slice_set, subst, suc, sum_by, sym, take, true, zero, ℕ, ℤ, ◌%◌, ◌&&◌}
+pub use Rattle.std.proofs.Common.{◌*◌, ◌++◌, ◌+◌, ◌-◌, ◌/◌, ◌<◌, ◌==◌, ◌^◌, ◌||◌, ◌∙◌, ◌∷◌, ◌≡◌}
 pub use Rattle.std.proofs.Math.Bool.{and-false, and-true, and_assoc}
 pub use Rattle.std.proofs.lemmas.Bool.{and_parts, eqb-true, le-ltb, leb-true, lt-ltb, ltb-false, ltb-true}
 pub use Rattle.std.proofs.lemmas.List.{drop-map, drop_all, drop_more, get_or-drop, get_or-map, get_or_append_left, length-map, length-take-le, map-append}
@@ -30,14 +30,15 @@ pub use Rattle.vms_spec.specs.ValuesReading.{Bad, BadLine, CellLine, Read, ReadA
 pub use Rattle.vms_spec.specs.ValuesReading.{also, answer_of, are_defaults, bad, cells_of, ended, if_bad, is_line, is_said_well, judge_device, judge_devices}
 pub use Rattle.vms_spec.specs.ValuesReading.{judge_subs, judged, machine_named, next_line, no_reader, or_bad, put_line, put_number, read_array, read_desc}
 pub use Rattle.vms_spec.specs.ValuesReading.{read_device, read_devices, read_elements, read_field, read_fields, read_item, read_sub, read_subs, reader, readers}
-pub use Rattle.vms_spec.specs.ValuesReading.{rest_of, section_line, sub_fails, sub_said, then_subs, with_device, ◌>>=◌}
+pub use Rattle.vms_spec.specs.ValuesReading.{section_line, sub_fails, sub_said, then_subs, with_device, ◌>>=◌}
 unfoldable pub use Rattle.vms_spec.specs.{Layout.first, ValuesReading.values_read}
 pub use Rattle.vms_words.specs.{Lines.IsFirstLine, declared.line.NextLine.NextLine}
 pub use Rattle.vms_bodies.proofs.{Places.cells_first, PartLaws.cells_of_sub, WalkLaws.place_first}
-pub use Rattle.vms_elements.proofs.{Walk.are_walked, Walk.desc_names_are, Walk.desc_walks, Walk.field_walks, Members.shapes_cells}
-pub use Rattle.vms_elements.proofs.Walk.{array_name, names_absent, fields_walk, is_dotted, item_walks, names_append, names_long, names_map, walks, AreWalked}
-pub use Rattle.vms_elements.specs.{Reading.Reads, Reading.Refused, Parts.absent, Parts.cell_name, Parts.elements_in, Parts.names_of, Parts.subs_elements}
-pub use Rattle.vms_elements.specs.Elements.{stand_of, Shape, desc_elements, dotted, elements_from, field_elements, item_elements, no_shape, shape, shapes}
+pub use Rattle.vms_elements.proofs.{Walk.names_append, Walk.names_long, Walk.names_map, Walk.walks, Walk.AreWalked, Members.shapes_cells}
+pub use Rattle.vms_elements.proofs.Walk.{are_walked, desc_names_are, desc_walks, field_walks, array_name, names_absent, fields_walk, is_dotted, item_walks}
+pub use Rattle.vms_elements.specs.Elements.{stand_of, Shape, desc_elements, elements_from, field_elements, item_elements, no_shape, shape, shapes}
+pub use Rattle.vms_elements.specs.Parts.{absent, cell_name, elements_in, names_of, subs_elements}
+pub use Rattle.vms_elements.specs.Reading.{Reads, Refused}
 pub use Rattle.vms_desc.proofs.AskLaws.{few_cells, found_field, here_fields, own_inside_device, sub_first, sub_inside, sub_next}
 pub use Rattle.vms_desc.proofs.Clean.{few_devices, few_machines, few_structs, fit_of, few_subs, field_clean, reach, struct_clean, item_rank, part_rank}
 pub use Rattle.vms_desc.proofs.Clean.{rank_below, reach_whole, uses_more}
@@ -47,7 +48,7 @@ pub use Rattle.vms_image.proofs.States.{state_at, states_long}
 pub use Rattle.vms_image.specs.Typed.{AreImagesOf, IsImageOf, IsOfDevice, Typed, default_at, state_of}
 pub use Rattle.vms_io.proofs.WritingLemmas.{Leaves, leaves_all, leaves_none, leaves_rest, leaves_stop, puts_as, puts_both, stops_as, stops_behind, stops_front}
 pub use Rattle.vms_io.proofs.WritingLemmas.{wrote_as, wrote_behind}
-pub use Rattle.vms_io.specs.{Told.Outlet, Told.outlet, Writing.Puts, Writing.Wrote}
+pub use Rattle.vms_io.specs.{Told.Outlet, Told.outlet, Writing.Wrote}
 pub use Rattle.vms_parts.specs.{Capacities.least_of, declared.types.CellForm.CellForm, declared.types.Test.Test}
 pub use Rattle.vms_parts.specs.Views.{desc_of, device_of, field_of, form_of, formula}
 pub use Rattle.vms_values.specs.{Machines.NamesMachine, Machines.StartsAt, Paths.element_text, Paths.path_text, Written.joined}
@@ -64,7 +65,7 @@ pub use Rattle.vms_values.specs.declared.line.TheConstants.{INDEX_ROOM, LONGEST_
 pub use Rattle.vms_values_laws.proofs.{SecondPass.or_bad_assoc, Stated.line_holds, Stated.read_holds}
 pub use Rattle.vms_walk.proofs.Spots.{exceeds_least, cells_table, next_field, size_code, start_after, start_code, struct_size, width_code}
 pub use Rattle.vms_walk.proofs.Walking.{fields_at, room_at}
-pub use Rattle.vms_walk.specs.{declared.fields.PartAt.PartAt}
 pub use Rattle.vms_walk.specs.Steps.{HasSpot, capacities_of, cell_of, cells_in, size_in, spot_slots, steps_of, table}
+pub use Rattle.vms_walk.specs.declared.fields.PartAt.{PartAt}
 pub use Rattle.vms_write.specs.Fine.{no_form, settle}
 pub use lib.Seq.{take-append-le}

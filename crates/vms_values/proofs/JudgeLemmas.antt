@@ -1,16 +1,17 @@
 -- Validations along steps, also of a set that has none, and defaults of cells.
-use Rattle.vms_values.proofs.Facade.{get_or-drop, drop-drop, ◌≡◌, ℕ, suc, zero, ◌+◌, ◌<◌, ◌≤◌, Bool, true, false, not, if◌then◌else◌, Option, Some, None, ◌&&◌}
-use Rattle.vms_values.proofs.Facade.{List, [], ◌∷◌, ◌++◌, length, get_or, drop, map, ℤ, pos, refl, sym, ap, ◌∙◌, arith, append_assoc, length-append, ◌==◌}
-use Rattle.vms_values.proofs.Facade.{flat_map, list_all, drop_more, drop_all, drop-map, map-append, drop-append_seam, eqb-true, and_parts, and-true, Set, Sub}
-use Rattle.vms_values.proofs.Facade.{Field, Desc, ValuesReason, sub_first, sub_next, Image, sub_place, own_cells, own_slots, own_cell_count, first_cell}
-use Rattle.vms_values.proofs.Facade.{own_numbers, device_at, sub_at, desc_at, Cell, Slot, no_desc, desc_cells, struct_cells, device_cells, Rule, Meaning}
-use Rattle.vms_values.proofs.Facade.{no_meaning, item_slots, item_size, times, field_slots, slots_from, desc_slots, field_cells, numbers_of, elements_of}
-use Rattle.vms_values.proofs.Facade.{counted, all_hold, no_parent, first, meaning, meanings, rules_are_true, BadLine, ReadDevice, are_defaults, or_bad, if_bad}
-use Rattle.vms_values.proofs.Facade.{sub_fails, is_said_well, judge_subs, judge_device, CellForm, form_of, desc_of, formula, steps_of, spot_slots, no_form}
-use Rattle.vms_values.proofs.Facade.{settle, steps_hold, sub_judged, sub_defaults, Item, Struct, is_there, cells_first, one_more, Test, PartAt, ◌*◌, ◌^◌}
-use Rattle.vms_values.proofs.Facade.{sum_by, Ok, Err, Result, sum_by-cons, ForSome, FitsHeads, Device, values_read, ValuesRead, Values, Bad, ReadAll, ended}
-use Rattle.vms_values.proofs.Facade.{judged, answer_of, judge_devices, Refused, Reads, state_of, is_well_formed, few_cells, few_devices, fit_of, few_subs}
-use Rattle.vms_values.proofs.Facade.{line_holds, read_holds, ReadsBy, MeansAs, LineFault, Reading, machine_of, bad_of, AllRead, ToldAs}
+use Rattle.vms_values.proofs.Facade.{AtLeast, get_or-drop, drop-drop, ◌≡◌, ℕ, suc, zero, ◌+◌, ◌<◌, ◌≤◌, Bool, true, false, not}
+use Rattle.vms_values.proofs.Facade.{if◌then◌else◌, Option, Some, None, ◌&&◌, List, [], ◌∷◌, ◌++◌, length, get_or, drop, map, ℤ, pos}
+use Rattle.vms_values.proofs.Facade.{refl, sym, ap, ◌∙◌, arith, append_assoc, length-append, ◌==◌, flat_map, list_all, drop_more, drop_all, drop-map}
+use Rattle.vms_values.proofs.Facade.{map-append, drop-append_seam, eqb-true, and_parts, and-true, Set, Sub, Field, Desc, ValuesReason, sub_first, sub_next}
+use Rattle.vms_values.proofs.Facade.{Image, sub_place, own_cells, own_slots, own_cell_count, first_cell, own_numbers, device_at, sub_at, desc_at, Cell, Slot}
+use Rattle.vms_values.proofs.Facade.{no_desc, desc_cells, struct_cells, device_cells, Rule, Meaning, no_meaning, item_slots, item_size, times, field_slots}
+use Rattle.vms_values.proofs.Facade.{slots_from, desc_slots, field_cells, numbers_of, elements_of, counted, all_hold, no_parent, first, meaning, meanings}
+use Rattle.vms_values.proofs.Facade.{rules_are_true, BadLine, ReadDevice, are_defaults, or_bad, if_bad, sub_fails, is_said_well, judge_subs, judge_device}
+use Rattle.vms_values.proofs.Facade.{CellForm, form_of, desc_of, formula, steps_of, spot_slots, no_form, settle, steps_hold, sub_judged, sub_defaults, Item}
+use Rattle.vms_values.proofs.Facade.{Struct, is_there, cells_first, one_more, Test, PartAt, ◌*◌, ◌^◌, sum_by, Ok, Err, Result, sum_by-cons, ForSome}
+use Rattle.vms_values.proofs.Facade.{FitsHeads, Device, values_read, ValuesRead, Values, Bad, ReadAll, ended, judged, answer_of, Refused, Reads}
+use Rattle.vms_values.proofs.Facade.{state_of, is_well_formed, few_cells, few_devices, fit_of, few_subs, line_holds, read_holds, ReadsBy, MeansAs, LineFault}
+use Rattle.vms_values.proofs.Facade.{Reading, machine_of, bad_of, AllRead, ToldAs}
 use Rattle.vms_values.specs.{declared.fault.Values.Values as Given, declared.judge.BadLine.BadLine as Found}
 use Rattle.vms_parts.specs.declared.types.Desc.{Desc as Described}
 use Rattle.vms_values_laws.specs.Laws.{device_lines}
@@ -30,10 +31,10 @@ pub settle_defaults : (cells : List Cell) (forms rest : List CellForm) (numbers 
     → settle [] forms numbers at (length cells) ≡ are_defaults cells (drop at numbers)
 settle_defaults [] forms rest numbers at e le = refl
 settle_defaults (c ∷ cells) forms rest numbers at e le =
-    let same : get_or forms at no_form ≡ form_of c =
-    ap (λ k. get_or forms k no_form) (omega arith) ∙ sym (get_or-drop at forms 0 no_form) ∙ ap (λ l. get_or l 0 no_form) e in
-    let later : drop (at + 1) forms ≡ map form_of cells ++ rest = sym (drop-drop 1 at forms) ∙ ap (drop 1) e in
-    rw (same, settle_defaults cells forms rest numbers (at + 1) later (omega arith)) (sym (ap (are_defaults (c ∷ cells)) (drop_more numbers at (pos 0) (omega arith))))
+    let here : at ≡ at + 0 = omega arith in
+    let same : get_or forms at no_form ≡ form_of c = ap (λ k. get_or forms k no_form) here ∙ rw (← get_or-drop at forms 0 no_form, e) in
+    let later : drop (at + 1) forms ≡ map form_of cells ++ rest = rw (← drop-drop 1 at forms, e) in
+    rw (same, settle_defaults cells forms rest numbers (at + 1) later (omega arith), drop_more numbers at (pos 0) (omega arith))
 
 -- ---- the cells of a subsection among those of its device
 
@@ -42,14 +43,12 @@ cells_from_sub : (set : Set) (front : List Cell) (at : ℕ) (subs : List Sub) (j
     ≡ desc_cells (struct_cells set) (get_or subs j none).desc ++ flat_map (λ s. desc_cells (struct_cells set) s.desc) (drop (j + 1) subs)
 cells_from_sub set front at [] j none e lt = absurd (omega arith)
 cells_from_sub set front at (s ∷ subs) zero none e lt =
-    ap (λ k. drop k (front ++ flat_map (λ s. desc_cells (struct_cells set) s.desc) (s ∷ subs))) e
-    ∙ drop-append_seam front (flat_map (λ s. desc_cells (struct_cells set) s.desc) (s ∷ subs))
+    rw e (drop-append_seam front (flat_map (λ s. desc_cells (struct_cells set) s.desc) (s ∷ subs)))
 cells_from_sub set front at (s ∷ subs) (suc j) none e lt =
     let own = desc_cells (struct_cells set) s.desc in
     let one : suc j + 1 ≡ suc (j + 1) = omega arith in
-    ap (drop (sub_place set (at + length own) subs j)) (sym (append_assoc front own (flat_map (λ s. desc_cells (struct_cells set) s.desc) subs)))
-    ∙ cells_from_sub set (front ++ own) (at + length own) subs j none (rw e (sym (length-append front own))) (omega arith)
-    ∙ ap (λ k. desc_cells (struct_cells set) (get_or subs j none).desc ++ flat_map (λ s. desc_cells (struct_cells set) s.desc) (drop k (s ∷ subs))) (sym one)
+    rw (← append_assoc front own (flat_map (λ s. desc_cells (struct_cells set) s.desc) subs), one)
+    (cells_from_sub set (front ++ own) (at + length own) subs j none (rw e (sym (length-append front own))) (omega arith))
 
 -- the defaults of a subsection's cells
 pub bare_defaults : (set : Set) (i j : ℕ) (numbers : List ℤ) → j < length (device_at set i).subs → first_cell set (parts.Sub i j) + own_cell_count set (sub_at (device_at set i) j).desc ≤ length numbers
@@ -60,7 +59,8 @@ bare_defaults set i j numbers lt room =
     let cells = desc_cells (struct_cells set) (sub_at d j).desc in
     let rest = flat_map (λ s. desc_cells (struct_cells set) s.desc) (drop (j + 1) d.subs) in
     settle_defaults cells (map form_of (device_cells set d)) (map form_of rest) numbers at
-    (drop-map form_of at (device_cells set d) ∙ ap (map form_of) (cells_from_sub set (desc_cells (struct_cells set) d.desc) (own_cells set d) d.subs j _ refl lt) ∙ map-append form_of cells rest)
+    (drop-map form_of at (device_cells set d)
+    ∙ ap (map form_of) (cells_from_sub set (desc_cells (struct_cells set) d.desc) (own_cells set d) d.subs j _ refl lt) ∙ map-append form_of cells rest)
     room
 
 -- the first bad line of the subsections from number j on
@@ -80,12 +80,10 @@ module _ (set : Set) (i : ℕ) (image : Image) (lines : List ℕ) (j line : ℕ)
       let s = sub_at d j in
       let o = get_or image.came j None in
       let one : suc j ≡ j + 1 = omega arith in
-      ap (λ l. judge_subs set d image j at l (drop j image.came) (drop j lines)) (drop_more d.subs j _ lt)
-      ∙ ap (λ l. judge_subs set d image j at (s ∷ drop (j + 1) d.subs) l (drop j lines)) (drop_more image.came j None lc)
-      ∙ ap (λ l. judge_subs set d image j at (s ∷ drop (j + 1) d.subs) (o ∷ drop (j + 1) image.came) l) (drop_more lines j 0 ll ∙ ap (λ x. x ∷ drop (j + 1) lines) (sym is))
-      ∙ by (sub_fails set s o image.numbers at) (is_said_well set d image j s o at) (judge_subs set d image (suc j) (at + length (desc_cells (struct_cells set) s.desc)) (drop (j + 1) d.subs) (drop (j + 1) image.came) (drop (j + 1) lines))
-      ∙ ap (λ k. with_reason line (sub_judged set i j image) (judge_subs set d image k (at + length (desc_cells (struct_cells set) s.desc)) (drop (j + 1) d.subs) (drop (j + 1) image.came) (drop (j + 1) lines))) one
-      ∙ ap (λ x. with_reason line (sub_judged set i j image) (judge_subs set d image (j + 1) x (drop (j + 1) d.subs) (drop (j + 1) image.came) (drop (j + 1) lines))) (sym (sub_next set (own_cells set d) d.subs j _ lt))
+      let none : Sub = record { desc = no_desc; needed = AtLeast 0 } in
+      rw (drop_more d.subs j none lt, drop_more image.came j None lc, drop_more lines j 0 ll, ← is, sub_next set (own_cells set d) d.subs j none lt, one)
+      (by (sub_fails set s o image.numbers at) (is_said_well set d image j s o at)
+      (judge_subs set d image (j + 1) (at + length (desc_cells (struct_cells set) s.desc)) (drop (j + 1) d.subs) (drop (j + 1) image.came) (drop (j + 1) lines)))
     where
       by : (fails well : Bool) (next : Option BadLine) → or_bad (if_bad fails line reasons.Invalid) (or_bad (if_bad (not well) line reasons.Needed) next)
           ≡ with_reason line (if fails then Some reasons.Invalid else if not well then Some reasons.Needed else None) next
@@ -94,12 +92,11 @@ module _ (set : Set) (i : ℕ) (image : Image) (lines : List ℕ) (j line : ℕ)
       by false false next = refl
 
   pub judged_go : sub_judged set i j image ≡ None → judged_from set i image lines (j + 1) ≡ judged_from set i image lines j
-  judged_go e = sym (judged_next ∙ ap (λ o. with_reason line o (judged_from set i image lines (j + 1))) e)
+  judged_go e = rw (judged_next, e)
 
 pub judged_stop : (set : Set) (i : ℕ) (image : Image) (lines : List ℕ) (j line : ℕ) (reason : ValuesReason) → j < length (device_at set i).subs → j < length image.came → j < length lines → line ≡ get_or lines j 0
     → sub_judged set i j image ≡ Some reason → judged_from set i image lines j ≡ Some (record { line = line; reason = reason })
-judged_stop set i image lines j line reason lt lc ll is e =
-    judged_next set i image lines j line lt lc ll is ∙ ap (λ o. with_reason line o (judged_from set i image lines (j + 1))) e
+judged_stop set i image lines j line reason lt lc ll is e = rw (judged_next set i image lines j line lt lc ll is, e)
 
 pub judged_end : (set : Set) (i : ℕ) (image : Image) (lines : List ℕ) (j : ℕ) → length (device_at set i).subs ≡ j → judged_from set i image lines j ≡ None
 judged_end set i image lines j e = rw (drop_all j (device_at set i).subs (omega arith))
@@ -107,9 +104,7 @@ judged_end set i image lines j e = rw (drop_all j (device_at set i).subs (omega 
 pub own_holds : (set : Set) (i : ℕ) (r : ReadDevice) → rules_are_true (own_slots set (device_at set i) r.image.version r.image.numbers) ≡ true
     → judge_device set (device_at set i) r ≡ judged_from set i r.image r.sub_lines 0
 own_holds set i r e =
-    let d = device_at set i in
-    ap (λ b. or_bad (if_bad (not b) r.line reasons.Invalid) (judge_subs set d r.image 0 (own_cells set d) d.subs r.image.came r.sub_lines)) e
-    ∙ ap (λ at. judge_subs set d r.image 0 at d.subs r.image.came r.sub_lines) (sym (sub_first set (own_cells set d) d.subs))
+    let d = device_at set i in rw (e, sub_first set (own_cells set d) d.subs)
 
 -- ---- The validations of a part, if no structure of the set has any.
 
@@ -160,7 +155,7 @@ meanings_true ds none (suc k) j n at =
     let earlier = meanings ds k in
     let d = get_or ds k no_desc in
     one_more (λ (m : Meaning). (n : List ℤ) (at : ℕ) → rules_are_true (m.slots n at) ≡ true) no_meaning (λ n at. refl) earlier (meanings_true ds none k) (meaning earlier d)
-    (λ n at. desc_true earlier (meanings_true ds none k) d d.version n at ∙ ap (λ ts. all_hold ts d.version (numbers_of (map (λ m. m.cells) earlier) d n at)) (none k)) j n at
+    (λ n at. rw (desc_true earlier (meanings_true ds none k) d d.version n at, none k)) j n at
 
 -- no structure has validations
 unruled_at : (ds : List Described) → list_all (λ d. length d.validate == 0) ds ≡ true → (k : ℕ) → (get_or (map desc_of ds) k no_desc).validate ≡ []
@@ -215,19 +210,19 @@ bad_means set well heads text line reason h = go (values_read set text) (read_ho
 whole : (set : Set) (m : Option (List ℕ)) (all : ReadAll) (old new : Reading) (images : List Image) → AllRead set (Ok all) old new (Ok images) → new.lines.rest.now ≡ [] → old.judged ≡ None
     → ended set m (Ok all) ≡ answer_of m all.devices (bad_of new.judged)
 whole set m all old new images h none first =
-    rw (h.2 ∙ none) (ap (answer_of m all.devices) (sym (h.3 ∙ ap (λ (o : Option Found). or_bad (bad_of o) (judge_devices set set.devices all.devices)) first)))
+    rw (h.2 ∙ none, h.3, first)
 
 pub text_read : (set : Set) (m : Option (List ℕ)) (r : Result ReadAll BadLine) (old new : Reading) (v : Given) → AllRead set r old new (Ok (map state_of v.images.items)) → new.lines.rest.now ≡ [] → old.judged ≡ None
     → new.judged ≡ None → machine_of set v.machine ≡ m → ForSome v.machine (λ k. k < length set.machines) → ReadsBy set (ended set m r) (Ok v)
 text_read set m (Err b) old new v h none first fine is known = absurd h
 text_read set m (Ok all) old new v h none first fine is known =
-    rw (whole set m all old new (map state_of v.images.items) h none first ∙ ap (λ o. answer_of m all.devices (bad_of o)) fine) (sym h.0, is, known)
+    rw (whole set m all old new (map state_of v.images.items) h none first, fine) (sym h.0, is, known)
 
 pub text_judged : (set : Set) (m : Option (List ℕ)) (r : Result ReadAll BadLine) (old new : Reading) (images : List Image) (b : Found) → AllRead set r old new (Ok images) → new.lines.rest.now ≡ [] → old.judged ≡ None
     → new.judged ≡ Some b → ReadsBy set (ended set m r) (Err (faults.Bad b.line b.reason))
 text_judged set m (Err x) old new images b h none first found = absurd h
 text_judged set m (Ok all) old new images b h none first found =
-    rw (whole set m all old new images h none first ∙ ap (λ o. answer_of m all.devices (bad_of o)) found) (refl, refl)
+    rw (whole set m all old new images h none first, found) (refl, refl)
 
 pub text_longer : (set : Set) (m : Option (List ℕ)) (r : Result ReadAll BadLine) (old new : Reading) (images : List Image) → AllRead set r old new (Ok images) → (new.lines.rest.now ≡ [] → ⊥)
     → ReadsBy set (ended set m r) (Err (faults.Bad new.lines.line reasons.Form))

@@ -1,22 +1,18 @@
 -- Names from cells: a part's fields one after the other, one element, and the subsections of a device.
-use Rattle.vms_values.proofs.Facade.{lt_of_mul-lt-mul_right, ◌≡◌, ℕ, zero, suc, ◌+◌, ◌*◌, ◌<◌, List, [], ◌∷◌, ◌++◌, length, get_or, map, drop, ℤ, pos}
-use Rattle.vms_values.proofs.Facade.{refl}
-use Rattle.vms_values.proofs.Facade.{sym, ap, ◌∙◌, subst, arith, append_assoc, append-nil, true, ◌-◌, ◌≤◌, ◌/◌, ◌%◌, length-append, codes, None, flat_map}
-use Rattle.vms_values.proofs.Facade.{length-map, get_or_append_left, get_or-map, drop_more, ltb-true, get_or-append_right, div-add-mod', mod-lt, Item}
-use Rattle.vms_values.proofs.Facade.{Num, Struct, Set, Field, Device, Sub, AtLeast, Desc, own_cells, default_image, Cell, no_desc, item_size, field_cells}
-use Rattle.vms_values.proofs.Facade.{desc_cells, struct_cells, capacity_of, counted, first, numbers_of, no_parent, device_cells, field_size, field_at}
-use Rattle.vms_values.proofs.Facade.{device_at, is_well_formed, sub_at, HasPart, desc_at, size_in, cells_table, struct_size, reach, field_clean}
-use Rattle.vms_values.proofs.Facade.{Part, uses_below, own_cell_count, item_rank, part_rank, reach_whole, uses_more, rank_below, fields_at, Shape}
-use Rattle.vms_values.proofs.Facade.{no_shape}
-use Rattle.vms_values.proofs.Facade.{shape, shapes, dotted, item_elements, stand_of, field_elements, elements_from, desc_elements, names_of, absent}
-use Rattle.vms_values.proofs.Facade.{elements_in, subs_elements, cell_name, first_at, shapes_cells, AreWalked, are_walked, is_dotted, names_append}
-use Rattle.vms_values.proofs.Facade.{names_long}
-use Rattle.vms_values.proofs.Facade.{names_map, item_walks, field_walks, fields_walk, desc_walks, desc_names_are, walks, array_name, names_absent, usable}
-use Rattle.vms_values.proofs.Facade.{element_text, part_names, item_names, field_name, IsInPart, sub_inside, own_inside_device, few_cells, map-append}
-use Rattle.vms_values.proofs.Facade.{slice_get-get_or}
-use Rattle.vms_values.proofs.Facade.{get_or-drop, Kind, U8, item_cells, cells_from, times, size_same, cells_of_sub, first_cell, kinds_at, table}
-use Rattle.vms_values.proofs.Facade.{cells_in as table_cells}
-use Rattle.vms_values.proofs.Facade.{all_below, struct_cells_at, struct_clean, AreKinds, ElementKinds, part_cells, drop_on}
+use Rattle.vms_values.proofs.Facade.{lt_of_mul-lt-mul_right, ◌≡◌, ℕ, zero, suc, ◌+◌, ◌*◌, ◌<◌, List, [], ◌∷◌, ◌++◌, length}
+use Rattle.vms_values.proofs.Facade.{get_or, map, drop, ℤ, pos, refl, sym, ap, ◌∙◌, subst, arith, append_assoc, append-nil, true, ◌-◌, ◌≤◌}
+use Rattle.vms_values.proofs.Facade.{◌/◌, ◌%◌, length-append, codes, None, flat_map, length-map, get_or_append_left, get_or-map, drop_more, ltb-true}
+use Rattle.vms_values.proofs.Facade.{get_or-append_right, div-add-mod', mod-lt, Item, Num, Struct, Set, Field, Device, Sub, AtLeast, Desc, own_cells}
+use Rattle.vms_values.proofs.Facade.{default_image, Cell, no_desc, item_size, field_cells, desc_cells, struct_cells, capacity_of, counted, first, numbers_of}
+use Rattle.vms_values.proofs.Facade.{no_parent, device_cells, field_size, field_at, device_at, is_well_formed, sub_at, HasPart, desc_at, size_in, cells_table}
+use Rattle.vms_values.proofs.Facade.{struct_size, reach, field_clean, Part, uses_below, own_cell_count, item_rank, part_rank, reach_whole, uses_more}
+use Rattle.vms_values.proofs.Facade.{rank_below, fields_at, Shape, no_shape, shape, shapes, item_elements, stand_of, field_elements, elements_from}
+use Rattle.vms_values.proofs.Facade.{desc_elements, names_of, absent, elements_in, subs_elements, cell_name, first_at, shapes_cells, AreWalked, are_walked}
+use Rattle.vms_values.proofs.Facade.{is_dotted, names_append, names_long, names_map, item_walks, field_walks, fields_walk, desc_walks, desc_names_are, walks}
+use Rattle.vms_values.proofs.Facade.{array_name, names_absent, usable, element_text, part_names, item_names, field_name, IsInPart, sub_inside}
+use Rattle.vms_values.proofs.Facade.{own_inside_device, few_cells, map-append, slice_get-get_or, get_or-drop, Kind, U8, item_cells, cells_from, times}
+use Rattle.vms_values.proofs.Facade.{size_same, cells_of_sub, first_cell, kinds_at, table, cells_in as table_cells, all_below, struct_cells_at, struct_clean}
+use Rattle.vms_values.proofs.Facade.{AreKinds, ElementKinds, part_cells, drop_on}
 use Rattle.vms_elements.specs.Elements.{cells_in}
 use Rattle.vms_spec.specs.declared.Part.TheVariants as parts
 
@@ -47,13 +43,13 @@ module _ (set : Set) where
       let lt : j < k = ltb-true j k e in
       let lt' : j < length set.structs = omega arith in
       (item_walks (first shape set.structs k) (are_walked set.structs k) (Struct j) caps z n [] a 0).names
-      ∙ ap (λ s. names_of (map dotted (s.elements [] 0))) (first_at shape set.structs no_shape k j lt ∙ sym (first_at shape set.structs no_shape (length set.structs) j lt'))
+      ∙ rw (first_at shape set.structs no_shape k j lt, first_at shape set.structs no_shape (length set.structs) j lt')
   item_in k le _ e caps z n a = refl
 
   item_long : (item : Item) → length (item_names set item) ≡ size_in set item
   item_long item =
       long_in (shapes set) (are_walked set.structs (length set.structs)) item
-      ∙ ap (λ cs. item_size cs item) (shapes_cells set.structs (length set.structs) ∙ sym (cells_table set))
+      ∙ rw (shapes_cells set.structs (length set.structs), cells_table set)
 
   -- the names in one element of a structure
   pub struct_name : (j : ℕ) → j < length set.structs → (c : ℕ) → c < size_in set (Struct j) → get_or (item_names set (Struct j)) c [] ≡ codes "." ++ get_or (part_names set (parts.Struct j)) c []
@@ -88,7 +84,8 @@ module _ (set : Set) where
   field_long part h k f uses =
       let all = (desc_at set part).fields in
       let ss = usable set part in
-      names_long (field_elements ss all 0 no_parent [] k 0 f) ∙ ap length (field_walks ss (walked_in part h) all 0 0 no_parent no_parent [] [] k 0 0 f).cells_are ∙ field_size (cells_in ss) all k f ∙ ap (λ s. capacity_of f.count * s) (item_step part h f.item uses)
+      names_long (field_elements ss all 0 no_parent [] k 0 f)
+      ∙ rw ((field_walks ss (walked_in part h) all 0 0 no_parent no_parent [] [] k 0 0 f).cells_are, field_size (cells_in ss) all k f, item_step part h f.item uses)
 
   in_field : (part : Part) → HasPart set part → (k : ℕ) (f : Field) → uses_below (reach set part) f.item ≡ true → (left : ℕ) → left < capacity_of f.count * size_in set f.item
       → get_or (names_of (field_elements (usable set part) (desc_at set part).fields 0 no_parent [] k 0 f)) left [] ≡ field_name set f left
@@ -120,8 +117,7 @@ module _ (set : Set) where
       let all = (desc_at set part).fields in
       let ss = usable set part in
       let clean = field_clean set well part h k lt in
-      let here = λ (P : Field → Type 0) (p : P (field_at set part k)). subst P (sym is) p in
-      let uses = here (λ (x : Field). uses_below (reach set part) x.item ≡ true) clean.uses in
+      let uses : uses_below (reach set part) f.item ≡ true = rw is clean.uses in
       let size = size_in set f.item in
       let step = item_size (cells_in ss) f.item in
       let mine = names_of (field_elements ss all 0 no_parent [] k 0 f) in
@@ -134,12 +130,11 @@ module _ (set : Set) where
       record {
         uses = uses_more (reach set part) (length set.structs) f.item (reach_whole set part h) uses;
         lower = omega (arith, rank_below (reach set part) f.item uses);
-        some = here (λ (x : Field). 1 ≤ capacity_of x.count) clean.some;
-        long = ap length split ∙ length-append mine (names_from part (k + 1)) ∙ ap (λ n. n + length (names_from part (k + 1))) many;
+        some = rw is clean.some;
+        long = rw (split, length-append mine (names_from part (k + 1)), many);
         here = λ small. rw split (get_or_append_left mine (names_from part (k + 1)) [] left (omega arith)
             ∙ in_field part h k f uses left small);
-        later = λ past. rw split (get_or-append_right mine (names_from part (k + 1)) left [] (omega arith)
-            ∙ ap (λ (n : ℕ). get_or (names_from part (k + 1)) (left - n) []) many);
+        later = λ past. rw (split, get_or-append_right mine (names_from part (k + 1)) left [] (omega arith), many);
       }
 
   pub part_long : is_well_formed set ≡ true → (part : Part) → HasPart set part → length (part_names set part) ≡ own_cell_count set (desc_at set part)
@@ -147,7 +142,7 @@ module _ (set : Set) where
       let ss = usable set part in
       let d = desc_at set part in
       names_long (desc_elements ss d 0 [] 0) ∙ ap length (desc_walks ss (walked_in part h) d 0 0 [] [] 0 0).cells_are
-      ∙ ap (λ t. length (desc_cells (cells_in t) d)) (usable_is part h) ∙ ap (λ cs. length (desc_cells cs d)) (shapes_cells set.structs (reach set part)) ∙ by_part part h
+      ∙ rw (usable_is part h, shapes_cells set.structs (reach set part)) (by_part part h)
     where
       by_part : (part : Part) → HasPart set part → length (desc_cells (first desc_cells set.structs (reach set part)) (desc_at set part)) ≡ own_cell_count set (desc_at set part)
       by_part parts.Set h = absurd h
@@ -188,9 +183,12 @@ none_came : (set : Set) (subs : List Sub) (n : List ℤ) (a : ℕ) → names_of 
 none_came set [] n a = refl
 none_came set (s ∷ subs) n a =
     let next = a + length (desc_cells (struct_cells set) s.desc) in
-    names_append (map absent (elements_in set s.desc s.desc.version n a)) (subs_elements set subs (map (λ s. None) subs) n next)
-    ∙ ap (λ l. l ++ names_of (subs_elements set subs (map (λ s. None) subs) n next)) (names_absent (elements_in set s.desc s.desc.version n a) ∙ same_desc set s.desc s.desc.version n a)
-    ∙ ap (λ l. desc_names_of set s.desc ++ l) (none_came set subs n next)
+    rw (
+      names_append (map absent (elements_in set s.desc s.desc.version n a)) (subs_elements set subs (map (λ s. None) subs) n next),
+      names_absent (elements_in set s.desc s.desc.version n a),
+      same_desc set s.desc s.desc.version n a,
+      none_came set subs n next,
+    )
 
 -- the names of a device are its own and its subsections'
 pub device_names : (set : Set) (d : Device) (c : ℕ) → cell_name set d c ≡ get_or (desc_names_of set d.desc ++ subs_names set d.subs) c []
@@ -198,8 +196,7 @@ device_names set d c =
     let image = default_image set d in
     let own = elements_in set d.desc image.version image.numbers 0 in
     let subs = subs_elements set d.subs image.came image.numbers (own_cells set d) in
-    rw (names_append own subs ∙ ap (λ (l : List (List ℕ)). l ++ names_of subs) (same_desc set d.desc image.version image.numbers 0)
-    ∙ ap (λ (l : List (List ℕ)). desc_names_of set d.desc ++ l) (none_came set d.subs image.numbers (own_cells set d)))
+    rw (names_append own subs, same_desc set d.desc image.version image.numbers 0, none_came set d.subs image.numbers (own_cells set d))
 
 module _ (set : Set) (well : is_well_formed set ≡ true) (i : ℕ) (lt : i < length set.devices) where
   own_long : length (desc_names_of set (device_at set i).desc) ≡ own_cell_count set (device_at set i).desc
@@ -220,8 +217,8 @@ module _ (set : Set) (well : is_well_formed set ≡ true) (i : ℕ) (lt : i < le
   pub past_own : (c : ℕ) → own_cell_count set (device_at set i).desc ≤ c
       → cell_name set (device_at set i) c ≡ get_or (names_of_subs set i 0) (c - own_cell_count set (device_at set i).desc) []
   past_own c past =
-      device_names set (device_at set i) c ∙ get_or-append_right (desc_names_of set (device_at set i).desc) (names_of_subs set i 0) c [] (omega (arith, own_long))
-      ∙ ap (λ n. get_or (names_of_subs set i 0) (c - n) []) own_long
+      device_names set (device_at set i) c
+      ∙ rw (get_or-append_right (desc_names_of set (device_at set i).desc) (names_of_subs set i 0) c [] (omega (arith, own_long)), own_long)
 
   -- the subsections from j on
   split : (j : ℕ) → j < length (device_at set i).subs → names_of_subs set i j ≡ desc_names_of set (sub_at (device_at set i) j).desc ++ names_of_subs set i (j + 1)
@@ -233,20 +230,19 @@ module _ (set : Set) (well : is_well_formed set ≡ true) (i : ℕ) (lt : i < le
     part = (lt, lt');
     small = omega (arith, sub_inside set i j lt', few_cells set well i);
     inside = small;
-    same = sym (same ∙ ap (λ l. get_or l left []) (split j lt')
-        ∙ get_or_append_left (desc_names_of set (sub_at (device_at set i) j).desc) (names_of_subs set i (j + 1)) [] left (omega (arith, sub_long j lt')));
+    same = rw (same, split j lt')
+        (sym (get_or_append_left (desc_names_of set (sub_at (device_at set i) j).desc) (names_of_subs set i (j + 1)) [] left (omega (arith, sub_long j lt'))));
   }
 
   pub past_sub : (j left : ℕ) → j < length (device_at set i).subs → own_cell_count set (sub_at (device_at set i) j).desc ≤ left
       → get_or (names_of_subs set i j) left [] ≡ get_or (names_of_subs set i (j + 1)) (left - own_cell_count set (sub_at (device_at set i) j).desc) []
   past_sub j left lt' past =
-      ap (λ l. get_or l left []) (split j lt')
-      ∙ get_or-append_right (desc_names_of set (sub_at (device_at set i) j).desc) (names_of_subs set i (j + 1)) left [] (omega (arith, sub_long j lt'))
-      ∙ ap (λ n. get_or (names_of_subs set i (j + 1)) (left - n) []) (sub_long j lt')
+      let own = desc_names_of set (sub_at (device_at set i) j).desc in
+      rw (split j lt', get_or-append_right own (names_of_subs set i (j + 1)) left [] (omega (arith, sub_long j lt')), sub_long j lt')
 
   pub subs_longer : (j : ℕ) → j < length (device_at set i).subs → length (names_of_subs set i j) ≡ own_cell_count set (sub_at (device_at set i) j).desc + length (names_of_subs set i (j + 1))
   subs_longer j lt' =
-      ap length (split j lt') ∙ length-append (desc_names_of set (sub_at (device_at set i) j).desc) (names_of_subs set i (j + 1)) ∙ ap (λ n. n + length (names_of_subs set i (j + 1))) (sub_long j lt')
+      rw (split j lt', length-append (desc_names_of set (sub_at (device_at set i) j).desc) (names_of_subs set i (j + 1)), sub_long j lt')
 
   -- a name for each cell
   subs_all : (subs : List Sub) → ((j : ℕ) → j < length subs → length (desc_names_of set (get_or subs j (record { desc = no_desc; needed = AtLeast 0 })).desc) ≡ length (desc_cells (struct_cells set) (get_or subs j (record { desc = no_desc; needed = AtLeast 0 })).desc))
@@ -267,7 +263,7 @@ kinds_in cells = map (λ (c : Cell). c.kind) cells
 
 module _ (kinds : List Kind) (at : ℕ) (xs ys : List Cell) (s : AreKinds kinds at (xs ++ ys)) where
   apart : drop at kinds ≡ kinds_in xs ++ (kinds_in ys ++ s.more)
-  apart = s.is ∙ ap (λ l. l ++ s.more) (map-append (λ (c : Cell). c.kind) xs ys) ∙ append_assoc (kinds_in xs) (kinds_in ys) s.more
+  apart = rw (s.is, map-append (λ (c : Cell). c.kind) xs ys, append_assoc (kinds_in xs) (kinds_in ys) s.more)
 
   pub front_kinds : AreKinds kinds at xs
   front_kinds = record { more = kinds_in ys ++ s.more; is = apart }
@@ -280,7 +276,7 @@ module _ (kinds : List Kind) (at : ℕ) (xs ys : List Cell) (s : AreKinds kinds 
 
 -- cells of the same kinds
 same_kinds : (kinds : List Kind) (at : ℕ) (xs ys : List Cell) → kinds_in xs ≡ kinds_in ys → AreKinds kinds at xs → AreKinds kinds at ys
-same_kinds kinds at xs ys e s = record { more = s.more; is = s.is ∙ ap (λ l. l ++ s.more) e }
+same_kinds kinds at xs ys e s = record { more = s.more; is = rw (s.is, e) }
 
 bare : (cs : List (List Cell)) (item : Item) (caps : List ℕ) (z : ℤ) → kinds_in (item_cells cs item caps z) ≡ kinds_in (item_cells cs item [] (pos 0))
 bare cs (Num kind) caps z = refl
@@ -321,7 +317,8 @@ field_kinds cs fields kinds k at f left more e s =
 -- the number of an element, and its fields
 pub number_kind : (cs : List (List Cell)) (kinds : List Kind) (at : ℕ) (kind : Kind) → AreKinds kinds at (item_cells cs (Num kind) [] (pos 0)) → get_or kinds at U8 ≡ kind
 number_kind cs kinds at kind s =
-    ap (λ (k : ℕ). get_or kinds k U8) (omega arith) ∙ sym (get_or-drop at kinds 0 U8) ∙ ap (λ (l : List Kind). get_or l 0 U8) s.is
+    let here : at ≡ at + 0 = omega arith in
+    ap (λ (k : ℕ). get_or kinds k U8) here ∙ rw (← get_or-drop at kinds 0 U8, s.is)
 
 pub struct_kinds : (set : Set) → is_well_formed set ≡ true → (j : ℕ) → j < length set.structs → (kinds : List Kind) (at : ℕ)
     → AreKinds kinds at (item_cells (table_cells (table set)) (Struct j) [] (pos 0)) → AreKinds kinds at (part_cells set (parts.Struct j))

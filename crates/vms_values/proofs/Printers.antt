@@ -1,17 +1,18 @@
 -- The lines of structures, arrays, parts, subsections and devices.
-use Rattle.vms_values.proofs.Facade.{◌≡◌, ℕ, zero, suc, ◌+◌, ◌<◌, List, [], ◌∷◌, ◌++◌, length, get_or, map, ℤ, pos, refl, ap, ◌∙◌, arith, true, codes, ◌-◌, ◌*◌}
-use Rattle.vms_values.proofs.Facade.{◌≤◌, drop, sym, subst, Option, None, append_assoc, decimal, drop_all, drop_more, Item, Struct, Count, One, Field, Desc}
-use Rattle.vms_values.proofs.Facade.{Set, Device, Sub, Cell, no_desc, first, item_size, desc_cells, field_cells, numbers_of, elements_of, struct_cells}
-use Rattle.vms_values.proofs.Facade.{capacity_of, Printer, no_printer, printer, printers, item_lines, element_lines, array_lines, field_lines, desc_lines}
-use Rattle.vms_values.proofs.Facade.{line_end, version_text, sub_lines, device_lines, ItemBelow, FieldsBelow, all_below, item_cells_same, field_cells_same}
-use Rattle.vms_values.proofs.Facade.{own_same, row_same, first_cells, first_same, first_at, is_well_formed, struct_clean, reach, MOST_ITEMS, uses_below}
-use Rattle.vms_values.proofs.Facade.{field_size, elements_fit, one_fits, room_for_less, place_first, desc_of, field_of, field_at, own_numbers, first_cell}
-use Rattle.vms_values.proofs.Facade.{desc_at, sub_at, found_field, here_fields, sub_next, sub_inside, own_inside_device, few_cells, PartAt, HasSpot, size_in}
-use Rattle.vms_values.proofs.Facade.{table, cells_in, item_rank, part_rank, reach_whole, uses_more, rank_below, next_field, cells_table, start_after, cell_of}
-use Rattle.vms_values.proofs.Facade.{fields_at, IsRun, run_lines, IsOf, section_text, whole_sub, Image, own_cells, sub_place, device_at, take-take, Result, Ok}
-use Rattle.vms_values.proofs.Facade.{Err, length-drop, take, length-take, Bor, is_ok, ltb-true, joined, Outlet, Puts, Wrote, wrote_as, wrote_behind}
-use Rattle.vms_values.proofs.Facade.{devices_lines, AreOf, below, below_part, Stays, take-append-le, Part, HasPart, few_structs, field_clean, LONGEST_PATH}
-use Rattle.vms_values.proofs.Facade.{PART_ROOM}
+use Rattle.vms_values.proofs.Facade.{◌≡◌, ℕ, zero, suc, ◌+◌, ◌<◌, List, [], ◌∷◌, ◌++◌, length, get_or, map, ℤ, pos, refl, ap}
+use Rattle.vms_values.proofs.Facade.{◌∙◌, arith, true, codes, ◌-◌, ◌*◌, ◌≤◌, drop, sym, Option, None, append_assoc, decimal}
+use Rattle.vms_values.proofs.Facade.{drop_all, drop_more, Item, Struct, Count, One, Field, Desc, Set, Device, Sub, Cell, no_desc, first, item_size, desc_cells}
+use Rattle.vms_values.proofs.Facade.{field_cells, numbers_of, elements_of, struct_cells, capacity_of, Printer, no_printer, printer, printers, item_lines}
+use Rattle.vms_values.proofs.Facade.{element_lines, array_lines, field_lines, desc_lines, line_end, version_text, sub_lines, device_lines, ItemBelow}
+use Rattle.vms_values.proofs.Facade.{FieldsBelow, all_below, item_cells_same, field_cells_same, own_same, row_same, first_cells, first_same, first_at}
+use Rattle.vms_values.proofs.Facade.{is_well_formed, struct_clean, reach, MOST_ITEMS, uses_below, field_size, elements_fit, one_fits, room_for_less}
+use Rattle.vms_values.proofs.Facade.{place_first, desc_of, field_of, field_at, own_numbers, first_cell, desc_at, sub_at, found_field, here_fields, sub_next}
+use Rattle.vms_values.proofs.Facade.{sub_inside, own_inside_device, few_cells, PartAt, HasSpot, size_in, table, cells_in, item_rank, part_rank, reach_whole}
+use Rattle.vms_values.proofs.Facade.{uses_more, rank_below, next_field, cells_table, start_after, cell_of, fields_at, IsRun, run_lines, IsOf, section_text}
+use Rattle.vms_values.proofs.Facade.{whole_sub, Image, own_cells, sub_place, device_at, take-take, Result, Ok, Err, length-drop, take, length-take, Bor, is_ok}
+use Rattle.vms_values.proofs.Facade.{ltb-true, joined, Outlet, Wrote, devices_lines, AreOf, below, below_part, Stays}
+use Rattle.vms_values.proofs.Facade.{take-append-le, Part, HasPart, few_structs, field_clean, LONGEST_PATH, PART_ROOM}
+use Rattle.vms_spec.specs.Sets.{AtLeast}
 use Rattle.vms_parts.specs.{declared.types.Desc.Desc as CodeDesc, declared.types.Field.Field as CodeField}
 use Rattle.std.proofs.Common.{take_all}
 use Rattle.vms_spec.specs.declared.Part.TheVariants as parts
@@ -25,7 +26,7 @@ module _ (j : ℕ) (ps Ps : List Printer) (agree : (i : ℕ) → i < j → get_o
   cells i lt = row_same (λ (p : Printer). p.cells) no_printer ps Ps i (agree i lt)
 
   item_same : (item : Item) (path : List ℕ) (n : List ℤ) (at : ℕ) → ItemBelow j item → item_lines ps item path n at ≡ item_lines Ps item path n at
-  item_same (Struct i) path n at e = ap (λ p. p.lines (path ++ codes ".") n at) (agree i e)
+  item_same (Struct i) path n at e = rw (agree i e, item_lines)
   item_same _ path n at e = refl
 
   elements_same : (item : Item) (path : List ℕ) (n : List ℤ) (at step i m : ℕ) → ItemBelow j item → element_lines ps item path n at step i m ≡ element_lines Ps item path n at step i m
@@ -36,13 +37,17 @@ module _ (j : ℕ) (ps Ps : List Printer) (agree : (i : ℕ) → i < j → get_o
   array_same : (item : Item) (c : Count) (own : ℕ → ℕ) (path : List ℕ) (n : List ℤ) (at : ℕ) → ItemBelow j item → array_lines ps item c own path n at ≡ array_lines Ps item c own path n at
   array_same item One own path n at e = item_same item path n at e
   array_same item c own path n at e =
-      elements_same item path n at (item_size (cells_of ps) item) 0 (elements_of c own) e
-      ∙ ap (λ s. element_lines Ps item path n at s 0 (elements_of c own)) (ap length (item_cells_same j (cells_of ps) (cells_of Ps) cells item [] (pos 0) e))
+      rw (item_cells_same j (cells_of ps) (cells_of Ps) cells item [] (pos 0) e)
+      (elements_same item path n at (item_size (cells_of Ps) item) 0 (elements_of c own) e)
 
   fields_same : (fields : List Field) (own : ℕ → ℕ) (path : List ℕ) (n : List ℤ) (i at : ℕ) (fs : List Field) → FieldsBelow j fs → field_lines ps fields own path n i at fs ≡ field_lines Ps fields own path n i at fs
   fields_same fields own path n i at [] b = refl
   fields_same fields own path n i at (f ∷ fs) b =
-      rw (array_same f.item f.count own (path ++ f.name) n at b.0, field_cells_same j (cells_of ps) (cells_of Ps) cells fields i f b.0, fields_same fields own path n (suc i) (at + length (field_cells (cells_of Ps) fields i f)) fs b.1)
+      rw (
+        array_same f.item f.count own (path ++ f.name) n at b.0,
+        field_cells_same j (cells_of ps) (cells_of Ps) cells fields i f b.0,
+        fields_same fields own path n (suc i) (at + length (field_cells (cells_of Ps) fields i f)) fs b.1,
+      )
 
   desc_same : (d : Desc) (path : List ℕ) (n : List ℤ) (at : ℕ) → FieldsBelow j d.fields → desc_lines ps d path n at ≡ desc_lines Ps d path n at
   desc_same d path n at b =
@@ -55,8 +60,8 @@ struct_lines set well j lt path n at =
     let ds = set.structs in
     let d = get_or ds j no_desc in
     let below = all_below j d.fields (λ i l. ((struct_clean set well j lt).fields i l).uses) in
-    ap (λ p. p.lines (path ++ codes ".") n at) (first_at printer ds no_printer (length ds) j lt)
-    ∙ desc_same j (first printer ds j) (printers set) (λ i l. first_same printer ds no_printer j (length ds) i (omega arith) l) d (path ++ codes ".") n at below
+    rw (first_at printer ds no_printer (length ds) j lt, item_lines)
+    (desc_same j (first printer ds j) (printers set) (λ i l. first_same printer ds no_printer j (length ds) i (omega arith) l) d (path ++ codes ".") n at below)
 
 -- ---- The rest of the elements of an array and of the fields of a part.
 
@@ -67,8 +72,7 @@ pub elements_left : (ps : List Printer) (item : Item) (path : List ℕ) (n : Lis
 elements_left ps item path n at step i count lt =
     let e : count - i ≡ suc (count - (i + 1)) = omega arith in
     let one : suc i ≡ i + 1 = omega arith in
-    ap (λ k. element_lines ps item path n at step i k) e
-    ∙ ap (λ k. item_lines ps item (path ++ codes "[" ++ decimal i ++ codes "]") n at ++ element_lines ps item path n (at + step) step k (count - (i + 1))) one
+    rw (e, one)
 
 pub no_elements : (ps : List Printer) (item : Item) (path : List ℕ) (n : List ℤ) (at step i left : ℕ) → left ≡ 0 → element_lines ps item path n at step i left ≡ []
 no_elements ps item path n at step i left e = rw e
@@ -91,7 +95,7 @@ module _ (set : Set) where
   array_run f count path n at other = by_count f.count other where
     by_count : (c : Count) → (c ≡ One → ⊥) → element_lines (printers set) f.item (path ++ f.name) n at (size_in set f.item) 0 count ≡ run_lines (printers set) f c count path n at
     by_count One other = absurd (other refl)
-    by_count _ other = ap (λ (s : ℕ). element_lines (printers set) f.item (path ++ f.name) n at s 0 count) (sym (printed_size f.item))
+    by_count _ other = rw (printed_size f.item)
 
   -- the lines of a part's fields from field k on
   abbrev pub fields_left : PartAt → List ℕ → List ℤ → ℕ → List ℕ
@@ -102,9 +106,7 @@ module _ (set : Set) where
   pub fields_whole : (spot : PartAt) (path : List ℕ) (n : List ℤ)
       → desc_lines (printers set) (desc_at set spot.part) path n spot.base ≡ fields_left spot path n 0
   fields_whole spot path n =
-      let d = desc_at set spot.part in
-      ap (λ at. field_lines (printers set) d.fields (numbers_of (cells_of (printers set)) d n spot.base) path n 0 at d.fields)
-      (sym (place_first (cells_in (table set)) d.fields 0 spot.base d.fields))
+      let d = desc_at set spot.part in rw (place_first (cells_in (table set)) d.fields 0 spot.base d.fields)
 
   -- the next field: its elements are among the numbers, and its lines come next
   pub record NextRun (spot : PartAt) (path : List ℕ) (n : List ℤ) (k cell count : ℕ) (f : Field) : Type 0 where
@@ -117,31 +119,28 @@ module _ (set : Set) where
       → cell ≡ cell_of set spot k → NextRun spot path n k cell count f
   next_run well spot path n h k cell count f lt is there begins =
       let all = (desc_at set spot.part).fields in
-      let g = field_at set spot.part k in
       let ps = printers set in
       let own = numbers_of (cells_of ps) (desc_at set spot.part) n spot.base in
       let next = next_field set well spot n h k cell lt begins in
       let fewer : count ≤ capacity_of f.count = omega (arith, elements_fit f.count (own_numbers set spot.part n spot.base)) in
-      let here = λ (P : Field → Type 0) (p : P g). subst P (sym is) p in
-      let uses = here (λ (x : Field). uses_below (reach set spot.part) x.item ≡ true) next.uses in
-      let some = here (λ (x : Field). 1 ≤ capacity_of x.count) next.some in
-      let fits = here (λ (x : Field). cell + capacity_of x.count * size_in set x.item ≤ length n) next.room in
-      let counts : count ≡ elements_of f.count own =
-      there ∙ ap (λ cs. elements_of f.count (numbers_of cs (desc_at set spot.part) n spot.base)) (sym printed_cells) in
+      let uses : uses_below (reach set spot.part) f.item ≡ true = rw is next.uses in
+      let some : 1 ≤ capacity_of f.count = rw is next.some in
+      let fits : cell + capacity_of f.count * size_in set f.item ≤ length n = rw is next.room in
+      let counts : count ≡ elements_of f.count own = rw printed_cells there in
       let width : length (field_cells (cells_of ps) all k f) ≡ capacity_of f.count * size_in set f.item =
-      field_size (cells_of ps) all k f ∙ ap (λ s. capacity_of f.count * s) (printed_size f.item) in
+      rw (field_size (cells_of ps) all k f, printed_size f.item) in
       let one : suc k ≡ k + 1 = omega arith in
-      let after = here (λ (x : Field). cell + capacity_of x.count * size_in set x.item ≡ cell_of set spot (k + 1)) (start_after set spot k cell begins lt) in
+      let after : cell + capacity_of f.count * size_in set f.item ≡ cell_of set spot (k + 1) = rw is (start_after set spot k cell begins lt) in
       record {
         run = record {
           reaches = uses_more (reach set spot.part) (length set.structs) f.item (reach_whole set spot.part h.part) uses;
           small = one_fits (capacity_of f.count) (size_in set f.item) cell (length n) MOST_ITEMS some fits h.few;
           room = room_for_less count (capacity_of f.count) (size_in set f.item) cell (length n) fewer fits;
-          single = λ e. there ∙ ap (λ (x : Count). elements_of x (own_numbers set spot.part n spot.base)) e;
+          single = λ e. rw e at there;
           few = h.few;
         };
         lower = omega (arith, rank_below (reach set spot.part) f.item uses);
-        lines = rw (sym begins, fields_at all k lt ∙ ap (λ (x : Field). x ∷ drop (k + 1) all) (sym is), run_is ps f f.count own count path n cell counts, width, one, after);
+        lines = rw (← begins, fields_at all k lt, ← is, run_is ps f f.count own count path n cell counts, width, one, after);
       }
 
   -- the same of the field that the code found by its number
@@ -149,7 +148,8 @@ module _ (set : Set) where
     pub found : field_of f ≡ field_at set spot.part k
     pub next : NextRun spot path n k cell count (field_of f)
 
-  pub found_run : is_well_formed set ≡ true → (spot : PartAt) (path : List ℕ) (n : List ℤ) → HasSpot set spot n → (k cell count : ℕ) (d : CodeDesc) (fields : List CodeField) (f : CodeField) → k < length (desc_at set spot.part).fields
+  pub found_run : is_well_formed set ≡ true → (spot : PartAt) (path : List ℕ) (n : List ℤ) → HasSpot set spot n
+      → (k cell count : ℕ) (d : CodeDesc) (fields : List CodeField) (f : CodeField) → k < length (desc_at set spot.part).fields
       → desc_of d ≡ desc_at set spot.part → fields ≡ d.fields → f ≡ get_or fields k f → count ≡ elements_of (field_at set spot.part k).count (own_numbers set spot.part n spot.base)
       → cell ≡ cell_of set spot k → FoundRun spot path n k cell count f
   found_run well spot path n h k cell count d fields f lt desc are is there begins =
@@ -164,6 +164,9 @@ module _ (set : Set) where
 
 -- ---- The lines of subsections, one after the other, and of a whole device.
 
+abbrev no_sub : Sub
+no_sub = record { desc = no_desc; needed = AtLeast 0 }
+
 -- the rest of the subsections, at one of them
 pub subs_left : (set : Set) (i : ℕ) (n : List ℤ) (came : List (Option ℕ)) (j : ℕ) → j < length (device_at set i).subs → j < length came
     → sub_lines set n (first_cell set (parts.Sub i j)) (drop j (device_at set i).subs) (drop j came)
@@ -173,26 +176,19 @@ subs_left set i n came j lt lt' =
     let at = first_cell set (parts.Sub i j) in
     let s = sub_at d j in
     let o = get_or came j None in
-    let rest = λ (x : ℕ). sub_lines set n x (drop (j + 1) d.subs) (drop (j + 1) came) in
     let own = desc_lines (printers set) s.desc [] n at in
-    let left = rest (at + length (desc_cells (struct_cells set) s.desc)) in
-    let joined : codes "sub " ++ (s.desc.name ++ (codes " " ++ (version_text o ++ (line_end ++ own)))) ++ left ≡ (codes "sub " ++ (s.desc.name ++ (codes " " ++ (version_text o ++ line_end)))) ++ own ++ left = simp append_assoc refl in
-    ap (λ xs. sub_lines set n at xs (drop j came)) (drop_more d.subs j _ lt)
-    ∙ ap (λ (ys : List (Option ℕ)). sub_lines set n at (s ∷ drop (j + 1) d.subs) ys) (drop_more came j None lt') ∙ joined
-    ∙ ap (λ x. whole_sub set i j n o ++ rest x) (sym (sub_next set (own_cells set d) d.subs j _ lt))
+    let left = sub_lines set n (at + length (desc_cells (struct_cells set) s.desc)) (drop (j + 1) d.subs) (drop (j + 1) came) in
+    let joined : codes "sub " ++ (s.desc.name ++ (codes " " ++ (version_text o ++ (line_end ++ own)))) ++ left
+    ≡ (codes "sub " ++ (s.desc.name ++ (codes " " ++ (version_text o ++ line_end)))) ++ own ++ left = simp append_assoc refl in
+    rw (drop_more d.subs j no_sub lt, drop_more came j None lt', sub_next set (own_cells set d) d.subs j no_sub lt) joined
 
 pub no_subs : (set : Set) (n : List ℤ) (at j : ℕ) (subs : List Sub) (came : List (Option ℕ)) → j ≡ length subs → sub_lines set n at (drop j subs) came ≡ []
 no_subs set n at j subs came e = rw (drop_all j subs (omega arith))
 
-seven : (a b c d e f g h k : List ℕ) → ((a ++ (b ++ (c ++ (d ++ (e ++ (f ++ g)))))) ++ h) ++ k ≡ a ++ (b ++ (c ++ (d ++ (e ++ (f ++ (g ++ (h ++ k)))))))
-seven a b c d e f g h k = simp append_assoc refl
-
 -- a device is its line, the lines of its own cells, and its subsections
 pub device_is : (set : Set) (d : Device) (image : Image)
     → (section_text d image.version ++ desc_lines (printers set) d.desc [] image.numbers 0) ++ sub_lines set image.numbers (own_cells set d) d.subs image.came ≡ device_lines set d image
-device_is set d image =
-    seven (codes "section ") d.desc.name (codes " ") (decimal d.instance) (codes " v") (decimal image.version) line_end (desc_lines (printers set) d.desc [] image.numbers 0)
-    (sub_lines set image.numbers (own_cells set d) d.subs image.came)
+device_is set d image = simp append_assoc
 
 -- the cells of a device and of its subsections are among the numbers of its image
 module _ (set : Set) (well : is_well_formed set ≡ true) (i : ℕ) (image : Image) (of : IsOf set (device_at set i) image) where
@@ -206,7 +202,7 @@ module _ (set : Set) (well : is_well_formed set ≡ true) (i : ℕ) (image : Ima
 -- all of the subsections are left at first
 pub first_sub : (set : Set) (i : ℕ) (n : List ℤ) (came : List (Option ℕ))
     → sub_lines set n (own_cells set (device_at set i)) (device_at set i).subs came ≡ sub_lines set n (first_cell set (parts.Sub i 0)) (drop 0 (device_at set i).subs) (drop 0 came)
-first_sub set i n came = ap (λ x. sub_lines set n x (device_at set i).subs came) (place_of_first (own_cells set (device_at set i)) (device_at set i).subs)
+first_sub set i n came = rw (← place_of_first (own_cells set (device_at set i)) (device_at set i).subs)
   where
     place_of_first : (at : ℕ) (subs : List Sub) → at ≡ sub_place set at subs 0
     place_of_first at [] = refl
@@ -214,7 +210,7 @@ first_sub set i n came = ap (λ x. sub_lines set n x (device_at set i).subs came
 
 pub joined_at : (pieces : List (Bor (List ℕ))) (i : ℕ) (d : Bor (List ℕ)) → i < length pieces
     → joined (drop i pieces) ≡ (get_or pieces i d).now ++ joined (drop (i + 1) pieces)
-joined_at pieces i d lt = ap joined (drop_more pieces i d lt)
+joined_at pieces i d lt = rw (drop_more pieces i d lt)
 
 -- ---- The parts of a printed text.
 
@@ -228,7 +224,7 @@ pub device_left : (set : Set) (k : ℕ) → k < length set.devices → drop k se
 device_left set k lt = drop_more set.devices k (record { instance = 0; desc = no_desc; subs = [] }) lt
 
 pub images_at : (images : List Image) (i : ℕ) (image : Image) → i < length images → image ≡ get_or images i image → drop i images ≡ image ∷ drop (i + 1) images
-images_at images i image lt is = drop_more images i image lt ∙ ap (λ x. x ∷ drop (i + 1) images) (sym is)
+images_at images i image lt is = rw (drop_more images i image lt, ← is)
 
 pub of_long : (set : Set) (devices : List Device) (images : List Image) → AreOf set devices images → length images ≡ length devices
 of_long set [] [] a = refl
@@ -260,7 +256,7 @@ stays_then a b c p q = sym (take-take (length a) (length b) c (omega (arith, sym
 
 -- what is kept of a line is its front
 pub cut_is : (front line new : List ℕ) (n : ℕ) → new ≡ take n line → n ≡ length front → Stays front line → new ≡ front
-cut_is front line new n e long s = e ∙ ap (λ k. take k line) long ∙ s
+cut_is front line new n e long s = rw (e, long, s)
 
 pub stays_is : (line piece new : List ℕ) → new ≡ line ++ piece → Stays line new
 stays_is line piece new e = rw e (stays_more line piece)
@@ -284,7 +280,7 @@ pub field_short : (set : Set) → is_well_formed set ≡ true → (part : Part) 
     → (f : Field) → f ≡ field_at set part k → (length f.name ≤ 32) × (below f.item + PART_ROOM ≤ below_part set part)
 field_short set well part h k lt f is =
     let clean = field_clean set well part h k lt in
-    let uses : uses_below (reach set part) f.item ≡ true = ap (λ x. uses_below (reach set part) x.item) is ∙ clean.uses in
+    let uses : uses_below (reach set part) f.item ≡ true = rw is clean.uses in
     (omega (arith, ap (λ (x : Field). length x.name) is), omega (arith, below_reach set part h, below_uses (reach set part) f.item uses))
 
 -- all of a part

@@ -1,11 +1,12 @@
 -- A text that is read line by line: fronts, numbers as they are spelled, and the line of a cell.
-use Rattle.vms_values.proofs.Facade.{le-ltb, lt-ltb, ◌≡◌, ℕ, Bool, true, false, ◌&&◌, ◌==◌, List, [], ◌∷◌, ◌++◌, length, drop, refl, sym, ap, ◌∙◌, ◌+◌, Option}
-use Rattle.vms_values.proofs.Facade.{and-false, Some, None, Ok, Err, subst, arith, drop-drop, length-append, MatchOption, ◌-◌, ◌*◌, ◌^◌, ◌<◌, ◌≤◌, not, ◌||◌}
-use Rattle.vms_values.proofs.Facade.{nat_le, nat_lt, zero, suc, take, get_or, if◌then◌else◌, length-drop, ℤ, pos, slice_set, Result, codes, bytes_eq, and_assoc}
-use Rattle.vms_values.proofs.Facade.{and-true, ltb-true, ltb-false, leb-true, and_parts, Bor, list_all, pow-suc, drop_more, drop_all, take_all}
-use Rattle.vms_values.proofs.Facade.{take-append-drop, option_and_then, begins_with, is_digit, are_digits, natural_from, number_spelled, BadLine, Standing}
-use Rattle.vms_values.proofs.Facade.{Read, bad, put_line, put_number, LineFault, Strips, with_digit, natural_spelled, read_from, held, IsBad, Reaches}
-use Rattle.vms_values.proofs.Facade.{natural_up, Kind, InRange, ranges, ValuesReason, same_number, exceeds, in_range, IsFirstLine, NextLine, number_judged}
+use Rattle.vms_values.proofs.Facade.{le-ltb, lt-ltb, ◌≡◌, ℕ, Bool, true, false, ◌&&◌, ◌==◌, List, [], ◌∷◌, ◌++◌, length, drop, refl}
+use Rattle.vms_values.proofs.Facade.{sym, ap, ◌∙◌, ◌+◌, Option, and-false, Some, None, Ok, Err, arith, drop-drop, length-append, MatchOption}
+use Rattle.vms_values.proofs.Facade.{◌-◌, ◌*◌, ◌^◌, ◌<◌, ◌≤◌, not, ◌||◌, nat_le, nat_lt, zero, suc, take, get_or, if◌then◌else◌}
+use Rattle.vms_values.proofs.Facade.{length-drop, ℤ, pos, slice_set, Result, codes, bytes_eq, and_assoc, and-true, ltb-true, ltb-false, leb-true, and_parts}
+use Rattle.vms_values.proofs.Facade.{Bor, list_all, pow-suc, drop_more, drop_all, take_all, take-append-drop, option_and_then, begins_with, is_digit}
+use Rattle.vms_values.proofs.Facade.{are_digits, natural_from, number_spelled, BadLine, Standing, Read, bad, put_line, put_number, LineFault, Strips}
+use Rattle.vms_values.proofs.Facade.{with_digit, natural_spelled, read_from, held, IsBad, Reaches, natural_up, Kind, InRange, ranges, ValuesReason, same_number}
+use Rattle.vms_values.proofs.Facade.{exceeds, in_range, IsFirstLine, NextLine, number_judged}
 use Rattle.vms_values.specs.declared.fault.LineFault.TheVariants as faults
 use Rattle.vms_spec.specs.declared.ValuesReason.TheVariants as reasons
 
@@ -19,7 +20,7 @@ pub begins-append : (line front more : List ℕ) → begins_with (front ++ more)
 begins-append line [] more = refl
 begins-append [] (x ∷ front) more = refl
 begins-append (y ∷ line) (x ∷ front) more =
-    ap (λ t. (y == x) && t) (begins-append line front more) ∙ sym (and_assoc (y == x) (begins_with front line) (begins_with more (drop (length front) line)))
+    rw (begins-append line front more, and_assoc (y == x) (begins_with front line) (begins_with more (drop (length front) line)))
 
 pub joined_on : (rest more piece left after : List ℕ) (whole : Bool) → bytes_eq rest left ≡ whole → left ≡ piece ++ after → begins_with piece rest ≡ true
     → more ≡ drop (length piece) rest → bytes_eq more after ≡ whole
@@ -33,14 +34,14 @@ joined_off rest piece left after whole inv split begins =
 -- ---- A text that is read line by line.
 
 pub strips_then : (a b line mid : List ℕ) (result : Option (Bor (List ℕ))) → begins_with a line ≡ true → mid ≡ drop (length a) line → Strips b mid result → Strips (a ++ b) line result
-strips_then a b line mid None p e s = begins-append line a b ∙ ap (λ t. t && begins_with b (drop (length a) line)) p ∙ ap (begins_with b) (sym e) ∙ s
+strips_then a b line mid None p e s = rw (begins-append line a b, p, ← e) s
 strips_then a b line mid (Some r) p e s = (
-  begins-append line a b ∙ ap (λ t. t && begins_with b (drop (length a) line)) p ∙ ap (begins_with b) (sym e) ∙ s.0,
-  s.1 ∙ ap (drop (length b)) e ∙ drop-drop (length b) (length a) line ∙ ap (λ n. drop n line) (sym (length-append a b)),
+  rw (begins-append line a b, p, ← e) s.0,
+  rw (s.1, e, drop-drop (length b) (length a) line, length-append a b),
 )
 
 pub strips_not : (a b line : List ℕ) → begins_with a line ≡ false → begins_with (a ++ b) line ≡ false
-strips_not a b line p = begins-append line a b ∙ ap (λ t. t && begins_with b (drop (length a) line)) p
+strips_not a b line p = rw (begins-append line a b, p)
 
 pub strip_is : (front line : List ℕ) (result : Option (Bor (List ℕ)))
     → MatchOption result (begins_with front line ≡ false) (λ x. (begins_with front line ≡ true) × (x.now ≡ drop (length front) line) × (length x.now + length front ≡ length line)) → Strips front line result
@@ -85,17 +86,16 @@ unpadded text = length text == 1 || (nat_le 2 (length text) && not (get_or text 
 
 pub read_natural : (text : List ℕ) → unpadded text ≡ true → read_from 0 text ≡ natural_spelled text
 read_natural text e =
-    read_is 0 text (omega arith)
-    ∙ ap (λ t. bounded t (natural_from 0 text)) (sym (and-true (list_all is_digit text)) ∙ ap (λ t. list_all is_digit text && t) (sym e))
+    rw (e, and-true (list_all is_digit text)) (read_is 0 text (omega arith))
 
 pub digit_stops : (value i d : ℕ) (text : List ℕ) → i < length text → with_digit value (get_or text i d) ≡ None → read_from value (drop i text) ≡ None
-digit_stops value i d text lt e = ap (read_from value) (drop_more text i d lt) ∙ ap (λ o. option_and_then (λ m. read_from m (drop (i + 1) text)) o) e
+digit_stops value i d text lt e = rw (drop_more text i d lt, e)
 
 pub digit_goes : (value i d m : ℕ) (text : List ℕ) → i < length text → with_digit value (get_or text i d) ≡ Some m → read_from m (drop (i + 1) text) ≡ read_from value (drop i text)
-digit_goes value i d m text lt e = sym (ap (read_from value) (drop_more text i d lt) ∙ ap (λ o. option_and_then (λ m. read_from m (drop (i + 1) text)) o) e)
+digit_goes value i d m text lt e = rw (drop_more text i d lt, e)
 
 pub digits_end : (value i : ℕ) (text : List ℕ) → length text ≤ i → Some value ≡ read_from value (drop i text)
-digits_end value i text le = sym (ap (read_from value) (drop_all i text le))
+digits_end value i text le = rw (drop_all i text le)
 
 -- those of a front, and then the others
 pub read_append : (n : ℕ) (xs ys : List ℕ) → read_from n (xs ++ ys) ≡ option_and_then (λ m. read_from m ys) (read_from n xs)
@@ -122,7 +122,7 @@ ten_up i (suc k) =
 pub few_fit : (i n : ℕ) → n < 10 ^ i → i < 19 → n * 10 + 9 < 2 ^ 64
 few_fit i n lt le =
     let all : i + (18 - i) ≡ 18 = omega (arith, le) in
-    omega (arith, subst (λ k. 10 ^ i ≤ 10 ^ k) all (ten_up i (18 - i)))
+    omega (arith, rw all at (ten_up i (18 - i)))
 
 digit_up : (n b m : ℕ) → with_digit n b ≡ Some m → m ≤ n * 10 + 9
 digit_up n b m e = by (is_digit b) (nat_lt (n * 10 + (b - 48)) (2 ^ 64)) refl e where
@@ -190,7 +190,7 @@ module _ (path : List ℕ) (kind : Kind) (caps : List ℕ) (cell : ℕ) (default
   put_judged : (rest : List ℕ) (s : Option ℤ) → puts rest s ≡ taken_number cell p rest (number_judged caps default present (held kind s))
   put_judged rest None = refl
   put_judged rest (Some z) =
-      by_range rest z (in_range kind z) (exceeds caps z) (present || same_number z default) ∙ ap (taken_number cell p rest) (held_judged z (in_range kind z))
+      rw (← held_judged z (in_range kind z)) (by_range rest z (in_range kind z) (exceeds caps z) (present || same_number z default))
 
   begun : (text rest : List ℕ) (b : Bool) → begins_with front text ≡ b → reads (Some (text, rest)) ≡ (if b then puts rest (number_spelled (drop (length front) text)) else bad p reasons.Form)
   begun text rest b e = rw e
@@ -209,10 +209,8 @@ module _ (path : List ℕ) (kind : Kind) (caps : List ℕ) (cell : ℕ) (default
       → now.numbers ≡ slice_set p.numbers cell z → now.line ≡ p.line + 1 → now.rest ≡ line.after.now → Reaches (reads o) now (Ok tt)
   number_there None line number z now f n is j a b c = absurd f
   number_there (Some (text, rest)) line number z now f n is j a b c =
-      let e : (record { numbers = slice_set p.numbers cell z; line = suc p.line; rest = rest }) ≡ now =
-      ap (λ x. let r : Standing = record { numbers = x; line = suc p.line; rest = rest } in r) (sym a)
-      ∙ ap (λ x. let r : Standing = record { numbers = now.numbers; line = x; rest = rest } in r) (sym (b ∙ omega arith))
-      ∙ ap (λ x. let r : Standing = record { numbers = now.numbers; line = now.line; rest = x } in r) (sym f.1 ∙ sym c) in
+      let one : now.line ≡ suc p.line = omega arith in
+      let e : (record { numbers = slice_set p.numbers cell z; line = suc p.line; rest = rest }) ≡ now = rw (← a, ← one, ← f.1, ← c) in
       rw (judged_there text rest number line (Ok z) f.0 n is j) e
 
   pub reason_there : (o : Option (List ℕ × List ℕ)) (line : NextLine) (number : List ℕ) (reason : ValuesReason) (now : Standing) (e : LineFault) → IsFirstLine o (Some line)

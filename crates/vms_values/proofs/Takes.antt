@@ -1,12 +1,12 @@
 -- What is read of structures, arrays and parts.
-use Rattle.vms_values.proofs.Facade.{refl, ◌∙◌, ◌≡◌, ℕ, zero, suc, ◌+◌, ◌<◌, Bool, true, ◌&&◌, List, [], ◌∷◌, ◌++◌, length, get_or, Ok, Err, pos, ap, arith}
-use Rattle.vms_values.proofs.Facade.{codes, ◌-◌, ◌*◌, drop, Option, Some, None, ℤ, sym, decimal, CellLine, exceeds_least}
-use Rattle.vms_values.proofs.Facade.{Typed, IsKept, run_read, Item, Num, Struct, Count, One, Field, Desc, Set, is_there, no_desc}
-use Rattle.vms_values.proofs.Facade.{no_parent, first, item_size, field_cells, numbers_of, elements_of, counted, no_field, struct_cells, capacity_of, Reader}
-use Rattle.vms_values.proofs.Facade.{Standing, Read, ◌>>=◌, no_reader, reader, readers, cells_of, read_item, read_elements, read_array, read_field, read_fields}
-use Rattle.vms_values.proofs.Facade.{read_desc, BadLine, put_line, put_number, ItemBelow, FieldsBelow, all_below, item_cells_same, field_cells_same}
-use Rattle.vms_values.proofs.Facade.{own_same, row_same, first_same, readers_cells, first_at, is_well_formed, struct_clean, first_line}
-use Rattle.vms_values.proofs.Facade.{number_spelled, field_size, least_of, size_in, capacities_of, cells_table, fields_at}
+use Rattle.vms_values.proofs.Facade.{refl, ◌∙◌, ◌≡◌, ℕ, zero, suc, ◌+◌, ◌<◌, Bool, true, ◌&&◌, List, [], ◌∷◌, ◌++◌, length}
+use Rattle.vms_values.proofs.Facade.{get_or, Ok, Err, pos, arith, codes, ◌-◌, ◌*◌, drop, Option, Some, None, ℤ, sym, decimal, CellLine}
+use Rattle.vms_values.proofs.Facade.{exceeds_least, Typed, IsKept, run_read, Item, Num, Struct, Count, One, Field, Desc, Set, is_there, no_desc, no_parent}
+use Rattle.vms_values.proofs.Facade.{first, item_size, field_cells, numbers_of, elements_of, counted, no_field, struct_cells, capacity_of, Reader, Standing}
+use Rattle.vms_values.proofs.Facade.{Read, ◌>>=◌, no_reader, reader, readers, cells_of, read_item, read_elements, read_array, read_field, read_fields}
+use Rattle.vms_values.proofs.Facade.{read_desc, BadLine, put_line, put_number, ItemBelow, FieldsBelow, all_below, item_cells_same, field_cells_same, own_same}
+use Rattle.vms_values.proofs.Facade.{row_same, first_same, readers_cells, first_at, is_well_formed, struct_clean, first_line, number_spelled, field_size}
+use Rattle.vms_values.proofs.Facade.{least_of, size_in, capacities_of, cells_table, fields_at}
 
 pub kept_none : (a : Typed) → IsKept a a
 kept_none a = record { version = refl; came = refl; long = refl; kinds = refl }
@@ -18,7 +18,7 @@ kept_more a b c h k = record { version = k.version ∙ h.version; came = k.came 
 
 -- a reading goes on in the same way after the same reading
 pub then_same : (r s : Read) (f g : Standing → Read) → r ≡ s → ((p : Standing) → f p ≡ g p) → (r >>= f) ≡ (s >>= g)
-then_same r s f g e h = ap (λ x. x >>= f) e ∙ by s where
+then_same r s f g e h = rw e (by s) where
   by : (s : Read) → (s >>= f) ≡ (s >>= g)
   by (Ok p) = h p
   by (Err b) = refl
@@ -30,7 +30,7 @@ module _ (j : ℕ) (rs Rs : List Reader) (agree : (i : ℕ) → i < j → get_or
 
   item_same : (f : Field) (caps path : List ℕ) (present : Bool) (at : ℕ) (item : Item) (p : Standing) → ItemBelow j item
       → read_item rs f caps path present at item p ≡ read_item Rs f caps path present at item p
-  item_same f caps path present at (Struct i) p e = ap (λ r. r.reads (path ++ codes ".") present at p) (agree i e)
+  item_same f caps path present at (Struct i) p e = rw (agree i e, read_item)
   item_same f caps path present at _ p e = refl
 
   elements_same : (f : Field) (caps path : List ℕ) (present : Bool) (at step i m : ℕ) (p : Standing) → ItemBelow j f.item
@@ -43,8 +43,8 @@ module _ (j : ℕ) (rs Rs : List Reader) (agree : (i : ℕ) → i < j → get_or
   many_same : (f : Field) (caps path : List ℕ) (present : Bool) (at m : ℕ) (p : Standing) → ItemBelow j f.item
       → read_elements rs f caps path present at (item_size (cells_of rs) f.item) 0 m p ≡ read_elements Rs f caps path present at (item_size (cells_of Rs) f.item) 0 m p
   many_same f caps path present at m p e =
-      elements_same f caps path present at (item_size (cells_of rs) f.item) 0 m p e
-      ∙ ap (λ s. read_elements Rs f caps path present at s 0 m p) (ap length (item_cells_same j (cells_of rs) (cells_of Rs) cells f.item [] (pos 0) e))
+      rw (item_cells_same j (cells_of rs) (cells_of Rs) cells f.item [] (pos 0) e)
+      (elements_same f caps path present at (item_size (cells_of Rs) f.item) 0 m p e)
 
   array_same : (f : Field) (caps path : List ℕ) (present : Bool) (at : ℕ) (c : Count) (own : ℕ → ℕ) (p : Standing) → ItemBelow j f.item
       → read_array rs f caps path present at c own p ≡ read_array Rs f caps path present at c own p
@@ -73,8 +73,8 @@ struct_reads set well j lt f caps path present at p =
     let ds = set.structs in
     let d = get_or ds j no_desc in
     let below = all_below j d.fields (λ i l. ((struct_clean set well j lt).fields i l).uses) in
-    ap (λ r. r.reads (path ++ codes ".") present at p) (first_at reader ds no_reader (length ds) j lt)
-    ∙ fields_same j (first reader ds j) (readers set) (λ i l. first_same reader ds no_reader j (length ds) i (omega arith) l) d d.version (path ++ codes ".") present at 0 at d.fields p below below
+    rw (first_at reader ds no_reader (length ds) j lt, read_item)
+    (fields_same j (first reader ds j) (readers set) (λ i l. first_same reader ds no_reader j (length ds) i (omega arith) l) d d.version (path ++ codes ".") present at 0 at d.fields p below below)
 
 -- ---- The elements of an array and the fields of a part that remain to be read.
 
@@ -105,18 +105,17 @@ module _ (rs : List Reader) (f : Field) (caps path : List ℕ) (present : Bool) 
   elements_left at i count p lt =
       let e : count - i ≡ suc (count - (i + 1)) = omega arith in
       let one : suc i ≡ i + 1 = omega arith in
-      ap (λ k. read_elements rs f caps path present at step i k p) e
-      ∙ ap (λ k. read_item rs f caps (path ++ codes "[" ++ decimal i ++ codes "]") present at f.item p >>= λ q. read_elements rs f caps path present (at + step) step k (count - (i + 1)) q) one
+      rw (e, one)
 
   pub elements_go : (at i count : ℕ) (p q : Standing) → i < count → read_item rs f caps (path ++ codes "[" ++ decimal i ++ codes "]") present at f.item p ≡ Ok q
       → read_elements rs f caps path present (at + step) step (i + 1) (count - (i + 1)) q ≡ read_elements rs f caps path present at step i (count - i) p
   elements_go at i count p q lt e =
-      sym (elements_left at i count p lt ∙ ap (λ r. r >>= λ x. read_elements rs f caps path present (at + step) step (i + 1) (count - (i + 1)) x) e)
+      rw (elements_left at i count p lt, e)
 
   pub elements_stop : (at i count : ℕ) (p : Standing) (b : BadLine) → i < count → read_item rs f caps (path ++ codes "[" ++ decimal i ++ codes "]") present at f.item p ≡ Err b
       → read_elements rs f caps path present at step i (count - i) p ≡ Err b
   elements_stop at i count p b lt e =
-      elements_left at i count p lt ∙ ap (λ r. r >>= λ x. read_elements rs f caps path present (at + step) step (i + 1) (count - (i + 1)) x) e
+      rw (elements_left at i count p lt, e)
 
 run_is : (rs : List Reader) (f : Field) (c : Count) (own : ℕ → ℕ) (count : ℕ) (caps path : List ℕ) (present : Bool) (at : ℕ) (p : Standing) → count ≡ elements_of c own
     → read_array rs f caps (path ++ f.name) present at c own p ≡ run_read rs f c (capacities_of (least_of caps)) path present at count p
@@ -136,7 +135,7 @@ module _ (set : Set) where
   array_read f count caps path present at p other = by_count f.count other where
     by_count : (c : Count) → (c ≡ One → ⊥) → read_elements (readers set) f caps (path ++ f.name) present at (size_in set f.item) 0 count p ≡ run_read (readers set) f c caps path present at count p
     by_count One other = absurd (other refl)
-    by_count _ other = ap (λ (s : ℕ). read_elements (readers set) f caps (path ++ f.name) present at s 0 count p) (sym (read_size f.item))
+    by_count _ other = rw (read_size f.item)
 
   -- field k of a description, by the numbers so far: how many of its elements are read, and the most that its number counts
   pub record IsNext (d : Desc) (v : ℕ) (present : Bool) (base k count : ℕ) (most : Option ℕ) (now : Bool) (f : Field) (p : Standing) : Type 0 where
@@ -157,11 +156,8 @@ module _ (set : Set) where
       let one : suc k ≡ k + 1 = omega arith in
       let rest = λ (i w : ℕ) (q : Standing). read_fields rs d v path present base i (cell + w) (drop (k + 1) d.fields) q in
       let here : read_field rs d v path present base k cell g p ≡ run_read rs g g.count (capacities_of most) path now cell count p =
-      ap (λ cs. let o = numbers_of cs d p.numbers base in read_array rs g (counted k d.fields) (path ++ g.name) (present && is_there g.test g.since v o no_parent) cell g.count o p) read_cells
-      ∙ run_is rs g g.count own count (counted k d.fields) path (present && (is_there g.test g.since v own no_parent)) cell p n.counts
-      ∙ ap (λ b. run_read rs g g.count (capacities_of (least_of (counted k d.fields))) path b cell count p) (sym n.is)
-      ∙ ap (λ o. run_read rs g g.count (capacities_of o) path now cell count p) (sym n.least) in
-      rw (fields_at d.fields k n.inside, here, (field_size (cells_of rs) d.fields k g ∙ ap (λ s. capacity_of g.count * s) (read_size g.item)), one, sym n.found)
+      rw (read_cells, ← n.is, run_is rs g g.count own count (counted k d.fields) path now cell p n.counts, n.least) in
+      rw (fields_at d.fields k n.inside, here, field_size (cells_of rs) d.fields k g, read_size g.item, one, n.found)
 
   pub fields_go : (d : Desc) (v : ℕ) (path : List ℕ) (present : Bool) (base k cell count : ℕ) (most : Option ℕ) (now : Bool) (f : Field)
       (p q : Standing) (next : ℕ)
@@ -170,13 +166,10 @@ module _ (set : Set) where
       → read_fields (readers set) d v path present base (k + 1) next (drop (k + 1) d.fields) q
       ≡ read_fields (readers set) d v path present base k cell (drop k d.fields) p
   fields_go d v path present base k cell count most now f p q next n after e =
-      ap (λ x. read_fields (readers set) d v path present base (k + 1) x (drop (k + 1) d.fields) q) (sym after)
-      ∙ sym (next_read d v path present base k cell count most now f p n
-      ∙ ap (λ r. r >>= λ x. read_fields (readers set) d v path present base (k + 1) (cell + capacity_of f.count * size_in set f.item) (drop (k + 1) d.fields) x) e)
+      rw (next_read d v path present base k cell count most now f p n, e, after)
 
   pub fields_stop : (d : Desc) (v : ℕ) (path : List ℕ) (present : Bool) (base k cell count : ℕ) (most : Option ℕ) (now : Bool) (f : Field) (p : Standing) (b : BadLine)
       → IsNext d v present base k count most now f p → run_read (readers set) f f.count (capacities_of most) path now cell count p ≡ Err b
       → read_fields (readers set) d v path present base k cell (drop k d.fields) p ≡ Err b
   fields_stop d v path present base k cell count most now f p b n e =
-      next_read d v path present base k cell count most now f p n
-      ∙ ap (λ r. r >>= λ x. read_fields (readers set) d v path present base (k + 1) (cell + capacity_of f.count * size_in set f.item) (drop (k + 1) d.fields) x) e
+      rw (next_read d v path present base k cell count most now f p n, e)

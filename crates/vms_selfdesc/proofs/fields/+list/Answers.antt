@@ -1,10 +1,11 @@
-use Rattle.vms_selfdesc.proofs.Facade.{subst, rules, arith, sym, ap, ◌∙◌, ◌≡◌, ◌+◌, ◌<◌, ◌++◌, length, length-append, codes}
+use Rattle.vms_selfdesc.proofs.Facade.{ℕ, subst, rules, arith, sym, ap, ◌∙◌, ◌≡◌, ◌+◌, ◌<◌, ◌++◌, length, length-append, codes}
 use Rattle.vms_selfdesc.proofs.Facade.{string_bytes, refl, Lists, Draft, item_size, struct_cells, elements_fit, field_of, field_at, own_numbers, described}
 use Rattle.vms_selfdesc.proofs.Facade.{desc_at, found_field, here_fields, element_path, item_list, field_list, IsPlain, HasElements, item_levels}
 use Rattle.vms_selfdesc.proofs.OfElements.{field_needs, array_many, field_run, struct_place, struct_lower, struct_list}
 use Rattle.vms_selfdesc.proofs.Plain.{plain_append, element_plain, dot_plain, name_plain, field_name, enters, index_long, item_levels_are, levels_are}
 use Rattle.vms_selfdesc.proofs.Trees.{fields_whole, leaves_all, leaves_rest, leave_path, element_room, elements_next, next_element, fields_next, field_room}
 use Rattle.vms_selfdesc.proofs.fields.+list.Goals as goal
+use Rattle.vms_selfdesc.proofs.fields.+list.Goals.{list_field-After-index-as_slice-at}
 
 -- ---- one element
 
@@ -98,6 +99,14 @@ list_elements-loop-number-preserved t c =
 
 -- ---- one field
 
+-- what the call reads is the field of its number
+found : {t : ℕ} (c : list_field-After-index-as_slice-at t)
+    → field_of c.index-as_slice-at.result ≡ field_at (described c.args.lister.now.set.now) c.args.part c.args.at.field
+found c =
+    let set = described c.args.lister.now.set.now in
+    found_field c.as_slice.result.now (desc_at set c.args.part).fields c.args.at.field c.index-as_slice-at.result
+    (here_fields set c.args.part c.desc.result.now c.as_slice.result.now c.desc.ensures c.as_slice.ensures) c.requires.field c.index-as_slice-at.is
+
 pub list_run-returns-in-One : goal.list_run-returns-in-One
 list_run-returns-in-One t c = rw c.in-One.is c.list_item.ensures
 
@@ -117,9 +126,7 @@ list_field-list_run-requires t c =
     let k = c.args.at.field in
     let f = c.index-as_slice-at.result in
     let n = c.args.lister.now.image.now.numbers in
-    let fields = here_fields set part c.desc.result.now c.as_slice.result.now c.desc.ensures c.as_slice.ensures in
-    let is : field_of f ≡ field_at set part k =
-    found_field c.as_slice.result.now (desc_at set part).fields k f fields c.requires.field c.index-as_slice-at.is in
+    let is : field_of f ≡ field_at set part k = found (goal.at.list_field-list_run-requires t c).After-index-as_slice-at in
     let needs = field_needs set well part c.args.within.cell n c.requires.place k c.args.at.cell (field_of f) c.requires.field is c.requires.room in
     let fewer = elements_fit (field_at set part k).count (own_numbers set part n c.args.within.cell) in
     let all = needs.elements c.elements-count.result (omega arith) in
@@ -134,12 +141,9 @@ list_field-list_run-requires t c =
 
 pub list_field-enter-requires : goal.list_field-enter-requires
 list_field-enter-requires t c =
-    let set = described c.args.lister.now.set.now in
-    let part = c.args.part in
-    let k = c.args.at.field in
-    let fields = here_fields set part c.desc.result.now c.as_slice.result.now c.desc.ensures c.as_slice.ensures in
-    let is = found_field c.as_slice.result.now (desc_at set part).fields k c.index-as_slice-at.result fields c.requires.field c.index-as_slice-at.is in
-    let name = field_name set c.args.lister.now.set.now.well_formed part k c.requires.place.has c.requires.field in
+    let set = c.args.lister.now.set.now in
+    let is = found (goal.at.list_field-enter-requires t c).After-index-as_slice-at in
+    let name = field_name (described set) set.well_formed c.args.part c.args.at.field c.requires.place.has c.requires.field in
     omega (arith, ap length (c.as_str.ensures ∙ ap (λ x. x.name) is))
 
 pub list_field-leave-requires-clause-text : goal.list_field-leave-requires-clause-text
@@ -148,12 +152,9 @@ list_field-leave-requires-clause-text t c = (enters c.args.draft.now.path.text _
 pub list_field-returns : goal.list_field-returns
 list_field-returns t c =
     let set = described c.args.lister.now.set.now in
-    let part = c.args.part in
     let path = string_bytes c.args.draft.now.path.text in
-    let fields = here_fields set part c.desc.result.now c.as_slice.result.now c.desc.ensures c.as_slice.ensures in
-    let is =
-    found_field c.as_slice.result.now (desc_at set part).fields c.args.at.field c.index-as_slice-at.result fields c.requires.field c.index-as_slice-at.is in
-    let same = field_run set part c.args.within.cell c.args.at.field c.args.within.sent c.args.lister.now.image.now.numbers path c.args.at.cell
+    let is = found (goal.at.list_field-returns t c).After-index-as_slice-at in
+    let same = field_run set c.args.part c.args.within.cell c.args.at.field c.args.within.sent c.args.lister.now.image.now.numbers path c.args.at.cell
     (field_of c.index-as_slice-at.result) c.is_sent-sent.result (string_bytes c.enter.new.self.text) c.elements-count.result is c.is_sent-sent.ensures
     (rw c.as_str.ensures at c.enter.ensures) c.elements-count.ensures in
     rw (← same) (leave_path c.list_run.ensures

@@ -1,23 +1,25 @@
-use Rattle.vms_values.proofs.{Naming.own_kinds, devices.read_device.Goals.In_ok-read_subs}
+use Rattle.vms_values.proofs.{Naming.own_kinds, devices.read_device.Goals.In_ok-read_subs, devices.read_device.Goals.Start}
 use Rattle.vms_values.proofs.DeviceLemmas.{default_of, own_spot, alike_kept, of_alike, subs_alike}
-use Rattle.vms_values.proofs.Facade.{rules, length, ap, ◌∙◌, described, IsImageOf, Typed}
+use Rattle.vms_values.proofs.Facade.{rules, length, ap, ◌∙◌, described, IsImageOf, IsOfDevice, Typed, state_of}
 use Rattle.vms_values.proofs.devices.read_device.Goals as goal
+
+-- the image with its defaults is the device's
+begun : (c : Start) → IsOfDevice (described c.args.set.now) c.args.device (state_of c.args.taken.now.image)
+begun c = default_of (described c.args.set.now) c.args.set.now.well_formed c.args.device c.requires.known c.args.taken.now.image c.requires.defaults
 
 pub read_part-requires : goal.read_part-requires
 read_part-requires c =
     let set = described c.args.set.now in
-    let of = default_of set c.args.set.now.well_formed c.args.device c.requires.known c.args.taken.now.image c.requires.defaults in
     record {
-      spot = own_spot set c.args.device c.version.result c.args.taken.now.image of;
+      spot = own_spot set c.args.device c.version.result c.args.taken.now.image (begun (goal.at.read_part-requires c).Start);
       kinds = own_kinds set c.args.device c.args.taken.now.image.kinds (ap (λ (x : Typed). x.kinds) c.requires.defaults);
     }
 
 pub read_subs-requires : goal.read_subs-requires
 read_subs-requires c =
-    let set = described c.args.set.now in
-    let of = default_of set c.args.set.now.well_formed c.args.device c.requires.known c.args.taken.now.image c.requires.defaults in
     record {
-      device = of_alike set c.args.device _ _ of (alike_kept _ _ c.in_ok-read_part.ensures.kept);
+      device =
+          of_alike (described c.args.set.now) c.args.device _ _ (begun (goal.at.read_subs-requires c).Start) (alike_kept _ _ c.in_ok-read_part.ensures.kept);
       kinds = c.in_ok-read_part.ensures.kept.kinds ∙ ap (λ (x : Typed). x.kinds) c.requires.defaults;
       none = c.requires.none;
     }
@@ -25,9 +27,9 @@ read_subs-requires c =
 pub judge_device-reading-requires : goal.judge_device-reading-requires
 judge_device-reading-requires c =
     let set = described c.args.set.now in
-    let of = default_of set c.args.set.now.well_formed c.args.device c.requires.known c.args.taken.now.image c.requires.defaults in
+    let kept = of_alike set c.args.device _ _ (begun (goal.at.judge_device-reading-requires c).Start) (alike_kept _ _ c.in_ok-read_part.ensures.kept) in
     record {
-      device = of_alike set c.args.device _ _ (of_alike set c.args.device _ _ of (alike_kept _ _ c.in_ok-read_part.ensures.kept)) (subs_alike _ _ _ _ c.in_ok-read_subs.ensures.read);
+      device = of_alike set c.args.device _ _ kept (subs_alike _ _ _ _ c.in_ok-read_subs.ensures.read);
       lines = ap length c.deref.ensures.value ∙ c.in_ok-read_subs.ensures.count;
     }
 

@@ -1,11 +1,10 @@
-use Rattle.vms_values.proofs.Facade.{rules, arith, ◌≡◌, ◌+◌, ◌*◌, ◌-◌, ◌/◌, ◌%◌, ◌<◌, ◌≤◌, true, [], ◌++◌, ℕ, length, get_or, codes, append_assoc, refl, sym, ap}
-use Rattle.vms_values.proofs.Facade.{◌∙◌, subst, ltb-true, mod-lt, MOST_ITEMS, Field, capacity_of, field_of, field_at, described, desc_at, found_field}
-use Rattle.vms_values.proofs.Facade.{here_fields, size_in, size_code, width_code, struct_size, item_rank, part_rank, one_fits, uses_below, path_text}
-use Rattle.vms_values.proofs.Facade.{part_names, item_names, wrote_as, field_name, List, append-nil, element_text}
-use Rattle.vms_values.proofs.Naming.{NextNames, next_names, all_names, names_from, part_long, struct_name, positive, element_is, nothing_after}
+use Rattle.vms_values.proofs.Facade.{rules, arith, ◌≡◌, ◌+◌, ◌*◌, ◌/◌, ◌%◌, ◌<◌, ◌≤◌, true, [], ◌++◌, ℕ, length, get_or}
+use Rattle.vms_values.proofs.Facade.{codes, append_assoc, refl, sym, ap, ◌∙◌, subst, ltb-true, mod-lt, MOST_ITEMS, Field, capacity_of, field_of, field_at}
+use Rattle.vms_values.proofs.Facade.{described, desc_at, found_field, here_fields, size_in, size_code, width_code, struct_size, item_rank, part_rank, one_fits}
+use Rattle.vms_values.proofs.Facade.{uses_below, path_text, part_names, item_names, wrote_as, field_name, List, append-nil, element_text}
+use Rattle.vms_values.proofs.Naming.{NextNames, next_names, all_names, part_long, struct_name, positive, element_is, nothing_after}
+use Rattle.vms_values.proofs.name.{+name.Given.Over, +name.Goals.print_element-After-item_cells-size, +name.Goals.print_name-After-field_cells-size}
 use Rattle.vms_spec.specs.declared.Part.TheVariants as parts
-use Rattle.vms_values.proofs.name.+name.Given.{Over}
-use Rattle.vms_values.proofs.name.+name.Goals.{print_element-After-item_cells-size, print_name-After-field_cells-size}
 use Rattle.vms_values.proofs.name.+name.Goals as goal
 
 -- the element has cells, and the cell is one of its
@@ -94,14 +93,17 @@ print_name-print_element-requires g t c =
     let set = described c.args.set.now in
     let f = field_at set c.args.part c.loop-field.field in
     let s = turn g t (goal.at.print_name-print_element-requires g t c).After-field_cells-size in
-    let code = c.index-as_slice-field.result in
-    let found : field_of code ≡ f = found_field c.as_slice.result.now (desc_at set c.args.part).fields c.loop-field.field code (here_fields set c.args.part c.desc.result.now c.as_slice.result.now c.desc.ensures c.as_slice.ensures) s.inside c.index-as_slice-field.is in
+    let fields = here_fields set c.args.part c.desc.result.now c.as_slice.result.now c.desc.ensures c.as_slice.ensures in
+    let found : field_of c.index-as_slice-field.result ≡ f =
+    found_field c.as_slice.result.now
+    (desc_at set c.args.part).fields c.loop-field.field c.index-as_slice-field.result fields s.inside c.index-as_slice-field.is in
     let at = λ (P : Field → Type 0) (p : P f). subst P (sym found) p in
     let lower = at (λ (x : Field). item_rank x.item + 1 < part_rank set c.args.part + 2) s.next.lower in
-    let one = at (λ (x : Field). size_in set x.item ≤ MOST_ITEMS) (one_fits (capacity_of f.count) (size_in set f.item) 0 MOST_ITEMS MOST_ITEMS s.next.some (omega arith) (omega arith)) in
+    let one = one_fits (capacity_of f.count) (size_in set f.item) 0 MOST_ITEMS MOST_ITEMS s.next.some (omega arith) (omega arith) in
+    let small = at (λ (x : Field). size_in set x.item ≤ MOST_ITEMS) one in
     let inside = at (λ (x : Field). c.loop-field.left < capacity_of x.count * size_in set x.item) (omega arith) in
     let uses = at (λ (x : Field). uses_below (length set.structs) x.item ≡ true) s.next.uses in
-    λ κs h. (search rules, (search rules, record { reaches = uses; small = one; cell = inside }))
+    λ κs h. (search rules, (search rules, record { reaches = uses; small = small; cell = inside }))
 
 pub print_name-returns-then-left-size : goal.print_name-returns-then-left-size
 print_name-returns-then-left-size g t c =
@@ -119,7 +121,7 @@ print_name-loop-field-preserved g t c =
     let s = turn g t (goal.at.print_name-loop-field-preserved g t c).After-field_cells-size in
     let past : capacity_of f.count * size_in set f.item ≤ c.loop-field.left = omega arith in
     record {
-      same = c.loop-field.invariant.same ∙ s.next.later past ∙ ap (λ n. get_or (names_from set c.args.part (c.loop-field.field + 1)) (c.loop-field.left - n) []) (sym s.width);
+      same = rw s.width (c.loop-field.invariant.same ∙ s.next.later past);
       room = omega arith;
       few = omega arith;
       untouched = c.loop-field.invariant.untouched;

@@ -1,4 +1,4 @@
-use Rattle.vms_values.proofs.{Facade.◌∙◌, Facade.err_from_is_err_and, Facade.stops_front, Facade.wrote_behind}
+use Rattle.vms_values.proofs.Facade.{err_from_is_err_and, stops_front, wrote_behind}
 use Rattle.vms_values.proofs.path.+write_path.Goals as goal
 
 pub returns-in_err-write_path-in-Field : goal.returns-in_err-write_path-in-Field
