@@ -1,4 +1,4 @@
-use Rattle.vms_convert.proofs.Facade.{List, Option, ℕ, [], ◌∷◌, ◌++◌, None, replicate, ap, ◌∙◌, append_assoc, replicate-append-replicate}
+use Rattle.vms_convert.proofs.Facade.{List, Option, ℕ, [], ◌∷◌, ◌++◌, None, replicate, ap, append_assoc, replicate-append-replicate}
 use Rattle.vms_convert.proofs.pairing.put_unpaired.Goals as goal
 
 pub loop-cell-preserved : goal.loop-cell-preserved
