@@ -7,7 +7,7 @@ use Rattle.vms_convert.proofs.Facade.{if◌then◌else◌, ℕ, ◌<◌, length,
 use Rattle.vms_convert.proofs.Facade.{Image, IsNormal, newest_set, timer, i8259_at_4, i8254_at_2, AreOf, kind-of, count-of, kinds, IsPortCells, recast_cells}
 use Rattle.vms_convert.proofs.Facade.{recast_kinds, AreRecastOf, RecastOfLaw, OneLostLaw, AreOfKinds, recast, wants_arrays, is_port, AreKept, serial_at_4}
 use Rattle.vms_convert.proofs.Facade.{port-of, recast_each, is_one_of, one_number, DifferAt, Loses, OfCell, OfDevice, OfMachine, KeepsAll, changed_append}
-use Rattle.vms_convert.proofs.Facade.{step_of, add-one, ◌+◌, ◌≤◌, ◌∙◌, append-nil, slice_get-get_or, take_all, map-append, Sub, own_slots}
+use Rattle.vms_convert.proofs.Facade.{step_of, add-one, ◌+◌, ◌≤◌, ◌∙◌, append-nil, slice_get-get_or, take_all, map-append, own_slots}
 use Rattle.vms_convert.proofs.Facade.{image_slots, needed_at, is_well_formed, sub_at, few_cells, own_inside_device, sub_inside, Typed, HasSpot, spot_slots}
 use Rattle.vms_convert.proofs.Facade.{steps_of, SettlesBy, SettlesSub, part_of, part_slots, sub_slots_at, changed, part_place, give_step, subst}
 use Rattle.vms_convert.proofs.Facade.{slice_get_within, get_or-map, length-map, Ok, AreReady, longest_text, written, WellFormed, no_cell, IsFit, same_lists}

@@ -264,4 +264,4 @@ module _ (to : Set) (structs : AreSound to.structs) (d : Device) (own : IsSound 
   pub one_back : (numbers : List ℤ) (x y : Image) → IsBack to d partners numbers x → IsBack to d partners numbers y → y ≡ x
   one_back numbers x y p q =
       let same : q.now ≡ p.now = one_taken _ p.now q.now p.are_taken q.are_taken in
-      q.is ∙ ap (image_of to d) (one_settled p.now _ _ p.are_taken.long p.settled (rw same at q.settled)) ∙ sym p.is
+      rw (q.is, p.is) (ap (image_of to d) (one_settled p.now _ _ p.are_taken.long p.settled (rw same at q.settled)))

@@ -7,9 +7,7 @@ returns c =
     let set = described c.args.to.now in
     let d = device_at set c.args.device in
     let n = c.settle.new.image.numbers in
-    let version : c.settle.new.image.version ≡ d.desc.version =
-    ap (λ (x : Typed). x.version) c.settle.ensures.rest ∙ ap (λ (x : Typed). x.version) c.take_all.ensures.rest
-    ∙ ap (λ (x : Typed). x.version) c.requires.fresh in
+    let version : c.settle.new.image.version ≡ d.desc.version = rw (c.settle.ensures.rest, c.take_all.ensures.rest, c.requires.fresh) in
     let at : ℕ → Image = λ v. record { version = v; came = needed_from set d (bare d n) 0 d.subs; numbers = n } in
     record {
       back = record {

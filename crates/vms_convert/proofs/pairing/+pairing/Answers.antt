@@ -1,6 +1,6 @@
-use Rattle.vms_convert.proofs.Facade.{ℕ, ◌+◌, ◌*◌, ◌<◌, ◌≤◌, List, ◌++◌, length, Option, refl, sym, ap, ◌∙◌, arith, rules, not-false, on_ok_weaker, ◌≡◌, subst}
-use Rattle.vms_convert.proofs.Facade.{false, HasFew, field_of, item_on, ltb-true, described, found_field, reach, is_absent, desc_on, partners_on}
-use Rattle.vms_convert.proofs.PartnerLaws.{depth, structs_paired}
+use Rattle.vms_convert.proofs.{Facade.desc_on, Facade.partners_on, PartnerLaws.depth, PartnerLaws.structs_paired}
+use Rattle.vms_convert.proofs.Facade.{ℕ, ◌+◌, ◌*◌, ◌<◌, ◌≤◌, List, ◌++◌, length, Option, refl, sym, ap, ◌∙◌, arith, rules}
+use Rattle.vms_convert.proofs.Facade.{not-false, on_ok_weaker, ◌≡◌, subst, HasFew, field_of, item_on, ltb-true, described, found_field, reach, is_absent}
 use Rattle.vms_convert.proofs.PartnerSteps.{absent_pairs, all_paired, alone_pairs, arrays_are, arrays_room, both_pair, element_alone_pairs, element_pairs}
 use Rattle.vms_convert.proofs.PartnerSteps.{elements_all, few_next, few_struct, field_depth, room_struct}
 use Rattle.vms_convert.proofs.pairing.+pairing.Goals as goal

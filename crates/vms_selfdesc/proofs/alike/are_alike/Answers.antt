@@ -9,8 +9,8 @@ bounds-second-device c =
 -- each of the two images is kept
 first : (c : After-index-second-device) → IsKept (described c.args.set.now) c.args.first.now c.loop-device.device c.index-first-device.result
 first c =
-    kept (described c.args.set.now) c.args.set.now.well_formed c.args.first.now c.requires.first c.requires.of_first c.loop-device.device c.loop-device-test.true
-    c.index-first-device.result c.index-first-device.is
+    kept (described c.args.set.now) c.args.set.now.well_formed c.args.first.now c.requires.first c.requires.of_first c.loop-device.device
+    c.loop-device-test.true c.index-first-device.result c.index-first-device.is
 
 second : (c : After-index-second-device) → IsKept (described c.args.set.now) c.args.second.now c.loop-device.device c.index-second-device.result
 second c =

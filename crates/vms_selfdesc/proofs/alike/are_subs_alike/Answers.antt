@@ -5,7 +5,9 @@ use Rattle.vms_selfdesc.proofs.alike.are_subs_alike.Goals as goal
 pub loop-sub-init : goal.loop-sub-init
 loop-sub-init c =
     let set = described c.args.pair.now.set.now in
-    λ rest. subs_begin set c.args.device (state_of c.args.pair.now.first.now) ∙ rest ∙ sym (subs_begin set c.args.device (state_of c.args.pair.now.second.now))
+    λ rest.
+    subs_begin set c.args.device (state_of c.args.pair.now.first.now) ∙ rest
+    ∙ sym (subs_begin set c.args.device (state_of c.args.pair.now.second.now))
 
 pub loop-sub-preserved : goal.loop-sub-preserved
 loop-sub-preserved c =

@@ -5,10 +5,12 @@ use Rattle.vms_selfdesc.proofs.alike.is_sub_alike.Goals as goal
 pub is_part_alike-requires : goal.is_part_alike-requires
 is_part_alike-requires c =
     let inside = sub_inside (described c.args.pair.now.set.now) c.args.device c.args.sub c.requires.is_sub in
+    let a = c.requires.first in
+    let b = c.requires.second in
     record {
-      first = record { has = (c.requires.first.is_device, c.requires.is_sub); few = c.requires.first.few; room = omega (arith, inside, c.requires.first.cells) };
-      second = record { has = (c.requires.second.is_device, c.requires.is_sub); few = c.requires.second.few; room = omega (arith, inside, c.requires.second.cells) };
-      long = omega (arith, c.requires.first.cells, c.requires.second.cells);
+      first = record { has = (a.is_device, c.requires.is_sub); few = a.few; room = omega (arith, inside, a.cells) };
+      second = record { has = (b.is_device, c.requires.is_sub); few = b.few; room = omega (arith, inside, b.cells) };
+      long = omega (arith, a.cells, b.cells);
     }
 
 pub returns : goal.returns
@@ -17,5 +19,5 @@ returns c =
     let first = c.args.pair.now.first.now in
     let second = c.args.pair.now.second.now in
     let same : is_some (get_or first.came c.args.sub None) ≡ is_some (get_or second.came c.args.sub None) = search rules in
-    rw (← c.first_cell.ensures) (OnTrue_from _ _ (λ is. sub_same set (sub_at (device_at set c.args.device) c.args.sub) c.first_cell.result first.numbers second.numbers
-    (get_or first.came c.args.sub None) (get_or second.came c.args.sub None) same (OnTrue_at is c.is_part_alike.ensures)))
+    rw (← c.first_cell.ensures) (OnTrue_from _ _ (λ is. sub_same set (sub_at (device_at set c.args.device) c.args.sub) c.first_cell.result first.numbers
+    second.numbers (get_or first.came c.args.sub None) (get_or second.came c.args.sub None) same (OnTrue_at is c.is_part_alike.ensures)))
