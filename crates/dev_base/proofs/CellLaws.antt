@@ -1,12 +1,12 @@
 -- Cells of given kinds, and what lists of fields and tables of origins make of them.
 use Rattle.std.proofs.{lemmas.Int.ints, lemmas.List.get_or-replicate, lemmas.Slice.Eq.bytes_eq-Decides, Math.Seq.take-append_seam, Math.Seq.drop-append_seam}
 use Rattle.std.proofs.Common.{◌≡◌, ℕ, zero, suc, ◌^◌, ◌<◌, ◌==◌, Bool, true, false, cond, List, [], ◌∷◌, ◌++◌, length, ℤ, pos}
-use Rattle.std.proofs.Common.{negsuc, ◌≤ℤ◌, refl, arith, ap, ◌+◌, ◌≤◌, take, drop, ◌∙◌, drop-cons, ◌-◌, ◌&&◌, replicate}
+use Rattle.std.proofs.Common.{refl, arith, ap, ◌+◌, ◌≤◌, take, drop, ◌∙◌, drop-cons, ◌-◌, ◌&&◌, replicate}
 use Rattle.std.proofs.Common.{if◌then◌else◌, ◌⊎◌, inl, inr, sym, length-append, append_assoc, get_or, set, subst, ⊎_elim}
 use Rattle.std.proofs.lemmas.Bool.{cases_Bool, false≢true, and_parts, cases_lt}
 use Rattle.std.proofs.lemmas.List.{map-append, get_or_append_left, get_or-append_right, length-replicate, ext_get_or, get_or-set_same, get_or-set_other}
 use Rattle.std.proofs.lemmas.List.FromFn.{map-range_with_len_more, length-map-range_with_len, get_or-map-range_with_len}
-use Rattle.std.specs.{Str.bytes_eq}
+use Rattle.std.specs.Str.{bytes_eq}
 use Rattle.vms_kinds.specs.{Codes.InRange, Codes.highest, declared.Kind.Kind}
 use Rattle.vms_kinds.specs.declared.Kind.TheVariants.{U8, U16, U64, Bool as Truth, Timer}
 use Rattle.dev_base.specs.Cells.{cell_at, nat_of, flag_number, kind_at, AreOf, firsts}
@@ -19,8 +19,7 @@ pub of_none : AreOf [] []
 of_none = record { count = refl; in_range = λ place h. absurd (omega (arith, h)) }
 
 cons-range : (kind : Kind) (number : ℤ) (kinds : List Kind) (cells : List ℤ) → InRange kind number → AreOf kinds cells → (place : ℕ) → place < length (kind ∷ kinds) → InRange (kind_at (kind ∷ kinds) place) (cell_at (number ∷ cells) place)
-cons-range kind number kinds cells first rest zero h = first
-cons-range kind number kinds cells first rest (suc place) h = rest.in_range place (omega (arith, h))
+cons-range kind number kinds cells first rest place h = grind arith
 
 pub of_more : (kind : Kind) (number : ℤ) (kinds : List Kind) (cells : List ℤ) → InRange kind number → AreOf kinds cells → AreOf (kind ∷ kinds) (number ∷ cells)
 of_more kind number kinds cells first rest = search (arith, cons-range)
@@ -65,11 +64,7 @@ flag b = grind (arith, ints)
 
 -- The converse, for any kind.
 pub number-lt : (kind : Kind) (z : ℤ) → InRange kind z → nat_of z < suc (nat_of (highest kind))
-number-lt kind (negsuc n) range = omega arith
-number-lt kind (pos n) range = by (highest kind) range.1 where
-  by : (most : ℤ) → pos n ≤ℤ most → n < suc (nat_of most)
-  by (pos m) h = omega (arith, ints, h)
-  by (negsuc m) h = absurd (omega (arith, ints, h))
+number-lt kind z range = grind arith
 
 -- A truth value is that of its number.
 pub flag-back : (b : Bool) → (flag_number b == 1) ≡ b

@@ -1,9 +1,9 @@
 -- Rules and choices: the first rule that fails, what is restored, and what holds of both branches
 -- of a test.
-use Rattle.std.proofs.{lemmas.Bool.Decides.nat_tests, Math.Nat.div-mul-le_self, lemmas.Nat.le-div, lemmas.Bool.false≢true}
+use Rattle.std.proofs.{lemmas.Bool.Decides.nat_tests, lemmas.Nat.le-div, lemmas.Bool.false≢true}
 use Rattle.std.proofs.Common.{Bool, true, false, cond, ◌≡◌, ℕ, ◌/◌, ◌<◌, ◌≤◌, ◌||◌, arith, zero, suc, ◌+◌, ◌-◌, List, []}
-use Rattle.std.proofs.Common.{◌∷◌, length, slice_index_or, Option, Some, None, Result, Ok, Err, refl, MatchOption}
-use Rattle.std.specs.{Prelude.nat_lt}
+use Rattle.std.proofs.Common.{◌∷◌, length, slice_index_or, Option, Some, None, Result, Ok, refl, MatchOption}
+use Rattle.std.specs.Prelude.{nat_lt}
 use Rattle.dev_base.specs.Hooks.{hook_result}
 use Rattle.dev_base.specs.Rules.{failing_from, first_failing, judged_by, judged, AllHold, MeansFailing, FirstFailingIsFirst}
 
@@ -11,8 +11,7 @@ use Rattle.dev_base.specs.Rules.{failing_from, first_failing, judged_by, judged,
 
 -- A fact of both branches is one of the choice.
 pub either : {A : Type 0} (P : A → Type 0) (b : Bool) (x y : A) → P x → P y → P (cond b x y)
-either P true x y p q = p
-either P false x y p q = q
+either P b x y p q = grind arith
 
 -- ---- whole parts of numbers that grow
 
@@ -60,8 +59,7 @@ means_from number (true ∷ rules) = more number rules (failing_from (number + 1
 means_from number (false ∷ rules) = search arith
 
 from_one : (rules : List Bool) (answer : Option ℕ) → Means 1 rules answer → MeansFailing rules answer
-from_one rules None h = h
-from_one rules (Some rule) h = search arith
+from_one rules answer h = grind arith
 
 pub first_failing_is_first : FirstFailingIsFirst
 first_failing_is_first rules = from_one rules (first_failing rules) (means_from 1 rules)
@@ -108,8 +106,7 @@ judged-ok rules found device e =
 -- A hook returns a device exactly if the restore does.
 pub hook-ok : {D : Type 0} (outcome : Result D ℕ) (device : D) → hook_result outcome ≡ Ok device → outcome ≡ Ok device
 unfolding hook_result
-hook-ok (Ok found) device e = cc
-hook-ok (Err rule) device e = cc
+hook-ok outcome device e = grind arith
 
 pub ok-hook : {D : Type 0} (outcome : Result D ℕ) (device : D) → outcome ≡ Ok device → hook_result outcome ≡ Ok device
 unfolding hook_result

@@ -2,11 +2,11 @@
 pub use Rattle.std.proofs.{Math.Bool.and-false, Math.Bool.and-true, Math.Bool.or-true, lemmas.Grind.common_steps, lemmas.Nat.and_le_r, lemmas.Nat.le-div}
 pub use Rattle.std.proofs.{Math.Nat.le-max_right, Math.Nat.mul-le-mul, lemmas.List.Folds.list_all_at, lemmas.List.Folds.list_all_more}
 pub use Rattle.std.proofs.Common.{Bool, List, None, Ok, Option, Some, [], ap, append-nil, append_assoc, arith, cond, drop, false, get_or, if◌then◌else◌}
-pub use Rattle.std.proofs.Common.{inl, inr, length, length-append, map, min, nat_eq, negsuc, not, pos, refl, replicate, subst, suc, sym, take, true, zero, ℕ}
+pub use Rattle.std.proofs.Common.{inl, length, length-append, map, min, nat_eq, negsuc, not, pos, refl, replicate, subst, suc, sym, take, true, zero, ℕ}
 pub use Rattle.std.proofs.Common.{ℤ, ⊎_elim, ◌%◌, ◌&&◌, ◌*◌, ◌++◌, ◌+◌, ◌-◌, ◌/◌, ◌<◌, ◌==◌, ◌^◌, ◌||◌}
 pub use Rattle.std.proofs.Common.{◌∙◌, ◌∷◌, ◌≡◌, ◌≤◌, ◌⊎◌}
-pub use Rattle.std.proofs.lemmas.Bool.{and_from, and_parts, cases_lt, cond_both, eq-eqb, eqb-false, eqb-true, false≢true, le-leb, leb-false, leb-true, lt-leb}
-pub use Rattle.std.proofs.lemmas.Bool.{lt-ltb, ltb-false, ltb-true, ne_eqb, not-false, not-true, or_right, Decides.nat_tests}
+pub use Rattle.std.proofs.lemmas.Bool.{and_from, and_parts, cases_lt, cond_both, eq-eqb, eqb-false, eqb-true, le-leb, leb-true, lt-leb}
+pub use Rattle.std.proofs.lemmas.Bool.{ltb-true, ne_eqb, not-false, not-true, or_right, Decides.nat_tests}
 pub use Rattle.std.proofs.lemmas.List.{get_or-append-add, get_or-map, get_or_append_left, get_or_past, length-map, length-set, map-append, nil_from_length}
 pub use Rattle.std.proofs.lemmas.List.Elements.{All-cons, All-nil}
 pub use Rattle.std.proofs.lemmas.List.FromFn.{get_or-map-range_with_len, get_or-range_with_len, length-map-range_with_len}
@@ -30,7 +30,7 @@ pub use Rattle.dev_serial.specs.{Line.character_bits, Places.PlacesAre, Receive.
 pub use Rattle.dev_serial.specs.{SheetNumbers.NumbersAre, declared.interrupt.Interrupt.Interrupt, declared.mode.Mode.Mode}
 pub use Rattle.dev_serial.specs.{declared.mode.TheConstants.LONGEST_CHARACTER, declared.numbers.PortNumbers.PortNumbers, declared.numbers.TheConstants.NEVER}
 pub use Rattle.dev_serial.specs.{declared.shift.Shift.Shift, declared.stored.Counted.Counted, declared.stored.Ring.Ring, declared.trigger.Trigger.Trigger}
-pub use Rattle.dev_serial.specs.{Laws.SavedAreCells, Laws.SavedComesBack, Laws.SavesAlike, Laws.SoundMeetsRules, declared.trigger.Trigger.TheVariants.One}
+pub use Rattle.dev_serial.specs.{Laws.SavedAreCells, Laws.SavedComesBack, Laws.SavesAlike, Laws.SoundMeetsRules}
 pub use Rattle.dev_serial.specs.Access.{id_read, is_empty, leaving, lsr_read, receiver_cleared, room_of, switch_of, transmitter_cleared, with_taken}
 pub use Rattle.dev_serial.specs.Cells.{AreBytesIn, IsArray, IsPortCells, array_at, bytes_at, field_kinds, kinds, named, ring_at}
 pub use Rattle.dev_serial.specs.Laws.{WritesAlike, WritesKeepLevel, WritesKeepSound, AdvancesAlike, AdvancesKeepLevel, AdvancesKeepSound, AlikeBack}

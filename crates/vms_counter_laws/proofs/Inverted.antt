@@ -1,21 +1,19 @@
 -- Which rule an answer of the comparison is of, and what that says of the two sets.
 use Rattle.vms_counter_laws.proofs.Facade.{◌≡◌, ◌⊎◌, inl, inr, ℕ, zero, suc, ◌+◌, ◌<◌, Bool, true, false, List, [], ◌∷◌, length}
 use Rattle.vms_counter_laws.proofs.Facade.{get_or, if◌then◌else◌, Option, Some, None, refl, arith, slice_get, list_all, Item, Struct, Part, Place}
-use Rattle.vms_counter_laws.proofs.Facade.{or_else, first_answer, Cell, first, no_desc, struct_cells, Desc, Sub, Device, Set, is_one_of, index, is_version_of}
-use Rattle.vms_counter_laws.proofs.Facade.{here, in_field, Mismatch, first_mismatch, comparing, compare_device, compare_sub, is_in, Entry, Comparer}
-use Rattle.vms_counter_laws.proofs.Facade.{no_comparer, comparer_of, comparers, compare_desc, compare_fields, compare_validations, failing_pair, is_covered}
-use Rattle.vms_counter_laws.proofs.Facade.{is_kept, pair_rules, pair_structs, present, position_from, same_rest, uncovered_rules, reduced, one_more, compared}
-use Rattle.vms_counter_laws.proofs.Facade.{◌&&◌, ◌++◌, sym, ℤ, Kind, Equal, InRange, code, same_number, Formula, Field, field_cells, counted}
-use Rattle.vms_counter_laws.proofs.Facade.{value_code, ConstantFits, ConstantsFit, is_same, presence, absent_hold, bound, entry_of, holds_as_much, names_match}
-use Rattle.vms_counter_laws.proofs.Facade.{present_from, same_constant, same_count, same_item, RestAt, at_first, one_on, kinds_same, Two, Clash, Clashes}
-use Rattle.vms_counter_laws.proofs.Facade.{Differ}
+use Rattle.vms_counter_laws.proofs.Facade.{or_else, first_answer, Cell, first, no_desc, Desc, Sub, Device, Set, is_one_of, index, is_version_of, here, in_field}
+use Rattle.vms_counter_laws.proofs.Facade.{Mismatch, first_mismatch, comparing, compare_device, compare_sub, is_in, Entry, Comparer, no_comparer, comparer_of}
+use Rattle.vms_counter_laws.proofs.Facade.{comparers, compare_desc, compare_fields, compare_validations, failing_pair, is_covered, is_kept, pair_rules}
+use Rattle.vms_counter_laws.proofs.Facade.{pair_structs, present, same_rest, uncovered_rules, reduced, one_more, compared, ◌&&◌, ◌++◌, sym, ℤ, Kind}
+use Rattle.vms_counter_laws.proofs.Facade.{Equal, InRange, code, same_number, Formula, Field, field_cells, counted, value_code, ConstantFits, ConstantsFit}
+use Rattle.vms_counter_laws.proofs.Facade.{is_same, presence, absent_hold, bound, entry_of, holds_as_much, names_match, present_from, same_constant, same_count}
+use Rattle.vms_counter_laws.proofs.Facade.{same_item, RestAt, at_first, one_on, kinds_same, Two, Clash, Clashes, Differ}
 use Rattle.vms_spec.specs.declared.Part.TheVariants as parts
 
 -- ---- answers
 
 pub else_some : {X : Type 0} (x y : Option X) (m : X) → or_else x y ≡ Some m → (x ≡ Some m) ⊎ ((x ≡ None) × (y ≡ Some m))
-else_some None y m h = inr (refl, h)
-else_some (Some x) y m h = inl h
+else_some x y m h = grind arith
 
 -- the first answer of a list, and none before it
 pub record FirstSome {X Y : Type 0} (f : ℕ → X → Option Y) (i : ℕ) (xs : List X) (m : Y) : Type 0 where
@@ -113,15 +111,7 @@ module _ (structs : List Comparer) (within : StructsWithin structs) (a b : Desc)
 
 pub desc_within : (structs : List Comparer) (x y : List (List Cell)) (a b : Desc) (v w : ℕ) (part part' : Part) (m : Mismatch) → StructsWithin structs
     → compare_desc structs x y a b v w part part' ≡ Some m → IsWithin part m
-desc_within structs x y a b v w part part' m within h =
-    let es = present x a v in
-    let fs = present y b w in
-    let o : ℕ → Option ℕ = λ k. position_from 0 es k in
-    let n : ℕ → Option ℕ = λ k. position_from 0 fs k in
-    elim (else_some _ _ m h) [
-      | inl k ↦ fields_within _ within a b v w part part' o n es fs m k
-      | inr k ↦ validations_within _ within a b v w part part' o n m k.1
-    ]
+desc_within structs x y a b v w part part' m within h = grind (arith, else_some, fields_within, validations_within)
 
 -- the comparers of the structures answer within them
 pub tables_within : (x y : List (List Cell)) (olds news : List Desc) (k : ℕ) → StructsWithin (comparers x y olds news k)
@@ -143,8 +133,7 @@ IsDevice (parts.Device i) = Unit {0}
 IsDevice _ = ⊥
 
 pub struct_no_device : (p : Part) → IsStruct p → IsDevice p → ⊥
-struct_no_device (parts.Struct i) s d = d
-struct_no_device _ s d = s
+struct_no_device p s d = grind arith
 
 module _ (old new : Set) where
   pub part_within : (a b : Desc) (v : ℕ) (part part' : Part) (m : Mismatch) → comparing old new a b v part part' ≡ Some m → IsWithin part m
@@ -227,8 +216,7 @@ AreFields all v (e ∷ es) = ((slice_get all e.index ≡ Some e.field) × (prese
 
 entry_field : (all : List Field) (v i p : ℕ) (f : Field) (pr : Option (Option Formula)) (es : List Entry) → presence v f.test f.since ≡ pr
     → slice_get all i ≡ Some f → AreFields all v es → AreFields all v (entry_of i p f pr ++ es)
-entry_field all v i p f None es h e more = more
-entry_field all v i p f (Some rest) es h e more = ((e, h), more)
+entry_field all v i p f pr es h e more = grind arith
 
 pub present_fields : (y : List (List Cell)) (all : List Field) (v i p : ℕ) (fs : List Field) → RestAt all i fs → AreFields all v (present_from y all v i p fs)
 present_fields y all v i p [] h = tt
@@ -265,8 +253,7 @@ not_this : (r : ℕ) (b : Bool) (rules : List (ℕ × Bool)) (p q : Place) (m : 
 not_this r b rules p q m other h = grind (arith, next_rule)
 
 no_left : (o n : ℕ → Option ℕ) (r s : Option Formula) → r ≡ None → same_rest o n r s ≡ true → s ≡ None
-no_left o n None None e h = refl
-no_left o n _ _ e h = absurd (cc)
+no_left o n r s e h = grind arith
 
 module _ (two : Two) (m : Mismatch) (twelve : m.rule ≡ 12) where
   open two use {ks, a, b, v, w, part, part', o, n}

@@ -1,15 +1,15 @@
 -- The laws as they are stated, and worked pairs of sets.
 use Rattle.vms_counter_laws.proofs.Always.{shown}
 use Rattle.vms_counter_laws.proofs.Facade.{◌≡◌, ℕ, ◌==◌, true, false, List, [], ◌∷◌, Option, Some, None, IfSome, refl, if◌then◌else◌}
-use Rattle.vms_counter_laws.proofs.Facade.{ap, ◌∙◌, or_left, or_right, bytes_eq-Decides, IsBytes, Set, Image, is_one_of, WellFormed, bytes_at}
-use Rattle.vms_counter_laws.proofs.Facade.{machine_bytes, written_are_bytes, Mismatch, lacking, machine_for, candidates, stream_of, Refusal, Answer, State}
-use Rattle.vms_counter_laws.proofs.Facade.{IsFirst, Here, Later, NoneShows, Counters, Agree, Lacks, Finds, Reason, Fault, one_fault_holds, OneAnswerLaw, subst}
-use Rattle.vms_counter_laws.proofs.Facade.{pos, codes, code, U8, U16, Struct, Counted, Place, first, Desc, Field, set_1, set_3, here, in_field, number, box}
-use Rattle.vms_counter_laws.proofs.Facade.{box_set, sub_of, counted_set, subsection_set, reading, between_at, behind_at, trailer_at, first_mismatch}
-use Rattle.vms_counter_laws.proofs.Facade.{default_images, AreCompatible, NoState, computed, NamedLaw, AlwaysLaw, ComputedLaw, zero, suc, Bool, length, arith}
-use Rattle.vms_counter_laws.proofs.Facade.{slice_get, Decides, Decides-and, Decides-like, Device, FitsHeads, Reading, Accepted, Refused, AreReady, IsReady}
-use Rattle.vms_counter_laws.proofs.Facade.{ready_decides, at_start, by_state, Taken, Faulty, state_refuses, accepted_holds, told_holds, either_holds}
-use Rattle.vms_counter_laws.proofs.Facade.{never_both_holds, Shows, all_ready, answer_to, first_refused, or_next, refused, refusal_of}
+use Rattle.vms_counter_laws.proofs.Facade.{or_left, or_right, bytes_eq-Decides, IsBytes, Set, Image, is_one_of, WellFormed, bytes_at, machine_bytes}
+use Rattle.vms_counter_laws.proofs.Facade.{written_are_bytes, Mismatch, lacking, machine_for, candidates, stream_of, Refusal, Answer, State, IsFirst, Here}
+use Rattle.vms_counter_laws.proofs.Facade.{Later, NoneShows, Counters, Agree, Lacks, Finds, Fault, one_fault_holds, OneAnswerLaw, subst, pos, codes, code, U8}
+use Rattle.vms_counter_laws.proofs.Facade.{U16, Struct, Counted, Place, first, Desc, Field, set_1, set_3, here, in_field, number, box, box_set, sub_of}
+use Rattle.vms_counter_laws.proofs.Facade.{counted_set, subsection_set, reading, between_at, behind_at, trailer_at, first_mismatch, default_images}
+use Rattle.vms_counter_laws.proofs.Facade.{AreCompatible, NoState, computed, NamedLaw, AlwaysLaw, ComputedLaw, zero, suc, Bool, length, arith, slice_get}
+use Rattle.vms_counter_laws.proofs.Facade.{Decides, Decides-and, Decides-like, Device, FitsHeads, Reading, Accepted, Refused, AreReady, IsReady, ready_decides}
+use Rattle.vms_counter_laws.proofs.Facade.{at_start, by_state, Taken, Faulty, state_refuses, accepted_holds, told_holds, either_holds, never_both_holds, Shows}
+use Rattle.vms_counter_laws.proofs.Facade.{all_ready, answer_to, first_refused, or_next, refused, refusal_of}
 use Rattle.vms_stream.specs.{State.State as Standing, StreamLaws.Answer as Either}
 use Rattle.vms_spec.specs.declared.Part.TheVariants as parts
 use Rattle.vms_spec.specs.declared.Reason.TheVariants as reasons
@@ -19,8 +19,7 @@ use Rattle.vms_spec.specs.declared.Reason.TheVariants as reasons
 -- what is lacking is one of the machines
 more_known : (m : List ℕ) (machines : List (List ℕ)) (o : Option (List ℕ)) → IfSome o (λ x. is_one_of machines x ≡ true)
     → IfSome o (λ x. is_one_of (m ∷ machines) x ≡ true)
-more_known m machines None h = tt
-more_known m machines (Some x) h = or_right _ _ h
+more_known m machines o h = grind (arith, or_right)
 
 lacking_known : (names machines : List (List ℕ)) → IfSome (lacking names machines) (λ m. is_one_of machines m ≡ true)
 lacking_known names [] = tt

@@ -109,7 +109,8 @@ module _ (set : Set) (names : List (List ℕ)) (state : State) (d : Device) (ima
     counted : (numbers : List ℤ) (i : ℕ) (slots : List Slot) → drop i (total numbers) ≡ slots → skipped slots ≡ 0
         → beyond i (part_at set (in_body numbers i) (Inside k id part i)) ≡ suc i
     counted numbers i slots h z =
-        let f : skipped (drop i (part_slots set (slice_get set.devices k) (image_at (in_body numbers i)) part)) ≡ 0 = rw (part_now _ i) (ap skipped h ∙ z) in
+        let f : skipped (drop i (part_slots set (slice_get set.devices k) (image_at (in_body numbers i)) part)) ≡ 0 =
+        rw (part_now _ i) (ap skipped h ∙ z) in
         omega arith
 
     -- what is taken, as the judge resumes from there
