@@ -171,16 +171,14 @@ module _ (m : ClockState) (s : IsSound m) where
       (λ a. in-front clock_1.machines mc146818_at_1 (saved_cells 1 m.clock) lists (chip_is_ready.first (saved_cells 1 m.clock) a.clock) board)
       (λ a. in-front clock_2.machines mc146818_at_2 (saved_cells 2 m.clock) lists (chip_is_ready.second (saved_cells 2 m.clock) a.clock) board)
 
-images-ready : (set : ℕ) (m : ClockState) → IsSound m → MaySaveUnder m.clock.version set
-    → AreReady (clock_set set) (images_of (clock_set set) (clock_set set).devices (saved_cells set m.clock ∷ board_lists (board_saved NEWEST m.board)))
-images-ready set m s may =
-    let least = s.devices.clock.version.first in
-    let le = may.level_le_set in
-    ready-by-set m s set (omega (arith, least, le)) may.set_le_newest (saved_are_cells.of_set set m s may)
-
 pub saved_are_ready : SavedAreReady
 unfolding saved
-saved_are_ready = record { images = images-ready }
+saved_are_ready = record {
+  images = λ set m s may.
+      let least = s.devices.clock.version.first in
+      let le = may.level_le_set in
+      ready-by-set m s set (omega (arith, least, le)) may.set_le_newest (saved_are_cells.of_set set m s may);
+}
 
 -- ---- what is saved of sound devices is carried to the newest clock set as their tables say, and can be restored
 
@@ -202,21 +200,18 @@ by-set numbers cells =
     (λ are. ap (λ clock. both clock (inner_cells cells)) (chip-1 numbers are _ refl).carried)
     (λ are. ap (λ clock. both clock (inner_cells cells)) (chip-2 numbers are _ refl).carried)
 
-cells-carried : (set : ℕ) (m : ClockState) → IsSound m → MaySaveUnder m.clock.version set
-    → all_cells (clock_set set) (saved_cells set m.clock) (board_saved NEWEST m.board) ≡ both (chip_carried set (saved_cells set m.clock)) (board_carried NEWEST (board_saved NEWEST m.board))
-unfolding saved
-cells-carried set m s may =
-    let least = s.devices.clock.version.first in
-    let le = may.level_le_set in
-    let own = saved_are_cells.of_set set m s may in
-    let at-level = s.devices.level in
-    by-set (saved_cells set m.clock) (board_saved NEWEST m.board) set (omega (arith, least, le)) may.set_le_newest own.clock
-    ∙ ap (both (chip_carried set (saved_cells set m.clock)))
-    (board-is-carried.cells NEWEST m.board s.board (record { level_le_set = omega (arith, at-level); set_le_newest = omega arith }))
-
 pub saved_is_carried : SavedIsCarried
 unfolding saved clock_carried
-saved_is_carried = record { cells = cells-carried }
+saved_is_carried = record {
+  cells = λ set m s may.
+      let least = s.devices.clock.version.first in
+      let le = may.level_le_set in
+      let own = saved_are_cells.of_set set m s may in
+      let at-level = s.devices.level in
+      by-set (saved_cells set m.clock) (board_saved NEWEST m.board) set (omega (arith, least, le)) may.set_le_newest own.clock
+      ∙ ap (both (chip_carried set (saved_cells set m.clock)))
+      (board-is-carried.cells NEWEST m.board s.board (record { level_le_set = omega (arith, at-level); set_le_newest = omega arith }));
+}
 
 pub images_come_back : ImagesComeBack
 images_come_back = record {

@@ -110,10 +110,6 @@ kept-by slots numbers from cells d none = from-more _ _ from cells (λ k cell l 
   held true z default none e = refl
   held false z default none e = rw (none refl) e
 
-pub zeros-kept : (slots : List Slot) (numbers : List ℤ) (from : ℕ) (cells : List Cell) → zero_defaults from cells ≡ true
-    → AreZeros numbers from (from + length cells) → are_kept slots numbers from cells ≡ true
-zeros-kept slots numbers from cells d zeros = kept-by slots numbers from cells d (λ k l h out. zeros k l h)
-
 -- None of these slots has a cell.
 pub has-none : (slots more : List Slot) (c : ℕ) → has_cell slots c ≡ false → has_cell more c ≡ false → has_cell (slots ++ more) c ≡ false
 has-none slots more c e f = names_append slots more c ∙ or_from _ _ e f

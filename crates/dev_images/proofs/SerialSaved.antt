@@ -8,7 +8,7 @@ use Rattle.dev_images.proofs.Facade.{number, or_from, or_left, or_parts, or_righ
 use Rattle.dev_images.proofs.Facade.{serial_fields, serial_in, serial_rows, set_1, set_2, set_3, shipped_set, struct_cells, subst, suc, sym, thr_ipending}
 use Rattle.dev_images.proofs.Facade.{timeout, times, true, zero, ℕ, ℤ, ◌%◌, ◌++◌, ◌+◌, ◌-◌, ◌<◌, ◌==◌, ◌^◌, ◌||◌, ◌∙◌}
 use Rattle.dev_images.proofs.Facade.{◌∷◌, ◌≡◌, ◌≤◌}
-use Rattle.dev_images.proofs.ReadyOf.{AreZeros, IsFineSub, kept-by, needed, ready-parts, run, run-zeros, zeros-in, zeros-kept}
+use Rattle.dev_images.proofs.ReadyOf.{AreZeros, IsFineSub, kept-by, needed, ready-parts, run, run-zeros, zeros-in}
 use Rattle.dev_images.proofs.ShippedDevices.{IsSavedAs, SavedWhere, carried-in, from_four, is_serial, port_kinds, port_origins, ready-in, serial_at_1}
 use Rattle.dev_images.proofs.ShippedDevices.{serial_at_2, serial_at_3, serial_at_4}
 use Rattle.dev_serial.specs.Cells.{carried as serial_carried}
@@ -215,7 +215,7 @@ module _ (set : Set) (version : ℕ) (name : List ℕ) (former : List (List ℕ)
         let p = or_parts (needs_count (get_or numbers RX_COUNT (pos 0))) _ e in
         let off = zeros-in numbers RX_COUNT 34 (are.no_fifo since (no-count _ rx p.0) (no-count _ tx p.1)) in
         record {
-          fine = record { kept = rw e (zeros-kept [] numbers RX_COUNT fifo_cells refl off); rules = rw e tt };
+          fine = record { kept = rw e (kept-by [] numbers RX_COUNT fifo_cells refl (λ k l h out. off k l h)); rules = rw e tt };
           carried = rw e (run-zeros numbers RX_COUNT 34 off);
         }
 
@@ -236,7 +236,7 @@ ring-4 set numbers are false e =
     let off = zeros-in numbers RX_DATA 36
     (are.no_ring (omega arith) (no-count _ (range RX_NUMBER (omega arith)) p.0) (no-count _ (range TX_NUMBER (omega arith)) p.1)) in
     record {
-      fine = record { kept = rw e (zeros-kept [] numbers RX_DATA (replicate 36 byte) refl off); rules = rw e tt };
+      fine = record { kept = rw e (kept-by [] numbers RX_DATA (replicate 36 byte) refl (λ k l h out. off k l h)); rules = rw e tt };
       carried = rw e (run-zeros numbers RX_DATA 36 off);
     }
 

@@ -100,21 +100,22 @@ zero_is (negsuc n) same = cc
 no_default : (z : ℤ) → same_number z (pos 0) ≡ true → kept (is_zero z) (integer_file z) ≡ None
 no_default z same = rw (zero_is z same)
 
-item_keys : (item : Item) (z : ℤ) → defaults_well item z ≡ true
-    → sort_by (item_sort item) (option_map natural_file (size_in item)) (option_map natural_file (struct_in item)) (option_map integer_file (equal_in item))
-    (kept (is_zero z) (integer_file z)) ≡ true
-item_keys (items.Unused n) z well = rw (no_default z well)
-item_keys (items.Struct j) z well = rw (no_default z well)
-item_keys _ z well = refl
-
 -- equal and default
 abbrev values_by : Option Data → Option Data → Bool
 values_by equal default = not (is_some equal && is_some default)
 
-value_keys : (item : Item) (z : ℤ) → defaults_well item z ≡ true
-    → values_by (option_map integer_file (equal_in item)) (kept (is_zero z) (integer_file z)) ≡ true
-value_keys (items.Equal kind y) z well = rw (no_default z (and_parts (in_range kind y) (same_number z (pos 0)) well).1)
-value_keys _ z well = refl
+-- the keys of an item and of its default fit together
+record AreKeys (item : Item) (z : ℤ) : Type 0 where
+  pub sort : sort_by (item_sort item) (option_map natural_file (size_in item)) (option_map natural_file (struct_in item))
+      (option_map integer_file (equal_in item)) (kept (is_zero z) (integer_file z)) ≡ true
+  pub values : values_by (option_map integer_file (equal_in item)) (kept (is_zero z) (integer_file z)) ≡ true
+
+item_keys : (item : Item) (z : ℤ) → defaults_well item z ≡ true → AreKeys item z
+item_keys (items.Equal kind y) z well =
+    record { sort = refl; values = rw (no_default z (and_parts (in_range kind y) (same_number z (pos 0)) well).1) }
+item_keys (items.Unused n) z well = record { sort = rw (no_default z well); values = refl }
+item_keys (items.Struct j) z well = record { sort = rw (no_default z well); values = refl }
+item_keys _ z well = record { sort = refl; values = refl }
 
 -- ---- numbers of 64 bits
 
@@ -254,9 +255,9 @@ module _ (asks : Bool) (own : List (List ℕ)) (names : Names) (may : ℕ → Bo
         got (codes "equal") table _ (or_none _),
         got (codes "default") table _ (or_none _),
       )
-      (item_keys f.item f.default well) in
+      (item_keys f.item f.default well).sort in
       let values : values_fit d ≡ true =
-      rw (got (codes "equal") table _ (or_none _), got (codes "default") table _ (or_none _)) (value_keys f.item f.default well) in
+      rw (got (codes "equal") table _ (or_none _), got (codes "default") table _ (or_none _)) (item_keys f.item f.default well).values in
       rw (table_fits field_needs field_allows table refl refl, counts, values, sorts)
 
   pub field_back : (f : Field) → FitsField f → defaults_well f.item f.default ≡ true → Named f

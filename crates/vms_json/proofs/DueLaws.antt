@@ -121,20 +121,18 @@ module _ {said : Option (Data × List Token)} {laid : Laid} where
         enough = b.enough (length ts) (omega arith);
       }
 
-  pub token_refused : {t : Token} {ts : List Token} → after_end_array (t ∷ ts) ≡ None → IsUnder said laid (t ∷ ts)
-      → ((n : ℕ) → converted of_json (value n (t ∷ ts)) ≡ None) → said ≡ None
-  token_refused {t} {ts} going is none = let b = begins going is in b.says ∙ value_refused b.frames (t ∷ ts) (none (room b.frames))
+  module _ {t : Token} {ts : List Token} (going : after_end_array (t ∷ ts) ≡ None) (is : IsUnder said laid (t ∷ ts)) where
+    pub token_refused : ((n : ℕ) → converted of_json (value n (t ∷ ts)) ≡ None) → said ≡ None
+    token_refused none = let b = begins going is in b.says ∙ value_refused b.frames (t ∷ ts) (none (room b.frames))
+
+    -- a list or an object that would be too deep
+    pub too_deep : max_depth ≤ length laid.begun.items → converted of_json (value 0 (t ∷ ts)) ≡ None → said ≡ None
+    too_deep deep none =
+        let b = begins going is in
+        let no_room : room b.frames ≡ 0 = omega (arith, deep, open_count b.frames laid.rows.items laid.begun.items b.rows) in
+        b.says ∙ value_refused b.frames (t ∷ ts) (rw (no_room, none))
 
   -- ---- a list
-
-  -- a list or an object that would be too deep
-  pub too_deep : {t : Token} {ts : List Token} → after_end_array (t ∷ ts) ≡ None → IsUnder said laid (t ∷ ts)
-      → max_depth ≤ length laid.begun.items
-      → converted of_json (value 0 (t ∷ ts)) ≡ None → said ≡ None
-  too_deep {t} {ts} going is deep none =
-      let b = begins going is in
-      let no_room : room b.frames ≡ 0 = omega (arith, deep, open_count b.frames laid.rows.items laid.begun.items b.rows) in
-      b.says ∙ value_refused b.frames (t ∷ ts) (rw (no_room, none))
 
   pub list_opened : {now : Laid} {ts : List Token} (n : ℕ) → IsUnder said laid (Token.begin_array ∷ ts) → length laid.begun.items < max_depth
       → now.rows.items ≡ laid.rows.items ++ rows.List n ∷ [] → now.begun.items ≡ laid.begun.items ++ length laid.rows.items ∷ []

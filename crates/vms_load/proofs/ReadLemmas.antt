@@ -1,5 +1,5 @@
 -- Readings that go on from call to call.
-use Rattle.std.proofs.{Common.IsErrAnd, lemmas.Result.err_from_is_err_and}
+pub use Rattle.vms_frames.proofs.HeadLemmas.{err_is}
 use Rattle.vms_load.proofs.Facade.{◌≡◌, ℕ, ◌+◌, ◌-◌, ◌≤◌, List, length, drop, Option, Some, None, Result, Ok, Err, OnOk, refl, sym, ap}
 use Rattle.vms_load.proofs.Facade.{◌∙◌, arith, ◌<◌, ◌^◌, [], IfErr, drop-drop, drop_all, Reason, Verdict, Goes, Faulty, Over, Reading, Refused}
 use Rattle.vms_load.proofs.Facade.{reading_after, Piece, Set, State, by_state, Seen, Good, Bad, Short, judge_seen, judge, advances, solid, Stand, ahead, Fails}
@@ -11,10 +11,6 @@ use Rattle.vms_frames.specs.Reads.{fault_course as frame_course}
 use Rattle.vms_spec.specs.declared.Reason.TheVariants as reasons
 use Rattle.vms_frames.specs.declared.fault.FrameFault.TheVariants as frames
 use Rattle.vms_load.specs.declared.fault.LoadFault.TheVariants as faults
-
--- what `?` returns
-pub err_is : {T E : Type 0} (r : Result T E) (e : E) → IsErrAnd r (λ y. y ≡ e) → r ≡ Err e
-err_is r e is = let p = err_from_is_err_and r is in rw (p.1, p.2)
 
 -- one unit of a reading
 pub unit_of : (set : Set) (names : List (List ℕ)) (s : State) (place : ℕ) (rest : List ℕ)

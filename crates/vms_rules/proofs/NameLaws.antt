@@ -223,19 +223,20 @@ new_to had (y ∷ names) h d =
     cc (false_of (had y) (λ e. is_itself (key y) (h y e).0), new_to (with_name had y) names (λ n e. either_of (bytes_eq y n) (had n) e (λ z. rw (← is_same y n z) d.0) (λ z. (h n z).1)) d.1)
 
 -- the names of a field are new if the keys of all fields' names are distinct
-pub new_names : (fields : List Field) (i : ℕ) (f : Field) → i < length fields → f ≡ get_or fields i f
-    → IsDistinct same (map key (all_names (map field_of fields))) → are_new (all_names (take i (map field_of fields))) (f.name ∷ f.former) ≡ true
-new_names fields i f lt is d =
-    let before = all_names (map field_of (take i fields)) in
-    let names : List (List ℕ) = f.name ∷ f.former in
-    let rest = all_names (map field_of (drop (i + 1) fields)) in
-    let whole : all_names (map field_of fields) ≡ before ++ (names ++ rest) =
-    cc (take-append-drop i fields, drop_is fields i f lt is, map-append field_of (take i fields) (f ∷ drop (i + 1) fields), names_of_both (map field_of (take i fields)) (map field_of (f ∷ drop (i + 1) fields))) in
-    let split : map key (all_names (map field_of fields)) ≡ map key (before ++ names) ++ map key rest =
-    cc (append_assoc before names rest, map-append key (before ++ names) rest) in
-    let both : IsDistinct same (map key (before ++ names)) = distinct_left (map key (before ++ names)) (map key rest) (rw split at d) in
-    let own : IsDistinct same (map key names) = distinct_right (map key before) (map key names) (rw (map-append key before names) at both) in
-    rw take-map (new_is before names ∙ new_to (is_one_of before) names (apart_from before names both) own)
+module _ (fields : List Field) (i : ℕ) (f : Field) (lt : i < length fields) (is : f ≡ get_or fields i f) where
+  pub new_names : IsDistinct same (map key (all_names (map field_of fields)))
+      → are_new (all_names (take i (map field_of fields))) (f.name ∷ f.former) ≡ true
+  new_names d =
+      let before = all_names (map field_of (take i fields)) in
+      let names : List (List ℕ) = f.name ∷ f.former in
+      let rest = all_names (map field_of (drop (i + 1) fields)) in
+      let whole : all_names (map field_of fields) ≡ before ++ (names ++ rest) =
+      cc (take-append-drop i fields, drop_is fields i f lt is, map-append field_of (take i fields) (f ∷ drop (i + 1) fields), names_of_both (map field_of (take i fields)) (map field_of (f ∷ drop (i + 1) fields))) in
+      let split : map key (all_names (map field_of fields)) ≡ map key (before ++ names) ++ map key rest =
+      cc (append_assoc before names rest, map-append key (before ++ names) rest) in
+      let both : IsDistinct same (map key (before ++ names)) = distinct_left (map key (before ++ names)) (map key rest) (rw split at d) in
+      let own : IsDistinct same (map key names) = distinct_right (map key before) (map key names) (rw (map-append key before names) at both) in
+      rw take-map (new_is before names ∙ new_to (is_one_of before) names (apart_from before names both) own)
 
 -- whether they are new: the keys of all differ, or they are looked up
 pub names_known : (fields : List Field) (i : ℕ) (f : Field) (had : List ℕ → Bool) (differ is_new : Bool) → i < length fields → f ≡ get_or fields i f
