@@ -1,7 +1,7 @@
 -- A set that is well formed has no fault, and is good.
-use Rattle.vms_spec.proofs.{Facade.ConstantFits, Facade.ConstantsFit, Tables.one_more}
+use Rattle.vms_spec.proofs.{Facade.ConstantFits, Facade.ConstantsFit, ListsAndNumbers.either_of, Tables.one_more}
 use Rattle.vms_spec.proofs.Facade.{◌≡◌, ℕ, zero, suc, ◌+◌, ◌≤◌, List, [], ◌∷◌, length, Option, Some, None, refl, sym, ap, ◌∙◌}
-use Rattle.vms_spec.proofs.Facade.{arith, Bool, true, false, ◌&&◌, struct_fault, device_fault, size_rules, ◌||◌, nat_le, slice_get, list_all, bytes_eq}
+use Rattle.vms_spec.proofs.Facade.{arith, Bool, true, false, ◌&&◌, struct_fault, device_fault, size_rules, nat_le, slice_get, list_all, bytes_eq}
 use Rattle.vms_spec.proofs.Facade.{bytes_eq-Decides, and_parts, leb-true, Place, or_else, first_answer, is_name, is_name_byte, Set, is_one_of, failing}
 use Rattle.vms_spec.proofs.Facade.{first_fault, here, set_rules, WellFormed, IsGood, FitsHeads, ◌<◌, ◌++◌, get_or, map, take, ℤ, pos, negsuc}
 use Rattle.vms_spec.proofs.Facade.{◌≤ℤ◌, subst, ◌==◌, nat_lt, if◌then◌else◌, AllByRecursion, flat_map, list_any, not-true, ltb-true, eq-eqb}
@@ -28,6 +28,9 @@ answers_none f i (y ∷ xs) e zero x h = ap (λ k. f k x) (omega arith) ∙ ap (
 answers_none f i (y ∷ xs) e (suc j) x h =
     ap (λ k. f k x) (omega arith) ∙ answers_none f (suc i) xs (or_else_none (f i y) (first_answer f (suc i) xs) e).1 j x h
 
+answer_at : {X Y : Type 0} (f : ℕ → X → Option Y) (xs : List X) → first_answer f 0 xs ≡ None → (j : ℕ) (x : X) → slice_get xs j ≡ Some x → f j x ≡ None
+answer_at f xs e j x h = let plus : 0 + j ≡ j = omega arith in rw plus at (answers_none f 0 xs e j x h)
+
 -- ---- rules
 
 abbrev pub AllTrue : List Bool → Type 0
@@ -46,11 +49,7 @@ pub every_one : (p : List ℕ → Bool) (names : List (List ℕ)) (name : List �
 every_one p [] name h e = absurd (cc)
 every_one p (n ∷ names) name h e =
     let both = and_parts (p n) (list_all p names) h in
-    go (bytes_eq n name) refl e both.0 (λ g. every_one p names name both.1 g)
-  where
-    go : (c : Bool) → bytes_eq n name ≡ c → (c || is_one_of names name) ≡ true → p n ≡ true → (is_one_of names name ≡ true → p name ≡ true) → p name ≡ true
-    go true is g here later = cc ((bytes_eq-Decides n name).0 is)
-    go false is g here later = later g
+    either_of (bytes_eq n name) (is_one_of names name) e (λ is. cc ((bytes_eq-Decides n name).0 is, both.0)) (every_one p names name both.1)
 
 pub name_short : (most : ℕ) (name : List ℕ) → is_name most name ≡ true → length name ≤ most
 name_short most name e =
@@ -99,14 +98,9 @@ clean k d part rules e =
     let b = or_else_none (fields_fault k d part) (validations_fault d part) a.1 in
     record {
       own = all_true 1 rules (here part) a.0;
-      fields = λ i f h. all_true 1 (field_rules k d i f) (in_field part i) (field_clean i f h b.0);
-      validations = λ i t h. all_true 1 (validation_rules d t) (here part) (answers_none (λ i t. failing 1 (validation_rules d t) (here part)) 0 d.validate b.1 i t h);
+      fields = λ i f h. all_true 1 (field_rules k d i f) (in_field part i) (answer_at (λ i f. failing 1 (field_rules k d i f) (in_field part i)) d.fields b.0 i f h);
+      validations = λ i t h. all_true 1 (validation_rules d t) (here part) (answer_at (λ i t. failing 1 (validation_rules d t) (here part)) d.validate b.1 i t h);
     }
-  where
-    field_clean : (i : ℕ) (f : Field) → slice_get d.fields i ≡ Some f → fields_fault k d part ≡ None → failing 1 (field_rules k d i f) (in_field part i) ≡ None
-    field_clean i f h e =
-        let plus : 0 + i ≡ i = omega arith in
-        rw plus at (answers_none (λ i f. failing 1 (field_rules k d i f) (in_field part i)) 0 d.fields e i f h)
 
 -- ---- tests and counts name earlier single numbers
 
@@ -171,13 +165,10 @@ sound_count : (d : Desc) (k : ℕ) (c : Count) → count_names_well d k c ≡ tr
 sound_count d k (Counted by most) e = earlier_in d k by (and_parts (is_earlier_in d k by) (is_counting (slice_get d.fields by)) e).0
 sound_count d k _ e = tt
 
-sound_fields : (fields : List Field) (i : ℕ) (fs : List Field) → ((j : ℕ) (f : Field) → slice_get fs j ≡ Some f → IsSoundField fields (i + j) f) → AreSoundFields fields i fs
+-- field j of a list is field k of the description
+sound_fields : (fields : List Field) (i : ℕ) (fs : List Field) → ((j k : ℕ) (f : Field) → k ≡ i + j → slice_get fs j ≡ Some f → IsSoundField fields k f) → AreSoundFields fields i fs
 sound_fields fields i [] h = tt
-sound_fields fields i (f ∷ fs) h =
-    (subst (λ (k : ℕ). IsSoundField fields k f) (omega arith) (h 0 f refl), sound_fields fields (suc i) fs (λ j g e. next j g (h (suc j) g e)))
-  where
-    next : (j : ℕ) (g : Field) → IsSoundField fields (i + suc j) g → IsSoundField fields (suc i + j) g
-    next j g s = let plus : i + suc j ≡ suc i + j = omega arith in rw plus at s
+sound_fields fields i (f ∷ fs) h = (h 0 i f (omega arith) refl, sound_fields fields (suc i) fs (λ j k g at e. h (suc j) k g (omega arith) e))
 
 sound_validations : (fields : List Field) (ts : List Formula) → ((i : ℕ) (t : Formula) → slice_get ts i ≡ Some t → NamesEarlier fields (length fields) t) → AllByRecursion (NamesEarlier fields (length fields)) ts
 sound_validations fields [] h = tt
@@ -185,7 +176,7 @@ sound_validations fields (t ∷ ts) h = (h 0 t refl, sound_validations fields ts
 
 sound : (k : ℕ) (d : Desc) (rules : List Bool) → Clean k d rules → IsSound d
 sound k d rules c = record {
-  fields = sound_fields d.fields 0 d.fields (λ j f e. at_zero j f (field j f e));
+  fields = sound_fields d.fields 0 d.fields (λ j k f at e. let same : j ≡ k = omega arith in field k f (rw same at e));
   validate = sound_validations d.fields d.validate (λ i t e.
       names_earlier d.fields (length d.fields) (is_steady_in d) (λ j h. earlier d (length d.fields) j (inside j h) h) t (c.validations i t e).1.1.1.0);
 } where
@@ -194,15 +185,8 @@ sound k d rules c = record {
       let p = and_parts (test_names_well d j f.test) (count_names_well d j f.count) (c.fields j f e).1.1.1.0 in
       record { test = sound_test d j f.test p.0; count = sound_count d j f.count p.1 }
 
-  at_zero : (j : ℕ) (f : Field) → IsSoundField d.fields j f → IsSoundField d.fields (0 + j) f
-  at_zero j f s = let plus : j ≡ 0 + j = omega arith in rw plus at s
-
   inside : (j : ℕ) → is_steady_in d j ≡ true → j < length d.fields
-  inside j h = by_field (slice_get d.fields j) refl h
-    where
-      by_field : (o : Option Field) → slice_get d.fields j ≡ o → is_steady d.minimum o ≡ true → j < length d.fields
-      by_field None e h = cc
-      by_field (Some f) e h = slice_get_within d.fields j f e
+  inside j h = (earlier d (suc j) j (omega arith) h).there
 
 -- ---- defaults and constants
 
@@ -250,42 +234,32 @@ fit_item structs all _ caps z e f = tt
 
 -- the rule about defaults at each field of a description from field i on
 record FieldsFit (fields : List Field) (i : ℕ) (fs : List Field) : Type 0 where
-  pub fit : (j : ℕ) (f : Field) → slice_get fs j ≡ Some f → (defaults_well f.item f.default ≡ true) × (counts_well (counted (i + j) fields) f.default ≡ true)
+  pub fit : (j k : ℕ) (f : Field) → k ≡ i + j → slice_get fs j ≡ Some f → (defaults_well f.item f.default ≡ true) × (counts_well (counted k fields) f.default ≡ true)
 
 fit_fields : (structs : List (List OneCell)) → AllFit structs → (fields : List Field) (i : ℕ) (fs : List Field) → FieldsFit fields i fs → Fit (cells_from structs fields i fs)
 fit_fields structs all fields i [] h = tt
 fit_fields structs all fields i (f ∷ fs) h =
-    let a = h.fit 0 f refl in
+    let a = h.fit 0 i f (omega arith) refl in
     let caps = counted i fields in
-    let counts : counts_well caps f.default ≡ true = subst (λ (k : ℕ). counts_well (counted k fields) f.default ≡ true) (omega arith) a.1 in
     fit_append (field_cells structs fields i f) (cells_from structs fields (suc i) fs)
-    (fit_times (capacity_of f.count) (item_cells structs f.item caps f.default) 0 0 (fit_item structs all f.item caps f.default a.0 counts))
-    (fit_fields structs all fields (suc i) fs (record { fit = λ j g e. next j g (h.fit (suc j) g e) }))
-  where
-    next : (j : ℕ) (g : Field) → (defaults_well g.item g.default ≡ true) × (counts_well (counted (i + suc j) fields) g.default ≡ true)
-        → (defaults_well g.item g.default ≡ true) × (counts_well (counted (suc i + j) fields) g.default ≡ true)
-    next j g p = let plus : i + suc j ≡ suc i + j = omega arith in (p.0, rw plus at p.1)
+    (fit_times (capacity_of f.count) (item_cells structs f.item caps f.default) 0 0 (fit_item structs all f.item caps f.default a.0 a.1))
+    (fit_fields structs all fields (suc i) fs (record { fit = λ j k g at e. h.fit (suc j) k g (omega arith) e }))
 
 fields_fit : (k : ℕ) (d : Desc) (rules : List Bool) → Clean k d rules → FieldsFit d.fields 0 d.fields
 fields_fit k d rules c = record {
-  fit = λ j f e.
-      let p = and_parts (defaults_well f.item f.default) (counts_well (counted j d.fields) f.default) (c.fields j f e).1.1.1.1.1.0 in
-      (p.0, at_zero j f p.1);
-} where
-  at_zero : (j : ℕ) (f : Field) → counts_well (counted j d.fields) f.default ≡ true → counts_well (counted (0 + j) d.fields) f.default ≡ true
-  at_zero j f e = let plus : j ≡ 0 + j = omega arith in rw plus at e
+  fit = λ j i f at e.
+      let same : j ≡ i = omega arith in
+      and_parts (defaults_well f.item f.default) (counts_well (counted i d.fields) f.default) (c.fields i f (rw same at e)).1.1.1.1.1.0;
+}
 
 constants_of : (k : ℕ) (d : Desc) (rules : List Bool) → Clean k d rules → ConstantsFit d.fields
 constants_of k d rules c = constants_fit d.fields (λ i f e. constant_fits f.item f.default (and_parts (defaults_well f.item f.default) (counts_well (counted i d.fields) f.default) (c.fields i f e).1.1.1.1.1.0).0)
 
 -- in the form of DefaultsFit
 fit_at : (cells : List OneCell) → Fit cells → DefaultsFit cells
-fit_at [] p = λ c lt. absurd (omega arith)
-fit_at (x ∷ cells) p = by_place x cells p.0 (fit_at cells p.1)
-  where
-    by_place : (x : OneCell) (cells : List OneCell) → FitsCell x x.default → DefaultsFit cells → DefaultsFit (x ∷ cells)
-    by_place x cells a b zero lt = a
-    by_place x cells a b (suc c) lt = b c (omega arith)
+fit_at [] p c lt = absurd (omega arith)
+fit_at (x ∷ cells) p zero lt = p.0
+fit_at (x ∷ cells) p (suc c) lt = fit_at cells p.1 c (omega arith)
 
 -- ---- distinct names
 
@@ -308,22 +282,19 @@ some_names name (s ∷ subs) = rw (some_names name subs)
 module _ (set : Set) (well : WellFormed set) where
   pub struct_clean : (j : ℕ) (d : Desc) → slice_get set.structs j ≡ Some d → Clean j d (struct_rules set.structs j d)
   struct_clean j d e =
-      clean j d (parts.Struct j) (struct_rules set.structs j d)
-      (subst (λ (i : ℕ). struct_fault set.structs i d ≡ None) (omega arith) (answers_none (struct_fault set.structs) 0 set.structs (set_clean set well).structs j d e))
+      clean j d (parts.Struct j) (struct_rules set.structs j d) (answer_at (struct_fault set.structs) set.structs (set_clean set well).structs j d e)
 
   -- the device's own part, and its subsections
   pub device_parts : (k : ℕ) (d : Device) → slice_get set.devices k ≡ Some d
       → Clean (length set.structs) d.desc (device_rules set k d) × (first_answer (sub_fault (length set.structs) k d) 0 d.subs ≡ None)
   device_parts k d e =
-      let none = subst (λ (i : ℕ). device_fault set i d ≡ None) (omega arith) (answers_none (device_fault set) 0 set.devices (set_clean set well).devices k d e) in
+      let none = answer_at (device_fault set) set.devices (set_clean set well).devices k d e in
       let p = or_else_none (desc_fault (length set.structs) d.desc (parts.Device k) (device_rules set k d)) (first_answer (sub_fault (length set.structs) k d) 0 d.subs) none in
       (clean (length set.structs) d.desc (parts.Device k) (device_rules set k d) p.0, p.1)
 
   pub sub_clean : (k j : ℕ) (d : Device) (s : Sub) → slice_get set.devices k ≡ Some d → slice_get d.subs j ≡ Some s → Clean (length set.structs) s.desc (sub_rules d j s)
   sub_clean k j d s e f =
-      let plus : 0 + j ≡ j = omega arith in
-      clean (length set.structs) s.desc (parts.Sub k j) (sub_rules d j s)
-      (rw plus at (answers_none (sub_fault (length set.structs) k d) 0 d.subs (device_parts k d e).1 j s f))
+      clean (length set.structs) s.desc (parts.Sub k j) (sub_rules d j s) (answer_at (sub_fault (length set.structs) k d) d.subs (device_parts k d e).1 j s f)
 
   -- structure m, which may not exist
   struct_fits : (structs : List (List OneCell)) → AllFit structs → (m : ℕ) (o : Option Desc) → slice_get set.structs m ≡ o → Fit (desc_cells structs (get_or set.structs m no_desc))
@@ -364,7 +335,7 @@ module _ (set : Set) (well : WellFormed set) where
       let name = s.desc.name in
       let new = not-true (is_one_of (map (λ (e : Sub). e.desc.name) (take j d.subs)) name) (sub_clean k j d s e f).own.1.0 in
       let plus : 0 + j ≡ j = omega arith in
-      first_of (λ (s : Sub). bytes_eq s.desc.name name) 0 d.subs j s f ((bytes_eq-Decides name name).1 refl) (some_names name (take j d.subs) ∙ new) ∙ ap (λ k. Some k) plus
+      rw plus at (first_of (λ (s : Sub). bytes_eq s.desc.name name) 0 d.subs j s f ((bytes_eq-Decides name name).1 refl) (some_names name (take j d.subs) ∙ new))
 
   struct_sound : (j : ℕ) → j < length set.structs → (o : Option Desc) → slice_get set.structs j ≡ o → IsSound (get_or set.structs j no_desc)
   struct_sound j lt None e = absurd (beyond set.structs j lt e)
