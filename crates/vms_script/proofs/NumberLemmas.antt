@@ -3,8 +3,8 @@ use Rattle.vms_script.proofs.Facade.{◌≡◌, ℕ, ◌+◌, ◌-◌, ◌*◌, 
 use Rattle.vms_script.proofs.Facade.{drop, Option, Some, None, Ok, Err, ℤ, pos, negsuc, if◌then◌else◌, refl, sym, ap, ◌∙◌, arith, and_right}
 use Rattle.vms_script.proofs.Facade.{nat_tests, drop_more, drop_all, natural_from, number_spelled, natural_up, is_wire, NEWEST, ScriptLine, Happens, or_form}
 use Rattle.vms_script.proofs.Facade.{or_range, number_in, is_wait, is_set_of, wire_line, level_spelled, number_read, below_2_64, ScriptReason, ◌/◌, ◌%◌}
-use Rattle.vms_script.proofs.Facade.{not, ◌==◌, [], ◌∷◌, ◌++◌, list_all, leb-true, and_parts, div-mul-add, mod-mul-add, digit_char, is_digit}
-use Rattle.vms_script.proofs.Facade.{port_text, digit_spelled, joined, byte_spelled, port_spelled, byte_text}
+use Rattle.vms_script.proofs.Facade.{not, ◌==◌, [], ◌∷◌, ◌++◌, list_all, div-mul-add, mod-mul-add, digit_char, is_digit, port_text, digit_spelled}
+use Rattle.vms_script.proofs.Facade.{joined, byte_spelled, port_spelled, byte_text}
 use Rattle.dev_board.specs.declared.event.Event.TheVariants as events
 use Rattle.vms_script.specs.declared.line.ScriptReason.TheVariants as reasons
 
@@ -159,15 +159,11 @@ byte_lacks byte v h = rw (other (digit_char (v / 16)) byte h (char_up (v / 16)),
 
 pub lacks-append : (byte : ℕ) (xs ys : List ℕ) → lacks byte xs ≡ true → lacks byte ys ≡ true → lacks byte (xs ++ ys) ≡ true
 lacks-append byte [] ys h i = i
-lacks-append byte (x ∷ xs) ys h i =
-    let parts = and_parts (not (x == byte)) (lacks byte xs) h in
-    rw (parts.0, lacks-append byte xs ys parts.1 i) refl
+lacks-append byte (x ∷ xs) ys h i = grind (arith, lacks-append byte xs ys)
 
 pub port_lacks : (byte p : ℕ) → byte < 48 → lacks byte (port_text p) ≡ true
 port_lacks byte p h = lacks-append byte (byte_text (p / 256)) (byte_text (p % 256)) (byte_lacks byte (p / 256) h) (byte_lacks byte (p % 256) h)
 
 pub digits_lack : (byte : ℕ) (text : List ℕ) → byte < 48 → list_all is_digit text ≡ true → lacks byte text ≡ true
 digits_lack byte [] h e = refl
-digits_lack byte (b ∷ text) h e =
-    let parts = and_parts (is_digit b) (list_all is_digit text) e in
-    rw (other b byte h (leb-true 48 b (and_parts (nat_le 48 b) (nat_le b 57) parts.0).0), digits_lack byte text h parts.1) refl
+digits_lack byte (b ∷ text) h e = grind (arith, nat_tests, digits_lack byte text)
