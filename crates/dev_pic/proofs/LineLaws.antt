@@ -1,10 +1,11 @@
 -- The remembered lines.
 use Rattle.dev_pic.proofs.BitLaws.{has-or, has-one_other, has-without_same, has-without_other, without_input-lt}
 use Rattle.dev_pic.proofs.Facade.{◌≡◌, ◌≢◌, ℕ, ◌+◌, ◌-◌, ◌*◌, ◌/◌, ◌%◌, ◌<◌, ◌≤◌, ◌^◌, ◌==◌, Bool, true}
-use Rattle.dev_pic.proofs.Facade.{bit_at_cat_low, bit_at_cat_high, false, not, ◌&&◌, cond, Option, Some, None, refl, ap, ◌∙◌, arith, ⊎_elim, cases_lt, cond_both, nat_tests}
-use Rattle.dev_pic.proofs.Facade.{and-true, and-false, or-false, has, without_input, winner_at, taken, settled, started, selected, written_even, elcr_written}
-use Rattle.dev_pic.proofs.Facade.{polled_by, read_of, answered, cascaded, LinesAreTaken, LinesAreKept, command_of, slave_int_of, lines_of, acked, acked_for}
-use Rattle.dev_pic.proofs.Facade.{with_cascade, settled_pair, read_pair, written_pair, PairHasRegisters, Chip, Role, Master, Slave, PicPair, either}
+use Rattle.dev_pic.proofs.Facade.{bit_at_cat_low, bit_at_cat_high, false, not, ◌&&◌, cond, Option, Some, None, refl, ap, ◌∙◌, arith, ⊎_elim}
+use Rattle.dev_pic.proofs.Facade.{cases_lt, cond_both, nat_tests, and-true, and-false, or-false, has, without_input, winner_at, taken, settled, started}
+use Rattle.dev_pic.proofs.Facade.{selected, written_even, elcr_written, polled_by, read_of, answered, cascaded, LinesAreTaken, LinesAreKept, command_of}
+use Rattle.dev_pic.proofs.Facade.{slave_int_of, lines_of, acked, acked_for, with_cascade, settled_pair, read_pair, written_pair, PairHasRegisters, Chip, Role}
+use Rattle.dev_pic.proofs.Facade.{Master, Slave, PicPair}
 use Rattle.dev_pic.proofs.StepLaws.{cascade-lt, commanded-keeps, odd-keeps}
 
 -- The bits of a number of two bytes.

@@ -1,12 +1,11 @@
 -- What the data sheet says of initialization, modes, polls and rotation.
 use Rattle.dev_pic.proofs.BitLaws.{level_inputs-lt, has-and, has-or, has-but_not, has-without_same, has-without_other, has-with_same, and_not_true}
-use Rattle.dev_pic.proofs.Facade.{RotatesAtOnce, refl, NumbersAre, ◌≡◌, ℕ, ◌<◌, ◌≤◌, true, false, arith, has, ltim_after, started}
-use Rattle.dev_pic.proofs.Facade.{written_even, written_odd, written_odd_in, IsInitialized, InitializesByWords, Chip, LTIM_SINCE, ◌+◌, Bool, not, cond}
-use Rattle.dev_pic.proofs.Facade.{◌&&◌, Some, None, sym, ◌∙◌, ◌||◌, false≢true, bit_and, but_not, with_input, without_input, cascade_input}
-use Rattle.dev_pic.proofs.Facade.{level_inputs_of, requests_of, in_service_of, served_of, winner_at, taken, rising, settled, ended, ended_lowest}
-use Rattle.dev_pic.proofs.Facade.{highest_served, commanded, vector_of, answered, MaskedNeverWins, ServedBlocksLower, IsHighestServed, EndsService}
-use Rattle.dev_pic.proofs.Facade.{EoiEndsHighest, AckWithoutWinner, TakesWinner, TakesLinesOver, acked, acked_for, HasRegisters, PairHasRegisters, input_at}
-use Rattle.dev_pic.proofs.Facade.{IsWinner, Role, Master, Slave, PicPair, if◌then◌else◌, Option, selected, polled_by, read_of, PollsOnce, NestsSpecially}
+use Rattle.dev_pic.proofs.Facade.{RotatesAtOnce, refl, NumbersAre, ◌≡◌, ℕ, ◌<◌, true, false, arith, has, started, written_even, written_odd_in}
+use Rattle.dev_pic.proofs.Facade.{InitializesByWords, Chip, ◌+◌, Bool, not, cond, ◌&&◌, Some, sym, ◌∙◌, ◌||◌, false≢true, bit_and, but_not}
+use Rattle.dev_pic.proofs.Facade.{without_input, cascade_input, level_inputs_of, requests_of, in_service_of, served_of, winner_at, taken, rising, settled}
+use Rattle.dev_pic.proofs.Facade.{ended, ended_lowest, highest_served, commanded, vector_of, answered, MaskedNeverWins, ServedBlocksLower, IsHighestServed}
+use Rattle.dev_pic.proofs.Facade.{EndsService, EoiEndsHighest, AckWithoutWinner, TakesWinner, TakesLinesOver, acked_for, HasRegisters, input_at, IsWinner, Role}
+use Rattle.dev_pic.proofs.Facade.{Master, Slave, Option, selected, polled_by, read_of, PollsOnce, NestsSpecially}
 use Rattle.dev_pic.proofs.WinnerLaws.{winner_of-means, is_highest, highest_none}
 use Rattle.std.specs.Prelude.{bit_or}
 

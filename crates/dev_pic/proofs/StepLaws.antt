@@ -1,13 +1,11 @@
 -- What each step of a chip and of the pair keeps.
 use Rattle.dev_pic.proofs.BitLaws.{level-lines, level_inputs-lt, but_not-lt, without_input-lt, with_input-lt, and-twice}
-use Rattle.dev_pic.proofs.Facade.{refl, ◌≡◌, ℕ, Option, Some, None, false, ◌-◌, ◌%◌, ◌<◌, ◌≤◌, ◌==◌, Bool, true}
-use Rattle.dev_pic.proofs.Facade.{List, [], ◌∷◌, IfSome, find, arith, nat_tests, or_of_8, and_le_l, bit_and, nat_le, either, has, ended}
-use Rattle.dev_pic.proofs.Facade.{ended_lowest, highest_served, commanded, selected, written_even, written_odd_in, level_inputs, level_inputs_of, ltim_after}
-use Rattle.dev_pic.proofs.Facade.{in_service_of, requests_of, served_of, winner_at, taken, settled, started, polled_by, read_of, answered, cascaded, command_of}
-use Rattle.dev_pic.proofs.Facade.{HasInput, Chip, InitState, Icw2, Ocw2, NonSpecificEoi, RotateOnNonSpecificEoi, SpecificEoi, RotateOnSpecificEoi}
-use Rattle.dev_pic.proofs.Facade.{RotateInAutomaticEoi, SetPriority, NoOperation, but_not, with_input, without_input, requests_hold, mode_holds, HasRegisters}
-use Rattle.dev_pic.proofs.Facade.{IsSoundChip, order, before, ready_among, winner_of, highest_of, Role, LTIM_SINCE, ◌^◌, or-true, cond_both, levels_hold}
-use Rattle.dev_pic.proofs.Facade.{elcr_mask, elcr_written, cascade_input, IsLevel, StepsKeepRegisters, StepsKeepLevel, chip_on, power_on, is_port, with_cascade}
+use Rattle.dev_pic.proofs.Facade.{refl, ◌≡◌, ℕ, Option, Some, None, false, ◌-◌, ◌%◌, ◌<◌, ◌≤◌, ◌==◌, Bool, true, IfSome, arith}
+use Rattle.dev_pic.proofs.Facade.{nat_tests, or_of_8, and_le_l, bit_and, nat_le, either, has, ended, ended_lowest, commanded, selected, written_even}
+use Rattle.dev_pic.proofs.Facade.{written_odd_in, level_inputs, level_inputs_of, ltim_after, requests_of, served_of, winner_at, taken, settled, started}
+use Rattle.dev_pic.proofs.Facade.{polled_by, read_of, answered, cascaded, command_of, HasInput, Chip, InitState, Icw2, Ocw2, but_not, with_input, without_input}
+use Rattle.dev_pic.proofs.Facade.{requests_hold, mode_holds, HasRegisters, IsSoundChip, Role, LTIM_SINCE, ◌^◌, or-true, cond_both, levels_hold, elcr_mask}
+use Rattle.dev_pic.proofs.Facade.{elcr_written, cascade_input, IsLevel, StepsKeepRegisters, StepsKeepLevel, chip_on, power_on, is_port, with_cascade}
 use Rattle.dev_pic.proofs.Facade.{settled_pair, read_pair, written_pair, acked, acked_for, PairHasRegisters, IsSoundPair, Master, Slave, ELCR_SINCE, PicPair}
 use Rattle.dev_pic.proofs.WinnerLaws.{highest-lt, winner-lt as winners-lt}
 

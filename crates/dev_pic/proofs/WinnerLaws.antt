@@ -1,13 +1,12 @@
 -- The priority order: its places, the searches through it, and the winner that they find.
-use Rattle.dev_pic.proofs.Facade.{◌≡◌, ℕ, zero, suc, ◌<◌, ◌≤◌, Bool, true, false, List, [], ◌∷◌, Option, Some, None, refl, arith}
-use Rattle.dev_pic.proofs.Facade.{IfSome, find, length, get_or, sym, ◌∙◌, ap, ⊎_elim, cases_lt, false≢true, get_or-map-range_with_len}
-use Rattle.dev_pic.proofs.Facade.{has, WinnerIsLeastRequest, input_at, order, before, ready_among, winner_of, highest_of, IsWinner, MeansWinner, ◌+◌}
-use Rattle.dev_pic.proofs.Facade.{◌==◌, drop, not, bit_at-zero, IsFirstPlace, ◌-◌, ◌*◌, ◌/◌, ◌%◌, ◌^◌, max, bit_or}
-use Rattle.dev_pic.proofs.Facade.{div-add-mod', pow_pos, bit_at_or, bit_at_above, bit_at_cat_low, bit_at_cat_high, bit_at-trailing_zeros, mod-lt}
-use Rattle.dev_pic.proofs.Facade.{bit_at, rotate_right, trailing_zeros, trailing_of_zero}
+use Rattle.dev_pic.proofs.Facade.{◌≡◌, ℕ, zero, suc, ◌<◌, ◌≤◌, true, false, List, [], ◌∷◌, Option, Some, None, refl, arith, IfSome}
+use Rattle.dev_pic.proofs.Facade.{find, get_or, sym, ◌∙◌, ap, ⊎_elim, cases_lt, false≢true, get_or-map-range_with_len, has, WinnerIsLeastRequest}
+use Rattle.dev_pic.proofs.Facade.{input_at, order, before, ready_among, winner_of, highest_of, IsWinner, MeansWinner, ◌+◌, ◌==◌, drop, not, bit_at-zero}
+use Rattle.dev_pic.proofs.Facade.{IsFirstPlace, ◌-◌, ◌*◌, ◌/◌, ◌%◌, ◌^◌, max, bit_or, div-add-mod', pow_pos, bit_at_or, bit_at_above}
+use Rattle.dev_pic.proofs.Facade.{bit_at_cat_low, bit_at_cat_high, bit_at-trailing_zeros, mod-lt, bit_at, rotate_right, trailing_zeros, trailing_of_zero}
 use Rattle.std.proofs.{Common.w8, Common.le_refl, Math.Seq.drop-cons, lemmas.Bool.cases_eq}
 use Rattle.std.proofs.lemmas.List.Sums.{fails_before_first, passes_at_first, prefix_len-le-length}
-use Rattle.std.specs.{List.position_or_len}
+use Rattle.std.specs.List.{position_or_len}
 
 -- ---- the places of the priority order
 
