@@ -1,14 +1,13 @@
 -- What the grammar says of a script's text is what the reader takes, in both directions.
 use Rattle.vms_script.proofs.Facade.{append_assoc, cond_both, first_line, IsBadHere, IsRefused, RefusesFirst, ◌≡◌, [], ◌∷◌, Some, None, Ok, Err}
 use Rattle.vms_script.proofs.Facade.{true, refl, codes, Happens, Saves, Restores, line_read, bad, script_read, nat_tests, ℕ, ◌+◌, ◌^◌, ◌<◌, Bool}
-use Rattle.vms_script.proofs.Facade.{false, not, ◌&&◌, ◌==◌, nat_le, List, ◌++◌, length, get_or, Option, pos, if◌then◌else◌, ap, ◌∙◌}
-use Rattle.vms_script.proofs.Facade.{arith, decimal, list_all, and_parts, ne_eqb, digits_decimal, Event, numerals, number_holds, port_text, event_text}
-use Rattle.vms_script.proofs.Facade.{line_text, script_text, IsEvent, IsLine, AreLines, is_wire, NEWEST, ScriptLine, Read, or_form, number_in, is_wait}
-use Rattle.vms_script.proofs.Facade.{is_set_of, out_line, wire_line, set_spelled, save_line, is_name_byte, is_name, name_byte_high, is_shelf_name, Split}
-use Rattle.vms_script.proofs.Facade.{Reading, lines_of, with_line, lines_read, text_read, first_word, longer_word, byte_spelled, byte_text, port_spelled}
-use Rattle.vms_script.proofs.Facade.{level_spelled, ScriptReason, ℤ, negsuc, sym, subst, bytes_eq, eqb-true, bytes_eq-Decides, number_spelled, spelled_holds}
-use Rattle.vms_script.proofs.Facade.{ReadsExactly, or_range, in_line, byte_line, wait_line, name_spelled, restore_line, play_line, line_split, begun, unended}
-use Rattle.vms_script.proofs.Facade.{tail_read, level_text}
+use Rattle.vms_script.proofs.Facade.{false, not, ◌==◌, List, ◌++◌, Option, pos, if◌then◌else◌, ap, ◌∙◌, arith, decimal, list_all, ne_eqb}
+use Rattle.vms_script.proofs.Facade.{digits_decimal, Event, numerals, number_holds, port_text, event_text, line_text, script_text, IsEvent, IsLine, AreLines}
+use Rattle.vms_script.proofs.Facade.{is_wire, NEWEST, ScriptLine, Read, or_form, number_in, is_wait, is_set_of, out_line, wire_line, set_spelled, save_line}
+use Rattle.vms_script.proofs.Facade.{is_name_byte, name_byte_high, is_shelf_name, Split, Reading, lines_of, with_line, lines_read, text_read, first_word}
+use Rattle.vms_script.proofs.Facade.{longer_word, byte_spelled, byte_text, port_spelled, level_spelled, ScriptReason, ℤ, negsuc, sym, subst, bytes_eq}
+use Rattle.vms_script.proofs.Facade.{eqb-true, bytes_eq-Decides, number_spelled, spelled_holds, ReadsExactly, or_range, in_line, byte_line, wait_line}
+use Rattle.vms_script.proofs.Facade.{name_spelled, restore_line, play_line, line_split, begun, unended, tail_read, level_text}
 use Rattle.vms_script.proofs.NumberLemmas.{lacks, lacks-append, byte_lacks, port_lacks, digits_lack, byte_back, port_back, EndsEarly, waits_end, wires_end}
 use Rattle.vms_script.proofs.NumberLemmas.{sets_end, byte_is, port_is}
 use Rattle.dev_board.specs.declared.event.Event.TheVariants as events
@@ -57,9 +56,7 @@ name_lacks [] e = refl
 name_lacks (b ∷ name) e = grind (arith, name_byte b, name_lacks name)
 
 shelf_lacks : (name : List ℕ) → is_shelf_name name ≡ true → lacks 10 name ≡ true
-shelf_lacks name e =
-    name_lacks name (and_parts (nat_le 1 (length name) && nat_le (length name) 64) (list_all is_name_byte name)
-    (and_parts (is_name 64 name) (not (get_or name 0 46 == 46)) e).0).1
+shelf_lacks name e = grind (arith, name_lacks)
 
 pub early_small : (holds : ℕ → Bool) (n : ℕ) → EndsEarly holds → holds n ≡ true → n < 2 ^ 64
 early_small holds n early h = grind (arith, nat_tests, early n)
@@ -70,8 +67,7 @@ number_good holds line n early h = rw (number_holds (pos n) (early_small holds n
 -- ---- a good line is read as it is spelled
 
 level_back : (up : Bool) → level_spelled (level_text up) ≡ Some up
-level_back true = refl
-level_back false = refl
+level_back up = grind (arith, nat_tests)
 
 event_good : (play : Option ℕ) (event : Event) → IsEvent event → line_read play (event_text event) ≡ Ok (Happens event)
 event_good play (events.Read port) h = rw (port_back port h)
@@ -93,8 +89,7 @@ line_good (Some level) (Restores name) h = rw h
 line_good None _ h = absurd h
 
 level_lacks : (up : Bool) → lacks 10 (level_text up) ≡ true
-level_lacks true = refl
-level_lacks false = refl
+level_lacks up = grind (arith, nat_tests)
 
 event_lacks : (event : Event) → IsEvent event → lacks 10 (event_text event) ≡ true
 event_lacks (events.Read port) h = port_lacks 10 port (omega arith)
@@ -139,13 +134,11 @@ only_map : {P Q : ScriptLine → Type 0} {r : Read} → ((line : ScriptLine) →
 only_map f o = record { holds = λ line e. f line (o.holds line e) }
 
 choose : {P : ScriptLine → Type 0} (t : Bool) (a b : Read) → (t ≡ true → Only P a) → Only P b → Only P (if t then a else b)
-choose true a b f g = f refl
-choose false a b f g = g
+choose t a b f g = grind (arith, nat_tests)
 
 -- a part that has its shape
 formed : {P : ScriptLine → Type 0} {A : Type 0} (o : Option A) (next : A → Read) → ((a : A) → o ≡ Some a → Only P (next a)) → Only P (or_form o next)
-formed None next f = only_none reasons.Form
-formed (Some a) next f = f a refl
+formed o next f = grind (arith, only_none)
 
 number_is : {P : ScriptLine → Type 0} (holds : ℕ → Bool) (make : ℕ → ScriptLine) (text : List ℕ) → EndsEarly holds
     → ((n : ℕ) → holds n ≡ true → text ≡ decimal n → P (make n)) → Only P (number_in holds make text)
@@ -157,16 +150,14 @@ number_is {P} holds make text early f = formed (number_spelled text) (or_range h
       (λ h. only_ok (make n) (f n h (spelled_holds text (pos n) (early_small holds n early h) s))) (only_none reasons.Range)
 
 level_is : (text : List ℕ) (up : Bool) → level_spelled text ≡ Some up → text ≡ level_text up
-level_is (b ∷ []) up e = grind (arith, eqb-true)
-level_is _ up e = cc
+level_is text up e = grind (arith, nat_tests)
 
 abbrev pub rejoined : List ℕ × Option (List ℕ) → List ℕ
 rejoined (word, None) = word
 rejoined (word, Some rest) = word ++ 32 ∷ rest
 
 longer_joined : (b : ℕ) (split : List ℕ × Option (List ℕ)) → rejoined (longer_word b split) ≡ b ∷ rejoined split
-longer_joined b (word, None) = refl
-longer_joined b (word, Some rest) = refl
+longer_joined b split = grind (arith, nat_tests)
 
 pub word_split : (line : List ℕ) → line ≡ rejoined (first_word line)
 word_split [] = refl
@@ -204,8 +195,7 @@ named : (text name : List ℕ) → name_spelled text ≡ Some name → (is_shelf
 named text name e = (grind arith, grind arith)
 
 set_is : (word number : List ℕ) → set_spelled word ≡ Some number → word ≡ 64 ∷ number
-set_is [] number e = cc
-set_is (b ∷ word) number e = grind (arith, eqb-true, and_parts)
+set_is word number e = grind (arith, nat_tests)
 
 save_line_is : (level : ℕ) (split : List ℕ × Option (List ℕ)) → Only (Says (Some level) (codes "save " ++ rejoined split)) (save_line level split)
 save_line_is level (word, rest) =
@@ -254,8 +244,7 @@ unsplit [] tail = tail
 unsplit (line ∷ lines) tail = line ++ 10 ∷ unsplit lines tail
 
 begun_unsplit : (b : ℕ) (lines : List (List ℕ)) (tail : List ℕ) → unsplit (begun b lines tail).lines (begun b lines tail).tail ≡ b ∷ unsplit lines tail
-begun_unsplit b [] tail = refl
-begun_unsplit b (line ∷ lines) tail = refl
+begun_unsplit b lines tail = grind (arith, nat_tests)
 
 abbrev pub text_of : Split → List ℕ
 text_of split = unsplit split.lines split.tail
@@ -277,8 +266,7 @@ abbrev SplitLacks : Split → Type 0
 SplitLacks split = AllLack split.lines × (lacks 10 split.tail ≡ true)
 
 begun_lacks : (b : ℕ) (lines : List (List ℕ)) (tail : List ℕ) → (b == 10) ≡ false → AllLack lines → lacks 10 tail ≡ true → SplitLacks (begun b lines tail)
-begun_lacks b [] tail e h i = (tt, rw (e, i) refl)
-begun_lacks b (line ∷ lines) tail e h i = ((rw (e, h.0) refl, h.1), i)
+begun_lacks b lines tail e h i = grind (arith, nat_tests)
 
 lines_lack : (text : List ℕ) → SplitLacks (lines_of text)
 lines_lack [] = (tt, refl)

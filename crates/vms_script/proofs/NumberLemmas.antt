@@ -1,10 +1,10 @@
 -- Numbers as they are spelled, and their ranges.
 use Rattle.std.proofs.lemmas.Nat.{mul-add-lt}
 use Rattle.vms_script.proofs.Facade.{◌≡◌, ℕ, ◌+◌, ◌-◌, ◌*◌, ◌^◌, ◌<◌, ◌≤◌, Bool, true, false, nat_le, List, length, get_or}
-use Rattle.vms_script.proofs.Facade.{drop, Option, Some, None, Ok, Err, ℤ, pos, negsuc, if◌then◌else◌, refl, sym, ap, ◌∙◌, arith, and_right}
-use Rattle.vms_script.proofs.Facade.{nat_tests, drop_more, drop_all, natural_from, number_spelled, natural_up, is_wire, NEWEST, ScriptLine, Happens, or_form}
-use Rattle.vms_script.proofs.Facade.{or_range, number_in, is_wait, is_set_of, wire_line, level_spelled, number_read, below_2_64, ScriptReason, ◌/◌, ◌%◌}
-use Rattle.vms_script.proofs.Facade.{not, ◌==◌, [], ◌∷◌, ◌++◌, list_all, div-mul-add, mod-mul-add, digit_char, is_digit, port_text, digit_spelled}
+use Rattle.vms_script.proofs.Facade.{drop, Option, Some, None, Ok, Err, ℤ, if◌then◌else◌, refl, sym, ap, ◌∙◌, arith, and_right, nat_tests}
+use Rattle.vms_script.proofs.Facade.{drop_more, drop_all, natural_from, number_spelled, natural_up, is_wire, NEWEST, ScriptLine, Happens, or_form, or_range}
+use Rattle.vms_script.proofs.Facade.{number_in, is_wait, is_set_of, wire_line, level_spelled, number_read, below_2_64, ScriptReason, ◌/◌, ◌%◌, not}
+use Rattle.vms_script.proofs.Facade.{◌==◌, [], ◌∷◌, ◌++◌, list_all, div-mul-add, mod-mul-add, digit_char, is_digit, port_text, digit_spelled}
 use Rattle.vms_script.proofs.Facade.{joined, byte_spelled, port_spelled, byte_text}
 use Rattle.dev_board.specs.declared.event.Event.TheVariants as events
 use Rattle.vms_script.specs.declared.line.ScriptReason.TheVariants as reasons
@@ -33,15 +33,11 @@ EndsEarly holds = (n : ℕ) → 2 ^ 64 ≤ n → holds n ≡ false
 
 -- a number that isn't read has the same reason for the line
 pub number_fails : (holds : ℕ → Bool) (line : ℕ → ScriptLine) (o : Option ℤ) (reason : ScriptReason) → EndsEarly holds → number_read o ≡ Err reason → or_form o (or_range holds line) ≡ Err reason
-number_fails holds line None reason early e = cc
-number_fails holds line (Some (negsuc n)) reason early e = cc
-number_fails holds line (Some (pos n)) reason early e = grind (arith, nat_tests, early n)
+number_fails holds line o reason early e = grind (arith, nat_tests)
 
 -- a number that is read is judged by the range
 pub number_holds : (holds : ℕ → Bool) (line : ℕ → ScriptLine) (o : Option ℤ) (v : ℕ) → number_read o ≡ Ok v → or_form o (or_range holds line) ≡ (if holds v then Ok (line v) else Err reasons.Range)
-number_holds holds line None v e = cc
-number_holds holds line (Some (negsuc n)) v e = cc
-number_holds holds line (Some (pos n)) v e = grind (arith, nat_tests)
+number_holds holds line o v e = grind (arith, nat_tests)
 
 -- the same of the whole line
 in_judged : (holds : ℕ → Bool) (line : ℕ → ScriptLine) (text : List ℕ) (v : ℕ) (t : Bool) → Ok v ≡ number_read (number_spelled text) → t ≡ holds v

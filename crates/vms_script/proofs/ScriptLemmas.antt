@@ -1,12 +1,11 @@
 -- Scripts line by line, and the line that is refused.
 use Rattle.vms_script.proofs.GrammarLaws.{rejoined, word_split}
-use Rattle.vms_script.proofs.Facade.{unended_reason, ◌≡◌, ℕ, ◌+◌, ◌<◌, Bool, true, false, ◌==◌, List, [], ◌∷◌, ◌++◌, length}
-use Rattle.vms_script.proofs.Facade.{Option, Some, None, Ok, Err, if◌then◌else◌, refl, sym, ap, ◌∙◌, arith, append_assoc, eqb-true, append-nil}
-use Rattle.vms_script.proofs.Facade.{first_line, longer_line, ScriptLine, Read, line_read, Split, Reading, lines_of, begun, bad, also, with_line, unended}
-use Rattle.vms_script.proofs.Facade.{tail_read, text_read, SaysLines, IsBadAt, IsPut, IsRefusal, ReadsLines, ScriptFault, Bad, NoMemory, ScriptReason, zero}
-use Rattle.vms_script.proofs.Facade.{suc, ◌≤◌, get_or, take, drop, ⊎_elim, codes, bytes_eq, cases_lt, ne_eqb, eq-eqb, none-some, first_word}
-use Rattle.vms_script.proofs.Facade.{longer_word, ◌&&◌, nat_le, not, list_all, IsAscii, slice_index, and_parts, is_name_byte, is_name, name_byte_low}
-use Rattle.vms_script.proofs.Facade.{is_shelf_name}
+use Rattle.vms_script.proofs.Facade.{nat_tests, unended_reason, ◌≡◌, ℕ, ◌+◌, ◌<◌, Bool, true, false, ◌==◌, List, [], ◌∷◌, ◌++◌}
+use Rattle.vms_script.proofs.Facade.{length, Option, Some, None, Ok, Err, if◌then◌else◌, refl, sym, ap, ◌∙◌, arith, append_assoc, eqb-true}
+use Rattle.vms_script.proofs.Facade.{append-nil, first_line, longer_line, ScriptLine, Read, line_read, Split, Reading, lines_of, begun, bad, also, with_line}
+use Rattle.vms_script.proofs.Facade.{unended, tail_read, text_read, SaysLines, IsBadAt, IsPut, IsRefusal, ReadsLines, ScriptFault, Bad, NoMemory, ScriptReason}
+use Rattle.vms_script.proofs.Facade.{zero, suc, ◌≤◌, get_or, take, drop, ⊎_elim, codes, bytes_eq, cases_lt, ne_eqb, eq-eqb, none-some, first_word}
+use Rattle.vms_script.proofs.Facade.{longer_word, not, list_all, IsAscii, slice_index, and_parts, is_name_byte, name_byte_low, is_shelf_name}
 use Rattle.vms_script.specs.declared.line.ScriptReason.TheVariants as reasons
 
 -- ---- the lines of a text by its first line
@@ -16,8 +15,7 @@ by_first None text = record { lines = []; tail = text }
 by_first (Some (line, after)) text = record { lines = line ∷ (lines_of after).lines; tail = (lines_of after).tail }
 
 begun_first : (b : ℕ) (text : List ℕ) (o : Option (List ℕ × List ℕ)) → begun b (by_first o text).lines (by_first o text).tail ≡ by_first (longer_line b o) (b ∷ text)
-begun_first b text None = refl
-begun_first b text (Some (line, after)) = refl
+begun_first b text o = grind (arith, nat_tests)
 
 at_byte : (b : ℕ) (text : List ℕ) (t : Bool) → lines_of text ≡ by_first (first_line text) text
     → (if t then record { lines = [] ∷ (lines_of text).lines; tail = (lines_of text).tail } else begun b (lines_of text).lines (lines_of text).tail)
@@ -64,8 +62,7 @@ text_ends before play number [] first none = rw (append-nil before)
 text_ends before play number (b ∷ text) first none = absurd (omega arith)
 
 unended_is : (before : List ScriptLine) (number : ℕ) (read : Read) → after_lines before (unended number read) ≡ bad number (unended_reason read)
-unended_is before number (Ok line) = refl
-unended_is before number (Err reason) = refl
+unended_is before number read = grind (arith, nat_tests)
 
 pub tail_stops : (before : List ScriptLine) (play : Option ℕ) (number : ℕ) (text : List ℕ) → first_line text ≡ None → 0 < length text
     → after_lines before (text_read play number text) ≡ bad number (unended_reason (line_read play text))
@@ -89,8 +86,7 @@ line_put before play number text line after all first put = by (line_read play l
 
 -- a last line that says something lacks only its end
 pub put_unended : (before all : List ScriptLine) (read : Read) → IsPut read before all → unended_reason read ≡ reasons.NoEnd
-put_unended before all (Ok line) h = refl
-put_unended before all (Err reason) h = absurd h
+put_unended before all read h = grind (arith, nat_tests)
 
 -- a line that is refused is the text's first bad one
 pub refused : {V : Type 0} (lines : V) (items : V → List ScriptLine) (reading : Reading) (read : Read) (number : ℕ) (fault : ScriptFault)
@@ -104,8 +100,7 @@ pub is_empty : (text : List ℕ) → (length text == 0) ≡ true → length text
 is_empty text e = eqb-true (length text) 0 e
 
 pub is_some : (text : List ℕ) → (length text == 0) ≡ false → 0 < length text
-is_some [] e = cc
-is_some (b ∷ text) e = omega arith
+is_some text e = grind (arith, nat_tests)
 
 -- a byte is at an offset, and not before it
 abbrev pub NotBefore : ℕ → List ℕ → ℕ → Type 0
@@ -162,6 +157,4 @@ bytes_ascii (b ∷ bytes) e zero = let low = name_byte_low b (and_parts (is_name
 bytes_ascii (b ∷ bytes) e (suc i) = bytes_ascii bytes (and_parts (is_name_byte b) (list_all is_name_byte bytes) e).1 i
 
 pub name_ascii : (name : List ℕ) → is_shelf_name name ≡ true → IsAscii name
-name_ascii name e =
-    let named = and_parts (is_name 64 name) (not (get_or name 0 46 == 46)) e in
-    bytes_ascii name (and_parts (nat_le 1 (length name) && nat_le (length name) 64) (list_all is_name_byte name) named.0).1
+name_ascii name e = grind (arith, bytes_ascii)
