@@ -1,7 +1,7 @@
 -- What each port reaches.
-use Rattle.dev_board.proofs.Facade.{◌≡◌, ◌≢◌, ℕ, ◌+◌, ◌-◌, ◌<◌, ◌≤◌, ◌==◌, ◌⊎◌, inl, inr, Bool, true, false, ◌&&◌, ◌||◌, if◌then◌else◌, refl, ◌∙◌, arith}
-use Rattle.dev_board.proofs.Facade.{sym, subst, ⊎_elim, and-false, lt-leb, cond_both, nat_le, nat_tests, is_port, PortsAre, target_of, Target}
-use Rattle.dev_board.proofs.Facade.{Pair, Counter, Control, Register, Nothing, IsPort, HasDevices, State}
+use Rattle.dev_board.proofs.Facade.{◌≡◌, ◌≢◌, ℕ, ◌-◌, ◌<◌, ◌≤◌, ◌==◌, ◌⊎◌, inl, inr, Bool, true, false, ◌&&◌}
+use Rattle.dev_board.proofs.Facade.{◌||◌, if◌then◌else◌, refl, ◌∙◌, arith, sym, subst, ⊎_elim, and-false, lt-leb, cond_both, nat_le}
+use Rattle.dev_board.proofs.Facade.{nat_tests, is_port, PortsAre, target_of, Target, Pair, Counter, Control, Register, Nothing, IsPort, HasDevices, State}
 
 -- What a port reaches that isn't the pair's.
 abbrev other : ℕ → Target
@@ -30,17 +30,8 @@ between level port (inr (low, high)) = grind (arith, by_pair, not_pair)
 counter_of : (port counter : ℕ) → 0x40 ≤ port → port ≤ 0x42 → port - 0x40 ≡ counter → other port ≡ Counter counter
 counter_of port counter low high back = grind arith
 
-counter_at : (level counter : ℕ) → counter < 3 → target_of level (0x40 + counter) ≡ Counter counter
-counter_at level counter m = grind (arith, between, counter_of)
-
-control_at : (level : ℕ) → target_of level 0x43 ≡ Control
-control_at level = grind (arith, between)
-
 register_of : (port offset : ℕ) → 0x3f8 ≤ port → port ≤ 0x3ff → port - 0x3f8 ≡ offset → other port ≡ Register offset
 register_of port offset low high back = grind arith
-
-register_at : (level offset : ℕ) → offset < 8 → target_of level (0x3f8 + offset) ≡ Register offset
-register_at level offset m = grind (arith, between, register_of)
 
 -- A port below or above a range isn't in it.
 out_of : (low high port : ℕ) → (port < low) ⊎ (high < port) → (nat_le low port && nat_le port high) ≡ false
@@ -51,15 +42,14 @@ wider : (port : ℕ) → (port < 0x40) ⊎ (0x43 < port) → (port < 0x40) ⊎ (
 wider port (inl below) = inl below
 wider port (inr above) = inr (omega arith)
 
-not_control : (port : ℕ) → (port < 0x40) ⊎ (0x43 < port) → port ≢ 0x43
-not_control port (inl below) e = omega arith
-not_control port (inr above) e = omega arith
-
-nothing_at : (level port : ℕ) → is_port level port ≡ false → (port < 0x40) ⊎ (0x43 < port) → (port < 0x3f8) ⊎ (0x3ff < port) → target_of level port ≡ Nothing
-nothing_at level port own timer serial = grind (arith, by_pair, out_of, wider)
-
 pub ports_are : PortsAre
-ports_are = search (arith, by_pair, counter_at, control_at, register_at, nothing_at)
+ports_are = record {
+  pair = λ level port is. rw (by_pair level port true is);
+  counter = λ level counter m. grind (arith, between, counter_of);
+  control = λ level. grind (arith, between);
+  register = λ level offset m. grind (arith, between, register_of);
+  nothing = λ level port own timer serial. grind (arith, by_pair, out_of, wider);
+}
 
 -- ---- what is known of a port that reaches a target
 

@@ -1,12 +1,12 @@
 -- Events that leave the lines as they were.
 use Rattle.dev_board.proofs.{QuietLaws.command-taken, QuietLaws.ack-taken, QuietLaws.untouched-settled, PortLaws.ports_are, WireLaws.wires_of-are}
-use Rattle.dev_board.proofs.Facade.{◌≡◌, ℕ, Bool, true, false, ◌==◌, bit_or, arith, refl, ap, ◌∙◌, sym, not, ◌&&◌}
-use Rattle.dev_board.proofs.Facade.{if◌then◌else◌, cond_both, false≢true, nat_tests, and-false, and-true, or-false, has, bits_where, lines_of}
-use Rattle.dev_board.proofs.Facade.{written_pair, acked, PicPair, HasTaken, IsBefore, is_command, Stays, ack_touches, leaves_port, read_touches, time_touches}
-use Rattle.dev_board.proofs.Facade.{write_touches, has-or, either, State, Act, waited, Before, Touch, Untouched, Command, Access, pit_out, lsr_of, lsr_read}
-use Rattle.dev_board.proofs.Facade.{Port, line_of, target_of, read_at, written_at, read, write, IsSound, Target, Pair, Counter, Register, Nothing, ◌<◌}
-use Rattle.dev_board.proofs.Facade.{Option, None, Some, IfSome, int_of, is_nothing, is_untouched, HasDevices, written, saying, Event, Read, Write, step, acted}
-use Rattle.dev_board.proofs.Facade.{after_act, wires_after, settled, wires_of, IsCalm, Pit, pit_read}
+use Rattle.dev_board.proofs.Facade.{◌≡◌, ℕ, Bool, true, false, ◌==◌, bit_or, arith, refl, ap, ◌∙◌, sym, not, ◌&&◌, if◌then◌else◌}
+use Rattle.dev_board.proofs.Facade.{cond_both, false≢true, nat_tests, and-false, and-true, or-false, has, bits_where, lines_of, written_pair, acked, PicPair}
+use Rattle.dev_board.proofs.Facade.{HasTaken, IsBefore, is_command, Stays, ack_touches, leaves_port, read_touches, time_touches, write_touches, has-or, either}
+use Rattle.dev_board.proofs.Facade.{State, Act, waited, Before, Touch, Untouched, Command, Access, pit_out, lsr_of, lsr_read, Port, line_of, target_of, read_at}
+use Rattle.dev_board.proofs.Facade.{written_at, read, write, IsSound, Target, Pair, Counter, Register, Nothing, ◌<◌, Option, None, Some, IfSome, int_of}
+use Rattle.dev_board.proofs.Facade.{is_nothing, is_untouched, HasDevices, written, saying, Event, Read, Write, step, acted, after_act, wires_after, settled}
+use Rattle.dev_board.proofs.Facade.{wires_of, IsCalm, Pit, pit_read}
 use Rattle.dev_board.proofs.SoundLaws.{read-out, read_at-kept, serial-written, calm-read, calm-write, settled-sound}
 use Rattle.dev_board.specs.{declared.touch.Touch.TheVariants.Port as OfPort, Kept.IsKept, Ports.has_port, Ports.is_device, declared.kept.Kept.Kept}
 use Rattle.std.specs.Prelude.{MatchOption}
@@ -16,8 +16,7 @@ use Rattle.dev_serial.specs.Access.{read_of as registers_read}
 
 -- The bit of an overrun in the line status.
 bit-of : (b : Bool) (bits : ℕ) → has 0 1 ≡ false → has (bits_where b bits) 1 ≡ (has bits 1 && b)
-bit-of true bits z = sym (and-true (has bits 1))
-bit-of false bits z = cc (and-false (has bits 1))
+bit-of b bits z = grind (arith, and-true, and-false)
 
 or-bits : (a b c d : Bool) → has (bit_or (bit_or (bit_or (bits_where a 0x01) (bits_where b 0x02)) (bits_where c 0x20)) (bits_where d 0x40)) 1 ≡ b
 or-bits a b c d = grind (arith, has-or, has, bit-of, or-false)
@@ -51,7 +50,7 @@ left-at offset now port =
     (λ _. either (Leaves offset port) (offset == 6) _ _ (λ h. refl) (λ h. refl)))))))
 
 touched : {A : Type 0} → true ≡ false → A
-touched e = absurd (false≢true (sym e))
+touched e = cc
 
 pub pair-taken : (m : State) → IsSound m → HasTaken (lines_of m.pair) m.pair
 pair-taken m s = search
@@ -74,33 +73,27 @@ module _ (m : State) (s : IsSound m) (before : Before) (b : IsBefore before m) w
 
   read-stays : (target : Target) (port : ℕ) → Stays (read_touches target (read_at target port m).0) before (read_at target port m).1
   unfolding read_at
-  read-stays Pair port = record { out = λ e. out; serial = λ e. serial; int = λ e. touched e; pair = λ e. touched e }
-  read-stays (Counter counter) port =
-      record { out = λ e. out ∙ sym (read-out counter m.moment m.pit); serial = λ e. serial; int = λ e. b.int; pair = λ e. still-taken }
   read-stays (Register offset) port = port-stays offset (leaves_port offset (registers_read offset m.moment m.serial).0) refl
-  read-stays _ port = record { out = λ e. out; serial = λ e. serial; int = λ e. b.int; pair = λ e. still-taken }
+  read-stays _ port = search (out, serial, still-taken, touched, read-out)
 
   command-stays : (port value : ℕ) (command : Bool) → is_command port value ≡ command
       → Stays (if command then Command else Access) before (record m { pair = written_pair port value m.pair })
-  command-stays port value true e =
-      record { out = λ e. out; serial = λ e. serial; int = λ e. touched e; pair = λ f. command-taken before.lines m.pair still-taken port value e }
-  command-stays port value false e = record { out = λ e. out; serial = λ e. serial; int = λ e. touched e; pair = λ e. touched e }
+  command-stays port value true e = search (out, serial, still-taken, touched, command-taken)
+  command-stays port value false e = search (out, serial, touched)
 
   write-stays : (target : Target) (port value : ℕ) → Stays (write_touches target port value) before (written_at target port value m)
   unfolding written_at
   write-stays Pair port value = command-stays port value (is_command port value) refl
-  write-stays (Register offset) port value = record { out = λ e. out; serial = λ e. touched e; int = λ e. b.int; pair = λ e. still-taken }
-  write-stays Nothing port value = record { out = λ e. out; serial = λ e. serial; int = λ e. b.int; pair = λ e. still-taken }
-  write-stays _ port value = record { out = λ e. touched e; serial = λ e. serial; int = λ e. b.int; pair = λ e. still-taken }
+  write-stays _ port value = search (out, serial, still-taken, touched)
 
   ack-stays : (slave : Bool) → has before.lines 2 ≡ slave → Stays (if slave then Access else Command) before (record m { pair = (acked m.pair).1 })
-  ack-stays true e = record { out = λ e. out; serial = λ e. serial; int = λ e. touched e; pair = λ e. touched e }
-  ack-stays false e = record { out = λ e. out; serial = λ e. serial; int = λ e. touched e; pair = λ f. ack-taken before.lines m.pair still-taken e }
+  ack-stays true e = search (out, serial, touched)
+  ack-stays false e = search (out, serial, still-taken, touched, ack-taken)
 
   time-stays : (to : ℕ) (calm : Bool) → (calm ≡ true → pit_out 0 to m.pit ≡ pit_out 0 m.moment m.pit) → Stays (time_touches calm) before (waited to m).1
   unfolding waited
   time-stays to true still = record { out = λ e. out ∙ sym (still refl); serial = λ e. touched e; int = λ e. b.int; pair = λ e. still-taken }
-  time-stays to false still = record { out = λ e. touched e; serial = λ e. touched e; int = λ e. b.int; pair = λ e. still-taken }
+  time-stays to false still = search (still-taken, touched)
 
   -- The same for what calls returned.
   pub after-read : (port value : ℕ) (after : State) (touch : Touch) → touch ≡ read_touches (target_of m.level port) (read port m).0

@@ -1,13 +1,13 @@
 -- Which inputs leave the board unchanged.
-use Rattle.dev_board.proofs.Facade.{◌≡◌, ℕ, ◌+◌, ◌-◌, ◌*◌, ◌/◌, ◌%◌, ◌<◌, ◌≤◌, ◌^◌, Bool, true, false, ◌==◌, cond, min, max, bit_and, bit_or, arith, refl, ap}
-use Rattle.dev_board.proofs.Facade.{◌∙◌, sym, ⊎_elim, ◌≢◌, not, ◌&&◌, ◌||◌, Option, Some, None, zero, suc, cases_lt, cases_eq, cond_both, w8, bit_at}
-use Rattle.dev_board.proofs.Facade.{and_numeral, and_le_l, or_of_8, pow_below, bit_at_and, bit_at_or, bit_at_not, bit_at-lt, bit_at-zero, same_from_bits}
-use Rattle.dev_board.proofs.Facade.{same_from_bits_below, bit_at_cat_low, bit_at_cat_high, bit_at-pow_other, and_pow, Decides-eqb, nat_tests, is_some, IfSome}
-use Rattle.dev_board.proofs.Facade.{has, bits_where, but_not, without_input, requests_hold, level_inputs_of, taken, answered, cascaded, lines_of, slave_int_of}
-use Rattle.dev_board.proofs.Facade.{settled_pair, with_cascade, written_pair, acked, acked_for, from_slave, Chip, PicPair, HasTaken, IsSettled, is_command}
-use Rattle.dev_board.proofs.Facade.{Stays, is_nothing, asks_timer, asks_port, is_access, is_quiet, is_untouched, DRIVEN, WIRES, level_inputs-lt, and-twice}
-use Rattle.dev_board.proofs.Facade.{each_input, without_input-lt, either, Keeps, even-keeps, odd-keeps, winner-lt, State, inputs_of, Before, Touch, Untouched}
-use Rattle.dev_board.proofs.Facade.{Command}
+use Rattle.dev_board.proofs.Facade.{◌⊎◌, either, ◌≡◌, ℕ, ◌+◌, ◌-◌, ◌*◌, ◌/◌, ◌%◌, ◌<◌, ◌≤◌, ◌^◌, Bool, true}
+use Rattle.dev_board.proofs.Facade.{false, ◌==◌, cond, min, max, bit_and, bit_or, arith, refl, ap, ◌∙◌, sym, ⊎_elim, ◌≢◌, not, ◌&&◌}
+use Rattle.dev_board.proofs.Facade.{◌||◌, Option, Some, None, zero, suc, cases_lt, cases_eq, cond_both, w8, bit_at, and_numeral, and_le_l, or_of_8}
+use Rattle.dev_board.proofs.Facade.{pow_below, bit_at_and, bit_at_or, bit_at_not, bit_at-lt, bit_at-zero, same_from_bits, same_from_bits_below, bit_at_cat_low}
+use Rattle.dev_board.proofs.Facade.{bit_at_cat_high, bit_at-pow_other, and_pow, Decides-eqb, nat_tests, is_some, IfSome, has, bits_where, but_not}
+use Rattle.dev_board.proofs.Facade.{without_input, requests_hold, level_inputs_of, taken, answered, cascaded, lines_of, slave_int_of, settled_pair}
+use Rattle.dev_board.proofs.Facade.{with_cascade, written_pair, acked, acked_for, from_slave, Chip, PicPair, HasTaken, IsSettled, is_command, Stays, is_nothing}
+use Rattle.dev_board.proofs.Facade.{asks_timer, asks_port, is_access, is_quiet, is_untouched, DRIVEN, WIRES, level_inputs-lt, and-twice, each_input}
+use Rattle.dev_board.proofs.Facade.{without_input-lt, Keeps, even-keeps, odd-keeps, winner-lt, State, inputs_of, Before, Touch, Untouched, Command}
 use Rattle.dev_pic.specs.Chip.{settled}
 use Rattle.dev_board.specs.Step.{settled as settled_board}
 
@@ -48,24 +48,13 @@ driven : (s m : ℕ) → s < 256 → m < 256 → bit_and (s * 256 + m) DRIVEN �
 driven s m hs hm = and-bytes s m 0xff 0xfb hm (omega arith) ∙ ap (λ n. n * 256 + bit_and m 0xfb) (and_numeral s 254 refl ∙ omega arith)
 
 with-again : (b : Bool) (m : ℕ) → m < 256 → has m 2 ≡ b → bit_or (bit_and m 0xfb) (cond b 4 0) ≡ m
-with-again b m h e = by b e where
-  -- from each bit
-  again : (n : ℕ) → n < 256 → ((k : ℕ) → k < 8 → max (min (bit_at m k) (bit_at 0xfb k)) (bit_at n k) ≡ bit_at m k) → bit_or (bit_and m 0xfb) n ≡ m
-  again n l bits =
-      same_from_bits_below 8 _ _ (or_of_8 (bit_and m 0xfb) n (omega (arith, and_le_l m 0xfb)) l) h
-      (λ k l. cc (bit_at_or (bit_and m 0xfb) n k, bit_at_and m 0xfb k, bits k l))
-
-  by : (b : Bool) → has m 2 ≡ b → bit_or (bit_and m 0xfb) (cond b 4 0) ≡ m
-  by true e =
-      let one : (m / 2 ^ 2 % 2) ≡ 1 = grind (arith, nat_tests) in
-      again 4 (omega arith) (each_input (λ k. max (min (bit_at m k) (bit_at 0xfb k)) (bit_at 4 k) ≡ bit_at m k)
-      (omega (arith, bit_at-lt m 0)) (omega (arith, bit_at-lt m 1)) (omega arith) (omega (arith, bit_at-lt m 3)) (omega (arith, bit_at-lt m 4))
-      (omega (arith, bit_at-lt m 5)) (omega (arith, bit_at-lt m 6)) (omega (arith, bit_at-lt m 7)))
-  by false e =
-      let none : (m / 2 ^ 2 % 2) ≡ 0 = grind (arith, nat_tests) in
-      again 0 (omega arith) (each_input (λ k. max (min (bit_at m k) (bit_at 0xfb k)) (bit_at 0 k) ≡ bit_at m k)
-      (omega (arith, bit_at-lt m 0)) (omega (arith, bit_at-lt m 1)) (omega arith) (omega (arith, bit_at-lt m 3)) (omega (arith, bit_at-lt m 4))
-      (omega (arith, bit_at-lt m 5)) (omega (arith, bit_at-lt m 6)) (omega (arith, bit_at-lt m 7)))
+with-again b m h e =
+    let bit : (◌≡◌ {A = ℕ} (cond b 4 0) 4 × (bit_at m 2 ≡ 1)) ⊎ (◌≡◌ {A = ℕ} (cond b 4 0) 0 × (bit_at m 2 ≡ 0)) = grind (arith, nat_tests, bit_at-lt) in
+    same_from_bits_below 8 _ _ (or_of_8 (bit_and m 0xfb) _ (omega (arith, and_le_l m 0xfb)) (omega (arith, bit))) h
+    (λ k l. bit_at_or (bit_and m 0xfb) _ k ∙ ap (λ n. max n (bit_at (cond b 4 0) k)) (bit_at_and m 0xfb k)
+    ∙ each_input (λ k. max (min (bit_at m k) (bit_at 0xfb k)) (bit_at (cond b 4 0) k) ≡ bit_at m k)
+    (omega (arith, bit, bit_at-lt m 0)) (omega (arith, bit, bit_at-lt m 1)) (omega (arith, bit)) (omega (arith, bit, bit_at-lt m 3)) (omega (arith, bit, bit_at-lt m 4))
+    (omega (arith, bit, bit_at-lt m 5)) (omega (arith, bit, bit_at-lt m 6)) (omega (arith, bit, bit_at-lt m 7)) k l)
 
 cascade-again : (b : Bool) (m : ℕ) → m < 256 → has m 2 ≡ b → with_cascade b (bit_and m 0xfb) ≡ m
 unfolding without_input but_not
@@ -107,12 +96,10 @@ module _ (lines : ℕ) (pair : PicPair) (h : HasTaken lines pair) where
 
   -- A command to the master.
   odd-from : (even odd bit : Bool) → even ≡ false → (odd || (even && not bit)) ≡ true → odd ≡ true
-  odd-from false true bit f e = refl
-  odd-from _ _ bit f e = cc
+  odd-from even odd bit f e = grind arith
 
   bit-from : (even odd bit : Bool) → odd ≡ false → (odd || (even && not bit)) ≡ true → bit ≡ false
-  bit-from true false false f e = refl
-  bit-from _ _ _ f e = cc
+  bit-from even odd bit f e = grind arith
 
   pub command-taken : (port value : ℕ) → is_command port value ≡ true → HasTaken lines (written_pair port value pair)
   unfolding is_command written_pair
@@ -172,10 +159,7 @@ module _ (chip : Chip) (w : ℕ) (h : IsSettled chip) (hw : w < 8) where
 
   taken-lines : (taken w chip).lines ≡ chip.lines
   unfolding taken
-  taken-lines =
-      let lines-same : Chip → Type 0 = λ c. c.lines ≡ chip.lines in
-      either lines-same (has (level_inputs_of chip) w) _ _ (either lines-same chip.auto_eoi _ _ (either lines-same chip.rotate _ _ refl refl) refl)
-      (either lines-same chip.auto_eoi _ _ (either lines-same chip.rotate _ _ refl refl) refl)
+  taken-lines = grind (arith, nat_tests)
 
   -- With its line low, the cascade is taken as any other input.
   cascaded-is : (low : has chip.lines 2 ≡ false) (two : w ≡ 2) → cascaded chip ≡ taken w chip
@@ -219,37 +203,26 @@ module _ (lines : ℕ) (pair : PicPair) (h : HasTaken lines pair) (none : has li
 
 -- ---- inputs that leave the board unchanged
 
--- What quiet inputs are.
-record Quiet (pair edge same : Bool) : Type 0 where
-  no_access : pair ≡ false
-  no_edge : edge ≡ false
-  equal : same ≡ true
-
-quiet : (pair edge same : Bool) → (not pair && (not edge && same)) ≡ true → Quiet pair edge same
-quiet false false true e = record { no_access = refl; no_edge = refl; equal = refl }
-quiet _ _ _ e = cc
-
 again : (lines inputs : ℕ) (pair : PicPair) → HasTaken lines pair → inputs ≡ bit_and lines DRIVEN → settled_pair inputs 0 pair ≡ pair
 again lines inputs pair h e = grind (arith, pair-again)
+
+-- What the tests of quiet inputs say.
+parts_of : (access edge same : Bool) → (not access && (not edge && same)) ≡ true → (access ≡ false) × (edge ≡ false) × (same ≡ true)
+parts_of access edge same e = grind arith
 
 pub quiet-settled : (wires inputs : ℕ) (before : Before) (edge : Bool) (touch : Touch) (m : State) → Stays touch before m → inputs ≡ inputs_of wires m
     → is_quiet touch edge inputs before.lines ≡ true → settled_board wires edge m ≡ m
 unfolding settled_board is_quiet
 quiet-settled wires inputs before edge touch m stays is e =
-    let q = quiet (is_access touch) edge (inputs == bit_and before.lines DRIVEN) e in
-    rw (ap (λ (b : Bool). settled_pair (inputs_of wires m) (bits_where b 0x01) m.pair) q.no_edge ∙ again before.lines (inputs_of wires m) m.pair
-    (stays.pair q.no_access) (sym is ∙ (grind (arith, nat_tests))))
+    let q = parts_of (is_access touch) edge (inputs == bit_and before.lines DRIVEN) e in
+    rw (q.1) (rw (again before.lines (inputs_of wires m) m.pair (stays.pair q.0) (sym is ∙ (grind (arith, nat_tests)))))
 
 -- If nothing was touched, the inputs are the lines.
-record AreUntouched (touch : Touch) (edge same : Bool) : Type 0 where
-  timer : asks_timer touch ≡ false
-  port : asks_port touch ≡ false
-  quiet : Quiet (is_access touch) edge same
-
-untouched : (touch : Touch) (edge same : Bool) → (is_nothing touch && (not edge && same)) ≡ true → AreUntouched touch edge same
-untouched Untouched edge same e = record { timer = refl; port = refl; quiet = quiet false edge same e }
-untouched Command edge same e = record { timer = refl; port = refl; quiet = quiet false edge same e }
-untouched _ edge same e = cc
+untouched : (touch : Touch) (test : Bool) → (is_nothing touch && test) ≡ true
+    → (asks_timer touch ≡ false) × (asks_port touch ≡ false) × (is_access touch ≡ false) × (test ≡ true)
+untouched Untouched test e = (refl, refl, refl, e)
+untouched Command test e = (refl, refl, refl, e)
+untouched _ test e = cc
 
 two-parts : (n a b : ℕ) → bit_or (bit_and n a) (bit_and n b) ≡ bit_and n (bit_or a b)
 two-parts n a b = same_from_bits _ _ (λ k. simp (bit_at_and, bit_at_or) (omega (arith, bit_at-lt n k, bit_at-lt a k, bit_at-lt b k)))
@@ -269,7 +242,7 @@ pub untouched-settled : (wires : ℕ) (before : Before) (edge : Bool) (touch : T
     → is_untouched touch edge wires before.lines ≡ true → settled_board wires edge m ≡ m
 unfolding settled_board is_untouched inputs_of
 untouched-settled wires before edge touch m stays e =
-    let q = untouched touch edge (wires == bit_and before.lines WIRES) e in
+    let q = untouched touch _ e in
+    let no_edge : edge ≡ false = grind arith in
     let same : wires ≡ bit_and before.lines WIRES = grind (arith, nat_tests) in
-    rw (ap (λ (b : Bool). settled_pair (inputs_of wires m) (bits_where b 0x01) m.pair) q.quiet.no_edge ∙ again before.lines (inputs_of wires m) m.pair
-    (stays.pair q.quiet.no_access) (rw (same, sym (stays.out q.timer), sym (stays.serial q.port)) (own-inputs before.lines)))
+    rw no_edge (rw (again before.lines (inputs_of wires m) m.pair (stays.pair q.2) (rw (same, sym (stays.out q.0), sym (stays.serial q.1)) (own-inputs before.lines))))

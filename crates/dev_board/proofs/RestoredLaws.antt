@@ -3,12 +3,12 @@ use Rattle.dev_board.proofs.Facade.{◌≡◌, ℕ, ◌≤◌, Bool, true, false
 use Rattle.dev_board.proofs.Facade.{nat_le, ok-hook, IsLevel, MayRestore, LAST_MOMENT, steps_keep_registers, pair-sound, IsSoundPair, ChipFault, PicPair}
 use Rattle.dev_board.proofs.Facade.{pit-restored, IsSoundPit, Pit, IsSoundAt, Port, AreBoardCells, moment_of, timed, by_chip, by_device, lines_agree, agreed}
 use Rattle.dev_board.proofs.Facade.{joined, numbers_back, pair_back, pit_back, serial_back, restored, RestoredIsSound, HasDevices, IsSound, State, BoardCells}
-use Rattle.dev_board.proofs.Facade.{Misfit, Unsound, LinesDisagree, TIMER_DEVICE, MASTER_DEVICE, PIT_DEVICE, SERIAL_DEVICE, ℤ, ◌/◌, List, length, take}
-use Rattle.dev_board.proofs.Facade.{drop, length-append, saved-count, saved_are_cells, kinds, saved_cells, pair_cells, pit_cells, saved, carried, MaySaveUnder}
-use Rattle.dev_board.proofs.Facade.{judged-ok, NEWEST, pair-same, pit_of-saved, rules, pit_of, numbers-back, lines_alike}
-use Rattle.dev_board.proofs.Facade.{restored-saved, line_of, IsTold, SoundMeetsRules, HasLines}
+use Rattle.dev_board.proofs.Facade.{Misfit, LinesDisagree, MASTER_DEVICE, PIT_DEVICE, SERIAL_DEVICE, ℤ, ◌/◌, List, length, take, drop, length-append}
+use Rattle.dev_board.proofs.Facade.{saved-count, saved_are_cells, kinds, saved_cells, pair_cells, pit_cells, saved, carried, MaySaveUnder, judged-ok, NEWEST}
+use Rattle.dev_board.proofs.Facade.{pair-same, pit_of-saved, rules, pit_of, numbers-back, lines_alike, restored-saved, line_of, IsTold, SoundMeetsRules}
+use Rattle.dev_board.proofs.Facade.{HasLines}
 use Rattle.dev_board.proofs.SavedLaws.{has-lines, comes-back}
-use Rattle.dev_serial.proofs.{SavedCells.carried-saved as serial-carried}
+use Rattle.dev_serial.proofs.SavedCells.{carried-saved as serial-carried}
 use Rattle.dev_serial.proofs.RestoredLaws.{restored_is_sound as port-sound, sound_meets_rules as port-meets}
 use Rattle.dev_serial.specs.{PortNumbers.saved as port-saved, Rules.restored as port-restored, Sound.IsSound as IsSoundPort}
 use Rattle.dev_pic.proofs.SavedLaws.{carried-saved as chip-carried}

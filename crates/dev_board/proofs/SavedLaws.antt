@@ -1,14 +1,13 @@
 -- What is saved of a board is restored as a board like it, which answers each event alike.
-use Rattle.dev_board.proofs.Facade.{◌≡◌, ℕ, Bool, List, [], ◌∷◌, refl, sym, ap, subst, ◌∙◌, PicPair}
-use Rattle.dev_board.proofs.Facade.{reads_alike, writes_alike, bytes_in_alike, advances_alike, lines_alike, alike_itself, alike_back, alike_on}
-use Rattle.dev_board.proofs.Facade.{Port, AnswersAlike, StaysAlike, AlikeStays, Likeness, target_of, read_at, written_at, Alike, State, Act, valued}
-use Rattle.dev_board.proofs.Facade.{later_by, waited, acted, wires_after, inputs_of, settled, after_act, step, after_by, answers_by, wires_of, Answer, Event}
-use Rattle.dev_board.proofs.Facade.{Read, Write, Byte, Wait, Target, Register, pos, ◌≤◌, true, false, Result, Ok, arith, and_from}
-use Rattle.dev_board.proofs.Facade.{nat_tests, nat_le, of_none, of_more, long, has, AreOf, IsLevel, MaySave, MayRestore, NEWEST, LAST_MOMENT, hook-ok}
-use Rattle.dev_board.proofs.Facade.{carried-saved, pair-restored, set-of, saved_cells, lines_of, slave_int_of, restored_pair, ChipFault, pit_cells, AreCellsOf}
-use Rattle.dev_board.proofs.Facade.{pit_out, restored_pit, Pit, cells_at, restored_cells, numbers_at, saved, carried, MaySaveUnder, timer_kinds, AreSavedCells}
+use Rattle.dev_board.proofs.Facade.{◌≡◌, ℕ, Bool, List, [], ◌∷◌, refl, sym, ap, subst, PicPair, reads_alike, writes_alike, bytes_in_alike}
+use Rattle.dev_board.proofs.Facade.{advances_alike, lines_alike, alike_itself, alike_back, alike_on, Port, AnswersAlike, StaysAlike, AlikeStays, Likeness}
+use Rattle.dev_board.proofs.Facade.{target_of, read_at, written_at, Alike, State, Act, valued, waited, acted, wires_after, inputs_of, settled, after_act, step}
+use Rattle.dev_board.proofs.Facade.{after_by, answers_by, wires_of, Answer, Event, Read, Target, pos, ◌≤◌, true, Result, Ok, arith, and_from, nat_tests}
+use Rattle.dev_board.proofs.Facade.{nat_le, of_none, of_more, long, has, AreOf, IsLevel, MaySave, MayRestore, NEWEST, LAST_MOMENT, hook-ok, carried-saved}
+use Rattle.dev_board.proofs.Facade.{pair-restored, set-of, saved_cells, lines_of, slave_int_of, restored_pair, ChipFault, pit_cells, AreCellsOf, pit_out}
+use Rattle.dev_board.proofs.Facade.{restored_pit, Pit, cells_at, restored_cells, numbers_at, saved, carried, MaySaveUnder, timer_kinds, AreSavedCells}
 use Rattle.dev_board.proofs.Facade.{AreBoardCells, timed, by_chip, by_device, lines_agree, agreed, joined, restored, SavedAreCells, ComesBack, SavedComesBack}
-use Rattle.dev_board.proofs.Facade.{SavedGoesOn, HasLines, IsSound, Misfit, PIT_DEVICE, SERIAL_DEVICE}
+use Rattle.dev_board.proofs.Facade.{SavedGoesOn, HasLines, IsSound, Misfit, PIT_DEVICE, SERIAL_DEVICE, ◌∙◌}
 use Rattle.dev_serial.proofs.SavedCells.{saved_are_cells as serial-saved, saved_comes_back as serial-comes-back}
 use Rattle.dev_serial.specs.{Sound.Alike as AlikePorts, Cells.carried as serial_carried, Laws.ComesBack as PortComesBack}
 use Rattle.dev_base.specs.Bits.{same}
@@ -28,13 +27,11 @@ module _ (m : State) (port : Port) (a : AlikePorts m.serial port) where
 
   read_at-alike : (target : Target) (number : ℕ) → AnswersAlike Alike (read_at target number m) (read_at target number other)
   unfolding read_at
-  read_at-alike (Register offset) number = search (arith, reads_alike, with-serial)
-  read_at-alike _ number = record { value = refl; alike = record { same = refl; serial = a } }
+  read_at-alike target number = search (arith, reads_alike, with-serial)
 
   written_at-alike : (target : Target) (number value : ℕ) → Alike (written_at target number value m) (written_at target number value other)
   unfolding written_at
-  written_at-alike (Register offset) number value = record { same = refl; serial = writes_alike offset value m.moment m.serial port a }
-  written_at-alike _ number value = record { same = refl; serial = a }
+  written_at-alike target number value = search (arith, writes_alike)
 
   waited-alike : (to : ℕ) → AnswersAlike Alike (waited to m) (waited to other)
   unfolding waited
@@ -45,10 +42,7 @@ module _ (m : State) (port : Port) (a : AlikePorts m.serial port) where
   acted-alike (Read number) =
       let answers = read_at-alike (target_of m.level number) number in
       record { value = ap valued answers.value; alike = answers.alike }
-  acted-alike (Write number value) = record { value = refl; alike = written_at-alike (target_of m.level number) number value }
-  acted-alike (Byte value) = record { value = refl; alike = record { same = refl; serial = bytes_in_alike value m.moment m.serial port a } }
-  acted-alike (Wait ns) = waited-alike (later_by ns m.moment)
-  acted-alike _ = record { value = refl; alike = record { same = refl; serial = a } }
+  acted-alike event = search (arith, written_at-alike, bytes_in_alike, waited-alike)
 
   inputs-alike : (wires : ℕ) → inputs_of wires other ≡ inputs_of wires m
   unfolding inputs_of
@@ -112,14 +106,10 @@ likeness = search (arith, alike_itself, alike_back, alike_on)
 
 -- Two truth values are the same.
 pub same-refl : (a b : Bool) → a ≡ b → same a b ≡ true
-same-refl true b e = sym e
-same-refl false true e = cc
-same-refl false false e = refl
+same-refl a b e = grind arith
 
 pub same-is : (a b : Bool) → same a b ≡ true → a ≡ b
-same-is true b e = sym e
-same-is false true e = cc
-same-is false false e = refl
+same-is a b e = grind arith
 
 lines-agree : (m : State) → HasLines m → lines_agree m ≡ true
 unfolding lines_agree

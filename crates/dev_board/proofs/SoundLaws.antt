@@ -1,21 +1,21 @@
 -- What each event keeps: level and moment, sound devices, and what is known of the timer.
-use Rattle.dev_board.proofs.Facade.{refl, NumbersAre, ◌≡◌, ℕ, int_of, AnswersTellInt, ClockGoesOn, moment_left, target_of, read_at, written_at, State}
-use Rattle.dev_board.proofs.Facade.{Act, waited, acted, settled, after_act, step, Event, Read, Write, Target, Pair, ◌-◌, ◌<◌, ◌≤◌, ◌==◌, true}
-use Rattle.dev_board.proofs.Facade.{◌&&◌, arith, ap, sym, subst, List, ◌∙◌, nat_le, cond_both, either, LAST_MOMENT, steps_keep_registers, is_port}
-use Rattle.dev_board.proofs.Facade.{read_pair, written_pair, acked, PairHasRegisters, PicPair, sound_stays, IsLoadedBy, pit_read, pit_written, IsSoundPit, Pit}
-use Rattle.dev_board.proofs.Facade.{reads_keep_sound, writes_keep_sound, bytes_in_keep_sound, advances_keep_sound, reads_keep_level, writes_keep_level}
-use Rattle.dev_board.proofs.Facade.{bytes_in_keep_level, advances_keep_level, read_of, written, came_in, advanced, Port, IsEvent, write, HasDevices, later_by}
-use Rattle.dev_board.proofs.Facade.{Byte, Wait, Wire, Ack, Counter, Register, Access, ◌/◌, inl, inr, Bool, false, if◌then◌else◌, Option, Some, None}
-use Rattle.dev_board.proofs.Facade.{or_parts, nat_tests, nat_lt, at_step, same, read-goes_on, edge_in_parts, period, rises, ticks, edge_of}
-use Rattle.dev_board.proofs.Facade.{edge_since, out_of, GoesOn, counter_of, pit_edge, pit_out, AreTurns, IsTurn, Mode, OneShot, RateGenerator, SquareWave}
-use Rattle.dev_board.proofs.Facade.{HardwareStrobe, Turns, IsCalm, calm_by, later, read, calm_after, is_command, write_touches, Control, Touch, Command}
-use Rattle.dev_board.proofs.Facade.{wires_after, after_all, after_by, AreWires, wires_of, ◌^◌, [], ◌∷◌, IsLevel, lines_are_taken, but_not, winner_at}
-use Rattle.dev_board.proofs.Facade.{served_of, winner_of, ready_among, chip_on, lines_of, slave_int_of, settled_pair, IsSoundPair, powered_on, new_pit}
-use Rattle.dev_board.proofs.Facade.{power_on_is_sound, bits_where, interrupt, line_of, AreEvents, SoundStays, HasLines, IsSound, power_on, inputs_of}
+use Rattle.dev_board.proofs.Facade.{refl, NumbersAre, ◌≡◌, ℕ, AnswersTellInt, ClockGoesOn, moment_left, target_of, read_at, written_at, State, Act}
+use Rattle.dev_board.proofs.Facade.{waited, acted, settled, after_act, step, Event, Read, Write, Target, Pair, ◌-◌, ◌<◌, ◌≤◌, true, ◌&&◌}
+use Rattle.dev_board.proofs.Facade.{arith, ap, sym, subst, List, ◌∙◌, either, LAST_MOMENT, steps_keep_registers, is_port, read_pair, written_pair, acked}
+use Rattle.dev_board.proofs.Facade.{PairHasRegisters, PicPair, sound_stays, IsLoadedBy, pit_read, pit_written, IsSoundPit, Pit, reads_keep_sound}
+use Rattle.dev_board.proofs.Facade.{writes_keep_sound, bytes_in_keep_sound, advances_keep_sound, reads_keep_level, writes_keep_level, bytes_in_keep_level}
+use Rattle.dev_board.proofs.Facade.{advances_keep_level, read_of, written, came_in, advanced, Port, IsEvent, write, HasDevices, later_by, Byte, Wait, Wire, Ack}
+use Rattle.dev_board.proofs.Facade.{Counter, Register, Access, ◌/◌, Bool, false, Option, Some, None, or_parts, nat_tests, nat_lt, at_step, same}
+use Rattle.dev_board.proofs.Facade.{read-goes_on, edge_in_parts, period, rises, ticks, edge_of, edge_since, out_of, GoesOn, counter_of, pit_edge, pit_out}
+use Rattle.dev_board.proofs.Facade.{AreTurns, IsTurn, Mode, RateGenerator, SquareWave, Turns, IsCalm, calm_by, later, read, calm_after, is_command}
+use Rattle.dev_board.proofs.Facade.{write_touches, Control, Touch, Command, wires_after, after_all, after_by, AreWires, wires_of, ◌^◌, [], ◌∷◌}
+use Rattle.dev_board.proofs.Facade.{IsLevel, lines_are_taken, but_not, winner_at, served_of, winner_of, ready_among, chip_on, lines_of, slave_int_of}
+use Rattle.dev_board.proofs.Facade.{settled_pair, IsSoundPair, powered_on, new_pit, power_on_is_sound, bits_where, interrupt, line_of, AreEvents, SoundStays}
+use Rattle.dev_board.proofs.Facade.{HasLines, IsSound, power_on, inputs_of}
 use Rattle.dev_board.proofs.WireLaws.{names, wires_of-are, wires_after-are, one-lt, inputs-lt, inputs-out, inputs-serial}
 use Rattle.dev_pic.proofs.StepLaws.{steps_keep_level as pair_keeps_level}
 use Rattle.dev_pic.specs.Pair.{power_on as pair_on}
-use Rattle.dev_pit.proofs.{SoundLaws.steps_keep_level as pit_keeps_level}
+use Rattle.dev_pit.proofs.SoundLaws.{steps_keep_level as pit_keeps_level}
 use Rattle.dev_pit.specs.{Counter.read_of as counter_read, declared.counter.Counter.Counter as Counting}
 use Rattle.dev_serial.specs.{Sound.IsSound as IsSoundPort, Port.power_on as serial_on}
 
@@ -26,47 +26,27 @@ numbers_are = record { wires = refl; timer_input = refl; serial_input = refl; dr
 
 -- ---- no event changes the level, and only a wait changes the moment
 
--- A board at a moment and of a level.
-record IsAt (moment level : ℕ) (after : State) : Type 0 where
-  moment_is : after.moment ≡ moment
-  level_is : after.level ≡ level
-
-module _ (m : State) where
-  read_at-clock : (target : Target) (port : ℕ) → IsAt m.moment m.level (read_at target port m).1
-  unfolding read_at
-  read_at-clock Pair port = record { moment_is = refl; level_is = refl }
-  read_at-clock _ port = record { moment_is = refl; level_is = refl }
-
-  written_at-clock : (target : Target) (port value : ℕ) → IsAt m.moment m.level (written_at target port value m)
-  unfolding written_at
-  written_at-clock Pair port value = record { moment_is = refl; level_is = refl }
-  written_at-clock _ port value = record { moment_is = refl; level_is = refl }
-
-  acted-clock : (event : Event) → IsAt (moment_left event m.moment) m.level (acted event m).1
-  unfolding acted waited
-  acted-clock (Read port) = read_at-clock (target_of m.level port) port
-  acted-clock (Write port value) = written_at-clock (target_of m.level port) port value
-  acted-clock _ = record { moment_is = refl; level_is = refl }
-
-after_act-clock : (wires moment level : ℕ) (done : Act × State) → IsAt moment level done.1 → IsAt moment level (after_act wires done).1
-unfolding after_act settled
-after_act-clock wires moment level done c = record { moment_is = c.moment_is; level_is = c.level_is }
-
-step-clock : (event : Event) (m : State) → IsAt (moment_left event m.moment) m.level (step event m).1
-unfolding step
-step-clock event m = after_act-clock _ _ _ (acted event m) (acted-clock m event)
+acted-clock : (event : Event) (m : State) → ((acted event m).1.moment ≡ moment_left event m.moment) × ((acted event m).1.level ≡ m.level)
+unfolding acted waited read_at written_at
+acted-clock (Read port) m = by (target_of m.level port) where
+  by : (target : Target) → ((read_at target port m).1.moment ≡ m.moment) × ((read_at target port m).1.level ≡ m.level)
+  by Pair = (refl, refl)
+  by _ = (refl, refl)
+acted-clock (Write port value) m = by (target_of m.level port) where
+  by : (target : Target) → ((written_at target port value m).moment ≡ m.moment) × ((written_at target port value m).level ≡ m.level)
+  by Pair = (refl, refl)
+  by _ = (refl, refl)
+acted-clock _ m = (refl, refl)
 
 pub clock_goes_on : ClockGoesOn
-clock_goes_on = record { moment = λ event m. (step-clock event m).moment_is; level = λ event m. (step-clock event m).level_is; last = refl }
+unfolding step after_act settled
+clock_goes_on = record { moment = λ event m. (acted-clock event m).0; level = λ event m. (acted-clock event m).1; last = refl }
 
 -- ---- the interrupt output
 
-told : (event : Event) (m : State) → (step event m).0.int ≡ int_of (step event m).1.pair
-unfolding step after_act
-told event m = refl
-
 pub answers_tell_int : AnswersTellInt
-answers_tell_int = record { int = told }
+unfolding step after_act
+answers_tell_int = record { int = λ event m. refl }
 
 -- ---- what each event keeps of the devices
 
@@ -107,12 +87,7 @@ module _ (m : State) (h : HasDevices m) where
 
   pub write-kept : (port value : ℕ) → value < 256 → HasDevices (write port value m)
   unfolding target_of written_at
-  write-kept port value v =
-      let keeps : Target → Type 0 = λ t. HasDevices (written_at t port value m) in
-      cond_both (is_port m.level port) _ _ keeps (λ e. pair-written port value v (rw (h.pair_level) (e))) (λ _.
-      either keeps (nat_le 0x40 port && nat_le port 0x42) _ _ (pit-written port value v)
-      (either keeps (port == 0x43) _ _ (pit-written port value v)
-      (either keeps (nat_le 0x3f8 port && nat_le port 0x3ff) _ _ (serial-written (port - 0x3f8) value v) h)))
+  write-kept port value v = search (arith, nat_tests, pair-written, pit-written, serial-written)
 
   pub waited-kept : (to : ℕ) → m.moment ≤ to → to ≤ LAST_MOMENT → HasDevices (waited to m).1
   unfolding waited
@@ -164,15 +139,12 @@ module _ (m : State) (h : HasDevices m) where
 
 -- No edge comes in no time.
 no-more : (x : Bool) (q : ℕ) → (x && nat_lt q q) ≡ false
-no-more true q = grind (arith, nat_tests)
-no-more false q = refl
+no-more x q = grind (arith, nat_tests)
 
 no-rise : (mode : Mode) (count a : ℕ) → rises mode count a a ≡ false
 unfolding rises
-no-rise OneShot count a = refl
 no-rise RateGenerator count a = no-more _ (a / period count)
 no-rise SquareWave count a = no-more _ (a / period count)
-no-rise HardwareStrobe count a = refl
 no-rise _ count a = grind (arith, nat_tests)
 
 no-edge_since : (load : Option ℕ) (mode : Mode) (count at : ℕ) → edge_since load mode count at at ≡ false
@@ -184,14 +156,8 @@ unfolding edge_of
 no-edge counter at = no-edge_since counter.loaded_at counter.mode counter.count at
 
 -- Before the first of three turns that is after the base, none has come.
-not-yet : (base turn at to : ℕ) → at ≡ turn → base ≤ at → at ≤ to → to < later base turn → at ≡ base
-not-yet base turn at to e f l h = grind (arith, later)
-
 none-came : (turns : Turns) (base at to : ℕ) → IsTurn turns base at → base ≤ at → at ≤ to → to < calm_by turns base → at ≡ base
-none-came turns base at to (inl e) f l h = e
-none-came turns base at to (inr (inl e)) f l h = not-yet base turns.first at to e f l (omega arith)
-none-came turns base at to (inr (inr (inl e))) f l h = not-yet base turns.second at to e f l (omega arith)
-none-came turns base at to (inr (inr (inr e))) f l h = not-yet base turns.third at to e f l (omega arith)
+none-came turns base at to is f l h = grind (arith, later)
 
 pub calm-turns : (m : State) → HasDevices m → (turns : Turns) → AreTurns turns (counter_of 0 m.pit) m.moment → IsCalm (calm_by turns m.moment) m
 unfolding pit_out pit_edge
@@ -207,15 +173,12 @@ record SameOut (before after : Counting) : Type 0 where
   out : (at : ℕ) → out_of after at ≡ out_of before at
   edge : (from to : ℕ) → edge_of after from to ≡ edge_of before from to
 
-same-out : (before after : Counting) → GoesOn before after → SameOut before after
-unfolding out_of edge_of
-same-out before after g = search arith
-
 read-same : (j now : ℕ) (pit : Pit) → SameOut (counter_of 0 pit) (counter_of 0 (pit_read j now pit).1)
-unfolding pit_read
+unfolding pit_read out_of edge_of
 read-same j now pit =
     let c = counter_of 0 pit in
-    same-out c _ (at_step (GoesOn c) 0 j (λ d. (counter_read now d).1) pit (λ here. read-goes_on now c) (same c))
+    let on : GoesOn c (counter_of 0 (pit_read j now pit).1) = at_step (GoesOn c) 0 j (λ d. (counter_read now d).1) pit (λ here. read-goes_on now c) (same c) in
+    search arith
 
 -- A read of a counter leaves OUT unchanged.
 pub read-out : (j now : ℕ) (pit : Pit) → pit_out 0 now (pit_read j now pit).1 ≡ pit_out 0 now pit
@@ -237,8 +200,7 @@ module _ (until : ℕ) (m : State) (calm : IsCalm until m) where
 
   written_at-calm : (target : Target) (port value : ℕ) → IsCalm (calm_after (write_touches target port value) until) (written_at target port value m)
   unfolding written_at
-  written_at-calm Pair port value =
-      elim (is_command port value) as (λ command. IsCalm (calm_after (if command then Command else Access) until) m) [ true ↦ calm | false ↦ calm ]
+  written_at-calm Pair port value = either (λ touch. IsCalm (calm_after touch until) m) (is_command port value) Command Access calm calm
   written_at-calm (Counter counter) port value = λ to l h. absurd (omega arith)
   written_at-calm Control port value = λ to l h. absurd (omega arith)
   written_at-calm _ port value = calm
@@ -258,7 +220,7 @@ module _ (until : ℕ) (m : State) (calm : IsCalm until m) where
       (still.0 ∙ sym (calm to l h).0, (or_parts _ _ (sym (edge_in_parts (counter_of 0 m.pit) m.moment to at l from) ∙ still.1)).1)
 
   pub calm-wait : (to : ℕ) (act : Act) (after : State) → (act, after) ≡ waited to m → m.moment ≤ to → to < until → IsCalm until after
-  calm-wait to act after e l h = subst (λ done. IsCalm until done.1) (sym e) (wait-calm to l h)
+  calm-wait to act after e l h = let found = wait-calm to l h in rw (← e) at found
 
 -- ---- a board is sound at power on, and each event keeps it sound
 
@@ -280,12 +242,9 @@ on-lines : (level : ℕ) → HasLines (power_on level)
 unfolding power_on pair_on chip_on new_pit powered_on serial_on lines_of slave_int_of winner_at winner_of ready_among served_of but_not pit_out out_of line_of interrupt
 on-lines level = record { out = refl; slave = refl; serial = refl }
 
-on-pair : (level : ℕ) → IsLevel level → IsSoundPair (power_on level).pair
-unfolding power_on
-on-pair level l = steps_keep_registers.power level l
-
 pub power_on-sound : (level : ℕ) → IsLevel level → IsSound (power_on level)
-power_on-sound level l = record { devices = on-devices level l; pair = on-pair level l; lines = on-lines level }
+unfolding power_on
+power_on-sound level l = record { devices = on-devices level l; pair = steps_keep_registers.power level l; lines = on-lines level }
 
 -- The board after the lines are updated.
 module _ (wires : ℕ) (edge : Bool) (m : State) (w : AreWires wires) (h : HasDevices m) where

@@ -1,10 +1,10 @@
 -- The inputs of the pair, bit by bit, and the wires among them.
 use Rattle.dev_board.proofs.Facade.{◌≡◌, ◌≢◌, ℕ, ◌-◌, ◌<◌, ◌^◌, Bool, true, false, ◌&&◌, arith, bit_or, refl, ap, sym, ◌∙◌}
-use Rattle.dev_board.proofs.Facade.{false≢true, nat_tests, and_le_l, and_le_r, or_of_16, pow_below, and-false, and-true, or-false, has, bits_where}
-use Rattle.dev_board.proofs.Facade.{has-and, has-or, has-one_other, lines_of, pit_out, line_of, IsEvent, State, inputs_of, names_wire, wires_after, AreWires}
-use Rattle.dev_board.proofs.Facade.{is_wire, wires_of, with_wire, Event, Wire, WIRES, ◌+◌, ◌≤◌, ◌==◌, not, if◌then◌else◌, bit_and}
-use Rattle.dev_board.proofs.Facade.{⊎_elim, cases_lt, cond_both, bit_at_not, bit_at-lt, bit_at-zero, bit_at, w16, or-true, has-one, not_test, lines_are_taken}
-use Rattle.dev_board.proofs.Facade.{settled_pair, wire_left, WiresStay, acted, after_act, settled, step}
+use Rattle.dev_board.proofs.Facade.{false≢true, nat_tests, and_le_l, and_le_r, or_of_16, pow_below, and-false, and-true, or-false, has, bits_where, has-and}
+use Rattle.dev_board.proofs.Facade.{has-or, has-one_other, lines_of, pit_out, line_of, IsEvent, State, inputs_of, names_wire, wires_after, AreWires, is_wire}
+use Rattle.dev_board.proofs.Facade.{wires_of, with_wire, Event, Wire, WIRES, ◌+◌, ◌≤◌, ◌==◌, not, if◌then◌else◌, ⊎_elim, cases_lt}
+use Rattle.dev_board.proofs.Facade.{bit_at_not, bit_at-lt, bit_at-zero, bit_at, w16, or-true, has-one, not_test, lines_are_taken, settled_pair, wire_left}
+use Rattle.dev_board.proofs.Facade.{WiresStay, acted, after_act, settled, step}
 
 -- ---- the inputs of the pair, bit by bit
 
@@ -54,12 +54,10 @@ named-bound event input up e is = wire-bound input (sym (ap names_wire is) ∙ e
 
 -- A device's line among the inputs.
 where-bit : (b : Bool) (bits place : ℕ) → has 0 place ≡ false → has (bits_where b bits) place ≡ (has bits place && b)
-where-bit true bits place z = sym (and-true (has bits place))
-where-bit false bits place z = cc (and-false (has bits place))
+where-bit b bits place z = grind (arith, and-true, and-false)
 
 pub one-lt : (b : Bool) (bit : ℕ) → bit < 2 ^ 16 → bits_where b bit < 2 ^ 16
-one-lt true bit h = h
-one-lt false bit h = omega arith
+one-lt b bit h = grind arith
 
 module _ (wires : ℕ) (m : State) (w : AreWires wires) where
   abbrev out : Bool
@@ -85,8 +83,7 @@ module _ (wires : ℕ) (m : State) (w : AreWires wires) where
 -- ---- a wire stays as the last event that named it left it
 
 second_true : (a b : Bool) → (a && b) ≡ true → b ≡ true
-second_true true b e = e
-second_true false b e = cc
+second_true a b e = grind arith
 
 -- The wires have the lines' level at each wire.
 wires_of-wire : (m : State) (wire : ℕ) → is_wire wire ≡ true → has (wires_of m) wire ≡ has (lines_of m.pair) wire
@@ -99,18 +96,8 @@ has-rest input wire h l = cc (bit_at_not w16 (2 ^ input) wire (pow_below input 1
 -- One of them rises or falls.
 named : (input wire wires : ℕ) (up : Bool) → input < 16 → wire < 16 → has (with_wire input up wires) wire ≡ (if input == wire then up else has wires wire)
 unfolding with_wire
-named input wire wires true h l =
-    cond_both (input == wire) _ _ (λ (b : Bool). has (bit_or wires (2 ^ input)) wire ≡ b)
-    (λ e. let same : wire ≡ input = grind (arith, nat_tests) in
-    rw (has-or wires (2 ^ input) wire, same, has-one input) (or-true (has wires input)))
-    (λ e. let other : wire ≢ input = grind (arith, nat_tests) in
-    rw (has-or wires (2 ^ input) wire, has-one_other input wire other) (or-false (has wires wire)))
-named input wire wires false h l =
-    cond_both (input == wire) _ _ (λ (b : Bool). has (bit_and wires (65535 - 2 ^ input)) wire ≡ b)
-    (λ e. let same : wire ≡ input = grind (arith, nat_tests) in
-    rw (has-and wires (65535 - 2 ^ input) wire, has-rest input wire h l, same, has-one input) (and-false (has wires input)))
-    (λ e. let other : wire ≢ input = grind (arith, nat_tests) in
-    rw (has-and wires (65535 - 2 ^ input) wire, has-rest input wire h l, has-one_other input wire other) (and-true (has wires wire)))
+named input wire wires true h l = grind (arith, nat_tests, has, has-or, has-one, has-one_other, or-true, or-false)
+named input wire wires false h l = grind (arith, nat_tests, has, has-and, has-rest, has-one, has-one_other, and-true, and-false)
 
 left : (event : Event) (wire wires : ℕ) → wire < 16 → IsEvent event → has (wires_after event wires) wire ≡ wire_left wire event (has wires wire)
 unfolding wires_after
@@ -119,8 +106,7 @@ left _ wire wires l e = refl
 
 -- No device drives a wire.
 driven : (b : Bool) (input wire : ℕ) → wire ≢ input → has (bits_where b (2 ^ input)) wire ≡ false
-driven true input wire n = has-one_other input wire n
-driven false input wire n = rw (bit_at-zero wire)
+driven b input wire n = grind (arith, has-one_other, bit_at-zero)
 
 inputs-wire : (wires wire : ℕ) (m : State) → is_wire wire ≡ true → has (inputs_of wires m) wire ≡ has wires wire
 unfolding inputs_of
@@ -139,11 +125,13 @@ settled-wire : (wires wire : ℕ) (edge : Bool) (m : State) → AreWires wires �
 unfolding settled
 settled-wire wires wire edge m w e = taken (inputs_of wires m) (bits_where edge 0x01) wire m (inputs-lt wires m w) e ∙ inputs-wire wires wire m e
 
-stay : (event : Event) (m : State) (wire : ℕ) → is_wire wire ≡ true → IsEvent event
-    → has (lines_of (step event m).1.pair) wire ≡ wire_left wire event (has (lines_of m.pair) wire)
-unfolding step after_act
-stay event m wire e is =
-    cc (settled-wire (wires_after event (wires_of m)) wire (acted event m).0.edge (acted event m).1 (wires_after-are event (wires_of m) (names event is) (wires_of-are m)) e, left event wire (wires_of m) (wire-bound wire e) is, wires_of-wire m wire e)
-
 pub wires_stay : WiresStay
-wires_stay = record { wire = stay }
+unfolding step after_act
+wires_stay = record {
+  wire = λ event m wire e is. cc (
+    settled-wire (wires_after event (wires_of m)) wire (acted event m).0.edge (acted event m).1
+        (wires_after-are event (wires_of m) (names event is) (wires_of-are m)) e,
+    left event wire (wires_of m) (wire-bound wire e) is,
+    wires_of-wire m wire e,
+  );
+}

@@ -1,14 +1,14 @@
 -- What is saved of a clock board's devices and restored from it.
 use Rattle.dev_clock.proofs.Facade.{SavedAreCells, ComesBack, SavedComesBack, SavedGoesOn, IsSound, ClockState, CLOCK_DEVICE, LINES_CELL, ◌≡◌, ℕ}
-use Rattle.dev_clock.proofs.Facade.{◌==◌, ap, arith, ℤ, ◌≤◌, Bool, List, Result, Ok, refl, sym, subst, ◌∙◌, has}
-use Rattle.dev_clock.proofs.Facade.{lines_of, IsSoundPair, PicPair, CLOCK_INPUT, hook-ok, number_at, NEWEST, same-refl, by_device, State, Misfit, carried-saved}
-use Rattle.dev_clock.proofs.Facade.{Numbers, saved_is_restored, saved_cells, line_of, CanRestore, hook_restored, Rtc, MaySaveUnder, saved, carried}
-use Rattle.dev_clock.proofs.Facade.{AreSavedCells, AreClockCells, numbers_back, slave_line, with_line, joined, restored, nat_le, Err, true, false, cond, either}
-use Rattle.dev_clock.proofs.Facade.{LAST_MOMENT, timed, by_chip, lines_agree, agreed, moment_of, BoardCells, pair_of, Chip, Pit, Port, IsPlaced, clock_back}
-use Rattle.dev_clock.proofs.Facade.{judged-ok, ok-hook, same, AreOf, IsUpTo, chip-ok, device-ok, same-is, chip_of, rules, kinds, NEWEST_CLOCK, RestoredIsSound}
-use Rattle.dev_clock.proofs.Facade.{ClockCells, LINE_RULE, AllTrue, none_failing, same-chip, restored-own, IsTold, SoundMeetsRules}
+use Rattle.dev_clock.proofs.Facade.{◌==◌, ap, arith, ℤ, ◌≤◌, Bool, List, Result, Ok, refl, sym, subst, ◌∙◌, has, lines_of, IsSoundPair}
+use Rattle.dev_clock.proofs.Facade.{PicPair, CLOCK_INPUT, hook-ok, number_at, NEWEST, same-refl, by_device, State, Misfit, carried-saved, Numbers}
+use Rattle.dev_clock.proofs.Facade.{saved_is_restored, saved_cells, line_of, CanRestore, hook_restored, Rtc, MaySaveUnder, saved, carried, AreSavedCells}
+use Rattle.dev_clock.proofs.Facade.{AreClockCells, numbers_back, slave_line, with_line, joined, restored, nat_le, Err, either, LAST_MOMENT, timed, by_chip}
+use Rattle.dev_clock.proofs.Facade.{lines_agree, agreed, moment_of, BoardCells, pair_of, Chip, Pit, Port, IsPlaced, clock_back, judged-ok, ok-hook, same, AreOf}
+use Rattle.dev_clock.proofs.Facade.{IsUpTo, chip-ok, device-ok, same-is, chip_of, rules, kinds, NEWEST_CLOCK, RestoredIsSound, ClockCells, LINE_RULE, AllTrue}
+use Rattle.dev_clock.proofs.Facade.{none_failing, same-chip, restored-own, IsTold, SoundMeetsRules}
 use Rattle.dev_clock.proofs.StepLaws.{alike_stays, newest-is}
-use Rattle.dev_board.proofs.RestoredLaws.{restored_is_sound as board-is-sound, made_of as board_made_of, sound_meets_rules as board-meets}
+use Rattle.dev_board.proofs.RestoredLaws.{let-through, restored_is_sound as board-is-sound, made_of as board_made_of, sound_meets_rules as board-meets}
 use Rattle.dev_board.proofs.SavedLaws.{saved_are_cells as board-saved, saved_comes_back as board-comes-back}
 use Rattle.dev_board.specs.{Saved.restored as board_restored, SavedLaws.ComesBack as BoardComesBack, Sound.IsSound as IsSoundBoard}
 use Rattle.dev_board.specs.Saved.{saved as board_saved, carried as board_carried, MaySaveUnder as MaySaveBoard, joined as board_joined}
@@ -161,9 +161,7 @@ pub record IsMadeOf (of_clock : Result Rtc Misfit) (of_board : Result State Misf
 
 pub made_of : (of_clock : Result Rtc Misfit) (of_board : Result State Misfit) (m : ClockState) → joined of_clock of_board ≡ Ok m → IsMadeOf of_clock of_board m
 unfolding joined
-made_of (Ok clock) (Ok board) m e =
-    let is : record { clock = clock; board = board } ≡ m = cc in
-    record { clock = ap (λ o. Ok o.clock) is; board = ap (λ o. Ok o.board) is }
+made_of (Ok clock) (Ok board) m e = record { clock = cc; board = cc }
 made_of _ _ m e = cc
 
 -- A chip whose line the slave remembers.
@@ -171,15 +169,11 @@ pub record IsLined (line : Bool) (outcome : Result Rtc ℕ) (clock : Rtc) : Type
   pub found : outcome ≡ Ok clock
   pub kept : line ≡ line_of clock
 
-lined-by : (b : Bool) (found clock : Rtc) → cond b (Ok found) (Err LINE_RULE) ≡ Ok clock → (b ≡ true) × (found ≡ clock)
-lined-by true found clock e = (refl, cc)
-lined-by false found clock e = cc
-
 lined : (line : Bool) (outcome : Result Rtc ℕ) (clock : Rtc) → with_line line outcome ≡ Ok clock → IsLined line outcome clock
 unfolding with_line
 lined line (Err rule) clock e = cc
 lined line (Ok found) clock e =
-    let is = lined-by (same line (line_of found)) found clock e in
+    let is = let-through (same line (line_of found)) found clock LINE_RULE e in
     record { found = rw (is.1); kept = same-is line (line_of found) is.0 ∙ ap line_of is.1 }
 
 pub clock-lined : (version : ℕ) (line : Bool) (cells : List ℤ) (clock : Rtc) → clock_back version line cells ≡ Ok clock

@@ -1,15 +1,15 @@
 -- What each event keeps, and that devices that are alike give equal answers.
+use Rattle.std.proofs.lemmas.Bool.Decides.{nat_tests}
 use Rattle.dev_clock.proofs.Facade.{refl, NumbersAre, ◌≡◌, ℕ, ◌==◌, ◌∙◌, either, moment_left, Answer, Event, Read, Write, Wait, Wire}
-use Rattle.dev_clock.proofs.Facade.{int_of, version_stays, is_port, line_of, AnswersTellInt, ClockGoesOn, ClockState, waited, acted, follows_line, step}
-use Rattle.dev_clock.proofs.Facade.{CLOCK_INPUT, ◌<◌, Bool, List, [], ◌∷◌, arith, IsLevel, IsUpTo, NEWEST, wires_stay, IsEvent}
-use Rattle.dev_clock.proofs.Facade.{AreEvents, State, after_by, chip_on, lines_of, calls_keep_sound, read_of, passed, NEWEST_CLOCK, Rtc, SoundStays, HasDevices}
-use Rattle.dev_clock.proofs.Facade.{IsSound, power_on, on_board, clock_read, clock_written, after_all, true, false, cond, ap, stays-alike, AnswersAlike}
-use Rattle.dev_clock.proofs.Facade.{AlikeStays, Alike}
-use Rattle.dev_board.proofs.{SavedLaws.alike_stays as board_alike}
+use Rattle.dev_clock.proofs.Facade.{version_stays, is_port, line_of, AnswersTellInt, ClockGoesOn, ClockState, waited, acted, follows_line, step, CLOCK_INPUT}
+use Rattle.dev_clock.proofs.Facade.{◌<◌, Bool, List, [], ◌∷◌, arith, IsLevel, IsUpTo, NEWEST, wires_stay, IsEvent, AreEvents, State, after_by}
+use Rattle.dev_clock.proofs.Facade.{chip_on, lines_of, calls_keep_sound, read_of, passed, NEWEST_CLOCK, Rtc, SoundStays, HasDevices, IsSound, power_on}
+use Rattle.dev_clock.proofs.Facade.{on_board, clock_read, clock_written, after_all, true, false, cond, ap, stays-alike, AnswersAlike, AlikeStays, Alike}
+use Rattle.dev_board.proofs.SavedLaws.{alike_stays as board_alike}
 use Rattle.dev_board.proofs.SoundLaws.{answers_tell_int as board_tells_int, clock_goes_on as board_goes_on, sound_stays_on as board_stays}
 use Rattle.dev_board.specs.{Sound.IsSound as IsSoundBoard, Sound.Alike as AlikeBoards, State.power_on as board_on, Step.step as board_step}
 use Rattle.dev_pic.specs.Pair.{power_on as pair_on}
-use Rattle.vms_rtc.specs.{Chip.power_on as clock_on}
+use Rattle.vms_rtc.specs.Chip.{power_on as clock_on}
 
 -- ---- the numbers are the constants' by their definition
 
@@ -32,15 +32,7 @@ module _ (m : ClockState) where
 
   acted-clock : (event : Event) → Keeps event (acted event m)
   unfolding acted waited
-  acted-clock (Read port) =
-      either (Keeps (Read port)) (is_port port) _ _ (record { moment_is = refl; version_is = version_stays.read port m.clock }) (on-board-clock (Read port))
-  acted-clock (Write port value) =
-      either (Keeps (Write port value)) (is_port port) _ _ (record { moment_is = refl; version_is = version_stays.write port value m.clock })
-      (on-board-clock (Write port value))
-  acted-clock (Wait ns) = record { moment_is = board_goes_on.moment (Wait ns) m.board; version_is = version_stays.passed m.board.moment _ m.clock }
-  acted-clock (Wire input up) =
-      either (Keeps (Wire input up)) (input == CLOCK_INPUT) _ _ (record { moment_is = refl; version_is = refl }) (on-board-clock (Wire input up))
-  acted-clock event = on-board-clock event
+  acted-clock event = search (arith, nat_tests, on-board-clock, version_stays.read, version_stays.write, version_stays.passed, board_goes_on.moment)
 
 follows-clock : (moment version : ℕ) (done : Answer × ClockState) → IsAt moment version done → IsAt moment version (follows_line done)
 unfolding follows_line
@@ -56,12 +48,9 @@ clock_goes_on = record { moment = λ event m. (step-clock event m).moment_is; ve
 
 -- ---- the interrupt output
 
-told : (event : Event) (m : ClockState) → (step event m).0.int ≡ int_of (step event m).1.board.pair
-unfolding step follows_line
-told event m = board_tells_int.int (Wire CLOCK_INPUT (line_of (acted event m).1.clock)) (acted event m).1.board
-
 pub answers_tell_int : AnswersTellInt
-answers_tell_int = record { int = told }
+unfolding step follows_line
+answers_tell_int = record { int = λ event m. board_tells_int.int (Wire CLOCK_INPUT (line_of (acted event m).1.clock)) (acted event m).1.board }
 
 -- ---- the devices are sound at power on, and each event keeps them sound: at power on
 
@@ -193,10 +182,6 @@ module _ (m : ClockState) (board : State) (a : AlikeBoards m.board board) where
   acted-alike (Wire input up) =
       chosen (input == CLOCK_INPUT) _ _ _ _ (record { value = refl; alike = record { clock = refl; board = a } }) (on_board-alike (Wire input up))
   acted-alike event = on_board-alike event
-
--- The board after it took a chip's line.
-abbrev line-taken : Rtc → State → Answer × State
-line-taken clock board = board_step (Wire CLOCK_INPUT (line_of clock)) board
 
 follows-alike : (first second : Answer × ClockState) → AnswersAlike Alike first second → AnswersAlike Alike (follows_line first) (follows_line second)
 unfolding follows_line

@@ -1,24 +1,21 @@
 -- The remembered lines.
-use Rattle.dev_pic.proofs.BitLaws.{each_input, has-or, has-one_other, has-without_same, has-without_other, without_input-lt}
+use Rattle.dev_pic.proofs.BitLaws.{has-or, has-one_other, has-without_same, has-without_other, without_input-lt}
 use Rattle.dev_pic.proofs.Facade.{◌≡◌, ◌≢◌, ℕ, ◌+◌, ◌-◌, ◌*◌, ◌/◌, ◌%◌, ◌<◌, ◌≤◌, ◌^◌, ◌==◌, Bool, true}
-use Rattle.dev_pic.proofs.Facade.{false, not, ◌&&◌, cond, Option, Some, None, refl, ap, ◌∙◌, arith, ⊎_elim, cases_lt, cond_both, nat_tests}
-use Rattle.dev_pic.proofs.Facade.{and-true, and-false, or-false, has, without_input, winner_at, taken, settled, started, selected, written_even, elcr_written}
-use Rattle.dev_pic.proofs.Facade.{polled_by, read_of, answered, cascaded, LinesAreTaken, LinesAreKept, command_of, slave_int_of, lines_of, acked, acked_for}
-use Rattle.dev_pic.proofs.Facade.{with_cascade, settled_pair, read_pair, written_pair, PairHasRegisters, Chip, Role, Master, Slave, PicPair, either}
+use Rattle.dev_pic.proofs.Facade.{bit_at_cat_low, bit_at_cat_high, false, not, ◌&&◌, cond, Option, Some, None, refl, ap, ◌∙◌, arith, ⊎_elim}
+use Rattle.dev_pic.proofs.Facade.{cases_lt, cond_both, nat_tests, and-true, and-false, or-false, has, without_input, winner_at, taken, settled, started}
+use Rattle.dev_pic.proofs.Facade.{selected, written_even, elcr_written, polled_by, read_of, answered, cascaded, LinesAreTaken, LinesAreKept, command_of}
+use Rattle.dev_pic.proofs.Facade.{slave_int_of, lines_of, acked, acked_for, with_cascade, settled_pair, read_pair, written_pair, PairHasRegisters, Chip, Role}
+use Rattle.dev_pic.proofs.Facade.{Master, Slave, PicPair}
 use Rattle.dev_pic.proofs.StepLaws.{cascade-lt, commanded-keeps, odd-keeps}
 
 -- The bits of a number of two bytes.
 low-bit : (high low i : ℕ) → low < 256 → i < 8 → has (high * 256 + low) i ≡ has low i
-low-bit high low i l =
-    each_input (λ i. has (high * 256 + low) i ≡ has low i)
-    (ap (λ n. n == 1) (omega arith)) (ap (λ n. n == 1) (omega arith)) (ap (λ n. n == 1) (omega arith)) (ap (λ n. n == 1) (omega arith))
-    (ap (λ n. n == 1) (omega arith)) (ap (λ n. n == 1) (omega arith)) (ap (λ n. n == 1) (omega arith)) (ap (λ n. n == 1) (omega arith)) i
+low-bit high low i l h = ap (λ n. n == 1) (bit_at_cat_low high 8 low i h)
 
 high-bit : (high low i : ℕ) → low < 256 → i < 8 → has (high * 256 + low) (8 + i) ≡ has high i
-high-bit high low i l =
-    each_input (λ i. has (high * 256 + low) (8 + i) ≡ has high i)
-    (ap (λ n. n == 1) (omega arith)) (ap (λ n. n == 1) (omega arith)) (ap (λ n. n == 1) (omega arith)) (ap (λ n. n == 1) (omega arith))
-    (ap (λ n. n == 1) (omega arith)) (ap (λ n. n == 1) (omega arith)) (ap (λ n. n == 1) (omega arith)) (ap (λ n. n == 1) (omega arith)) i
+high-bit high low i l h =
+    let back : 8 + i - 8 ≡ i = omega arith in
+    ap (λ n. n == 1) (rw back at (bit_at_cat_high high 8 low (8 + i) l (omega arith)))
 
 bytes : (inputs : ℕ) → inputs ≡ inputs / 256 * 256 + inputs % 256
 bytes inputs = omega arith
@@ -117,13 +114,7 @@ read-kept port pair = grind (arith, nat_tests, read-lines)
 
 written-kept : (port value : ℕ) (pair : PicPair) → lines_of (written_pair port value pair) ≡ lines_of pair
 unfolding written_pair
-written-kept port value pair =
-    let keeps : PicPair → Type 0 = λ p. lines_of p ≡ lines_of pair in
-    either keeps (port == 0x20) _ _ (with-master pair _ (even-lines pair.level value pair.master))
-    (either keeps (port == 0x21) _ _ (with-master pair _ (odd-keeps pair.master.init_state value pair.master).lines)
-    (either keeps (port == 0xa0) _ _ (with-slave pair _ (even-lines pair.level value pair.slave))
-    (either keeps (port == 0xa1) _ _ (with-slave pair _ (odd-keeps pair.slave.init_state value pair.slave).lines)
-    (either keeps (port == 0x4d0) _ _ (with-master pair _ (elcr-lines Master value pair.master)) (with-slave pair _ (elcr-lines Slave value pair.slave))))))
+written-kept port value pair = grind (arith, nat_tests, with-master, with-slave, even-lines, odd-keeps, elcr-lines)
 
 acked_for-kept : (o : Option ℕ) (pair : PicPair) → o ≢ Some 2 → Kept (lines_of pair) (acked_for o pair)
 unfolding acked_for

@@ -1,14 +1,13 @@
 -- What each step of a chip and of the pair keeps.
 use Rattle.dev_pic.proofs.BitLaws.{level-lines, level_inputs-lt, but_not-lt, without_input-lt, with_input-lt, and-twice}
-use Rattle.dev_pic.proofs.Facade.{◌≡◌, ℕ, Option, Some, None, false, ◌-◌, ◌%◌, ◌<◌, ◌≤◌, ◌==◌, Bool, true}
-use Rattle.dev_pic.proofs.Facade.{List, [], ◌∷◌, IfSome, find, arith, nat_tests, or_of_8, and_le_l, bit_and, nat_le, either, has, ended}
-use Rattle.dev_pic.proofs.Facade.{ended_lowest, highest_served, commanded, selected, written_even, written_odd_in, level_inputs, level_inputs_of, ltim_after}
-use Rattle.dev_pic.proofs.Facade.{in_service_of, requests_of, served_of, winner_at, taken, settled, started, polled_by, read_of, answered, cascaded, command_of}
-use Rattle.dev_pic.proofs.Facade.{HasInput, Chip, InitState, Icw2, Ocw2, NonSpecificEoi, RotateOnNonSpecificEoi, SpecificEoi, RotateOnSpecificEoi}
-use Rattle.dev_pic.proofs.Facade.{RotateInAutomaticEoi, SetPriority, NoOperation, but_not, with_input, without_input, requests_hold, mode_holds, HasRegisters}
-use Rattle.dev_pic.proofs.Facade.{IsSoundChip, order, before, ready_among, winner_of, highest_of, Role, LTIM_SINCE, ◌^◌, or-true, cond_both, levels_hold}
-use Rattle.dev_pic.proofs.Facade.{elcr_mask, elcr_written, cascade_input, IsLevel, StepsKeepRegisters, StepsKeepLevel, chip_on, power_on, is_port, with_cascade}
+use Rattle.dev_pic.proofs.Facade.{refl, ◌≡◌, ℕ, Option, Some, None, false, ◌-◌, ◌%◌, ◌<◌, ◌≤◌, ◌==◌, Bool, true, IfSome, arith}
+use Rattle.dev_pic.proofs.Facade.{nat_tests, or_of_8, and_le_l, bit_and, nat_le, either, has, ended, ended_lowest, commanded, selected, written_even}
+use Rattle.dev_pic.proofs.Facade.{written_odd_in, level_inputs, level_inputs_of, ltim_after, requests_of, served_of, winner_at, taken, settled, started}
+use Rattle.dev_pic.proofs.Facade.{polled_by, read_of, answered, cascaded, command_of, HasInput, Chip, InitState, Icw2, Ocw2, but_not, with_input, without_input}
+use Rattle.dev_pic.proofs.Facade.{requests_hold, mode_holds, HasRegisters, IsSoundChip, Role, LTIM_SINCE, ◌^◌, or-true, cond_both, levels_hold, elcr_mask}
+use Rattle.dev_pic.proofs.Facade.{elcr_written, cascade_input, IsLevel, StepsKeepRegisters, StepsKeepLevel, chip_on, power_on, is_port, with_cascade}
 use Rattle.dev_pic.proofs.Facade.{settled_pair, read_pair, written_pair, acked, acked_for, PairHasRegisters, IsSoundPair, Master, Slave, ELCR_SINCE, PicPair}
+use Rattle.dev_pic.proofs.WinnerLaws.{highest-lt, winner-lt as winners-lt}
 
 -- ---- commands that leave the requests and the lines
 
@@ -33,33 +32,9 @@ odd-keeps s value chip = search (arith, nat_tests)
 
 -- ---- registers
 
--- Each of a list is an input.
-Inputs : List ℕ → Type 0
-Inputs [] = Unit {0}
-Inputs (x ∷ xs) = (x < 8) × Inputs xs
-
--- What a search finds is in the list.
-find-inputs : (q : ℕ → Bool) (xs : List ℕ) → Inputs xs → IfSome (find q xs) (λ w. w < 8)
-unfolding Inputs
-find-inputs q [] a = tt
-find-inputs q (x ∷ xs) a = either (λ o. IfSome o (λ w. w < 8)) (q x) (Some x) (find q xs) a.0 (find-inputs q xs a.1)
-
-before-inputs : (q : ℕ → Bool) (xs : List ℕ) → Inputs xs → Inputs (before q xs)
-unfolding Inputs
-before-inputs q [] a = tt
-before-inputs q (x ∷ xs) a = either Inputs (q x) [] (x ∷ before q xs) tt (a.0, before-inputs q xs a.1)
-
-order-inputs : (lowest : ℕ) → Inputs (order lowest)
-unfolding Inputs
-order-inputs lowest = (omega arith, (omega arith, (omega arith, (omega arith, (omega arith, (omega arith, (omega arith, (omega arith, tt))))))))
-
 pub winner-lt : (role : Role) (chip : Chip) → IfSome (winner_at role chip) (λ w. w < 8)
-unfolding winner_at winner_of ready_among
-winner-lt role chip = find-inputs (has (requests_of chip)) _ (before-inputs (has (served_of role chip)) (order chip.lowest) (order-inputs chip.lowest))
-
-highest-lt : (chip : Chip) → IfSome (highest_served chip) (λ w. w < 8)
-unfolding highest_of
-highest-lt chip = find-inputs (has (in_service_of chip)) (order chip.lowest) (order-inputs chip.lowest)
+unfolding winner_at
+winner-lt role chip = winners-lt chip.lowest (requests_of chip) (served_of role chip)
 
 command-input : (value : ℕ) → HasInput (command_of value)
 command-input value =
@@ -107,13 +82,7 @@ module _ (level : ℕ) (role : Role) (chip : Chip) (h : HasRegisters level role 
 
   commanded-registers : (command : Ocw2) → HasInput command → HasRegisters level role (commanded command chip)
   unfolding commanded
-  commanded-registers NonSpecificEoi i = ended-registers (highest_served chip)
-  commanded-registers RotateOnNonSpecificEoi i = ended_lowest-registers (highest_served chip) (highest-lt chip)
-  commanded-registers (SpecificEoi input) i = ended-registers (Some input)
-  commanded-registers (RotateOnSpecificEoi input) i = ended_lowest-registers (Some input) i
-  commanded-registers (RotateInAutomaticEoi rotate) i = search
-  commanded-registers (SetPriority input) i = with-lowest level role chip h input (omega arith)
-  commanded-registers NoOperation i = h
+  commanded-registers command i = search (arith, ended-registers, ended_lowest-registers, highest-lt, with-lowest)
 
   mode-after : (value : ℕ) → mode_holds level (ltim_after level value chip) ≡ true
   unfolding mode_holds
@@ -286,25 +255,12 @@ steps_keep_registers =
     record { level = h.level; master = h.master.registers; slave = h.slave.registers } in
     search (power-sound, read-kept, written-kept, acked-kept, settle-sound)
 
--- An answer after which the pair has its level.
-abbrev SameLevel : ℕ → ℕ × PicPair → Type 0
-SameLevel level answer = answer.1.level ≡ level
-
-read-level : (port : ℕ) (pair : PicPair) → SameLevel pair.level (read_pair port pair)
-unfolding read_pair
-read-level port pair = grind (arith, nat_tests)
-
-HasLevel : ℕ → PicPair → Type 0
-HasLevel level pair = pair.level ≡ level
-
-written-level : (port value : ℕ) (pair : PicPair) → HasLevel pair.level (written_pair port value pair)
-unfolding written_pair HasLevel
-written-level port value pair = grind (arith, nat_tests)
-
-acked_for-level : (o : Option ℕ) (pair : PicPair) → SameLevel pair.level (acked_for o pair)
-unfolding acked_for
-acked_for-level o pair = grind (arith, nat_tests)
-
 pub steps_keep_level : StepsKeepLevel
-unfolding HasLevel power_on settled_pair
-steps_keep_level = search (read-level, written-level, acked_for-level)
+unfolding power_on settled_pair read_pair written_pair acked_for
+steps_keep_level = record {
+  power = λ level. refl;
+  read = λ port pair. grind (arith, nat_tests);
+  write = λ port value pair. grind (arith, nat_tests);
+  ack = λ pair. grind (arith, nat_tests);
+  settle = λ inputs edges pair. refl;
+}

@@ -4,7 +4,7 @@ pub use Rattle.std.proofs.{lemmas.Option.none-some, lemmas.Result.on_ok_weaker, 
 pub use Rattle.std.proofs.Common.{Bool, Err, List, None, Ok, Option, Some, [], ap, append_assoc, arith, drop, false, get_or, if◌then◌else◌, length, map}
 pub use Rattle.std.proofs.Common.{nat_le, negsuc, not, pos, refl, rules, subst, suc, sym, take, true, zero, ℕ, ℤ, ⊎_elim, ◌%◌, ◌&&◌, ◌*◌}
 pub use Rattle.std.proofs.Common.{◌++◌, ◌+◌, ◌-◌, ◌/◌, ◌<◌, ◌==◌, ◌^◌, ◌∙◌, ◌∷◌, ◌≡◌, ◌≤◌}
-pub use Rattle.std.proofs.lemmas.Bool.{not-true, and_parts, and_right, cases_lt, eq-eqb, eqb-true, leb-true, ne_eqb, Decides.nat_tests}
+pub use Rattle.std.proofs.lemmas.Bool.{cond_both, not-true, and_parts, and_right, cases_lt, eq-eqb, eqb-true, leb-true, ne_eqb, Decides.nat_tests}
 pub use Rattle.std.proofs.lemmas.List.{append-nil, drop_all, drop_more}
 pub use Rattle.std.specs.{Char.digit_char, Fmt.decimal, List.list_all, Prelude.IsAscii, Prelude.codes, Prelude.slice_index, Str.bytes_eq}
 pub use Rattle.vms_spec.proofs.ListsAndNumbers.{natural_up, name_byte_high, name_byte_low}

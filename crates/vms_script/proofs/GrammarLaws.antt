@@ -1,10 +1,10 @@
 -- What the grammar says of a script's text is what the reader takes, in both directions.
-use Rattle.vms_script.proofs.Facade.{◌≡◌, [], ◌∷◌, Some, None, Ok, Err, true, refl, codes, Happens, Saves, Restores, line_read, bad, script_read}
-use Rattle.vms_script.proofs.Facade.{nat_tests, ℕ, ◌+◌, ◌^◌, ◌<◌, Bool, false, not, ◌&&◌, ◌==◌, nat_le, List, ◌++◌, length, get_or}
-use Rattle.vms_script.proofs.Facade.{Option, pos, if◌then◌else◌, ap, ◌∙◌, arith, decimal, list_all, and_parts, ne_eqb, not-true, digits_decimal}
-use Rattle.vms_script.proofs.Facade.{Event, numerals, number_holds, port_text, event_text, line_text, script_text, IsEvent, IsLine, AreLines, is_wire, NEWEST}
-use Rattle.vms_script.proofs.Facade.{ScriptLine, Read, or_form, number_in, is_wait, is_set_of, out_line, wire_line, set_spelled, save_line, is_name_byte}
-use Rattle.vms_script.proofs.Facade.{is_name, name_byte_high, is_shelf_name, Split, Reading, lines_of, with_line, lines_read, text_read, first_word}
+use Rattle.vms_script.proofs.Facade.{append_assoc, cond_both, first_line, IsBadHere, IsRefused, RefusesFirst, ◌≡◌, [], ◌∷◌, Some, None, Ok, Err}
+use Rattle.vms_script.proofs.Facade.{true, refl, codes, Happens, Saves, Restores, line_read, bad, script_read, nat_tests, ℕ, ◌+◌, ◌^◌, ◌<◌, Bool}
+use Rattle.vms_script.proofs.Facade.{false, not, ◌==◌, List, ◌++◌, Option, pos, if◌then◌else◌, ap, ◌∙◌, arith, decimal, list_all, ne_eqb}
+use Rattle.vms_script.proofs.Facade.{digits_decimal, Event, numerals, number_holds, port_text, event_text, line_text, script_text, IsEvent, IsLine, AreLines}
+use Rattle.vms_script.proofs.Facade.{is_wire, NEWEST, ScriptLine, Read, or_form, number_in, is_wait, is_set_of, out_line, wire_line, set_spelled, save_line}
+use Rattle.vms_script.proofs.Facade.{is_name_byte, name_byte_high, is_shelf_name, Split, Reading, lines_of, with_line, lines_read, text_read, first_word}
 use Rattle.vms_script.proofs.Facade.{longer_word, byte_spelled, byte_text, port_spelled, level_spelled, ScriptReason, ℤ, negsuc, sym, subst, bytes_eq}
 use Rattle.vms_script.proofs.Facade.{eqb-true, bytes_eq-Decides, number_spelled, spelled_holds, ReadsExactly, or_range, in_line, byte_line, wait_line}
 use Rattle.vms_script.proofs.Facade.{name_spelled, restore_line, play_line, line_split, begun, unended, tail_read, level_text}
@@ -15,63 +15,35 @@ use Rattle.vms_script.specs.declared.line.ScriptReason.TheVariants as reasons
 
 -- ---- worked scripts: what they say, and the first bad line with its reason
 
-record WholeScripts : Type 0 where
+record Worked : Type 0 where
   reads_two_lines : script_read None (codes "out 0020 19\nwire 3 1\n") ≡ Ok (Happens (events.Write 0x20 0x19) ∷ Happens (events.Wire 3 true) ∷ [])
   refuses_a_line_without_its_end : script_read None (codes "ack") ≡ bad 1 reasons.NoEnd
   refuses_input_4 : script_read None (codes "ack\nwire 4 1\n") ≡ bad 2 reasons.Range
   refuses_three_digits : script_read None (codes "in 3f8\n") ≡ bad 1 reasons.Form
   refuses_the_first_bad_line : script_read None (codes "wait -1\nin 3f8\n") ≡ bad 1 reasons.Range
   answers_the_lowest_reason : script_read None (codes "wire 4 1") ≡ bad 1 reasons.Range
+  refuses_an_older_set : script_read (Some 2) (codes "save @1 x\n") ≡ bad 1 reasons.Range
+  reads_a_port : line_read None (codes "in 03fd") ≡ Ok (Happens (events.Read 0x3fd))
+  reads_a_byte : line_read None (codes "byte 41") ≡ Ok (Happens (events.Byte 0x41))
+  reads_an_acknowledge : line_read None (codes "ack") ≡ Ok (Happens events.Ack)
+  reads_the_longest_wait : line_read None (codes "wait 1000000000000000") ≡ Ok (Happens (events.Wait 1000000000000000))
+  reads_a_save : line_read (Some 2) (codes "save @4 s.1") ≡ Ok (Saves 4 (codes "s.1"))
+  reads_a_restore : line_read (Some 1) (codes "restore bad") ≡ Ok (Restores (codes "bad"))
+  refuses_a_save_outside_of_a_session : line_read None (codes "save @1 x") ≡ Err reasons.Form
 
-whole_scripts : WholeScripts
+worked : Worked
 unfolding script_read
-whole_scripts = record {
-  reads_two_lines = refl;
-  refuses_a_line_without_its_end = refl;
-  refuses_input_4 = refl;
-  refuses_three_digits = refl;
-  refuses_the_first_bad_line = refl;
-  answers_the_lowest_reason = refl;
-}
-
-reads_a_port : line_read None (codes "in 03fd") ≡ Ok (Happens (events.Read 0x3fd))
-reads_a_port = refl
-
-reads_a_byte : line_read None (codes "byte 41") ≡ Ok (Happens (events.Byte 0x41))
-reads_a_byte = refl
-
-reads_an_acknowledge : line_read None (codes "ack") ≡ Ok (Happens events.Ack)
-reads_an_acknowledge = refl
-
-reads_the_longest_wait : line_read None (codes "wait 1000000000000000") ≡ Ok (Happens (events.Wait 1000000000000000))
-reads_the_longest_wait = refl
-
-reads_a_save : line_read (Some 2) (codes "save @4 s.1") ≡ Ok (Saves 4 (codes "s.1"))
-reads_a_save = refl
-
-reads_a_restore : line_read (Some 1) (codes "restore bad") ≡ Ok (Restores (codes "bad"))
-reads_a_restore = refl
-
-refuses_an_older_set : script_read (Some 2) (codes "save @1 x\n") ≡ bad 1 reasons.Range
-unfolding script_read
-refuses_an_older_set = refl
-
-refuses_a_save_outside_of_a_session : line_read None (codes "save @1 x") ≡ Err reasons.Form
-refuses_a_save_outside_of_a_session = refl
+worked = search
 
 -- ---- lines as they are spelled, and lines that are read: words and lines of a text that is spelled
 
 word_front : (word rest : List ℕ) → lacks 32 word ≡ true → first_word (word ++ 32 ∷ rest) ≡ (word, Some rest)
 word_front [] rest h = refl
-word_front (b ∷ word) rest h =
-    let parts = and_parts (not (b == 32)) (lacks 32 word) h in
-    rw (not-true (b == 32) parts.0) (ap (longer_word b) (word_front word rest parts.1))
+word_front (b ∷ word) rest h = grind (arith, nat_tests, word_front word rest)
 
 lines_front : (line text : List ℕ) → lacks 10 line ≡ true → lines_of (line ++ 10 ∷ text) ≡ record { lines = line ∷ (lines_of text).lines; tail = (lines_of text).tail }
 lines_front [] text h = refl
-lines_front (b ∷ line) text h =
-    let parts = and_parts (not (b == 10)) (lacks 10 line) h in
-    rw (not-true (b == 10) parts.0, lines_front line text parts.1)
+lines_front (b ∷ line) text h = grind (arith, nat_tests, lines_front line text)
 
 decimal_lacks : (byte n : ℕ) → byte < 48 → n < 2 ^ 64 → lacks byte (decimal n) ≡ true
 decimal_lacks byte n h i = digits_lack byte (decimal n) h (digits_decimal numerals n i)
@@ -81,14 +53,10 @@ name_byte b e = let high = name_byte_high b e in ap not (ne_eqb b 10 (λ same. o
 
 name_lacks : (name : List ℕ) → list_all is_name_byte name ≡ true → lacks 10 name ≡ true
 name_lacks [] e = refl
-name_lacks (b ∷ name) e =
-    let parts = and_parts (is_name_byte b) (list_all is_name_byte name) e in
-    rw (name_byte b parts.0, name_lacks name parts.1) refl
+name_lacks (b ∷ name) e = grind (arith, name_byte b, name_lacks name)
 
 shelf_lacks : (name : List ℕ) → is_shelf_name name ≡ true → lacks 10 name ≡ true
-shelf_lacks name e =
-    name_lacks name (and_parts (nat_le 1 (length name) && nat_le (length name) 64) (list_all is_name_byte name)
-    (and_parts (is_name 64 name) (not (get_or name 0 46 == 46)) e).0).1
+shelf_lacks name e = grind (arith, name_lacks)
 
 pub early_small : (holds : ℕ → Bool) (n : ℕ) → EndsEarly holds → holds n ≡ true → n < 2 ^ 64
 early_small holds n early h = grind (arith, nat_tests, early n)
@@ -98,18 +66,18 @@ number_good holds line n early h = rw (number_holds (pos n) (early_small holds n
 
 -- ---- a good line is read as it is spelled
 
+level_back : (up : Bool) → level_spelled (level_text up) ≡ Some up
+level_back up = grind (arith, nat_tests)
+
 event_good : (play : Option ℕ) (event : Event) → IsEvent event → line_read play (event_text event) ≡ Ok (Happens event)
 event_good play (events.Read port) h = rw (port_back port h)
 event_good play (events.Write port value) h =
     rw (word_front (port_text port) (byte_text value) (port_lacks 32 port (omega arith)), port_back port h.0, byte_back value h.1)
 event_good play (events.Byte value) h = rw (byte_back value h)
 event_good play (events.Wait ns) h = number_good is_wait (λ ns. Happens (events.Wait ns)) ns waits_end h
-event_good play (events.Wire input true) h =
-    ap wire_line (word_front (decimal input) (codes "1") (decimal_lacks 32 input (omega arith) (early_small is_wire input wires_end h)))
-    ∙ number_good is_wire (λ input. Happens (events.Wire input true)) input wires_end h
-event_good play (events.Wire input false) h =
-    ap wire_line (word_front (decimal input) (codes "0") (decimal_lacks 32 input (omega arith) (early_small is_wire input wires_end h)))
-    ∙ number_good is_wire (λ input. Happens (events.Wire input false)) input wires_end h
+event_good play (events.Wire input up) h =
+    rw (word_front (decimal input) (level_text up) (decimal_lacks 32 input (omega arith) (early_small is_wire input wires_end h)), level_back up)
+    (number_good is_wire (λ input. Happens (events.Wire input up)) input wires_end h)
 event_good play events.Ack h = refl
 
 line_good : (play : Option ℕ) (line : ScriptLine) → IsLine play line → line_read play (line_text line) ≡ Ok line
@@ -120,13 +88,16 @@ line_good (Some level) (Saves set name) h =
 line_good (Some level) (Restores name) h = rw h
 line_good None _ h = absurd h
 
+level_lacks : (up : Bool) → lacks 10 (level_text up) ≡ true
+level_lacks up = grind (arith, nat_tests)
+
 event_lacks : (event : Event) → IsEvent event → lacks 10 (event_text event) ≡ true
 event_lacks (events.Read port) h = port_lacks 10 port (omega arith)
 event_lacks (events.Write port value) h = lacks-append 10 (port_text port) (32 ∷ byte_text value) (port_lacks 10 port (omega arith)) (byte_lacks 10 value (omega arith))
 event_lacks (events.Byte value) h = byte_lacks 10 value (omega arith)
 event_lacks (events.Wait ns) h = decimal_lacks 10 ns (omega arith) (early_small is_wait ns waits_end h)
-event_lacks (events.Wire input true) h = lacks-append 10 (decimal input) (codes " 1") (decimal_lacks 10 input (omega arith) (early_small is_wire input wires_end h)) refl
-event_lacks (events.Wire input false) h = lacks-append 10 (decimal input) (codes " 0") (decimal_lacks 10 input (omega arith) (early_small is_wire input wires_end h)) refl
+event_lacks (events.Wire input up) h =
+    lacks-append 10 (decimal input) (32 ∷ level_text up) (decimal_lacks 10 input (omega arith) (early_small is_wire input wires_end h)) (level_lacks up)
 event_lacks events.Ack h = refl
 
 line_lacks : (play : Option ℕ) (line : ScriptLine) → IsLine play line → lacks 10 (line_text line) ≡ true
@@ -137,9 +108,6 @@ line_lacks (Some level) (Restores name) h = shelf_lacks name h
 line_lacks None _ h = absurd h
 
 -- ---- a good script is read as it is spelled
-
-abbrev read_split : Option ℕ → ℕ → Split → Reading
-read_split play number split = lines_read play number split.lines split.tail
 
 text_good : (play : Option ℕ) (number : ℕ) (lines : List ScriptLine) → AreLines play lines → text_read play number (script_text lines) ≡ Ok lines
 text_good play number [] h = refl
@@ -166,13 +134,11 @@ only_map : {P Q : ScriptLine → Type 0} {r : Read} → ((line : ScriptLine) →
 only_map f o = record { holds = λ line e. f line (o.holds line e) }
 
 choose : {P : ScriptLine → Type 0} (t : Bool) (a b : Read) → (t ≡ true → Only P a) → Only P b → Only P (if t then a else b)
-choose true a b f g = f refl
-choose false a b f g = g
+choose t a b f g = grind (arith, nat_tests)
 
 -- a part that has its shape
 formed : {P : ScriptLine → Type 0} {A : Type 0} (o : Option A) (next : A → Read) → ((a : A) → o ≡ Some a → Only P (next a)) → Only P (or_form o next)
-formed None next f = only_none reasons.Form
-formed (Some a) next f = f a refl
+formed o next f = grind (arith, only_none)
 
 number_is : {P : ScriptLine → Type 0} (holds : ℕ → Bool) (make : ℕ → ScriptLine) (text : List ℕ) → EndsEarly holds
     → ((n : ℕ) → holds n ≡ true → text ≡ decimal n → P (make n)) → Only P (number_in holds make text)
@@ -184,18 +150,16 @@ number_is {P} holds make text early f = formed (number_spelled text) (or_range h
       (λ h. only_ok (make n) (f n h (spelled_holds text (pos n) (early_small holds n early h) s))) (only_none reasons.Range)
 
 level_is : (text : List ℕ) (up : Bool) → level_spelled text ≡ Some up → text ≡ level_text up
-level_is (b ∷ []) up e = grind (arith, eqb-true)
-level_is _ up e = cc
+level_is text up e = grind (arith, nat_tests)
 
-abbrev rejoined : List ℕ × Option (List ℕ) → List ℕ
+abbrev pub rejoined : List ℕ × Option (List ℕ) → List ℕ
 rejoined (word, None) = word
 rejoined (word, Some rest) = word ++ 32 ∷ rest
 
 longer_joined : (b : ℕ) (split : List ℕ × Option (List ℕ)) → rejoined (longer_word b split) ≡ b ∷ rejoined split
-longer_joined b (word, None) = refl
-longer_joined b (word, Some rest) = refl
+longer_joined b split = grind (arith, nat_tests)
 
-word_split : (line : List ℕ) → line ≡ rejoined (first_word line)
+pub word_split : (line : List ℕ) → line ≡ rejoined (first_word line)
 word_split [] = refl
 word_split (b ∷ line) = by (b == 32) refl (word_split line) where
   by : (t : Bool) → (b == 32) ≡ t → line ≡ rejoined (first_word line) → b ∷ line ≡ rejoined (first_word (b ∷ line))
@@ -231,8 +195,7 @@ named : (text name : List ℕ) → name_spelled text ≡ Some name → (is_shelf
 named text name e = (grind arith, grind arith)
 
 set_is : (word number : List ℕ) → set_spelled word ≡ Some number → word ≡ 64 ∷ number
-set_is [] number e = cc
-set_is (b ∷ word) number e = grind (arith, eqb-true, and_parts)
+set_is word number e = grind (arith, nat_tests)
 
 save_line_is : (level : ℕ) (split : List ℕ × Option (List ℕ)) → Only (Says (Some level) (codes "save " ++ rejoined split)) (save_line level split)
 save_line_is level (word, rest) =
@@ -281,8 +244,7 @@ unsplit [] tail = tail
 unsplit (line ∷ lines) tail = line ++ 10 ∷ unsplit lines tail
 
 begun_unsplit : (b : ℕ) (lines : List (List ℕ)) (tail : List ℕ) → unsplit (begun b lines tail).lines (begun b lines tail).tail ≡ b ∷ unsplit lines tail
-begun_unsplit b [] tail = refl
-begun_unsplit b (line ∷ lines) tail = refl
+begun_unsplit b lines tail = grind (arith, nat_tests)
 
 abbrev pub text_of : Split → List ℕ
 text_of split = unsplit split.lines split.tail
@@ -294,40 +256,77 @@ text_split (b ∷ text) = by (b == 10) refl (text_split text) where
   by true e later = ap (λ c. c ∷ text) (eqb-true b 10 e) ∙ ap (λ rest. 10 ∷ rest) later ∙ sym (rw e)
   by false e later = ap (λ rest. b ∷ rest) later ∙ sym (begun_unsplit b (lines_of text).lines (lines_of text).tail) ∙ sym (rw e)
 
--- lines that were read are those that are spelled
-abbrev AreSaid : Option ℕ → List ℕ → List ScriptLine → Type 0
-AreSaid play text lines = AreLines play lines × (text ≡ script_text lines)
+-- ---- a whole text: its lines have no line feed
 
-abbrev ok_reading : List ScriptLine → Reading
-ok_reading lines = Ok lines
+abbrev AllLack : List (List ℕ) → Type 0
+AllLack [] = Unit {0}
+AllLack (line ∷ lines) = (lacks 10 line ≡ true) × AllLack lines
 
-ok_lines : (a b : List ScriptLine) → ok_reading a ≡ ok_reading b → a ≡ b
-ok_lines a b e = cc
+abbrev SplitLacks : Split → Type 0
+SplitLacks split = AllLack split.lines × (lacks 10 split.tail ≡ true)
 
-tail_is : (play : Option ℕ) (number : ℕ) (tail : List ℕ) (lines : List ScriptLine) → tail_read play number tail ≡ Ok lines → AreSaid play tail lines
-tail_is play number [] lines e = subst (AreSaid play []) (ok_lines [] lines e) (tt, refl)
-tail_is play number (b ∷ tail) lines e = ends (line_read play (b ∷ tail)) e where
-  ends : (r : Read) → unended number r ≡ Ok lines → AreSaid play (b ∷ tail) lines
-  ends (Ok line) i = cc
-  ends (Err reason) i = cc
+begun_lacks : (b : ℕ) (lines : List (List ℕ)) (tail : List ℕ) → (b == 10) ≡ false → AllLack lines → lacks 10 tail ≡ true → SplitLacks (begun b lines tail)
+begun_lacks b lines tail e h i = grind (arith, nat_tests)
 
-lines_are : (play : Option ℕ) (number : ℕ) (texts : List (List ℕ)) (tail : List ℕ) (lines : List ScriptLine) → lines_read play number texts tail ≡ Ok lines → AreSaid play (unsplit texts tail) lines
-lines_are play number [] tail lines e = tail_is play number tail lines e
-lines_are play number (text ∷ texts) tail lines e =
-    by (line_read play text) (lines_read play (number + 1) texts tail) refl refl e (λ more q. lines_are play (number + 1) texts tail more q) where
-      by : (r : Read) (later : Reading) → line_read play text ≡ r → lines_read play (number + 1) texts tail ≡ later → with_line number r later ≡ Ok lines
-          → ((more : List ScriptLine) → lines_read play (number + 1) texts tail ≡ Ok more → AreSaid play (unsplit texts tail) more) → AreSaid play (text ++ 10 ∷ unsplit texts tail) lines
-      by (Err reason) later p q i go = cc
-      by (Ok line) (Err fault) p q i go = cc
-      by (Ok line) (Ok more) p q i go =
-          let first = line_is play text line p in
-          let others = go more q in
-          subst (AreSaid play (text ++ 10 ∷ unsplit texts tail)) (ok_lines (line ∷ more) lines i)
-          ((first.0, others.0), ap (λ t. t ++ 10 ∷ unsplit texts tail) first.1 ∙ ap (λ t. line_text line ++ 10 ∷ t) others.1)
+lines_lack : (text : List ℕ) → SplitLacks (lines_of text)
+lines_lack [] = (tt, refl)
+lines_lack (b ∷ text) =
+    let h = lines_lack text in
+    cond_both (b == 10) _ _ SplitLacks (λ e. ((refl, h.0), h.1)) (λ e. begun_lacks b (lines_of text).lines (lines_of text).tail e h.0 h.1)
 
-only_read : (play : Option ℕ) (text : List ℕ) (lines : List ScriptLine) → script_read play text ≡ Ok lines → AreLines play lines × (text ≡ script_text lines)
+line_first : (line after : List ℕ) → lacks 10 line ≡ true → first_line (line ++ 10 ∷ after) ≡ Some (line, after)
+line_first [] after h = refl
+line_first (b ∷ line) after h = grind (arith, nat_tests, line_first line after)
+
+no_first : (text : List ℕ) → lacks 10 text ≡ true → first_line text ≡ None
+no_first [] h = refl
+no_first (b ∷ text) h = grind (arith, nat_tests, no_first text)
+
+-- what a reading says: the lines that are spelled, or the first bad one
+abbrev Means : Option ℕ → ℕ → List ℕ → Reading → Type 0
+Means play number text (Ok lines) = AreLines play lines × (text ≡ script_text lines)
+Means play number text (Err fault) = IsRefused play number text fault
+
+-- a bad line with none before it
+here : (play : Option ℕ) (number : ℕ) (left : List ℕ) (reason : ScriptReason) → IsBadHere play left (first_line left) reason → Means play number left (bad number reason)
+here play number left reason h = record { before = []; left = left; good = tt; whole = refl; number = omega arith; bad = h }
+
+tail_means : (play : Option ℕ) (number : ℕ) (tail : List ℕ) → lacks 10 tail ≡ true → Means play number tail (tail_read play number tail)
+tail_means play number [] h = (tt, refl)
+tail_means play number (b ∷ tail) h = by (line_read play (b ∷ tail)) refl where
+  by : (r : Read) → line_read play (b ∷ tail) ≡ r → Means play number (b ∷ tail) (unended number r)
+  by (Ok line) e = here play number (b ∷ tail) _ (rw (no_first (b ∷ tail) h) (omega arith, rw e refl))
+  by (Err reason) e = here play number (b ∷ tail) _ (rw (no_first (b ∷ tail) h) (omega arith, rw e refl))
+
+lines_mean : (play : Option ℕ) (number : ℕ) (texts : List (List ℕ)) (tail : List ℕ) → AllLack texts → lacks 10 tail ≡ true
+    → Means play number (unsplit texts tail) (lines_read play number texts tail)
+lines_mean play number [] tail h i = tail_means play number tail i
+lines_mean play number (text ∷ texts) tail h i =
+    by (line_read play text) refl (lines_read play (number + 1) texts tail) (lines_mean play (number + 1) texts tail h.1 i) where
+      by : (r : Read) → line_read play text ≡ r → (later : Reading) → Means play (number + 1) (unsplit texts tail) later
+          → Means play number (text ++ 10 ∷ unsplit texts tail) (with_line number r later)
+      by (Err reason) e later m = here play number _ reason (rw (line_first text (unsplit texts tail) h.0) e)
+      by (Ok line) e (Ok more) m = let said = line_is play text line e in ((said.0, m.0), rw (said.1, m.1) refl)
+      by (Ok line) e (Err fault) m =
+          let said = line_is play text line e in
+          record {
+            before = line ∷ m.before;
+            left = m.left;
+            good = (said.0, m.good);
+            whole = rw (said.1, m.whole) (sym (append_assoc (line_text line) (10 ∷ script_text m.before) m.left));
+            number = omega arith;
+            bad = m.bad;
+          }
+
+script_means : (play : Option ℕ) (text : List ℕ) → Means play 1 text (script_read play text)
 unfolding script_read
-only_read play text lines e = let h = lines_are play 1 (lines_of text).lines (lines_of text).tail lines e in (h.0, text_split text ∙ h.1)
+script_means play text =
+    let lack = lines_lack text in
+    subst (λ (t : List ℕ). Means play 1 t (text_read play 1 text)) (sym (text_split text))
+    (lines_mean play 1 (lines_of text).lines (lines_of text).tail lack.0 lack.1)
+
+pub refuses_first : RefusesFirst
+refuses_first = record { at = λ play text fault e. rw e at (script_means play text) }
 
 pub reads_exactly : ReadsExactly
-reads_exactly = record { spelled = spelled_read; only = only_read }
+reads_exactly = record { spelled = spelled_read; only = λ play text lines e. rw e at (script_means play text) }

@@ -1,10 +1,11 @@
 -- Numbers as they are spelled, and their ranges.
+use Rattle.std.proofs.lemmas.Nat.{mul-add-lt}
 use Rattle.vms_script.proofs.Facade.{◌≡◌, ℕ, ◌+◌, ◌-◌, ◌*◌, ◌^◌, ◌<◌, ◌≤◌, Bool, true, false, nat_le, List, length, get_or}
-use Rattle.vms_script.proofs.Facade.{drop, Option, Some, None, Ok, Err, ℤ, pos, negsuc, if◌then◌else◌, refl, sym, ap, ◌∙◌, arith, and_right}
-use Rattle.vms_script.proofs.Facade.{nat_tests, drop_more, drop_all, natural_from, number_spelled, natural_up, is_wire, NEWEST, ScriptLine, Happens, or_form}
-use Rattle.vms_script.proofs.Facade.{or_range, number_in, is_wait, is_set_of, wire_line, level_spelled, number_read, below_2_64, ScriptReason, ◌/◌, ◌%◌}
-use Rattle.vms_script.proofs.Facade.{not, ◌==◌, [], ◌∷◌, ◌++◌, list_all, leb-true, and_parts, div-mul-add, mod-mul-add, digit_char, is_digit}
-use Rattle.vms_script.proofs.Facade.{port_text, digit_spelled, joined, byte_spelled, port_spelled, byte_text}
+use Rattle.vms_script.proofs.Facade.{drop, Option, Some, None, Ok, Err, ℤ, if◌then◌else◌, refl, sym, ap, ◌∙◌, arith, and_right, nat_tests}
+use Rattle.vms_script.proofs.Facade.{drop_more, drop_all, natural_from, number_spelled, natural_up, is_wire, NEWEST, ScriptLine, Happens, or_form, or_range}
+use Rattle.vms_script.proofs.Facade.{number_in, is_wait, is_set_of, wire_line, level_spelled, number_read, below_2_64, ScriptReason, ◌/◌, ◌%◌, not}
+use Rattle.vms_script.proofs.Facade.{◌==◌, [], ◌∷◌, ◌++◌, list_all, div-mul-add, mod-mul-add, digit_char, is_digit, port_text, digit_spelled}
+use Rattle.vms_script.proofs.Facade.{joined, byte_spelled, port_spelled, byte_text}
 use Rattle.dev_board.specs.declared.event.Event.TheVariants as events
 use Rattle.vms_script.specs.declared.line.ScriptReason.TheVariants as reasons
 
@@ -32,15 +33,11 @@ EndsEarly holds = (n : ℕ) → 2 ^ 64 ≤ n → holds n ≡ false
 
 -- a number that isn't read has the same reason for the line
 pub number_fails : (holds : ℕ → Bool) (line : ℕ → ScriptLine) (o : Option ℤ) (reason : ScriptReason) → EndsEarly holds → number_read o ≡ Err reason → or_form o (or_range holds line) ≡ Err reason
-number_fails holds line None reason early e = cc
-number_fails holds line (Some (negsuc n)) reason early e = cc
-number_fails holds line (Some (pos n)) reason early e = grind (arith, nat_tests, early n)
+number_fails holds line o reason early e = grind (arith, nat_tests)
 
 -- a number that is read is judged by the range
 pub number_holds : (holds : ℕ → Bool) (line : ℕ → ScriptLine) (o : Option ℤ) (v : ℕ) → number_read o ≡ Ok v → or_form o (or_range holds line) ≡ (if holds v then Ok (line v) else Err reasons.Range)
-number_holds holds line None v e = cc
-number_holds holds line (Some (negsuc n)) v e = cc
-number_holds holds line (Some (pos n)) v e = grind (arith, nat_tests)
+number_holds holds line o v e = grind (arith, nat_tests)
 
 -- the same of the whole line
 in_judged : (holds : ℕ → Bool) (line : ℕ → ScriptLine) (text : List ℕ) (v : ℕ) (t : Bool) → Ok v ≡ number_read (number_spelled text) → t ≡ holds v
@@ -83,16 +80,15 @@ wire_fails words number level up reason w r l n =
 pub digit_back : (d : ℕ) → d < 16 → digit_spelled (digit_char d) ≡ Some d
 digit_back d h = grind (arith, nat_tests)
 
--- a digit that is read
-pub record IsDigitOf (b d : ℕ) : Type 0 where
-  pub small : d < 16
-  pub char : b ≡ digit_char d
+-- a text that is read, of a number below a limit
+pub record IsTextOf (limit : ℕ) (text_of : ℕ → List ℕ) (text : List ℕ) (n : ℕ) : Type 0 where
+  pub small : n < limit
+  pub text_is : text ≡ text_of n
 
-some_same : (m n : ℕ) → Some m ≡ Some n → n ≡ m
-some_same m n e = cc
-
-pub digit_is : (b d : ℕ) → digit_spelled b ≡ Some d → IsDigitOf b d
-digit_is b d e = record { small = grind (arith, nat_tests); char = grind (arith, nat_tests) }
+digit_is : (b d : ℕ) → digit_spelled b ≡ Some d → IsTextOf 16 (λ d. digit_char d ∷ []) (b ∷ []) d
+digit_is b d e =
+    let char : b ≡ digit_char d = grind (arith, nat_tests) in
+    record { small = grind (arith, nat_tests); text_is = ap (λ c. c ∷ []) char }
 
 pub byte_back : (v : ℕ) → v < 256 → byte_spelled (byte_text v) ≡ Some v
 byte_back v h = rw (digit_back (v / 16) (omega arith)) (ap (joined 16 (Some (v / 16))) (digit_back (v % 16) (omega arith)) ∙ ap (λ n. Some n) (omega arith))
@@ -100,47 +96,27 @@ byte_back v h = rw (digit_back (v / 16) (omega arith)) (ap (joined 16 (Some (v /
 pub port_back : (p : ℕ) → p < 65536 → port_spelled (port_text p) ≡ Some p
 port_back p h = rw (byte_back (p / 256) (omega arith)) (ap (joined 256 (Some (p / 256))) (byte_back (p % 256) (omega arith)) ∙ ap (λ n. Some n) (omega arith))
 
-pub record Joins (base : ℕ) (high low : Option ℕ) (v : ℕ) : Type 0 where
-  pub a : ℕ
-  pub b : ℕ
-  pub first : high ≡ Some a
-  pub second : low ≡ Some b
-  pub value : v ≡ a * base + b
-
-joins : (base : ℕ) (high low : Option ℕ) (v : ℕ) → joined base high low ≡ Some v → Joins base high low v
-joins base (Some a) (Some b) v e = record { a = a; b = b; first = refl; second = refl; value = some_same (a * base + b) v e }
-joins base _ _ v e = cc
-
--- two texts of the parts of a number
-both : (base v a b : ℕ) (text_of : ℕ → List ℕ) (first second : List ℕ) → v ≡ a * base + b → b < base → first ≡ text_of a → second ≡ text_of b → first ++ second ≡ text_of (v / base) ++ text_of (v % base)
-both base v a b text_of first second value small f s =
-    rw (value, div-mul-add a base b small, mod-mul-add a base b small, f, s)
-
--- a text that is read, of a number below a limit
-pub record IsTextOf (limit : ℕ) (text_of : ℕ → List ℕ) (text : List ℕ) (n : ℕ) : Type 0 where
-  pub small : n < limit
-  pub text_is : text ≡ text_of n
+-- a number of two parts
+parts_are : (base : ℕ) (text_of : ℕ → List ℕ) (high low : Option ℕ) (first second : List ℕ) (v : ℕ) → joined base high low ≡ Some v
+    → ((a : ℕ) → high ≡ Some a → IsTextOf base text_of first a) → ((b : ℕ) → low ≡ Some b → IsTextOf base text_of second b)
+    → IsTextOf (base * base) (λ n. text_of (n / base) ++ text_of (n % base)) (first ++ second) v
+parts_are base text_of (Some a) (Some b) first second v e high low =
+    let x = high a refl in
+    let y = low b refl in
+    let value : v ≡ a * base + b = cc in
+    rw value (record {
+      small = mul-add-lt a base b base x.small y.small;
+      text_is = rw (div-mul-add a base b y.small, mod-mul-add a base b y.small, x.text_is, y.text_is);
+    })
+parts_are base text_of _ _ first second v e high low = cc
 
 pub byte_is : (text : List ℕ) (v : ℕ) → byte_spelled text ≡ Some v → IsTextOf 256 byte_text text v
-byte_is (a ∷ b ∷ []) v e =
-    let j = joins 16 (digit_spelled a) (digit_spelled b) v e in
-    let x = digit_is a j.a j.first in
-    let y = digit_is b j.b j.second in
-    record {
-      small = omega (arith, j.value, x.small, y.small);
-      text_is = both 16 v j.a j.b (λ d. digit_char d ∷ []) (a ∷ []) (b ∷ []) j.value y.small (ap (λ c. c ∷ []) x.char) (ap (λ c. c ∷ []) y.char);
-    }
+byte_is (a ∷ b ∷ []) v e = parts_are 16 (λ d. digit_char d ∷ []) (digit_spelled a) (digit_spelled b) (a ∷ []) (b ∷ []) v e (digit_is a) (digit_is b)
 byte_is _ v e = cc
 
 pub port_is : (text : List ℕ) (p : ℕ) → port_spelled text ≡ Some p → IsTextOf 65536 port_text text p
 port_is (a ∷ b ∷ c ∷ d ∷ []) p e =
-    let j = joins 256 (byte_spelled (a ∷ b ∷ [])) (byte_spelled (c ∷ d ∷ [])) p e in
-    let x = byte_is (a ∷ b ∷ []) j.a j.first in
-    let y = byte_is (c ∷ d ∷ []) j.b j.second in
-    record {
-      small = omega (arith, j.value, x.small, y.small);
-      text_is = both 256 p j.a j.b byte_text (a ∷ b ∷ []) (c ∷ d ∷ []) j.value y.small x.text_is y.text_is;
-    }
+    parts_are 256 byte_text _ _ (a ∷ b ∷ []) (c ∷ d ∷ []) p e (byte_is (a ∷ b ∷ [])) (byte_is (c ∷ d ∷ []))
 port_is _ p e = cc
 
 -- ---- digits are neither spaces nor line feeds
@@ -159,15 +135,11 @@ byte_lacks byte v h = rw (other (digit_char (v / 16)) byte h (char_up (v / 16)),
 
 pub lacks-append : (byte : ℕ) (xs ys : List ℕ) → lacks byte xs ≡ true → lacks byte ys ≡ true → lacks byte (xs ++ ys) ≡ true
 lacks-append byte [] ys h i = i
-lacks-append byte (x ∷ xs) ys h i =
-    let parts = and_parts (not (x == byte)) (lacks byte xs) h in
-    rw (parts.0, lacks-append byte xs ys parts.1 i) refl
+lacks-append byte (x ∷ xs) ys h i = grind (arith, lacks-append byte xs ys)
 
 pub port_lacks : (byte p : ℕ) → byte < 48 → lacks byte (port_text p) ≡ true
 port_lacks byte p h = lacks-append byte (byte_text (p / 256)) (byte_text (p % 256)) (byte_lacks byte (p / 256) h) (byte_lacks byte (p % 256) h)
 
 pub digits_lack : (byte : ℕ) (text : List ℕ) → byte < 48 → list_all is_digit text ≡ true → lacks byte text ≡ true
 digits_lack byte [] h e = refl
-digits_lack byte (b ∷ text) h e =
-    let parts = and_parts (is_digit b) (list_all is_digit text) e in
-    rw (other b byte h (leb-true 48 b (and_parts (nat_le 48 b) (nat_le b 57) parts.0).0), digits_lack byte text h parts.1) refl
+digits_lack byte (b ∷ text) h e = grind (arith, nat_tests, digits_lack byte text)

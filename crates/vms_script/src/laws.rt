@@ -15,7 +15,7 @@ pub fn grammar_law()
 ///
 /// Either that line is invalid for the returned reason, or it has no line feed. In the second case
 /// the reason is what else is wrong with it, if anything, and else the missing line feed.
-#[tactic(auto, using(crate::proofs::ScriptLemmas::refuses_first))]
+#[tactic(auto, using(crate::proofs::GrammarLaws::refuses_first))]
 pub fn refusal_law()
     ensures { RefusesFirst }
 {}

@@ -1,5 +1,5 @@
-use Rattle.vms_script.proofs.Facade.{sym, ap, ◌∙◌, arith, map, first_line, line_read, bad, script_read, first_is, first_none}
-use Rattle.vms_script.proofs.ScriptLemmas.{line_put, line_stops, text_ends, tail_reason, tail_stops, reads_lines, reads_bad, put_unended, refused, is_empty}
+use Rattle.vms_script.proofs.Facade.{unended_reason, sym, ap, ◌∙◌, arith, map, first_line, line_read, bad, script_read, first_is, first_none}
+use Rattle.vms_script.proofs.ScriptLemmas.{line_put, line_stops, text_ends, tail_stops, reads_lines, reads_bad, put_unended, refused, is_empty}
 use Rattle.vms_script.proofs.ScriptLemmas.{is_some}
 use Rattle.vms_script.proofs.script.read_lines.Goals as goal
 
@@ -49,5 +49,5 @@ returns g c =
     (λ reason stops. sym c.loop-next.invariant.reads
     ∙ tail_stops (map g.L.Kept.said c.loop-next.lines.items) c.args.play c.loop-next.number c.loop-next.rest.now
     (first_none (first_line c.loop-next.rest.now) c.in_default.ensures.first) (is_some c.loop-next.rest.now (sym c.is_empty.ensures ∙ c.if-is_empty.false))
-    ∙ ap (λ read. bad c.loop-next.number (tail_reason read)) stops)
+    ∙ ap (λ read. bad c.loop-next.number (unended_reason read)) stops)
     c.in-Err-put_line.ensures.refused
