@@ -4,15 +4,17 @@ use Rattle.vms_check_laws.proofs.Facade.{absent_hold, bound, least_of, greatest,
 use Rattle.vms_check_laws.proofs.Facade.{◌≤◌, true, List, ◌∷◌, ◌++◌, length, get_or, Some, refl, arith, ℤ, pos, negsuc, if◌then◌else◌}
 use Rattle.vms_check_laws.proofs.Facade.{AllByRecursion, slice_get, eq-eqb, ints, ◌<◌, [], min, Bool, false, Option, None, sym, nat_le, and_parts, eqb-true}
 use Rattle.vms_check_laws.proofs.Facade.{leb-true, Kind, U8, U16, U32, Item, Num, width, residue, Count, One, Counted, Field, Cell, times, counted, capacity_of}
-use Rattle.vms_check_laws.proofs.Facade.{item_cells, field_cells, cells_from, place_of, no_field, kind_of, FitsCell, is_num, is_one, ItemBelow, FitsAt}
-use Rattle.vms_check_laws.proofs.Facade.{all_right, Desc, is_steady_in, no_desc, Struct, highest, Formula, presence, Entry, entry_of, present_from}
-use Rattle.vms_check_laws.proofs.Facade.{position_from, same_place, same_count, holds_as_much, defaults, nat_lt, and_from, slice_get-get_or, Equal, Unused, Own}
-use Rattle.vms_check_laws.proofs.Facade.{Parent, Not, And, Or, Sub, Device, Set, names_well, nobody, is_steady, is_earlier_in, ◌&&◌, test_names_well}
-use Rattle.vms_check_laws.proofs.Facade.{count_names_well, is_counting, defaults_well, counts_well, has_good_count, validation_rules, WellFormed, AllTrue}
-use Rattle.vms_check_laws.proofs.Facade.{item_below, Clean, ranges, within, struct_clean, device_parts, sub_clean}
-use Rattle.vms_check_laws.proofs.Premises.{Met, news, IsSingle, CountFits, OldFields, DefaultsGood, NamesEarlier, NewFields, RulesNamed, Sides, Matched}
+use Rattle.vms_check_laws.proofs.Facade.{item_cells, field_cells, cells_from, place_of, no_field, kind_of, FitsCell, is_num, is_one, ItemBelow, FitsAt, Desc}
+use Rattle.vms_check_laws.proofs.Facade.{is_steady_in, no_desc, Struct, highest, Formula, presence, Entry, entry_of, present_from, position_from, same_place}
+use Rattle.vms_check_laws.proofs.Facade.{same_count, holds_as_much, defaults, and_from, slice_get-get_or, Equal, Unused, Own, Parent, Not, And, Or, Sub, Device}
+use Rattle.vms_check_laws.proofs.Facade.{Set, names_well, nobody, is_steady, is_earlier_in, ◌&&◌, test_names_well, count_names_well, is_counting}
+use Rattle.vms_check_laws.proofs.Facade.{defaults_well, counts_well, has_good_count, validation_rules, WellFormed, AllTrue, item_below, Clean, ranges, within}
+use Rattle.vms_check_laws.proofs.Facade.{struct_clean, device_parts, sub_clean}
+use Rattle.vms_check_laws.proofs.Premises.{Met, NewGood, news, IsSingle, CountFits, OldFields, DefaultsGood, NamesEarlier, NewFields, RulesNamed, Sides}
+use Rattle.vms_check_laws.proofs.Premises.{Matched}
 use Rattle.vms_check_laws.proofs.Premises.{decoded, CountNamed, ItemDefault}
 use Rattle.vms_check_laws.proofs.Presence.{fits_right, Steady, covers_unused, at_or_later, Above, NamedRest, steady}
+use Rattle.vms_check.proofs.CapacityLaws.{counted_at}
 use Rattle.vms_spec.specs.Sets as sets
 
 -- ---- a number that fits its cell is at most every capacity that it counts, and one that fits the older capacities fits the newer
@@ -20,12 +22,6 @@ use Rattle.vms_spec.specs.Sets as sets
 -- the number of field k of these, the first of which has the number i and begins at a place
 abbrev pub field_number : List (List Cell) → List Field → List Field → ℕ → List ℤ → ℕ → ℕ → ℕ
 field_number cs all fs i numbers at k = residue (width (kind_of (get_or fs k no_field).item)) (get_or numbers (place_of cs all i at fs k) (pos 0))
-
-counted_at : (P : ℕ → Type 0) (by most i : ℕ) (fs : List Field) (f : Field) → slice_get fs i ≡ Some f → f.count ≡ Counted by most
-    → AllByRecursion P (counted by fs) → P most
-counted_at P by most i [] f is e h = absurd (cc)
-counted_at P by most zero (g ∷ fs) f is e h = let c : g.count ≡ Counted by most = cc in (rw (c, eq-eqb by by refl) at h).0
-counted_at P by most (suc i) (g ∷ fs) f is e h = counted_at P by most i fs f is e (all_right P _ _ h)
 
 first_fits : (cs : List (List Cell)) (item : Item) (count : Count) (caps : List ℕ) (d : ℤ) (more : List Cell) (numbers : List ℤ) (at : ℕ) → is_num item ≡ true
     → is_one count ≡ true → FitsAt (times (capacity_of count) (λ _. item_cells cs item caps d) 0 0 ++ more) numbers at
@@ -97,7 +93,7 @@ fits_count : (cs : List (List Cell)) (all : List Field) (numbers : List ℤ) (at
 fits_count cs all numbers at i f (Counted by most) is e fits c =
     let s = single_at cs all all 0 by numbers at c.field c.stands c.steady fits in
     let z : 0 + by ≡ by = omega arith in
-    rw s.is (counting_below _ _ c.field.default s.number most c.kind s.fits (counted_at (λ m. s.number ≤ℤ pos m) by most i all f is e (rw z at s.fits.1)))
+    rw s.is (counting_below _ _ c.field.default s.number most c.kind s.fits (counted_at (λ m. s.number ≤ℤ pos m) by all i f most is e (rw z at s.fits.1)))
 fits_count cs all numbers at i f _ is e fits known = tt
 
 pub old_fields : (cs : List (List Cell)) (below : ℕ) (all : List Field) (numbers : List ℤ) (at : ℕ) → FitsAt (cells_from cs all 0 all) numbers at
@@ -196,7 +192,7 @@ module _ (sides : Sides) where
         | inl c ↦ let one = rw (covers_unused e.field.item e.field.count f.field.item c.covers).1 at single in let bad = rw is at one in absurd (cc)
         | inr m ↦
             let p = paired o n _ _ j most is m.count m.room in
-            at_most_more z p.1 most (counted_at (λ m. z ≤ℤ pos m) i p.1 e.index a.fields e.field met.known.field (rw (at_i p.0 p.3) at p.2) all) p.4
+            at_most_more z p.1 most (counted_at (λ m. z ≤ℤ pos m) i a.fields e.index e.field p.1 met.known.field (rw (at_i p.0 p.3) at p.2) all) p.4
       ]
 
   fits_arrays : (new : NewFields below' (is_steady_in b) b.fields) (z : ℤ) (i j : ℕ) (es fs : List Entry) → ((by : ℕ) → same_place (o by) (n j) ≡ true → by ≡ i)
@@ -247,21 +243,15 @@ names_more ok ok' _ more h = refl
 earlier_steady : (d : Desc) (k i : ℕ) → is_earlier_in d k i ≡ true → is_steady_in d i ≡ true
 earlier_steady d k i h = grind arith
 
-test_named : (d : Desc) (k : ℕ) (t : Option Formula) → test_names_well d k t ≡ true → NamedRest (is_steady_in d) t
-test_named d k None h = tt
-test_named d k (Some t) h = names_more _ _ t (λ i e. earlier_steady d k i e) h
+-- what is named well is named as `ok` says, if that has all earlier steady fields
+module _ (d : Desc) (k : ℕ) (ok : ℕ → Bool) (has : (i : ℕ) → is_earlier_in d k i ≡ true → ok i ≡ true) where
+  test_named : (t : Option Formula) → test_names_well d k t ≡ true → NamedRest ok t
+  test_named None h = tt
+  test_named (Some t) h = names_more _ _ t has h
 
-count_named : (d : Desc) (k : ℕ) (c : Count) → count_names_well d k c ≡ true → CountNamed (is_steady_in d) c
-count_named d k (Counted by most) h = earlier_steady d k by (and_parts (is_earlier_in d k by) (is_counting (slice_get d.fields by)) h).0
-count_named d k _ h = tt
-
-test_earlier : (d : Desc) (k : ℕ) (t : Option Formula) → test_names_well d k t ≡ true → NamedRest (is_earlier_in d k) t
-test_earlier d k None h = tt
-test_earlier d k (Some t) h = h
-
-count_earlier : (d : Desc) (k : ℕ) (c : Count) → count_names_well d k c ≡ true → CountNamed (is_earlier_in d k) c
-count_earlier d k (Counted by most) h = (and_parts (is_earlier_in d k by) (is_counting (slice_get d.fields by)) h).0
-count_earlier d k _ h = tt
+  count_named : (c : Count) → count_names_well d k c ≡ true → CountNamed ok c
+  count_named (Counted by most) h = has by (and_parts (is_earlier_in d k by) (is_counting (slice_get d.fields by)) h).0
+  count_named _ h = tt
 
 counting : (g : Field) (i : Item) → is_counting (Some (record g { item = i })) ≡ true → IsCounting i
 counting g (Num U8) h = tt
@@ -307,15 +297,14 @@ module _ (k : ℕ) (d : Desc) where
   rules_named [] h = tt
   rules_named (t ∷ ts) h = ((h 0 t refl).1.1.1.0, rules_named ts (λ i u e. h (suc i) u e))
 
+  good_by : (ok : ℕ → Bool) (i : ℕ) (f : Field) → ((j : ℕ) → is_earlier_in d i j ≡ true → ok j ≡ true) → FieldFacts k d i f → NewGood k ok f
+  good_by ok i f has q = record { item = q.item; single = q.single; count = count_named d i ok has _ q.count; test = test_named d i ok has f.test q.test }
+
   desc_good : (rules : List Bool) → Clean k d rules → DescGood k d
   desc_good rules c = record {
     old = λ i f e. let q = facts i f e in record { item = q.item; single = q.single; count = count_known d i _ q.count };
-    new = λ i f e.
-        let q = facts i f e in
-        record { item = q.item; single = q.single; count = count_named d i _ q.count; test = test_named d i f.test q.test };
-    earlier = λ i f e.
-        let q = facts i f e in
-        record { item = q.item; single = q.single; count = count_earlier d i _ q.count; test = test_earlier d i f.test q.test };
+    new = λ i f e. good_by _ i f (λ j h. earlier_steady d i j h) (facts i f e);
+    earlier = λ i f e. good_by _ i f (λ j h. h) (facts i f e);
     defaults = defaults_good 0 _ (λ j f e. (let z : 0 + j ≡ j = omega arith in rw z (facts j f e)));
     rules = rules_named _ c.validations;
   } where

@@ -1,6 +1,7 @@
 -- A device with subsections: what the older set writes is a section of the newer with the carried image. An order that names each remaining
 -- one, and none twice, takes each once.
-use Rattle.vms_check_laws.proofs.{PairDevices.Found, PairDevices.look_up, PairLists.Settled, PairLists.settled_append, Counts.device_good, Counts.sub_good}
+use Rattle.vms_check_laws.proofs.{PairDevices.Found, PairDevices.look_up, PairDevices.comes, PairLists.Settled, PairLists.settled_append, Counts.device_good}
+use Rattle.vms_check_laws.proofs.{Counts.sub_good}
 use Rattle.vms_check_laws.proofs.Facade.{◌≡◌, ◌⊎◌, inl, inr, ℕ, zero, suc, Bool, true, false, cases_eq, slice_get-map, List, ◌∷◌, slice_set}
 use Rattle.vms_check_laws.proofs.Facade.{Option, Some, None, refl, sym, ap, ◌∙◌, slice_get, [], ◌+◌, ◌<◌, ◌++◌, length, map, arith, ℤ}
 use Rattle.vms_check_laws.proofs.Facade.{flat_map, slice_get_within, AreAll, ComesOnce, AllCame, at_other, Part, first_answer, Sub, Device, Set, struct_cells}
@@ -161,11 +162,10 @@ module _ (old new : Set) (good_old : WellFormed old) (good_new : WellFormed new)
       }
 
   fact : (l : ℕ) (t : Sub) → slice_get e.subs l ≡ Some t → FactOf t
-  fact l t at_l = elim (look_up d.subs t.desc.name) [ inl none ↦ stayed l t at_l (rw none) (rw none) | inr f ↦ by_came f _ refl ] where
-    by_came : (f : Found d.subs t.desc.name) (o : Option (Option ℕ)) → slice_get image.came f.number ≡ o → FactOf t
-    by_came f (Some (Some v)) at_came = inr (came_is _ l f.sub t v f.there at_l f.name_is at_came f.found)
-    by_came f None at_came = stayed l t at_l (rw (f.found, at_came)) (rw (f.found, f.there, at_came))
-    by_came f (Some None) at_came = stayed l t at_l (rw (f.found, at_came)) (rw (f.found, f.there, at_came))
+  fact l t at_l = elim (comes old new d image t) [
+    | inl h ↦ stayed l t at_l h.came h.segment
+    | inr h ↦ inr (came_is _ l h.f.sub t h.v h.f.there at_l h.f.name_is h.is_come h.f.found)
+  ]
 
   facts_from : (l : ℕ) (ts : List Sub) → RestAt e.subs l ts → Facts old new good_old good_new d e image numbers' came ts
   facts_from l [] h = tt
