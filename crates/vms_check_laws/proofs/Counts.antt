@@ -26,10 +26,7 @@ field_number cs all fs i numbers at k = residue (width (kind_of (get_or fs k no_
 first_fits : (cs : List (List Cell)) (item : Item) (count : Count) (caps : List ℕ) (d : ℤ) (more : List Cell) (numbers : List ℤ) (at : ℕ) → is_num item ≡ true
     → is_one count ≡ true → FitsAt (times (capacity_of count) (λ _. item_cells cs item caps d) 0 0 ++ more) numbers at
     → FitsCell (record { kind = kind_of item; capacities = caps; default = d }) (get_or numbers at (pos 0))
-first_fits cs (Num kind) One caps d more numbers at num one fits =
-    let z : at + 0 ≡ at = omega arith in
-    rw (z) at (fits.each 0 (omega arith))
-first_fits cs _ _ caps d more numbers at num one fits = absurd (cc)
+first_fits cs item count caps d more numbers at num one fits = grind arith
 
 -- the number of a single field, and that it fits
 pub record Single (kind : Kind) (caps : List ℕ) (default : ℤ) (own : ℕ) : Type 0 where
@@ -57,15 +54,11 @@ IsCounting (Num U32) = Unit {0}
 IsCounting _ = ⊥
 
 below_cap : (w : ℕ) (z : ℤ) (most : ℕ) → pos 0 ≤ℤ z → z ≤ℤ pos most → residue w z ≤ most
-below_cap w (pos m) most low high = grind arith
-below_cap w (negsuc m) most low high = absurd (omega arith)
+below_cap w z most low high = grind arith
 
 counting_below : (item : Item) (caps : List ℕ) (d z : ℤ) (most : ℕ) → IsCounting item
     → FitsCell (record { kind = kind_of item; capacities = caps; default = d }) z → z ≤ℤ pos most → residue (width (kind_of item)) z ≤ most
-counting_below (Num U8) caps d z most c fits high = below_cap 1 z most fits.0.0 high
-counting_below (Num U16) caps d z most c fits high = below_cap 2 z most fits.0.0 high
-counting_below (Num U32) caps d z most c fits high = below_cap 4 z most fits.0.0 high
-counting_below _ caps d z most c fits high = absurd c
+counting_below item caps d z most c fits high = grind (arith, below_cap)
 
 -- field `by` may count
 pub record Counter (all : List Field) (by : ℕ) : Type 0 where
@@ -114,8 +107,7 @@ abbrev pub StructsGood : List Desc → Type 0
 StructsGood ds = (j : ℕ) → j < length ds → DescGood j (get_or ds j no_desc)
 
 pub item_further : (j k : ℕ) (i : Item) → j ≤ k → ItemBelow j i → ItemBelow k i
-item_further j k (Struct i) le h = omega arith
-item_further j k _ le h = tt
+item_further j k i le h = grind arith
 
 pub plains_further : (j k : ℕ) (all : List Field) → j ≤ k → OldPlains j all → OldPlains k all
 plains_further j k all le h i f e = let p = h i f e in record { item = item_further j k f.item le p.item; single = p.single; count = p.count }
@@ -147,12 +139,10 @@ at_most_least z m [] h all = h
 at_most_least z m (k ∷ ms) h all = at_most_least z (min m k) ms (omega (arith, ints)) all.1
 
 greatest_kind : (kind : Kind) → highest kind ≡ pos (greatest (Num kind))
-greatest_kind U8 = refl
-greatest_kind _ = refl
+greatest_kind kind = grind arith
 
 pub at_most_bound : (kind : Kind) (caps : List ℕ) (z : ℤ) → z ≤ℤ highest kind → AllByRecursion (λ k. z ≤ℤ pos k) caps → z ≤ℤ pos (bound (Num kind) caps)
-at_most_bound kind [] z h all = rw (← (greatest_kind kind)) h
-at_most_bound kind (m ∷ ms) z h all = at_most_least z m ms all.0 all.1
+at_most_bound kind caps z h all = grind (arith, greatest_kind, at_most_least)
 
 pub at_most_more : (z : ℤ) (m k : ℕ) → z ≤ℤ pos m → m ≤ k → z ≤ℤ pos k
 at_most_more _ m k h le = omega (arith, ints)
@@ -171,11 +161,7 @@ all_counted P by (g ∷ gs) h = head _ refl (all_counted P by gs h.1) where
 
 paired : (o n : ℕ → Option ℕ) (c d : Count) (i most : ℕ) → d ≡ Counted i most → same_count o n c d ≡ true → holds_as_much c d ≡ true
     → (by most' : ℕ) × (c ≡ Counted by most') × (same_place (o by) (n i) ≡ true) × (most' ≤ most)
-paired o n (Counted by most') (Counted j m) i most e same room =
-    let one : j ≡ i = cc in
-    let much : m ≡ most = cc in
-    (by, most', refl, rw one at same, omega (arith, leb-true most' m room))
-paired o n _ _ i most e same room = absurd (cc)
+paired o n c d i most e same room = grind arith
 
 module _ (sides : Sides) where
   open sides use {two, numbers, at, below'}
@@ -246,37 +232,26 @@ earlier_steady d k i h = grind arith
 -- what is named well is named as `ok` says, if that has all earlier steady fields
 module _ (d : Desc) (k : ℕ) (ok : ℕ → Bool) (has : (i : ℕ) → is_earlier_in d k i ≡ true → ok i ≡ true) where
   test_named : (t : Option Formula) → test_names_well d k t ≡ true → NamedRest ok t
-  test_named None h = tt
-  test_named (Some t) h = names_more _ _ t has h
+  test_named t h = grind (arith, names_more)
 
   count_named : (c : Count) → count_names_well d k c ≡ true → CountNamed ok c
-  count_named (Counted by most) h = has by (and_parts (is_earlier_in d k by) (is_counting (slice_get d.fields by)) h).0
-  count_named _ h = tt
+  count_named c h = grind arith
 
 counting : (g : Field) (i : Item) → is_counting (Some (record g { item = i })) ≡ true → IsCounting i
-counting g (Num U8) h = tt
-counting g (Num U16) h = tt
-counting g (Num U32) h = tt
-counting g _ h = absurd (cc)
+counting g i h = grind arith
 
 counter : (all : List Field) (by minimum : ℕ) (o : Option Field) → slice_get all by ≡ o → is_steady minimum o ≡ true → is_counting o ≡ true → Counter all by
 counter all by minimum None e h k = absurd (cc)
 counter all by minimum (Some g) e h k = record { field = g; stands = e; steady = steady minimum (Some g) g refl h; kind = counting g g.item k }
 
 count_known : (d : Desc) (k : ℕ) (c : Count) → count_names_well d k c ≡ true → CountKnown d.fields c
-count_known d k (Counted by most) h =
-    let p = and_parts (is_earlier_in d k by) (is_counting (slice_get d.fields by)) h in
-    counter d.fields by d.minimum (slice_get d.fields by) refl (earlier_steady d k by p.0) p.1
-count_known d k _ h = tt
+count_known d k c h = grind (arith, counter, earlier_steady)
 
 single : (i : Item) (c : Count) → has_good_count i c ≡ true → IsSingle i c
-single (Equal kind z) c h = h
-single (Unused n) c h = h
-single _ c h = tt
+single i c h = grind arith
 
 default_good : (i : Item) (caps : List ℕ) (z : ℤ) → defaults_well i z ≡ true → counts_well caps z ≡ true → ItemDefault i caps z
-default_good (Num kind) caps z h k = (ranges kind z h, within caps z k)
-default_good _ caps z h k = tt
+default_good i caps z h k = grind (arith, within)
 
 -- the rules 4, 5, 6 and 8 at a field
 pub record FieldFacts (k : ℕ) (d : Desc) (i : ℕ) (f : Field) : Type 0 where

@@ -22,9 +22,7 @@ use Rattle.vms_check_laws.proofs.Presence.{carries_append, spells_split, behind_
 
 pub good_item : (y : List (List Cell)) (k : ℕ) (j : Item) (caps : List ℕ) (d : ℤ) → ((i : ℕ) → i < k → GoodCells (get_or y i [])) → ItemBelow k j
     → ItemDefault j caps d → GoodCells (item_cells y j caps d)
-good_item y k (Num kind) caps d good below h = (h, tt)
-good_item y k (Struct i) caps d good below h = good i below
-good_item y k _ caps d good below h = tt
+good_item y k j caps d good below h = grind arith
 
 pub good_fields : (y : List (List Cell)) (k : ℕ) (all : List Field) (i : ℕ) (gs : List Field) → ((i : ℕ) → i < k → GoodCells (get_or y i []))
     → FieldsBelow k gs → DefaultsGood all i gs → GoodCells (cells_from y all i gs)

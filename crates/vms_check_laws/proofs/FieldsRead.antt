@@ -61,10 +61,7 @@ module _ (sides : Sides) where
   -- ---- how long it is
 
   item_sized : (i j : Item) (d : ℤ) (k : ℕ) → ItemBelow below' j → length (one_item i j d k) ≡ new_size j
-  item_sized (Num k) (Num l) d p lt = grind arith
-  item_sized (Struct i) (Struct j) d p lt = (table.rows j lt).sized i p
-  item_sized _ (Struct j) d p lt = defaults_size _
-  item_sized _ _ d p lt = refl
+  item_sized i j d k lt = grind (arith, defaults_size)
 
   items_sized : (i j : Item) (d : ℤ) (m most k : ℕ) → ItemBelow below' j → length (some_items i j d m most k) ≡ most * new_size j
   items_sized i j d m zero k lt = omega arith
@@ -76,8 +73,7 @@ module _ (sides : Sides) where
 
   next_sized : (i : ℕ) (g : Field) (pr : Option (Option Formula)) (es : List Entry) → ItemBelow below' g.item
       → length (next_field i g pr es) ≡ length (cells_at i g)
-  next_sized i g (Some rest) (e ∷ es) lt = field_sized e i g lt
-  next_sized i g _ _ lt = defaults_size _
+  next_sized i g pr es lt = grind (arith, field_sized, defaults_size)
 
   pub fields_sized : (i : ℕ) (gs : List Field) (es : List Entry) → FieldsBelow below' gs
       → length (all_fields i gs es) ≡ length (cells_from (news sides) b.fields i gs)
@@ -149,8 +145,7 @@ module _ (sides : Sides) where
   number_pair : (j i : Item) (d c : Count) (z : ℤ) (t : Bool) (x y : ℕ) → is_num j ≡ true → is_one d ≡ true → same_item i j ≡ true → same_count o n c d ≡ true
       → t ≡ true → Holds numbers' y (some_items i j z (if t then elements_of c (older sides) else 0) (capacity_of d) x)
       → residue (width (kind_of i)) (get_or numbers x (pos 0)) ≡ residue (width (kind_of j)) (get_or numbers' y (pos 0))
-  number_pair (Num l) (Num k) One One z true x y num one same counts there_is held = grind (arith, kinds_same, one_number)
-  number_pair _ _ _ _ z _ x y num one same counts there_is held = absurd (cc)
+  number_pair j i d c z t x y num one same counts there_is held = grind (arith, kinds_same, one_number)
 
   pair_agrees : (e f : Entry) → Met sides e f → Holds numbers' (at' + f.place) (one_field e f.field) → is_steady_in b f.index ≡ true
       → older sides e.index ≡ newer sides f.index
@@ -263,10 +258,7 @@ module _ (sides : Sides) where
   new_slots k f y = times k (item_slots ns f.field.item (counted f.index b.fields) numbers') y (new_size f.field.item)
 
   elements_room : (c d : Count) → same_count o n c d ≡ true → holds_as_much c d ≡ true → elements_of c (older sides) ≤ capacity_of d
-  elements_room One One same room = omega arith
-  elements_room (Fixed p) (Fixed q) same room = omega (arith, eqb-true p q same)
-  elements_room (Counted by most) (Counted by' most') same room = omega (arith, leb-true most most' room)
-  elements_room _ _ same room = absurd (cc)
+  elements_room c d same room = grind arith
 
   -- as many elements of one at which rules 7 to 12 hold
   pub matched : (e f : Entry) (t : Bool) → PairGood two e f → Matched two e f → ItemBelow below e.field.item → ItemBelow below' f.field.item
@@ -295,10 +287,7 @@ module _ (sides : Sides) where
     same_elements : (c d : Count) → Agree o n ok (older sides) (newer sides) → CountFits (older sides) c → CountNamed ok d → same_count o n c d ≡ true
         → holds_as_much c d ≡ true
         → elements_of c (older sides) ≡ elements_of d (newer sides)
-    same_elements One One agree fits named same room = refl
-    same_elements (Fixed p) (Fixed q) agree fits named same room = eqb-true p q same
-    same_elements (Counted by most) (Counted by' most') agree fits named same room = grind arith
-    same_elements _ _ agree fits named same room = absurd (cc)
+    same_elements c d agree fits named same room = grind arith
 
     -- what is known of slots on both sides, at two fields where no rule fails: of none, of what is covered, and of as many elements
     pub record PairMeets (e f : Entry) (xs ys : List Slot) : Type 0 where

@@ -178,8 +178,7 @@ module _ (old new : Set) (good_old : WellFormed old) (good_new : WellFormed new)
 
 -- where a partner is, if there is one
 is_some_of : (o : Option ℕ) (k : ℕ) → (o ≡ Some k) ⊎ (o ≡ Some k → ⊥)
-is_some_of None k = inr (λ e. cc)
-is_some_of (Some j) k = grind arith
+is_some_of o k = grind arith
 
 search_in : (ps : List (Option ℕ)) (k : ℕ) → ((c : ℕ) × (slice_get ps c ≡ Some (Some k))) ⊎ ((c : ℕ) → slice_get ps c ≡ Some (Some k) → ⊥)
 search_in [] k = inr (λ c e. cc)

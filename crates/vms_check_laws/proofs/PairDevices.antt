@@ -114,8 +114,7 @@ pub record HasPart (set : Set) (d : Device) (numbers : List ℤ) (from : ℕ) (s
   pub has : has_cell (sub_slots set sub version numbers (sub_place set from subs j)) c ≡ true
 
 pub or_split : (a b : Bool) → (a || b) ≡ true → (a ≡ true) ⊎ ((a ≡ false) × (b ≡ true))
-or_split true b h = inl refl
-or_split false b h = inr (refl, h)
+or_split a b h = grind arith
 
 pub has_part : (set : Set) (d : Device) (numbers : List ℤ) (from : ℕ) (subs : List Sub) (came : List (Option ℕ)) (c : ℕ)
     → has_cell (came_slots set d numbers from subs came) c ≡ true → HasPart set d numbers from subs came c

@@ -251,8 +251,7 @@ module _ (structs : List Meaning) (all : List Field) (v : ℕ) (own : ℕ → �
 
   entry_slots : (i p : ℕ) (f : Field) (pr : Option (Option Formula)) (es : List Entry) → presence v f.test f.since ≡ pr
       → slots_at i p f ++ entries_slots es ≡ entries_slots (entry_of i p f pr ++ es)
-  entry_slots i p f None es h = rw (presence_there f.test _ v own _, h)
-  entry_slots i p f (Some rest) es h = refl
+  entry_slots i p f pr es h = grind (arith, presence_there)
 
   pub slots_entries : (i p : ℕ) (fs : List Field)
       → slots_from structs all v own numbers i (base + p) fs ≡ entries_slots (present_from (cells_in structs) all v i p fs)

@@ -27,8 +27,7 @@ found_device devices name instance k e =
     record { device = f.device; stands = rw same at f.there; name_is = (bytes_eq-Decides _ name).0 f.name_is; instance_is = f.instance_is }
 
 pub found_some : (r : Option ℕ) → is_found r ≡ true → (k : ℕ) × (r ≡ Some k)
-found_some None h = absurd (cc)
-found_some (Some k) h = (k, refl)
+found_some r h = grind arith
 
 -- ---- a device of each
 

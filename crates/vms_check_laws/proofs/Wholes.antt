@@ -19,8 +19,7 @@ abbrev pub Among : ℕ → List ℕ → Type 0
 Among a order = (i : ℕ) × (slice_get order i ≡ Some a)
 
 among_rest : (k j : ℕ) (order : List ℕ) → (k ≡ j → ⊥) → (i : ℕ) → slice_get (j ∷ order) i ≡ Some k → Among k order
-among_rest k j order ne zero e = absurd (ne cc)
-among_rest k j order ne (suc i) e = (i, e)
+among_rest k j order ne i e = grind arith
 
 -- Places of a list, open all of them, where `back` gives places of another list that rise.
 module _ {A : Type 0} (Open : A → Type 0) (done : A) (back : ℕ → Option ℕ) where
@@ -191,18 +190,14 @@ module _ (old new : Set) (good_old : WellFormed old) (good_new : WellFormed new)
   order_has (x ∷ subs) (Some u ∷ cs) (suc j) l v s h h' is = let r = order_has subs cs j l v s h h' is in (suc r.0, r.1)
   order_has _ _ _ l v s h h' is = absurd (cc)
 
-  came_from : (o : Option (Option ℕ)) (j v : ℕ) → sub_came old new (Some j) o ≡ Some v → o ≡ Some (Some v)
-  came_from None j v h = absurd (cc)
-  came_from (Some o) j v h = ap Some h
-
   each_come : (l v : ℕ) → slice_get image'.came l ≡ Some (Some v) → Among l (sub_order e d.subs image.came)
   each_come l v h =
       let f = from_map came e.subs l (Some v) h in
-      elim (look_up d.subs f.0.desc.name) [
-        | inl is ↦ let bad : sub_came old new None (slice_get image.came 0) ≡ Some v = rw is at f.2 in absurd (cc)
+      elim (comes old new d image f.0) [
+        | inl stays ↦ absurd (cc (stays.came, f.2))
         | inr g ↦
-            let found : find_sub 0 e.subs g.sub.desc.name ≡ Some l = rw g.name_is (sub_found new good_new k l e f.0 at_k f.1) in
-            order_has d.subs _ _ l v g.sub g.there (came_from _ g.number v (rw g.found at f.2)) (ap index found)
+            let found : find_sub 0 e.subs g.f.sub.desc.name ≡ Some l = rw g.f.name_is (sub_found new good_new k l e f.0 at_k f.1) in
+            order_has d.subs _ _ l g.v g.f.sub g.f.there g.is_come (ap index found)
       ]
 
   module _ (held : Holds numbers' (own_cells new e) rest) where
