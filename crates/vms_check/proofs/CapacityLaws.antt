@@ -1,9 +1,10 @@
 -- What is left of a test says the same, and the least capacity that a number counts.
 use Rattle.vms_check.proofs.Facade.{◌≡◌, ℕ, Bool, true, false, refl, sym, ◌∙◌, ◌||◌, and-true, and-false, or-true, or-false, and_parts}
 use Rattle.vms_check.proofs.Facade.{Formula, AtLeast, Below, Cell, Not, And, Or, truth, Reduced, Known, Open, not_reduced, and_reduced, or_reduced, reduced}
-use Rattle.vms_check.proofs.Facade.{truth_of, Rel, Own, Parent, names_well, nobody, ◌≤◌, List, ◌∷◌, ◌++◌, min, nat_le, Option, Some, None}
-use Rattle.vms_check.proofs.Facade.{arith, [], ◌==◌, if◌then◌else◌, nat_tests, and_from, Item, Count, Counted, counted, Field, lesser, least_from}
-use Rattle.vms_check.proofs.Facade.{least_of, absent_hold, bound, greatest, has_room, is_absent}
+use Rattle.vms_check.proofs.Facade.{truth_of, Rel, Own, Parent, names_well, nobody, ◌≤◌, List, ◌∷◌, min, Some, None, arith, [], Item, Counted}
+use Rattle.vms_check.proofs.Facade.{counted, Field, least_from, zero, suc, AllByRecursion, slice_get, all_right, eq-eqb, least_of, absent_hold, bound, greatest}
+use Rattle.vms_check.proofs.Facade.{has_room}
+use Rattle.vms_check.proofs.PairLaws.{at_every, room_needed}
 use Rattle.std.proofs.Common.{not, ◌&&◌}
 use Rattle.vms_check.specs.Comparing as comparing
 
@@ -108,54 +109,36 @@ pub ruleset bound_laws = (bound_some, bound_none)
 
 -- ---- room
 
--- each has room for that number of elements
-abbrev Holds : ℕ → List ℕ → Type 0
-Holds n [] = Unit {0}
-Holds n (m ∷ caps) = (n ≤ m) × Holds n caps
+pub all_least : (n m : ℕ) (caps : List ℕ) → n ≤ comparing.least_of m caps → (n ≤ m) × AllByRecursion (λ k. n ≤ k) caps
+all_least n m [] h = (h, tt)
+all_least n m (k ∷ caps) h = let r = all_least n (min m k) caps h in (omega (arith, r.0), (omega (arith, r.0), r.1))
 
-below : (k : ℕ) (caps : List ℕ) (l : ℕ) → least_from (Some k) caps ≡ Some l → l ≤ k
-below k [] l e = let h : k ≡ l = cc in omega arith
-below k (m ∷ caps) l e = omega (arith, below (min k m) caps l e)
+all_above : (caps : List ℕ) (l n : ℕ) → least_of caps ≡ Some l → n ≤ l → AllByRecursion (λ k. n ≤ k) caps
+all_above [] l n e h = tt
+all_above (m ∷ caps) l n e h = let is : comparing.least_of m caps ≡ l = cc (some_least m caps) in all_least n m caps (omega arith)
 
-below_first : (least : Option ℕ) (m : ℕ) (caps : List ℕ) (l : ℕ) → least_from least (m ∷ caps) ≡ Some l → l ≤ m
-below_first None m caps l e = below m caps l e
-below_first (Some k) m caps l e = omega (arith, below (min k m) caps l e)
-
-all_above : (least : Option ℕ) (caps : List ℕ) (l n : ℕ) → least_from least caps ≡ Some l → n ≤ l → Holds n caps
-all_above least [] l n e h = tt
-all_above least (m ∷ caps) l n e h = (omega (arith, below_first least m caps l e, h), all_above (lesser least m) caps l n e h)
-
-all_none : (caps : List ℕ) (n : ℕ) → least_of caps ≡ None → Holds n caps
+all_none : (caps : List ℕ) (n : ℕ) → least_of caps ≡ None → AllByRecursion (λ k. n ≤ k) caps
 all_none [] n e = tt
 all_none (m ∷ caps) n e = absurd (cc (some_least m caps))
 
-of_count : Count → Field → Field
-of_count c f = record f { count = c }
+-- what holds of all capacities that field i counts holds of each
+pub counted_at : (P : ℕ → Type 0) (i : ℕ) (fs : List Field) (k : ℕ) (g : Field) (most : ℕ) → slice_get fs k ≡ Some g → g.count ≡ Counted i most
+    → AllByRecursion P (counted i fs) → P most
+counted_at P i [] k g most there is h = cc
+counted_at P i (f ∷ fs) zero g most there is h =
+    let count : f.count ≡ Counted i most = (let same : f ≡ g = cc in rw same is) in
+    (rw (count, eq-eqb i i refl) at h).0
+counted_at P i (f ∷ fs) (suc k) g most there is h = counted_at P i fs k g most there is (all_right P _ (counted i fs) h)
 
-room_there : (n most : ℕ) (absent : Bool) → n ≤ most → (if absent then nat_le n most else true) ≡ true
-room_there n most true h = grind (arith, nat_tests, h)
-room_there n most false h = refl
-
--- of a field and of those after it
-parted : (c : Count) (f : Field) (fs : List Field) (v i n : ℕ) → Holds n (counted i (of_count c f ∷ fs)) → (has_room v i n f c ≡ true) × Holds n (counted i fs)
-unfolding of_count
-parted (Counted by most) f fs v i n h = by_test (by == i) h
-  where
-    by_test : (b : Bool) → Holds n ((if b then most ∷ [] else []) ++ counted i fs)
-        → ((if b && is_absent v f then nat_le n most else true) ≡ true) × Holds n (counted i fs)
-    by_test true h = (room_there n most (is_absent v f) h.0, h.1)
-    by_test false h = (refl, h)
-parted _ f fs v i n h = (refl, h)
-
-all_hold : (fields : List Field) (v i n : ℕ) → Holds n (counted i fields) → absent_hold v i n fields ≡ true
-unfolding of_count
-all_hold [] v i n h = refl
-all_hold (f ∷ fs) v i n h = let p = parted f.count f fs v i n h in and_from (has_room v i n f f.count) (absent_hold v i n fs) p.0 (all_hold fs v i n p.1)
+all_hold : (fields : List Field) (v i n : ℕ) → AllByRecursion (λ k. n ≤ k) (counted i fields) → absent_hold v i n fields ≡ true
+all_hold fields v i n h =
+    at_every (λ (g : Field). has_room v i n g g.count) fields
+    (λ k g there. room_needed v i n g g.count (λ most absent is. counted_at (λ m. n ≤ m) i fields k g most there is h))
 
 pub room_none : (fields : List Field) (v i n : ℕ) → None ≡ least_of (counted i fields) → true ≡ absent_hold v i n fields
 room_none fields v i n e = sym (all_hold fields v i n (all_none (counted i fields) n (sym e)))
 
 pub room_some : (fields : List Field) (v i n l : ℕ) → Some l ≡ least_of (counted i fields) → n ≤ l → true ≡ absent_hold v i n fields
-room_some fields v i n l e h = sym (all_hold fields v i n (all_above None (counted i fields) l n (sym e) h))
+room_some fields v i n l e h = sym (all_hold fields v i n (all_above (counted i fields) l n (sym e) h))
 
 pub ruleset room_laws = (room_none, room_some)

@@ -1,26 +1,28 @@
 -- Two fields of the same position, tests over lists, and the positions of present fields.
 use Rattle.vms_check.proofs.Facade.{◌≡◌, ℕ, suc, ◌+◌, List, ◌∷◌, Bool, true, false, Option, Some, None, refl, arith, [], slice_get, list_all}
 use Rattle.vms_check.proofs.Facade.{Place, first_answer, both_none, failing_pair, in_new, each, ◌≤◌, ◌&&◌, ◌==◌, if◌then◌else◌, and_parts}
-use Rattle.vms_check.proofs.Facade.{eq-eqb, eqb-true, leb-true, le-leb, Formula, Field, Desc, is_nothing, same_rest, same_reduced, Comparer, Entry, absent_hold}
-use Rattle.vms_check.proofs.Facade.{bound, has_room, holds_as_much, is_absent, is_covered, pair_rules, uncovered_rules, Reduced, Known, Open, left_of, presence}
-use Rattle.vms_check.proofs.Facade.{tree_of, field_reduced, Struct, Count, One, Fixed, Counted, Part, counted, AreAlike, ArePaired, in_old, IsFirst, Present}
-use Rattle.vms_check.proofs.Facade.{Side, zero, ◌<◌, ◌++◌, length, get_or, take, map, replicate, sym, ap, ◌∙◌, drop, add-one, not, ne_eqb}
-use Rattle.vms_check.proofs.Facade.{length-map, map-append, take-map, take_more, drop_more, no_field, field_of, get_map_at, entry_of, position_from}
-use Rattle.vms_check.proofs.Facade.{fields_from, count_present, position_in, desc_on}
+use Rattle.vms_check.proofs.Facade.{AllByRecursion, and_from, cases_Bool, eq-eqb, eqb-true, inl, inr, nat_tests, leb-true, le-leb, Formula, Field, Desc}
+use Rattle.vms_check.proofs.Facade.{is_nothing, same_rest, same_reduced, Comparer, Entry, absent_hold, bound, has_room, holds_as_much, is_absent, is_covered}
+use Rattle.vms_check.proofs.Facade.{pair_rules, uncovered_rules, Reduced, Known, Open, left_of, presence, tree_of, field_reduced, Struct, Count, Counted, Part}
+use Rattle.vms_check.proofs.Facade.{counted, AreAlike, ArePaired, in_old, IsFirst, Present, Side, zero, ◌<◌, ◌++◌, length, get_or, take, map, replicate}
+use Rattle.vms_check.proofs.Facade.{sym, ap, ◌∙◌, drop, add-one, not, ne_eqb, slice_get-get_or, slice_get-map, slice_get_past, length-map, map-append}
+use Rattle.vms_check.proofs.Facade.{take-map, take_more, drop_more, no_field, field_of, get_map_at, entry_of, position_from, fields_from, count_present}
+use Rattle.vms_check.proofs.Facade.{position_in, desc_on}
 use Rattle.std.specs.Prelude.{nat_le}
 use Rattle.vms_parts.specs.declared.types.Field.{Field as CodeField}
 
 -- ---- tests over lists and numbered rules, and what they say of each place
 
-pub passes : (rule : ℕ) (b : Bool) (rules : List (ℕ × Bool)) (p q : Place) → failing_pair ((rule, b) ∷ rules) p q ≡ None
-    → (b ≡ true) × (failing_pair rules p q ≡ None)
-passes rule true rules p q e = (refl, e)
-passes rule false rules p q e = cc
+-- no rule fails exactly where each holds
+pub passes : (rules : List (ℕ × Bool)) (p q : Place) → failing_pair rules p q ≡ None → AllByRecursion (λ r. r.1 ≡ true) rules
+passes [] p q e = tt
+passes ((rule, true) ∷ rules) p q e = (refl, passes rules p q e)
+passes ((rule, false) ∷ rules) p q e = cc
 
-pub pass : (rule : ℕ) (b : Bool) (rules : List (ℕ × Bool)) (p q : Place) → b ≡ true → failing_pair rules p q ≡ None
-    → failing_pair ((rule, b) ∷ rules) p q ≡ None
-pass rule true rules p q e f = f
-pass rule false rules p q e f = cc
+pub pass : (rules : List (ℕ × Bool)) (p q : Place) → AllByRecursion (λ r. r.1 ≡ true) rules → failing_pair rules p q ≡ None
+pass [] p q h = refl
+pass ((rule, true) ∷ rules) p q h = pass rules p q h.1
+pass ((rule, false) ∷ rules) p q h = cc (h.0)
 
 pub at_every : {X : Type 0} (p : X → Bool) (xs : List X) → ((i : ℕ) (x : X) → slice_get xs i ≡ Some x → p x ≡ true) → list_all p xs ≡ true
 at_every p [] h = refl
@@ -59,16 +61,12 @@ left_same o n _ _ x y = cc
 room_there : (w i n : ℕ) (g : Field) (most : ℕ) → is_absent w g ≡ true → has_room w i n g (Counted i most) ≡ true → n ≤ most
 room_there w i n g most absent e = leb-true n most (rw (eq-eqb i i refl, absent) at e)
 
-room_needed : (w i n : ℕ) (g : Field) (c : Count) → ((most : ℕ) → is_absent w g ≡ true → c ≡ Counted i most → n ≤ most) → has_room w i n g c ≡ true
-room_needed w i n g One h = refl
-room_needed w i n g (Fixed m) h = refl
-room_needed w i n g (Counted by most) h = by_test (by == i && is_absent w g) refl
-  where
-    by_test : (b : Bool) → (by == i && is_absent w g) ≡ b → (if b then nat_le n most else true) ≡ true
-    by_test false e = refl
-    by_test true e =
-        let p = and_parts (by == i) (is_absent w g) e in
-        le-leb n most (h most p.1 (rw (eqb-true by i p.0)))
+pub room_needed : (w i n : ℕ) (g : Field) (c : Count) → ((most : ℕ) → is_absent w g ≡ true → c ≡ Counted i most → n ≤ most) → has_room w i n g c ≡ true
+room_needed w i n g (Counted by most) h = elim (cases_Bool (by == i && is_absent w g)) [
+  | inl e ↦ let p = and_parts (by == i) (is_absent w g) e in rw e (le-leb n most (h most p.1 (rw (eqb-true by i p.0))))
+  | inr e ↦ rw e
+]
+room_needed w i n g _ h = refl
 
 -- ---- one pair
 
@@ -82,23 +80,18 @@ module _ (same : ℕ → ℕ → Bool) (structs : List Comparer) (a b : Desc) (v
   alike_so : (e f : Entry) (p q : Place) → failing_pair (uncovered e f) p q ≡ None
       → ((i j : ℕ) → e.field.item ≡ Struct i → f.field.item ≡ Struct j → same i j ≡ true) → AreAlike same a b v w e f
   alike_so e f p q none structs_same =
-      let seven = passes 7 _ _ p q none in
-      let eight = passes 8 _ _ p q seven.1 in
-      let nine = passes 9 _ _ p q eight.1 in
-      let ten = passes 10 _ _ p q nine.1 in
-      let eleven = passes 11 _ _ p q ten.1 in
-      let twelve = passes 12 _ _ p q eleven.1 in
+      let r = passes (uncovered e f) p q none in
       let n = bound e.field.item (counted e.index a.fields) in
-      let room = and_parts (holds_as_much e.field.count f.field.count) (absent_hold w f.index n b.fields) eleven.0 in
+      let room = and_parts (holds_as_much e.field.count f.field.count) (absent_hold w f.index n b.fields) r.1.1.1.1.0 in
       record {
-        counts = seven.0;
-        kinds = eight.0;
-        tests = nine.0;
-        names = ten.0;
+        counts = r.0;
+        kinds = r.1.0;
+        tests = r.1.1.0;
+        names = r.1.1.1.0;
         capacities = room.0;
         room = λ k g most there absent is.
             room_there w f.index n g most absent (rw is at (each (λ (g : Field). has_room w f.index n g g.count) b.fields k g room.1 there));
-        constants = twelve.0;
+        constants = r.1.1.1.1.1.0;
         structs = structs_same;
       }
 
@@ -108,94 +101,52 @@ module _ (same : ℕ → ℕ → Bool) (structs : List Comparer) (a b : Desc) (v
       let hold : absent_hold w f.index n b.fields ≡ true =
       at_every (λ (g : Field). has_room w f.index n g g.count) b.fields
       (λ k g there. room_needed w f.index n g g.count (λ most absent is. h.room k g most there absent is)) in
-      let both : (holds_as_much e.field.count f.field.count && absent_hold w f.index n b.fields) ≡ true = rw h.capacities hold in
-      pass 7 _ _ p q h.counts (pass 8 _ _ p q h.kinds (pass 9 _ _ p q h.tests (pass 10 _ _ p q h.names
-      (pass 11 _ _ p q both (pass 12 _ _ p q h.constants refl)))))
+      pass (uncovered e f) p q (h.counts, (h.kinds, (h.tests, (h.names, (and_from _ _ h.capacities hold, (h.constants, tt))))))
 
   pub paired_so : (e f : Entry) (p q : Place) → failing_pair (rules e f) p q ≡ None
       → ((i j : ℕ) → e.field.item ≡ Struct i → f.field.item ≡ Struct j → same i j ≡ true) → ArePaired same a b v w e f
   paired_so e f p q none structs_same =
-      record { covered = λ c. (passes 9 _ [] p q (rw c at none)).0; alike = λ c. alike_so e f p q (rw c at none) structs_same }
+      record { covered = λ c. (passes ((9, _) ∷ []) p q (rw c at none)).0; alike = λ c. alike_so e f p q (rw c at none) structs_same }
 
   pub so_paired : (e f : Entry) (p q : Place) → ArePaired same a b v w e f → failing_pair (rules e f) p q ≡ None
-  so_paired e f p q h = by_cover (is_covered e.field.item e.field.count f.field.item) refl
-    where
-      by_cover : (x : Bool) → is_covered e.field.item e.field.count f.field.item ≡ x
-          → failing_pair (if x then (9, same_rest (in_old same a b v w) (in_new same a b v w) e.rest f.rest) ∷ [] else uncovered e f) p q ≡ None
-      by_cover true c = pass 9 _ [] p q (h.covered c) refl
-      by_cover false c = so_alike e f p q (h.alike c)
+  so_paired e f p q h = elim (cases_Bool (is_covered e.field.item e.field.count f.field.item)) [
+    | inl c ↦ rw c (pass ((9, _) ∷ []) p q (h.covered c, tt))
+    | inr c ↦ rw c (so_alike e f p q (h.alike c))
+  ]
 
 -- ---- the position of a field among the present ones is how many are present before it
 
-by_presence : (p i : ℕ) (f : Field) (es : List Entry) (k : ℕ) (o : Option (Option Formula))
-    → position_from p (entry_of i 0 f o ++ es) k ≡ (if is_nothing o then position_from p es k else (if i == k then Some p else position_from (suc p) es k))
-by_presence p i f es k None = refl
-by_presence p i f es k (Some rest) = refl
-
 next_is : (v p i : ℕ) (f : Field) (fs : List Field) (k : ℕ) → position_from p (fields_from v i (f ∷ fs)) k
     ≡ (if is_absent v f then position_from p (fields_from v (suc i) fs) k else (if i == k then Some p else position_from (suc p) (fields_from v (suc i) fs) k))
-next_is v p i f fs k = by_presence p i f (fields_from v (suc i) fs) k (presence v f.test f.since)
-
-either : {X : Type 0} (b : Bool) (x y z : X) → x ≡ z → y ≡ z → (if b then x else y) ≡ z
-either true x y z left right = left
-either false x y z left right = right
+next_is v p i f fs k = elim (presence v f.test f.since) as (λ o. position_from p (entry_of i 0 f o ++ fields_from v (suc i) fs) k
+    ≡ (if is_nothing o then position_from p (fields_from v (suc i) fs) k else (if i == k then Some p else position_from (suc p) (fields_from v (suc i) fs) k)))
+    [ None ↦ refl | Some rest ↦ refl ]
 
 none_before : (v p i : ℕ) (fs : List Field) (k : ℕ) → k < i → position_from p (fields_from v i fs) k ≡ None
 none_before v p i [] k lt = refl
-none_before v p i (f ∷ fs) k lt =
-    next_is v p i f fs k ∙ either (is_absent v f) _ _ None (none_before v p (suc i) fs k (omega arith))
-    (rw (ne_eqb i k (λ e. omega (arith, e))) (none_before v (suc p) (suc i) fs k (omega arith)))
+none_before v p i (f ∷ fs) k lt = grind (arith, nat_tests, next_is, none_before v p (suc i) fs k, none_before v (suc p) (suc i) fs k)
 
-abbrev next_position : ℕ → ℕ → Field → ℕ
-next_position v p f = (if is_absent v f then 0 else 1) + p
+-- n, if it is a field that is there
+abbrev pub spot : ℕ → Option Field → ℕ → Option ℕ
+spot v None n = None
+spot v (Some f) n = if is_absent v f then None else Some n
 
-found_from : (v p i : ℕ) (f : Field) (fs : List Field) (k : ℕ)
-    → position_from p (fields_from v i (f ∷ fs)) (i + suc k) ≡ position_from (next_position v p f) (fields_from v (suc i) fs) (suc i + k)
-found_from v p i f fs k = next_is v p i f fs (i + suc k) ∙ rw (ne_eqb i (i + suc k) (λ e. omega (arith, e)), plus) (by_case (is_absent v f))
-  where
-    plus : i + suc k ≡ suc i + k
-    plus = omega arith
+spot_from : (v p i : ℕ) (fs : List Field) (k j : ℕ) → j ≡ i + k → position_from p (fields_from v i fs) j ≡ spot v (slice_get fs k) (count_present v (take k fs) + p)
+spot_from v p i [] k j e = refl
+spot_from v p i (f ∷ fs) zero j e =
+    let z : 0 + p ≡ p = omega arith in
+    rw (next_is v p i f fs j, eq-eqb i j (omega arith), none_before v p (suc i) fs j (omega arith), z)
+spot_from v p i (f ∷ fs) (suc k) j e =
+    let c = count_present v (take k fs) in
+    rw (next_is v p i f fs j, ne_eqb i j (λ h. omega (arith, h)))
+    (elim (is_absent v f) as (λ b. (if b then position_from p (fields_from v (suc i) fs) j else position_from (suc p) (fields_from v (suc i) fs) j)
+    ≡ spot v (slice_get fs k) (((if b then 0 else 1) + c) + p)) [
+      | true ↦ spot_from v p (suc i) fs k j (omega arith) ∙ ap (spot v (slice_get fs k)) (omega arith)
+      | false ↦ spot_from v (suc p) (suc i) fs k j (omega arith) ∙ ap (spot v (slice_get fs k)) (omega arith)
+    ])
 
-    by_case : (b : Bool) → (if b then position_from p (fields_from v (suc i) fs) (suc i + k) else position_from (suc p) (fields_from v (suc i) fs) (suc i + k))
-        ≡ position_from ((if b then 0 else 1) + p) (fields_from v (suc i) fs) (suc i + k)
-    by_case true = let e : 0 + p ≡ p = omega arith in rw e
-    by_case false = let e : 1 + p ≡ suc p = omega arith in rw e
-
-found_here : (v p i : ℕ) (f : Field) (fs : List Field) (b : Bool) → is_absent v f ≡ b
-    → position_from p (fields_from v i (f ∷ fs)) i ≡ (if b then None else Some p)
-found_here v p i f fs true e = next_is v p i f fs i ∙ rw e (none_before v p (suc i) fs i (omega arith))
-found_here v p i f fs false e = next_is v p i f fs i ∙ rw (e, eq-eqb i i refl)
-
-there_from : (v p i : ℕ) (fs : List Field) (k : ℕ) (b : Bool) → k < length fs → is_absent v (get_or fs k no_field) ≡ b
-    → position_from p (fields_from v i fs) (i + k) ≡ (if b then None else Some (count_present v (take k fs) + p))
-there_from v p i [] k b lt e = absurd (omega arith)
-there_from v p i (f ∷ fs) zero b lt e =
-    let plus : i + 0 ≡ i = omega arith in
-    let none : 0 + p ≡ p = omega arith in
-    rw (plus, none) (found_here v p i f fs b e)
-there_from v p i (f ∷ fs) (suc k) b lt e =
-    let plus : count_present v (take k fs) + next_position v p f ≡ ((if is_absent v f then 0 else 1) + count_present v (take k fs)) + p = omega arith in
-    found_from v p i f fs k ∙ rw plus at (there_from v (next_position v p f) (suc i) fs k b (omega arith) e)
-
-pub flipped : (b c : Bool) → not b ≡ c → b ≡ not c
-flipped true false e = refl
-flipped false true e = refl
-flipped _ _ e = sym e
-
-pub there_is : (v : ℕ) (fs : List Field) (k : ℕ) (b : Bool) → k < length fs → is_absent v (get_or fs k no_field) ≡ b
-    → position_in v fs k ≡ (if b then None else Some (count_present v (take k fs)))
-there_is v fs k b lt e =
-    let zero_plus : 0 + k ≡ k = omega arith in
-    let plus : count_present v (take k fs) + 0 ≡ count_present v (take k fs) = omega arith in
-    rw (zero_plus, plus) at (there_from v 0 0 fs k b lt e)
-
-beyond_from : (v p i : ℕ) (fs : List Field) (k : ℕ) → length fs ≤ k → position_from p (fields_from v i fs) (i + k) ≡ None
-beyond_from v p i [] k le = refl
-beyond_from v p i (f ∷ fs) zero le = absurd (omega arith)
-beyond_from v p i (f ∷ fs) (suc k) le = found_from v p i f fs k ∙ beyond_from v (next_position v p f) (suc i) fs k (omega arith)
-
-pub beyond_is : (v : ℕ) (fs : List Field) (k : ℕ) → length fs ≤ k → position_in v fs k ≡ None
-beyond_is v fs k le = let zero_plus : 0 + k ≡ k = omega arith in rw zero_plus at (beyond_from v 0 0 fs k le)
+pub spot_is : (v : ℕ) (fs : List Field) (k : ℕ) → position_in v fs k ≡ spot v (slice_get fs k) (count_present v (take k fs))
+spot_is v fs k = spot_from v 0 0 fs k k (omega arith) ∙ ap (spot v (slice_get fs k)) (omega arith)
 
 -- ---- as the code has it
 
@@ -205,11 +156,9 @@ none_at zero k = refl
 none_at (suc n) zero = refl
 none_at (suc n) (suc k) = none_at n k
 
-position_at : (v : ℕ) (fields : List CodeField) (k : ℕ) (f : CodeField) (b : Bool) → k < length fields → f ≡ get_or fields k f → is_absent v (field_of f) ≡ b
-    → position_in v (map field_of fields) k ≡ (if b then None else Some (count_present v (map field_of (take k fields))))
-position_at v fields k f b lt is e =
-    let here = get_map_at field_of fields k f no_field lt is in
-    rw take-map at (there_is v (map field_of fields) k b (omega (arith, length-map fields field_of)) (rw here e))
+position_at : (v : ℕ) (fields : List CodeField) (k : ℕ) (f : CodeField) → k < length fields → f ≡ get_or fields k f
+    → position_in v (map field_of fields) k ≡ (if is_absent v (field_of f) then None else Some (count_present v (map field_of (take k fields))))
+position_at v fields k f lt is = spot_is v (map field_of fields) k ∙ rw (slice_get-map field_of fields k, slice_get-get_or fields k f lt, ← is, take-map)
 
 count-append : (v : ℕ) (fs gs : List Field) → count_present v (fs ++ gs) ≡ count_present v fs + count_present v gs
 count-append v [] gs = omega arith
@@ -220,27 +169,21 @@ module _ (v : ℕ) (fields : List CodeField) (k : ℕ) (f : CodeField) (is_there
     (e : is_there ≡ not (is_absent v (field_of f))) (n : count ≡ count_present v (map field_of (take k fields))) where
   -- its entry
   pub entry_is : (if is_there then Some count else None) ≡ position_in v (map field_of fields) k
-  entry_is = by is_there e
-    where
-      by : (b : Bool) → b ≡ not (is_absent v (field_of f)) → (if b then Some count else None) ≡ position_in v (map field_of fields) k
-      by true h = ap Some n ∙ sym (position_at v fields k f false lt is (flipped (is_absent v (field_of f)) true (sym h)))
-      by false h = sym (position_at v fields k f true lt is (flipped (is_absent v (field_of f)) false (sym h)))
+  entry_is = rw (position_at v fields k f lt is) (grind arith)
 
   -- how many are there with it
   pub counted_is : (if is_there then suc count else count) ≡ count_present v (map field_of (take (k + 1) fields))
-  counted_is = rw (take_more fields k f lt, map-append field_of (take k fields) (get_or fields k f ∷ []), count-append, ← is) (by is_there e)
-    where
-      by : (b : Bool) → b ≡ not (is_absent v (field_of f))
-          → (if b then suc count else count) ≡ count_present v (map field_of (take k fields)) + count_present v (field_of f ∷ [])
-      by true h = rw (flipped (is_absent v (field_of f)) true (sym h)) (omega arith)
-      by false h = rw (flipped (is_absent v (field_of f)) false (sym h)) (omega arith)
+  counted_is = rw (take_more fields k f lt, map-append field_of (take k fields) (get_or fields k f ∷ []), count-append, ← is) (grind arith)
 
 pub counted_small : (b : Bool) (count n : ℕ) → count ≤ n → (if b then suc count else count) ≤ n + 1
-counted_small true count n h = omega arith
-counted_small false count n h = omega arith
+counted_small b count n h = grind arith
 
 pub position_beyond : (v : ℕ) (fields : List CodeField) (k : ℕ) → length fields ≤ k → None ≡ position_in v (map field_of fields) k
-position_beyond v fields k le = sym (beyond_is v (map field_of fields) k (omega (arith, length-map fields field_of)))
+position_beyond v fields k le = sym (spot_is v (map field_of fields) k ∙ rw (slice_get-map field_of fields k, slice_get_past fields k le))
+
+pub flipped : (b c : Bool) → not b ≡ c → b ≡ not c
+flipped true c e = rw (← e)
+flipped false c e = rw (← e)
 
 -- ---- The next field that is there.
 

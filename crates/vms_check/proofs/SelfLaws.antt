@@ -1,17 +1,17 @@
 -- A well-formed set is compatible to itself.
-use Rattle.vms_check.proofs.{PairLaws.presence_is, PairLaws.there_is, PairLaws.same_at, SetsFit.so_fits}
-use Rattle.vms_check.proofs.CapacityLaws.{IfOpen, IsByParts, open_reduced}
-use Rattle.vms_check.proofs.Facade.{all_right, ◌≡◌, ℕ, zero, suc, ◌≤◌, min, List, ◌∷◌, ◌++◌, Bool, true, false, Some, refl, sym, ap}
-use Rattle.vms_check.proofs.Facade.{◌∙◌, arith, [], Option, None, inr, ◌+◌, ◌<◌, length, get_or, ◌==◌, ◌&&◌, nat_lt, slice_get, eq-eqb}
-use Rattle.vms_check.proofs.Facade.{and_parts, le-leb, leb-true, and_from, eqb-true, or_left, or_right, get_or_from_slice_get, slice_get_within, bytes_eq}
-use Rattle.vms_check.proofs.Facade.{bytes_eq-Decides, any_passes_from_place, Item, Count, One, Fixed, Counted, counted, no_field, no_desc, Field, Formula, Cell}
-use Rattle.vms_check.proofs.Facade.{Desc, Sub, Device, Set, bound, holds_as_much, is_absent, same_constant, same_count, same_item, same_place, same_reduced}
-use Rattle.vms_check.proofs.Facade.{same_rest, same_test, Compatible, Entry, entry_of, is_found, Num, Equal, Unused, Struct, Own, has_no_test, is_num, is_one}
-use Rattle.vms_check.proofs.Facade.{is_steady, is_steady_in, names_well, nobody, count_names_well, is_counting, is_earlier_in, test_names_well}
-use Rattle.vms_check.proofs.Facade.{same_number_itself, untested, Clean, struct_clean, device_parts, sub_clean, device_found, sub_found, beyond, Reduced, Known}
-use Rattle.vms_check.proofs.Facade.{Open, left_of, presence, reduced, field_reduced, position_in, fields_from, Rel, find_device, is_version_of, is_one_of}
-use Rattle.vms_check.proofs.Facade.{WellFormed, struct_rules, device_rules, sub_rules, ArePaired, DescsFit, DevicesFit, IsSubFor, fields_at, AllByRecursion}
-use Rattle.vms_check.specs.{Comparing.least_of}
+use Rattle.vms_check.proofs.{PairLaws.presence_is, PairLaws.spot_is, PairLaws.same_at, SetsFit.so_fits}
+use Rattle.vms_check.proofs.CapacityLaws.{IfOpen, IsByParts, all_least, counted_at, open_reduced}
+use Rattle.vms_check.proofs.Facade.{◌≡◌, ℕ, zero, suc, ◌≤◌, List, ◌∷◌, ◌++◌, Bool, true, false, Some, refl, sym, ap, ◌∙◌, arith}
+use Rattle.vms_check.proofs.Facade.{[], Option, None, inr, ◌+◌, ◌<◌, length, get_or, ◌==◌, ◌&&◌, nat_lt, slice_get, eq-eqb, and_parts, le-leb}
+use Rattle.vms_check.proofs.Facade.{leb-true, and_from, eqb-true, or_left, or_right, slice_get-get_or, bytes_eq, bytes_eq-Decides, any_passes_from_place, Item}
+use Rattle.vms_check.proofs.Facade.{Count, One, Fixed, Counted, counted, no_desc, Field, Formula, Cell, Desc, Sub, Device, Set, bound, holds_as_much, is_absent}
+use Rattle.vms_check.proofs.Facade.{same_constant, same_count, same_item, same_place, same_reduced, same_rest, same_test, Compatible, Entry, entry_of, is_found}
+use Rattle.vms_check.proofs.Facade.{Num, Equal, Unused, Struct, Own, has_no_test, is_num, is_one, is_steady, is_steady_in, names_well, nobody, count_names_well}
+use Rattle.vms_check.proofs.Facade.{is_counting, is_earlier_in, test_names_well, same_number_itself, untested, Clean, struct_clean, device_parts, sub_clean}
+use Rattle.vms_check.proofs.Facade.{device_found, sub_found, Reduced, Known, Open, left_of, presence, reduced, field_reduced, position_in, fields_from, Rel}
+use Rattle.vms_check.proofs.Facade.{find_device, is_version_of, is_one_of, WellFormed, struct_rules, device_rules, sub_rules, ArePaired, DescsFit, DevicesFit}
+use Rattle.vms_check.proofs.Facade.{IsSubFor, fields_at, AllByRecursion}
+use Rattle.vms_check.specs.Comparing.{least_of}
 use Rattle.std.specs.Prelude.{nat_le}
 use denote.Enum.Bare.{true_same}
 use Rattle.vms_kinds.specs.contracts.Kind.{the_type as kind_type}
@@ -19,25 +19,9 @@ use Rattle.vms_spec.specs.contracts.Rel.{the_type as rel_type}
 
 -- ---- What a number can be is at most each capacity that it counts.
 
-pub least_below : (n : ℕ) (ms : List ℕ) → least_of n ms ≤ n
-least_below n [] = omega arith
-least_below n (m ∷ ms) = omega (arith, least_below (min n m) ms)
-
-all_least : (n : ℕ) (ms : List ℕ) → AllByRecursion (λ m. least_of n ms ≤ m) ms
-all_least n [] = tt
-all_least n (m ∷ ms) = (omega (arith, least_below (min n m) ms), all_least (min n m) ms)
-
 all_bound : (item : Item) (ms : List ℕ) → AllByRecursion (λ m. bound item ms ≤ m) ms
 all_bound item [] = tt
-all_bound item (m ∷ ms) = (least_below m ms, all_least m ms)
-
-counted_at : (P : ℕ → Type 0) (i : ℕ) (fs : List Field) (k : ℕ) (g : Field) (most : ℕ) → slice_get fs k ≡ Some g → g.count ≡ Counted i most
-    → AllByRecursion P (counted i fs) → P most
-counted_at P i [] k g most there is h = cc
-counted_at P i (f ∷ fs) zero g most there is h =
-    let count : f.count ≡ Counted i most = (let same : f ≡ g = cc in rw same is) in
-    (rw (count, eq-eqb i i refl) at h).0
-counted_at P i (f ∷ fs) (suc k) g most there is h = counted_at P i fs k g most there is (all_right P _ (counted i fs) h)
+all_bound item (m ∷ ms) = all_least (least_of m ms) m ms (omega arith)
 
 pub bound_counts : (item : Item) (i : ℕ) (fs : List Field) (k : ℕ) (g : Field) (most : ℕ) → slice_get fs k ≡ Some g → g.count ≡ Counted i most
     → bound item (counted i fs) ≤ most
@@ -66,7 +50,7 @@ steady_there d v k low e = by_field (slice_get d.fields k) refl e
         let a = and_parts (is_num f.item && is_one f.count && has_no_test f.test) (nat_le f.since d.minimum) s in
         let b = and_parts (is_num f.item && is_one f.count) (has_no_test f.test) a.0 in
         let there : is_absent v f ≡ false = rw (untested f.test b.1, le-leb f.since v (omega (arith, leb-true f.since d.minimum a.1))) in
-        (_, there_is v d.fields k false (slice_get_within d.fields k f is) (rw (get_or_from_slice_get d.fields k f no_field is) there))
+        (_, rw (is, there) at (spot_is v d.fields k))
 
 -- ---- tests
 
@@ -132,27 +116,25 @@ holds_self _ = refl
 
 -- ---- entries
 
-record IsEntry (v i : ℕ) (fs : List Field) (e : Entry) : Type 0 where
-  pub number : ℕ
-  pub there : slice_get fs number ≡ Some e.field
-  pub index : e.index ≡ i + number
-  pub left : presence v e.field.test e.field.since ≡ Some e.rest
+-- e is a field of these, and there
+abbrev IsEntry : ℕ → List Field → Entry → Type 0
+IsEntry v fs e = (slice_get fs e.index ≡ Some e.field) × (presence v e.field.test e.field.since ≡ Some e.rest)
 
-entry_is : (v i : ℕ) (fs : List Field) (p : ℕ) (e : Entry) → slice_get (fields_from v i fs) p ≡ Some e → IsEntry v i fs e
-entry_is v i [] p e h = cc
-entry_is v i (f ∷ fs) p e h = by_presence (λ q g. entry_is v (suc i) fs q e g) (presence v f.test f.since) refl p h
+-- a property of each field from one on that is there holds of the entries
+entries_are : (v : ℕ) (all : List Field) (i : ℕ) (fs : List Field) → ((k : ℕ) → slice_get all (i + k) ≡ slice_get fs k)
+    → (p : ℕ) (e : Entry) → slice_get (fields_from v i fs) p ≡ Some e → IsEntry v all e
+entries_are v all i [] here p e h = cc
+entries_are v all i (f ∷ fs) here p e h =
+    by (presence v f.test f.since) refl p h (entries_are v all (suc i) fs (λ k. let s : suc i + k ≡ i + suc k = omega arith in rw s (here (suc k))))
   where
-    later : IsEntry v (suc i) fs e → IsEntry v i (f ∷ fs) e
-    later x = record { number = suc x.number; there = x.there; index = omega arith; left = x.left }
-
-    by_presence : ((q : ℕ) → slice_get (fields_from v (suc i) fs) q ≡ Some e → IsEntry v (suc i) fs e)
-        → (o : Option (Option Formula)) → presence v f.test f.since ≡ o → (p : ℕ) → slice_get (entry_of i 0 f o ++ fields_from v (suc i) fs) p ≡ Some e
-        → IsEntry v i (f ∷ fs) e
-    by_presence rec None is p h = later (rec p h)
-    by_presence rec (Some rest) is zero h =
+    by : (o : Option (Option Formula)) → presence v f.test f.since ≡ o → (p : ℕ) → slice_get (entry_of i 0 f o ++ fields_from v (suc i) fs) p ≡ Some e
+        → ((q : ℕ) (g : Entry) → slice_get (fields_from v (suc i) fs) q ≡ Some g → IsEntry v all g) → IsEntry v all e
+    by None is p h more = more p e h
+    by (Some rest) is zero h more =
         let same : record { index = i; place = 0; field = f; rest = rest } ≡ e = cc in
-        rw (← same) (record { number = 0; there = refl; index = omega arith; left = is })
-    by_presence rec (Some rest) is (suc p) h = later (rec p h)
+        let z : i + 0 ≡ i = omega arith in
+        rw (← same) (rw z at (here 0), is)
+    by (Some rest) is (suc p) h more = more p e h
 
 -- ---- one description
 
@@ -185,13 +167,13 @@ module _ (d : Desc) (v : ℕ) (low : d.minimum ≤ v) where
 
   pair_self : IsNamedWell → (p : ℕ) (e : Entry) → slice_get (fields_at d v) p ≡ Some e → ArePaired equal d d v v e e
   pair_self well p e h =
-      let x = entry_is v 0 d.fields p e h in
-      let names = well.fields x.number e.field x.there in
-      let tests = rest_self positions v e.field.test e.field.since e.rest (test_self x.number e.field.test e.field.since names.0) x.left in
+      let x = entries_are v d.fields 0 d.fields (λ k. let z : 0 + k ≡ k = omega arith in rw z) p e h in
+      let names = well.fields e.index e.field x.0 in
+      let tests = rest_self positions v e.field.test e.field.since e.rest (test_self e.index e.field.test e.field.since names.0) x.1 in
       record {
         covered = λ c. tests;
         alike = λ c. record {
-          counts = count_self positions e.field.count (counts x.number e.field.count names.1);
+          counts = count_self positions e.field.count (counts e.index e.field.count names.1);
           kinds = item_self e.field.item;
           tests = tests;
           names = rw ((bytes_eq-Decides e.field.name e.field.name).1 refl);
@@ -237,18 +219,13 @@ module _ (set : Set) (well : WellFormed set) where
   abbrev same : ℕ → ℕ → Bool
   same i j = i == j
 
-  struct_at : (j : ℕ) (o : Option Desc) → slice_get set.structs j ≡ o → j < length set.structs
-      → DescsFit same (get_or set.structs j no_desc) (get_or set.structs j no_desc) (get_or set.structs j no_desc).version
-      (get_or set.structs j no_desc).version
-  struct_at j None e lt = absurd (beyond set.structs j lt e)
-  struct_at j (Some d) e lt =
-      let c = struct_clean set well j d e in
-      rw (get_or_from_slice_get set.structs j d no_desc e) (clean_self j d (struct_rules set.structs j d) c (leb-true d.minimum d.version c.own.1.1.0))
-
   structs_self : (i j : ℕ) → j < length set.structs → same i j ≡ true
       → DescsFit same (get_or set.structs i no_desc) (get_or set.structs j no_desc) (get_or set.structs i no_desc).version
       (get_or set.structs j no_desc).version
-  structs_self i j lt e = rw (eqb-true i j e) (struct_at j (slice_get set.structs j) refl lt)
+  structs_self i j lt e =
+      let d = get_or set.structs j no_desc in
+      let c = struct_clean set well j d (slice_get-get_or set.structs j no_desc lt) in
+      rw (eqb-true i j e) (clean_self j d (struct_rules set.structs j d) c (leb-true d.minimum d.version c.own.1.1.0))
 
   sub_self : (k j : ℕ) (d : Device) (s : Sub) → slice_get set.devices k ≡ Some d → slice_get d.subs j ≡ Some s → IsSubFor same s d j s
   sub_self k j d s there inside =

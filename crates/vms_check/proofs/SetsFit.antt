@@ -1,24 +1,18 @@
 -- Two descriptions and two sets: no rule fails exactly where they fit as the rules say.
-use Rattle.vms_check.proofs.Facade.{◌≡◌, inl, inr, ℕ, zero, suc, List, [], ◌∷◌, length, get_or, Bool, true, false, Option, Some, None}
-use Rattle.vms_check.proofs.Facade.{refl, sym, ◌∙◌, arith, ◌+◌, ◌<◌, slice_get, is_none, ltb-true, slice_get-get_or, Item, Struct, Part, no_desc}
-use Rattle.vms_check.proofs.Facade.{struct_cells, or_else, first_answer, uses_below, Formula, Field, Desc, Sub, Device, Set, here, in_field, WellFormed}
-use Rattle.vms_check.proofs.Facade.{first_fault, struct_rules, device_rules, sub_rules, Comparer, Entry, compare_desc, compare_fields, failing_pair}
-use Rattle.vms_check.proofs.Facade.{is_covered, is_kept, no_comparer, pair_rules, pair_structs, Compatible, compare_device, compare_sub, compare_subs, is_in}
-use Rattle.vms_check.proofs.Facade.{ArePaired, DescsFit, IsKept, fields_at, in_old, in_new, DevicesFit, Fits, IsSubFor, SetsFit, Reduced, Known, presence}
-use Rattle.vms_check.proofs.Facade.{reduced, fields_from, Mismatch, or_else_none, answers_none, both_none, find_device, find_sub, index, is_one_of, Clean}
+use Rattle.vms_check.proofs.Facade.{◌≡◌, inl, inr, ℕ, zero, suc, List, [], ◌∷◌, length, get_or, Bool, true, false, Option, Some, None, refl, sym}
+use Rattle.vms_check.proofs.Facade.{◌∙◌, arith, nat_tests, AllZip, AllZip-long, AllZip-left, ◌+◌, ◌<◌, slice_get, is_none, ltb-true}
+use Rattle.vms_check.proofs.Facade.{slice_get-get_or, Item, Struct, Part, no_desc, struct_cells, or_else, first_answer, uses_below, Formula, Desc, Sub, Device}
+use Rattle.vms_check.proofs.Facade.{Set, here, in_field, WellFormed, struct_rules, device_rules, sub_rules, Comparer, Entry, compare_desc, compare_fields}
+use Rattle.vms_check.proofs.Facade.{failing_pair, is_covered, is_kept, no_comparer, pair_rules, pair_structs, Compatible, compare_device, compare_sub}
+use Rattle.vms_check.proofs.Facade.{compare_subs, is_in, ArePaired, DescsFit, IsKept, fields_at, in_old, in_new, DevicesFit, Fits, IsSubFor, SetsFit, Reduced}
+use Rattle.vms_check.proofs.Facade.{Known, reduced, Mismatch, or_else_none, answers_none, both_none, find_device, find_sub, index, is_one_of, Clean}
 use Rattle.vms_check.proofs.Facade.{struct_clean, device_parts, sub_clean, none_is, AreRules, table, device_mismatch, lost_mismatch, machines_mismatch, each}
 use Rattle.vms_check.proofs.PairLaws.{passes, pass, at_every, none_answers, paired_so, so_paired}
-use Rattle.vms_check.proofs.WholeLaws.{desc_split, AllBelow, one_below, structs_are, whole_is}
+use Rattle.vms_check.proofs.WholeLaws.{desc_split, AllBelow, all_uses, structs_are, whole_is}
 use Rattle.vms_spec.specs.Layout.{Cell}
 use Rattle.vms_spec.specs.declared.Part.TheVariants as parts
 
 -- ---- Two descriptions: no rule fails exactly where they fit as the rules say.
-
--- ---- which structures entries use
-
-pub all_uses : (k v i : ℕ) (fs : List Field) → ((j : ℕ) (f : Field) → slice_get fs j ≡ Some f → uses_below k f.item ≡ true) → AllBelow k (fields_from v i fs)
-all_uses k v i [] h = tt
-all_uses k v i (f ∷ fs) h = one_below k i 0 f (presence v f.test f.since) _ (h 0 f refl) (all_uses k v (suc i) fs (λ j g e. h (suc j) g e))
 
 -- ---- two descriptions
 
@@ -33,10 +27,6 @@ module _ (same : ℕ → ℕ → Bool) (structs : List Comparer) (k : ℕ) (a b 
   abbrev struct_of : Entry → Entry → Option Mismatch
   struct_of e f = pair_structs structs a b v w in_a in_b (in_old same a b v w) (in_new same a b v w) e.field.item f.field.item
 
-  pub record FieldsFit (es fs : List Entry) : Type 0 where
-    pub as_many : length es ≡ length fs
-    pub pairs : (p : ℕ) (e f : Entry) → slice_get es p ≡ Some e → slice_get fs p ≡ Some f → ArePaired same a b v w e f
-
   -- structures that compare well are so said
   abbrev Said : Type 0
   Said = (i j : ℕ) → uses_below k (Struct j) ≡ true → get_or structs j no_comparer i ≡ None → same i j ≡ true
@@ -49,48 +39,37 @@ module _ (same : ℕ → ℕ → Bool) (structs : List Comparer) (k : ℕ) (a b 
       → same i j ≡ true
   said_by said e f below none i j is_i is_j = said i j (rw is_j at below) (rw (is_i, is_j) at none)
 
-  fields_so : Said → (es fs : List Entry) → AllBelow k fs → compares es fs ≡ None → FieldsFit es fs
-  fields_so said [] [] below none = record { as_many = refl; pairs = λ p e f x y. absurd (cc) }
+  fields_so : Said → (es fs : List Entry) → AllBelow k fs → compares es fs ≡ None → AllZip (ArePaired same a b v w) es fs
+  fields_so said [] [] below none = tt
   fields_so said (e ∷ es) (f ∷ fs) below none =
       let first = or_else_none (rule_of e f) (or_else (struct_of e f) (compares es fs)) none in
-      let later = or_else_none (struct_of e f) (compares es fs) first.1 in
-      let rest = fields_so said es fs below.1 later.1 in
-      let here = paired_so same structs a b v w in_a in_b e f (in_field in_a e.index) (in_field in_b f.index) first.0 (said_by said e f below.0 later.0) in
-      record { as_many = rw rest.as_many; pairs = by_place here rest.pairs }
-    where
-      by_place : ArePaired same a b v w e f → ((p : ℕ) (g h : Entry) → slice_get es p ≡ Some g → slice_get fs p ≡ Some h → ArePaired same a b v w g h)
-          → (p : ℕ) (g h : Entry) → slice_get (e ∷ es) p ≡ Some g → slice_get (f ∷ fs) p ≡ Some h → ArePaired same a b v w g h
-      by_place here rest zero g h x y =
-          let left : e ≡ g = cc in
-          let right : f ≡ h = cc in
-          rw (left, right) at here
-      by_place here rest (suc p) g h x y = rest p g h x y
+      let later = or_else_none (struct_of e f) (compares es fs) first.1 in (
+        paired_so same structs a b v w in_a in_b e f (in_field in_a e.index) (in_field in_b f.index) first.0 (said_by said e f below.0 later.0),
+        fields_so said es fs below.1 later.1,
+      )
   fields_so said es fs below none = cc
 
   -- where both are structures, they are alike, so they are so said
-  struct_none : Meant → (e f : Entry) → uses_below k f.field.item ≡ true → ((i j : ℕ) → e.field.item ≡ Struct i → f.field.item ≡ Struct j → same i j ≡ true)
-      → struct_of e f ≡ None
-  struct_none meant e f below said = by_items e.field.item f.field.item refl refl
-    where
-      by_items : (x y : Item) → e.field.item ≡ x → f.field.item ≡ y
-          → pair_structs structs a b v w in_a in_b (in_old same a b v w) (in_new same a b v w) x y ≡ None
-      by_items (Struct i) (Struct j) g h = meant i j (rw h at below) (said i j g h)
-      by_items x y g h = refl
+  struct_none : Meant → (x y : Item) → uses_below k y ≡ true → ((i j : ℕ) → x ≡ Struct i → y ≡ Struct j → same i j ≡ true)
+      → pair_structs structs a b v w in_a in_b (in_old same a b v w) (in_new same a b v w) x y ≡ None
+  struct_none meant (Struct i) (Struct j) below said = meant i j below (said i j refl refl)
+  struct_none meant x y below said = refl
 
   -- structures are never covered
   paired_structs : (e f : Entry) → ArePaired same a b v w e f → (i j : ℕ) → e.field.item ≡ Struct i → f.field.item ≡ Struct j → same i j ≡ true
   paired_structs e f h i j is_i is_j =
       let uncovered : is_covered e.field.item e.field.count f.field.item ≡ false = rw is_i in (h.alike uncovered).structs i j is_i is_j
 
-  so_fields : Meant → (es fs : List Entry) → AllBelow k fs → FieldsFit es fs → compares es fs ≡ None
-  so_fields meant [] [] below h = refl
-  so_fields meant (e ∷ es) (f ∷ fs) below h =
-      let here = h.pairs 0 e f refl refl in
+  so_fields : Meant → (es fs : List Entry) → AllBelow k fs → length es ≡ length fs
+      → ((p : ℕ) (e f : Entry) → slice_get es p ≡ Some e → slice_get fs p ≡ Some f → ArePaired same a b v w e f) → compares es fs ≡ None
+  so_fields meant [] [] below long pairs = refl
+  so_fields meant (e ∷ es) (f ∷ fs) below long pairs =
+      let here = pairs 0 e f refl refl in
       both_none (rule_of e f) (or_else (struct_of e f) (compares es fs))
       (so_paired same structs a b v w in_a in_b e f (in_field in_a e.index) (in_field in_b f.index) here)
-      (both_none (struct_of e f) (compares es fs) (struct_none meant e f below.0 (paired_structs e f here))
-      (so_fields meant es fs below.1 (record { as_many = omega (arith, h.as_many); pairs = λ p g x left right. h.pairs (suc p) g x left right })))
-  so_fields meant es fs below h = absurd (omega (arith, h.as_many))
+      (both_none (struct_of e f) (compares es fs) (struct_none meant _ _ below.0 (paired_structs e f here))
+      (so_fields meant es fs below.1 (omega arith) (λ p g x left right. pairs (suc p) g x left right)))
+  so_fields meant es fs below long pairs = absurd (omega arith)
 
   -- ---- validations
 
@@ -102,9 +81,7 @@ module _ (same : ℕ → ℕ → Bool) (structs : List Comparer) (k : ℕ) (a b 
   kept_so _ e = inr e
 
   so_kept : (r : Reduced) → IsKept same a b v w r → keeps r ≡ true
-  so_kept (Known true) h = refl
-  so_kept r (inl e) = cc
-  so_kept r (inr e) = e
+  so_kept r h = grind (arith, nat_tests)
 
   -- ---- both
 
@@ -112,24 +89,21 @@ module _ (same : ℕ → ℕ → Bool) (structs : List Comparer) (k : ℕ) (a b 
   descs_so x y said below none =
       let p = or_else_none _ _ (sym (desc_split structs x y a b v w in_a in_b) ∙ none) in
       let fields = fields_so said (fields_at a v) (fields_at b w) below p.0 in
-      let kept = (passes 15 _ [] (here in_a) (here in_b) p.1).0 in
+      let kept = (passes ((15, _) ∷ []) (here in_a) (here in_b) p.1).0 in
       record {
-        as_many = fields.as_many;
-        pairs = fields.pairs;
+        as_many = sym (AllZip-long _ (fields_at a v) (fields_at b w) fields);
+        pairs = λ p e f left right. rw (left, right) at (AllZip-left _ (fields_at a v) (fields_at b w) fields p);
         validations = λ i t e. kept_so (reduced w t) (each (λ (t : Formula). keeps (reduced w t)) b.validate i t kept e);
       }
 
   pub so_descs : (x y : List (List Cell)) → Meant → AllBelow k (fields_at b w) → DescsFit same a b v w → compare_desc structs x y a b v w in_a in_b ≡ None
   so_descs x y meant below h =
       desc_split structs x y a b v w in_a in_b
-      ∙ both_none _ _ (so_fields meant (fields_at a v) (fields_at b w) below (record { as_many = h.as_many; pairs = h.pairs }))
-      (pass 15 _ [] (here in_a) (here in_b)
-      (at_every (λ (t : Formula). keeps (reduced w t)) b.validate (λ i t e. so_kept (reduced w t) (h.validations i t e))) refl)
+      ∙ both_none _ _ (so_fields meant (fields_at a v) (fields_at b w) below h.as_many h.pairs)
+      (pass ((15, _) ∷ []) (here in_a) (here in_b)
+      (at_every (λ (t : Formula). keeps (reduced w t)) b.validate (λ i t e. so_kept (reduced w t) (h.validations i t e)), tt))
 
 -- ---- Two sets: the walk finds no mismatch exactly where all rules hold.
-
-none_so : {X : Type 0} (o : Option X) → o ≡ None → is_none o ≡ true
-none_so o e = rw e
 
 clean_below : (k : ℕ) (d : Desc) (rules : List Bool) (v : ℕ) → Clean k d rules → AllBelow k (fields_at d v)
 clean_below k d rules v c = all_uses k v 0 d.fields (λ j f e. (c.fields j f e).1.1.1.1.0)
@@ -159,7 +133,7 @@ module _ (old new : Set) (well : WellFormed new) where
   same i j = is_none (get_or structs j no_comparer i)
 
   said : (k : ℕ) (i j : ℕ) → uses_below k (Struct j) ≡ true → get_or structs j no_comparer i ≡ None → same i j ≡ true
-  said k i j below none = none_so (get_or structs j no_comparer i) none
+  said k i j below none = rw none
 
   struct_fits : (i j : ℕ) → j < count → same i j ≡ true
       → DescsFit same (get_or old.structs i no_desc) (get_or new.structs j no_desc) (get_or old.structs i no_desc).version
@@ -169,7 +143,7 @@ module _ (old new : Set) (well : WellFormed new) where
       let b = get_or new.structs j no_desc in
       descs_so same structs j a b a.version b.version (parts.Struct i) (parts.Struct j) (struct_cells old) (struct_cells new) (said j)
       (struct_below j b.version lt)
-      (sym (structs_are old new (none_so (first_fault new) well) i j a.version b.version lt refl refl) ∙ none_is (get_or structs j no_comparer i) is)
+      (sym (structs_are old new (rw well) i j a.version b.version lt refl refl) ∙ none_is (get_or structs j no_comparer i) is)
 
   sub_fits : (i k j : ℕ) (e : Device) (s : Sub) → slice_get new.devices k ≡ Some e → (found : Option ℕ) (there : Option Sub)
       → find_sub 0 e.subs s.desc.name ≡ found → slice_get e.subs (index found) ≡ there
@@ -182,7 +156,7 @@ module _ (old new : Set) (well : WellFormed new) where
         record {
           found = is;
           there = inside;
-          version = (passes 14 _ [] _ _ p.0).0;
+          version = (passes ((14, _) ∷ []) _ _ p.0).0;
           fits = descs_so same structs count s.desc t.desc v v (parts.Sub i j) (parts.Sub k l) (struct_cells old) (struct_cells new) (said count)
               (sub_below k l v e t device inside) p.1;
         },
@@ -195,7 +169,7 @@ module _ (old new : Set) (well : WellFormed new) where
       let q = or_else_none _ _ p.1 in
       let v = d.desc.version in
       record {
-        version = (passes 4 _ [] _ _ p.0).0;
+        version = (passes ((4, _) ∷ []) _ _ p.0).0;
         fits = descs_so same structs count d.desc e.desc v v (parts.Device i) (parts.Device k) (struct_cells old) (struct_cells new) (said count)
             (device_below k v e there) q.0;
         subs = λ j s inside. sub_fits i k (0 + j) e s there (find_sub 0 e.subs s.desc.name)
@@ -215,10 +189,10 @@ module _ (old new : Set) (well : WellFormed new) where
       let r = or_else_none _ _ q.0 in (
         same,
         record {
-          machines = λ i m e. each (is_one_of new.machines) old.machines i m (passes 1 _ [] _ _ p.0).0 e;
-          kept = λ i d e. (passes 2 _ [] _ _
+          machines = λ i m e. each (is_one_of new.machines) old.machines i m (passes ((1, _) ∷ []) _ _ p.0).0 e;
+          kept = λ i d e. (passes ((2, _) ∷ []) _ _
               (answers_none (λ i d. failing_pair ((2, is_in new d) ∷ []) (here (parts.Device i)) (here parts.Set)) 0 old.devices r.0 i d e)).0;
-          known = λ i d e. (passes 3 _ [] _ _
+          known = λ i d e. (passes ((3, _) ∷ []) _ _
               (answers_none (λ i d. failing_pair ((3, is_in old d) ∷ []) (here parts.Set) (here (parts.Device i))) 0 new.devices r.1 i d e)).0;
           structs = struct_fits;
           devices = λ i k d e inside found there. found_fits i k d e inside found there (answers_none (device_mismatch old new) 0 old.devices q.1 i d inside);
@@ -234,7 +208,7 @@ module _ (old new : Set) (well : WellFormed new) where
     structs_meant (suc k) i j less lt is =
         let a = get_or old.structs i no_desc in
         let b = get_or new.structs j no_desc in
-        structs_are old new (none_so (first_fault new) well) i j a.version b.version lt refl refl
+        structs_are old new (rw well) i j a.version b.version lt refl refl
         ∙ so_descs with structs j a b a.version b.version (parts.Struct i) (parts.Struct j) (struct_cells old) (struct_cells new)
         (λ h l below said. let low : l < j = ltb-true l j below in structs_meant k h l (omega arith) (omega arith) said)
         (struct_below j b.version lt) (fit.structs i j lt is)
@@ -247,14 +221,14 @@ module _ (old new : Set) (well : WellFormed new) where
     so_sub i k j e s device l t h =
         let v = s.desc.version in
         rw (h.found, h.there)
-        (both_none _ _ (pass 14 _ [] _ _ h.version refl)
+        (both_none _ _ (pass ((14, _) ∷ []) _ _ (h.version, tt))
         (so_descs with structs count s.desc t.desc v v (parts.Sub i j) (parts.Sub k l) (struct_cells old) (struct_cells new) meant
         (sub_below k l v e t device h.there) h.fits))
 
     so_device : (i k : ℕ) (d e : Device) → slice_get new.devices k ≡ Some e → DevicesFit with d e → compare_device old new i d (Some k) (Some e) ≡ None
     so_device i k d e there h =
         let v = d.desc.version in
-        both_none _ _ (pass 4 _ [] _ _ h.version refl)
+        both_none _ _ (pass ((4, _) ∷ []) _ _ (h.version, tt))
         (both_none _ _ (so_descs with structs count d.desc e.desc v v (parts.Device i) (parts.Device k) (struct_cells old) (struct_cells new) meant
         (device_below k v e there) h.fits)
         (none_answers (compare_subs old new i k e) 0 d.subs
@@ -268,12 +242,12 @@ module _ (old new : Set) (well : WellFormed new) where
 
     so_compatible : Compatible old new
     so_compatible =
-        whole_is old new ∙ both_none _ _ (pass 1 _ [] _ _ (at_every (is_one_of new.machines) old.machines fit.machines) refl)
+        whole_is old new ∙ both_none _ _ (pass ((1, _) ∷ []) _ _ (at_every (is_one_of new.machines) old.machines fit.machines, tt))
         (both_none _ _ (both_none _ _
         (none_answers (λ i d. failing_pair ((2, is_in new d) ∷ []) (here (parts.Device i)) (here parts.Set)) 0 old.devices
-        (λ i d e. pass 2 _ [] _ _ (fit.kept i d e) refl))
+        (λ i d e. pass ((2, _) ∷ []) _ _ (fit.kept i d e, tt)))
         (none_answers (λ i d. failing_pair ((3, is_in old d) ∷ []) (here parts.Set) (here (parts.Device i))) 0 new.devices
-        (λ i d e. pass 3 _ [] _ _ (fit.known i d e) refl)))
+        (λ i d e. pass ((3, _) ∷ []) _ _ (fit.known i d e, tt))))
         (none_answers (device_mismatch old new) 0 old.devices
         (λ i d e. so_found i d e (find_device 0 new.devices d.desc.name d.instance)
         (slice_get new.devices (index (find_device 0 new.devices d.desc.name d.instance))) refl refl)))

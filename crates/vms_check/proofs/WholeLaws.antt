@@ -1,13 +1,13 @@
 -- Descriptions, structures and whole sets: no rule depends on where cells begin, and what is found by its name.
 use Rattle.vms_check.proofs.Facade.{◌≡◌, ℕ, suc, ◌+◌, List, [], ◌∷◌, ◌++◌, length, map, Bool, true, false, Option, Some, None, refl, sym}
-use Rattle.vms_check.proofs.Facade.{ap, ◌∙◌, drop, ◌<◌, get_or, arith, if◌then◌else◌, not, ltb-true, slice_get-get_or, fun_ext, Part, Place}
-use Rattle.vms_check.proofs.Facade.{field_cells, first, no_desc, no_field, struct_cells, or_else, first_answer, position, Formula, Field, Desc, Set, Device}
-use Rattle.vms_check.proofs.Facade.{Sub, in_field, here, Comparer, Entry, compare_desc, compare_fields, compare_validations, entry_of, failing_pair}
-use Rattle.vms_check.proofs.Facade.{pair_structs, position_from, present, present_from, comparer_of, no_comparer, compare_device, compare_sub, compare_subs}
-use Rattle.vms_check.proofs.Facade.{first_mismatch, is_in, presence, failing_number, IsFirst, fields_on, pair_mismatch, rules_on, structs_on, table_on}
-use Rattle.vms_check.proofs.Facade.{struct_mismatch, table, fields_from, position_in, desc_on, position_on, Mismatch, Item, Struct, Present, Side, uses_below}
-use Rattle.vms_check.proofs.Facade.{first_at, first_long, is_well_formed, HasPart, desc_at, sub_at, reach, field_clean, reach_whole, find_device, find_sub}
-use Rattle.vms_check.proofs.Facade.{index, found_inside, device_mismatch, is_missing, lost_mismatch, machines_mismatch, AllByRecursion}
+use Rattle.vms_check.proofs.Facade.{ap, ◌∙◌, drop, ◌<◌, get_or, arith, ltb-true, slice_get-get_or, fun_ext, Part, Place, field_cells, first, no_desc}
+use Rattle.vms_check.proofs.Facade.{no_field, struct_cells, or_else, first_answer, position, Formula, Field, Desc, Set, Device, Sub, in_field, here, Comparer}
+use Rattle.vms_check.proofs.Facade.{Entry, compare_desc, compare_fields, compare_validations, entry_of, failing_pair, pair_structs, position_from, present}
+use Rattle.vms_check.proofs.Facade.{present_from, comparer_of, no_comparer, compare_device, compare_sub, compare_subs, first_mismatch, is_in, presence}
+use Rattle.vms_check.proofs.Facade.{failing_number, IsFirst, fields_on, pair_mismatch, rules_on, structs_on, table_on, struct_mismatch, table, fields_from}
+use Rattle.vms_check.proofs.Facade.{position_in, desc_on, position_on, Mismatch, Item, Struct, Present, Side, uses_below, first_at, first_long, is_well_formed}
+use Rattle.vms_check.proofs.Facade.{HasPart, desc_at, sub_at, reach, field_clean, reach_whole, find_device, find_sub, index, found_inside, slice_get}
+use Rattle.vms_check.proofs.Facade.{get_or_from_slice_get, slice_get_within, device_mismatch, is_missing, lost_mismatch, machines_mismatch, AllByRecursion}
 use Rattle.vms_spec.specs.Layout.{Cell}
 use Rattle.vms_desc.proofs.Clean.{struct_clean}
 use Rattle.vms_parts.specs.Devices.{device_at}
@@ -18,12 +18,6 @@ use Rattle.vms_spec.specs.declared.Part.TheVariants as parts
 pub both : {X : Type 0} (x y z : Option X) → or_else x (or_else y z) ≡ or_else (or_else x y) z
 both (Some a) y z = refl
 both None y z = refl
-
-pub first_is : {X : Type 0} (x y : Option X) (a : X) → x ≡ Some a → or_else x y ≡ Some a
-first_is x y a e = rw e
-
-pub later_is : {X : Type 0} (x y : Option X) → x ≡ None → or_else x y ≡ y
-later_is x y e = rw e
 
 pub failing_some : (rules : List (ℕ × Bool)) (a b : Place) (r : ℕ) → failing_number rules ≡ Some r
     → failing_pair rules a b ≡ Some (record { rule = r; in_old = a; in_new = b })
@@ -91,11 +85,11 @@ module _ (s t : Side) where
 
   pub pair_passes : (i j : ℕ) (p q : Present) (r whole : Option Mismatch) → IsFirst s i p → IsFirst t j q → r ≡ pair_mismatch s t p q → r ≡ None
       → fields_on s t (old_from i) (new_from j) ≡ whole → fields_on s t (old_from (p.number + 1)) (new_from (q.number + 1)) ≡ whole
-  pair_passes i j p q r whole f g is none e = sym (step i j p q f g ∙ later_is _ _ (sym is ∙ none)) ∙ e
+  pair_passes i j p q r whole f g is none e = rw (step i j p q f g, ← is, none) at e
 
   pub pair_stops : (i j : ℕ) (p q : Present) (r whole : Option Mismatch) (m : Mismatch) → IsFirst s i p → IsFirst t j q → r ≡ pair_mismatch s t p q → r ≡ Some m
       → fields_on s t (old_from i) (new_from j) ≡ whole → Some m ≡ whole
-  pair_stops i j p q r whole m f g is some e = sym (step i j p q f g ∙ first_is _ _ m (sym is ∙ some)) ∙ e
+  pair_stops i j p q r whole m f g is some e = rw (step i j p q f g, ← is, some) at e
 
   -- ---- one pair
 
@@ -132,11 +126,9 @@ pub one_below : (k i at : ℕ) (f : Field) (o : Option (Option Formula)) (es : L
 one_below k i at f None es h rest = rest
 one_below k i at f (Some left) es h rest = (h, rest)
 
-entries_below : (k : ℕ) (structs : List (List Cell)) (all : List Field) (v i at : ℕ) (fs : List Field)
-    → ((j : ℕ) → j < length fs → uses_below k (get_or fs j no_field).item ≡ true) → AllBelow k (present_from structs all v i at fs)
-entries_below k structs all v i at [] h = tt
-entries_below k structs all v i at (f ∷ fs) h =
-    one_below k i at f (presence v f.test f.since) _ (h 0 (omega arith)) (entries_below k structs all v (suc i) _ fs (λ j lt. h (suc j) (omega arith)))
+pub all_uses : (k v i : ℕ) (fs : List Field) → ((j : ℕ) (f : Field) → slice_get fs j ≡ Some f → uses_below k f.item ≡ true) → AllBelow k (fields_from v i fs)
+all_uses k v i [] h = tt
+all_uses k v i (f ∷ fs) h = one_below k i 0 f (presence v f.test f.since) _ (h 0 f refl) (all_uses k v (suc i) fs (λ j g e. h (suc j) g e))
 
 module _ (k : ℕ) (ts us : List Comparer) (agree : (j : ℕ) → j < k → get_or ts j no_comparer ≡ get_or us j no_comparer) (a b : Desc) (v w : ℕ)
     (in_a in_b : Part) where
@@ -150,12 +142,11 @@ module _ (k : ℕ) (ts us : List Comparer) (agree : (j : ℕ) → j < k → get_
   fields_same o n (e ∷ es) (f ∷ fs) h = cc (structs_same o n e.field.item f.field.item h.0, fields_same o n es fs h.1)
   fields_same o n es fs h = refl
 
-  descs_same : (x y : List (List Cell)) → ((j : ℕ) → j < length b.fields → uses_below k (get_or b.fields j no_field).item ≡ true)
+  descs_same : (x y : List (List Cell)) → ((j : ℕ) (f : Field) → slice_get b.fields j ≡ Some f → uses_below k f.item ≡ true)
       → compare_desc ts x y a b v w in_a in_b ≡ compare_desc us x y a b v w in_a in_b
   descs_same x y h =
-      let es = present x a v in
-      let fs = present y b w in
-      cc (fields_same (position_from 0 es) (position_from 0 fs) es fs (entries_below k y b.fields w 0 0 b.fields h))
+      rw (desc_split ts x y a b v w in_a in_b, desc_split us x y a b v w in_a in_b)
+      (cc (fields_same _ _ (fields_from v 0 a.fields) (fields_from w 0 b.fields) (all_uses k w 0 b.fields h)))
 
 -- ---- two structures
 
@@ -182,7 +173,7 @@ module _ (old new : Set) (well : is_well_formed new ≡ true) where
       let y = struct_cells new in
       rw (first_at at_number new.structs no_comparer (length new.structs) j lt, first_long at_number new.structs j, is_v, is_w)
       (descs_same j (rows j) (table old new) (agrees j lt) a b a.version b.version (parts.Struct i) (parts.Struct j) x y
-      (λ l less. ((struct_clean new well j lt).fields l less).uses))
+      (λ l f e. rw (get_or_from_slice_get b.fields l f no_field e) at ((struct_clean new well j lt).fields l (slice_get_within b.fields l f e)).uses))
 
 -- ---- which structures a part uses
 
@@ -210,15 +201,10 @@ abbrev lost_at : ℕ → (f g : ℕ → Place) → Option ℕ → Option Mismatc
 lost_at rule f g None = None
 lost_at rule f g (Some i) = Some (record { rule = rule; in_old = f i; in_new = g i })
 
-one_lost : (rule : ℕ) (f g : ℕ → Place) (k : ℕ) (b : Bool) (rest : Option Mismatch) (o : Option ℕ) → rest ≡ lost_at rule f g o
-    → or_else (failing_pair ((rule, b) ∷ []) (f k) (g k)) rest ≡ lost_at rule f g (if not b then Some k else o)
-one_lost rule f g k true rest o e = e
-one_lost rule f g k false rest o e = refl
-
 lost_is : (set : Set) (rule : ℕ) (f g : ℕ → Place) (k : ℕ) (ds : List Device)
     → first_answer (λ i d. failing_pair ((rule, is_in set d) ∷ []) (f i) (g i)) k ds ≡ lost_at rule f g (position (is_missing set) k ds)
 lost_is set rule f g k [] = refl
-lost_is set rule f g k (d ∷ ds) = one_lost rule f g k (is_in set d) _ (position (is_missing set) (suc k) ds) (lost_is set rule f g (suc k) ds)
+lost_is set rule f g k (d ∷ ds) = grind (arith, lost_is set rule f g (suc k) ds)
 
 lost_in : (set : Set) (rule : ℕ) (f g : ℕ → Place) (all ds : List Device) → ds ≡ all → (o : Option ℕ) → o ≡ position (is_missing set) 0 ds
     → first_answer (λ i d. failing_pair ((rule, is_in set d) ∷ []) (f i) (g i)) 0 all ≡ lost_at rule f g o
@@ -229,15 +215,15 @@ module _ (old new : Set) where
       → a ≡ here (parts.Device i)
       → b ≡ here parts.Set → Some (record { rule = 2; in_old = a; in_new = b }) ≡ lost_mismatch old new
   old_lost ds is o e i some a b in_a in_b =
-      rw (in_a, in_b) (sym (first_is _ _ _ (lost_in new 2 (λ i. here (parts.Device i)) (λ i. here parts.Set) old.devices ds is (Some i) (sym some ∙ e))))
+      rw (in_a, in_b, lost_in new 2 (λ i. here (parts.Device i)) (λ i. here parts.Set) old.devices ds is (Some i) (sym some ∙ e))
 
   -- no device of the old set is missing
   module _ (ds es : List Device) (is : ds ≡ old.devices) (is' : es ≡ new.devices) (o p : Option ℕ) (e : o ≡ position (is_missing new) 0 ds)
       (e' : p ≡ position (is_missing old) 0 es) (none : o ≡ None) where
     then_new : (q : Option ℕ) → p ≡ q → lost_mismatch old new ≡ lost_at 3 (λ i. here parts.Set) (λ i. here (parts.Device i)) q
     then_new q same =
-        later_is _ _ (lost_in new 2 (λ i. here (parts.Device i)) (λ i. here parts.Set) old.devices ds is None (sym none ∙ e))
-        ∙ lost_in old 3 (λ i. here parts.Set) (λ i. here (parts.Device i)) new.devices es is' q (sym same ∙ e')
+        rw (lost_in new 2 (λ i. here (parts.Device i)) (λ i. here parts.Set) old.devices ds is None (sym none ∙ e))
+        (lost_in old 3 (λ i. here parts.Set) (λ i. here (parts.Device i)) new.devices es is' q (sym same ∙ e'))
 
     pub new_lost : (i : ℕ) → p ≡ Some i → (a b : Place) → a ≡ here parts.Set → b ≡ here (parts.Device i)
         → Some (record { rule = 3; in_old = a; in_new = b }) ≡ lost_mismatch old new

@@ -2,17 +2,17 @@
 -- newer set reads the same number of bytes for its field as the older set wrote for its own. A number that tests
 -- and counts may name is the same then. This is repeated position by position. Also a position at which two
 -- constants differ, which the newer set can't read.
-use Rattle.vms_check_laws.proofs.{PairLists.if_least, FieldsRead.pair_by, FieldsRead.Opposite, FieldsRead.named_pair}
+use Rattle.vms_check_laws.proofs.FieldsRead.{pair_meets, named_pair}
 use Rattle.vms_check_laws.proofs.Facade.{◌≡◌, inl, inr, ℕ, zero, suc, ◌+◌, ◌<◌, ◌≤◌, Bool, true, List, ◌∷◌, ◌++◌, length}
 use Rattle.vms_check_laws.proofs.Facade.{get_or, Some, None, sym, ap, ◌∙◌, code_read, big_number, arith, ℤ, pos, if◌then◌else◌, ◌⊎◌, nat_lt}
-use Rattle.vms_check_laws.proofs.Facade.{take, refl, slice_get, eqb-true, and_parts, ltb-true, eq-or-lt_of_le, [], cells_in, Kind, Item, Num, Equal, Unused}
-use Rattle.vms_check_laws.proofs.Facade.{Struct, width, residue, code, Count, One, is_steady_in, is_num, is_one, is_earlier_in, Slot, Number, times, counted}
-use Rattle.vms_check_laws.proofs.Facade.{item_cells, elements_of, item_slots, kind_of, Spells, zeroed, length-code, size_same, elements_fit, Entry, same_count}
-use Rattle.vms_check_laws.proofs.Facade.{same_item, FitsAt, Aligns, desc_cells, AllZip, cases_lt, eq-eqb, position_from, same_place}
-use Rattle.vms_check_laws.proofs.Premises.{olds, older, newer, kinds_same, slots_at, IsKnown, entries_slots, AreKnown, known_there, Two, PairGood, Pairs, Sides}
-use Rattle.vms_check_laws.proofs.Premises.{IsSingle, NamesEarlier, OldFields, covered_slots, Met}
-use Rattle.vms_check_laws.proofs.Presence.{filler_length, aligns_filler, spells_split, behind_first, same_some, at_or_later, Above, none_before, fits_left}
-use Rattle.vms_check_laws.proofs.Presence.{fits_right, fits_at, apart, same_bytes, aligns_nil, aligns_append, aligns_number, aligns_constant}
+use Rattle.vms_check_laws.proofs.Facade.{take, refl, slice_get, and_parts, ltb-true, eq-or-lt_of_le, [], Kind, Item, Num, Equal, width, residue, code, Count}
+use Rattle.vms_check_laws.proofs.Facade.{One, is_steady_in, is_num, is_one, is_earlier_in, Slot, Number, times, counted, elements_of, item_slots, kind_of}
+use Rattle.vms_check_laws.proofs.Facade.{Spells, zeroed, length-code, Entry, same_count, same_item, FitsAt, Aligns, desc_cells, AllZip, cases_lt, eq-eqb}
+use Rattle.vms_check_laws.proofs.Facade.{position_from, same_place}
+use Rattle.vms_check_laws.proofs.Premises.{olds, older, newer, kinds_same, slots_at, IsKnown, entries_slots, AreKnown, known_there, Two, PairGood, Sides}
+use Rattle.vms_check_laws.proofs.Premises.{IsSingle, NamesEarlier, OldFields, Met}
+use Rattle.vms_check_laws.proofs.Presence.{spells_split, behind_first, same_some, at_or_later, Above, none_before}
+use Rattle.vms_check_laws.proofs.Presence.{apart, same_bytes, aligns_nil, aligns_number, aligns_constant}
 
 -- two constants of one kind that have other bytes
 pub record Differ (i j : Item) : Type 0 where
@@ -39,48 +39,14 @@ module _ (sides : Sides) where
   open sides use {two, ms, ns, numbers, numbers', at, at', below, below', table}
   open two use {a, b, v, w, o, n}
 
-  abbrev old_size : Item → ℕ
-  old_size i = length (item_cells (olds sides) i [] (pos 0))
-
   abbrev SlotsAlign : List Slot → List Slot → Type 0
   SlotsAlign xs ys = Aligns numbers xs numbers' ys
-
-  item_aligns : (i j : Item) (caps caps' : List ℕ) (d : ℤ) (x y : ℕ) → Pairs two below below' i j → FitsAt (item_cells (olds sides) i caps d) numbers x
-      → SlotsAlign (item_slots ms i caps numbers x) (item_slots ns j caps' numbers' y)
-  item_aligns (Num k) (Num l) caps caps' d x y pair fits = aligns_number _ _ x y k l caps caps' (kinds_same k l pair.same)
-  item_aligns (Equal k z) (Equal l u) caps caps' d x y pair fits = aligns_constant _ _ k l z u (kinds_same k l pair.same)
-  item_aligns (Unused m) (Unused r) caps caps' d x y pair fits = aligns_filler numbers numbers' _ r (filler_length numbers m ∙ eqb-true m r pair.same)
-  item_aligns (Struct i) (Struct j) caps caps' d x y pair fits = ((table.rows j pair.low').meets i pair.low pair.structs x fits).aligned y
-  item_aligns _ _ caps caps' d x y pair fits = absurd (cc)
-
-  items_align : (i j : Item) (caps caps' : List ℕ) (d : ℤ) (m most p step x y step' : ℕ) → Pairs two below below' i j → m ≤ most
-      → FitsAt (times most (λ _. item_cells (olds sides) i caps d) p step) numbers x
-      → SlotsAlign (times m (item_slots ms i caps numbers) x (old_size i)) (times m (item_slots ns j caps' numbers') y step')
-  items_align i j caps caps' d zero most p step x y step' pair le fits = aligns_nil _ _
-  items_align i j caps caps' d (suc m) zero p step x y step' pair le fits = absurd (omega arith)
-  items_align i j caps caps' d (suc m) (suc most) p step x y step' pair le fits =
-      aligns_append numbers numbers' _ _ _ _ (item_aligns i j caps caps' d x y pair (fits_left _ fits))
-      (items_align i j caps caps' d m most (p + step) step (x + old_size i) (y + step') step' pair (omega arith)
-      (fits_at (omega (arith, size_same (olds sides) i caps d)) (fits_right (item_cells (olds sides) i caps d) fits)))
 
   abbrev pub OldSlots : Entry → List Slot
   OldSlots e = slots_at ms a.fields v (older sides) numbers at e.index e.place e.field
 
   abbrev pub NewSlots : Entry → List Slot
   NewSlots f = slots_at ns b.fields w (newer sides) numbers' at' f.index f.place f.field
-
-  pair_aligns : (ok : ℕ → Bool) (e f : Entry) → Opposite sides ok e f → SlotsAlign (OldSlots e) (NewSlots f)
-  pair_aligns ok e f p = pair_by sides ok SlotsAlign e f p
-      (λ c.
-      let s =
-      covered_slots ms ns numbers numbers' (older sides) (newer sides) e.field.item e.field.count f.field.item f.field.count (counted e.index a.fields)
-      (counted f.index b.fields)
-      (at + e.place) (at' + f.place) (old_size e.field.item) (length (item_cells (cells_in ns) f.field.item [] (pos 0))) c.covers p.old.single p.new.single in
-      (aligns_nil numbers numbers', rw s.1 (aligns_filler numbers numbers' _ s.0 s.2)))
-      (λ m t is.
-      items_align e.field.item f.field.item _ _ e.field.default _ _ 0 0 _ _ _
-      (record { same = m.item; structs = p.good.structs; low = p.old.item; low' = p.new.item })
-      (if_least t _ _ (elements_fit e.field.count (older sides))) p.fits)
 
   -- ---- numbers that may be named
 
@@ -151,15 +117,14 @@ module _ (sides : Sides) where
     here_aligns p i e f es fs st good =
         let k = st.known.0 in
         let met : Met sides e f = record { good = good; known = k; known' = st.known'.0 } in
-        pair_aligns (λ j. is_earlier_in b f.index j) e f
-        (record {
+        (pair_meets sides (λ j. is_earlier_in b f.index j) e f (record {
           met = met;
           old = old e.index e.field k.field;
           new = named f.index f.field st.known'.0.field;
           fits = k.fits fits;
           agree = λ k j named place.
               let r = and_parts (nat_lt j f.index) (is_steady_in b j) named in earlier_same p i e f es fs st k j (ltb-true j f.index r.0) r.1 place;
-        })
+        })).aligned
 
     -- the front after one more pair: the bytes are split there
     pub record Past (p i : ℕ) (e f : Entry) (es fs : List Entry) (more_old more_new : List Slot) (r r' : List ℕ) : Type 0 where

@@ -4,15 +4,17 @@ use Rattle.vms_check_laws.proofs.Facade.{absent_hold, bound, least_of, greatest,
 use Rattle.vms_check_laws.proofs.Facade.{◌≤◌, true, List, ◌∷◌, ◌++◌, length, get_or, Some, refl, arith, ℤ, pos, negsuc, if◌then◌else◌}
 use Rattle.vms_check_laws.proofs.Facade.{AllByRecursion, slice_get, eq-eqb, ints, ◌<◌, [], min, Bool, false, Option, None, sym, nat_le, and_parts, eqb-true}
 use Rattle.vms_check_laws.proofs.Facade.{leb-true, Kind, U8, U16, U32, Item, Num, width, residue, Count, One, Counted, Field, Cell, times, counted, capacity_of}
-use Rattle.vms_check_laws.proofs.Facade.{item_cells, field_cells, cells_from, place_of, no_field, kind_of, FitsCell, is_num, is_one, ItemBelow, FitsAt}
-use Rattle.vms_check_laws.proofs.Facade.{all_right, Desc, is_steady_in, no_desc, Struct, highest, Formula, presence, Entry, entry_of, present_from}
-use Rattle.vms_check_laws.proofs.Facade.{position_from, same_place, same_count, holds_as_much, defaults, nat_lt, and_from, slice_get-get_or, Equal, Unused, Own}
-use Rattle.vms_check_laws.proofs.Facade.{Parent, Not, And, Or, Sub, Device, Set, names_well, nobody, is_steady, is_earlier_in, ◌&&◌, test_names_well}
-use Rattle.vms_check_laws.proofs.Facade.{count_names_well, is_counting, defaults_well, counts_well, has_good_count, validation_rules, WellFormed, AllTrue}
-use Rattle.vms_check_laws.proofs.Facade.{item_below, Clean, ranges, within, struct_clean, device_parts, sub_clean}
-use Rattle.vms_check_laws.proofs.Premises.{Met, news, IsSingle, CountFits, OldFields, DefaultsGood, NamesEarlier, NewFields, RulesNamed, Sides, Matched}
+use Rattle.vms_check_laws.proofs.Facade.{item_cells, field_cells, cells_from, place_of, no_field, kind_of, FitsCell, is_num, is_one, ItemBelow, FitsAt, Desc}
+use Rattle.vms_check_laws.proofs.Facade.{is_steady_in, no_desc, Struct, highest, Formula, presence, Entry, entry_of, present_from, position_from, same_place}
+use Rattle.vms_check_laws.proofs.Facade.{same_count, holds_as_much, defaults, and_from, slice_get-get_or, Equal, Unused, Own, Parent, Not, And, Or, Sub, Device}
+use Rattle.vms_check_laws.proofs.Facade.{Set, names_well, nobody, is_steady, is_earlier_in, ◌&&◌, test_names_well, count_names_well, is_counting}
+use Rattle.vms_check_laws.proofs.Facade.{defaults_well, counts_well, has_good_count, validation_rules, WellFormed, AllTrue, item_below, Clean, ranges, within}
+use Rattle.vms_check_laws.proofs.Facade.{struct_clean, device_parts, sub_clean}
+use Rattle.vms_check_laws.proofs.Premises.{Met, NewGood, news, IsSingle, CountFits, OldFields, DefaultsGood, NamesEarlier, NewFields, RulesNamed, Sides}
+use Rattle.vms_check_laws.proofs.Premises.{Matched}
 use Rattle.vms_check_laws.proofs.Premises.{decoded, CountNamed, ItemDefault}
 use Rattle.vms_check_laws.proofs.Presence.{fits_right, Steady, covers_unused, at_or_later, Above, NamedRest, steady}
+use Rattle.vms_check.proofs.CapacityLaws.{counted_at}
 use Rattle.vms_spec.specs.Sets as sets
 
 -- ---- a number that fits its cell is at most every capacity that it counts, and one that fits the older capacities fits the newer
@@ -21,19 +23,10 @@ use Rattle.vms_spec.specs.Sets as sets
 abbrev pub field_number : List (List Cell) → List Field → List Field → ℕ → List ℤ → ℕ → ℕ → ℕ
 field_number cs all fs i numbers at k = residue (width (kind_of (get_or fs k no_field).item)) (get_or numbers (place_of cs all i at fs k) (pos 0))
 
-counted_at : (P : ℕ → Type 0) (by most i : ℕ) (fs : List Field) (f : Field) → slice_get fs i ≡ Some f → f.count ≡ Counted by most
-    → AllByRecursion P (counted by fs) → P most
-counted_at P by most i [] f is e h = absurd (cc)
-counted_at P by most zero (g ∷ fs) f is e h = let c : g.count ≡ Counted by most = cc in (rw (c, eq-eqb by by refl) at h).0
-counted_at P by most (suc i) (g ∷ fs) f is e h = counted_at P by most i fs f is e (all_right P _ _ h)
-
 first_fits : (cs : List (List Cell)) (item : Item) (count : Count) (caps : List ℕ) (d : ℤ) (more : List Cell) (numbers : List ℤ) (at : ℕ) → is_num item ≡ true
     → is_one count ≡ true → FitsAt (times (capacity_of count) (λ _. item_cells cs item caps d) 0 0 ++ more) numbers at
     → FitsCell (record { kind = kind_of item; capacities = caps; default = d }) (get_or numbers at (pos 0))
-first_fits cs (Num kind) One caps d more numbers at num one fits =
-    let z : at + 0 ≡ at = omega arith in
-    rw (z) at (fits.each 0 (omega arith))
-first_fits cs _ _ caps d more numbers at num one fits = absurd (cc)
+first_fits cs item count caps d more numbers at num one fits = grind arith
 
 -- the number of a single field, and that it fits
 pub record Single (kind : Kind) (caps : List ℕ) (default : ℤ) (own : ℕ) : Type 0 where
@@ -61,15 +54,11 @@ IsCounting (Num U32) = Unit {0}
 IsCounting _ = ⊥
 
 below_cap : (w : ℕ) (z : ℤ) (most : ℕ) → pos 0 ≤ℤ z → z ≤ℤ pos most → residue w z ≤ most
-below_cap w (pos m) most low high = grind arith
-below_cap w (negsuc m) most low high = absurd (omega arith)
+below_cap w z most low high = grind arith
 
 counting_below : (item : Item) (caps : List ℕ) (d z : ℤ) (most : ℕ) → IsCounting item
     → FitsCell (record { kind = kind_of item; capacities = caps; default = d }) z → z ≤ℤ pos most → residue (width (kind_of item)) z ≤ most
-counting_below (Num U8) caps d z most c fits high = below_cap 1 z most fits.0.0 high
-counting_below (Num U16) caps d z most c fits high = below_cap 2 z most fits.0.0 high
-counting_below (Num U32) caps d z most c fits high = below_cap 4 z most fits.0.0 high
-counting_below _ caps d z most c fits high = absurd c
+counting_below item caps d z most c fits high = grind (arith, below_cap)
 
 -- field `by` may count
 pub record Counter (all : List Field) (by : ℕ) : Type 0 where
@@ -97,7 +86,7 @@ fits_count : (cs : List (List Cell)) (all : List Field) (numbers : List ℤ) (at
 fits_count cs all numbers at i f (Counted by most) is e fits c =
     let s = single_at cs all all 0 by numbers at c.field c.stands c.steady fits in
     let z : 0 + by ≡ by = omega arith in
-    rw s.is (counting_below _ _ c.field.default s.number most c.kind s.fits (counted_at (λ m. s.number ≤ℤ pos m) by most i all f is e (rw z at s.fits.1)))
+    rw s.is (counting_below _ _ c.field.default s.number most c.kind s.fits (counted_at (λ m. s.number ≤ℤ pos m) by all i f most is e (rw z at s.fits.1)))
 fits_count cs all numbers at i f _ is e fits known = tt
 
 pub old_fields : (cs : List (List Cell)) (below : ℕ) (all : List Field) (numbers : List ℤ) (at : ℕ) → FitsAt (cells_from cs all 0 all) numbers at
@@ -118,8 +107,7 @@ abbrev pub StructsGood : List Desc → Type 0
 StructsGood ds = (j : ℕ) → j < length ds → DescGood j (get_or ds j no_desc)
 
 pub item_further : (j k : ℕ) (i : Item) → j ≤ k → ItemBelow j i → ItemBelow k i
-item_further j k (Struct i) le h = omega arith
-item_further j k _ le h = tt
+item_further j k i le h = grind arith
 
 pub plains_further : (j k : ℕ) (all : List Field) → j ≤ k → OldPlains j all → OldPlains k all
 plains_further j k all le h i f e = let p = h i f e in record { item = item_further j k f.item le p.item; single = p.single; count = p.count }
@@ -151,12 +139,10 @@ at_most_least z m [] h all = h
 at_most_least z m (k ∷ ms) h all = at_most_least z (min m k) ms (omega (arith, ints)) all.1
 
 greatest_kind : (kind : Kind) → highest kind ≡ pos (greatest (Num kind))
-greatest_kind U8 = refl
-greatest_kind _ = refl
+greatest_kind kind = grind arith
 
 pub at_most_bound : (kind : Kind) (caps : List ℕ) (z : ℤ) → z ≤ℤ highest kind → AllByRecursion (λ k. z ≤ℤ pos k) caps → z ≤ℤ pos (bound (Num kind) caps)
-at_most_bound kind [] z h all = rw (← (greatest_kind kind)) h
-at_most_bound kind (m ∷ ms) z h all = at_most_least z m ms all.0 all.1
+at_most_bound kind caps z h all = grind (arith, greatest_kind, at_most_least)
 
 pub at_most_more : (z : ℤ) (m k : ℕ) → z ≤ℤ pos m → m ≤ k → z ≤ℤ pos k
 at_most_more _ m k h le = omega (arith, ints)
@@ -175,11 +161,7 @@ all_counted P by (g ∷ gs) h = head _ refl (all_counted P by gs h.1) where
 
 paired : (o n : ℕ → Option ℕ) (c d : Count) (i most : ℕ) → d ≡ Counted i most → same_count o n c d ≡ true → holds_as_much c d ≡ true
     → (by most' : ℕ) × (c ≡ Counted by most') × (same_place (o by) (n i) ≡ true) × (most' ≤ most)
-paired o n (Counted by most') (Counted j m) i most e same room =
-    let one : j ≡ i = cc in
-    let much : m ≡ most = cc in
-    (by, most', refl, rw one at same, omega (arith, leb-true most' m room))
-paired o n _ _ i most e same room = absurd (cc)
+paired o n c d i most e same room = grind arith
 
 module _ (sides : Sides) where
   open sides use {two, numbers, at, below'}
@@ -196,7 +178,7 @@ module _ (sides : Sides) where
         | inl c ↦ let one = rw (covers_unused e.field.item e.field.count f.field.item c.covers).1 at single in let bad = rw is at one in absurd (cc)
         | inr m ↦
             let p = paired o n _ _ j most is m.count m.room in
-            at_most_more z p.1 most (counted_at (λ m. z ≤ℤ pos m) i p.1 e.index a.fields e.field met.known.field (rw (at_i p.0 p.3) at p.2) all) p.4
+            at_most_more z p.1 most (counted_at (λ m. z ≤ℤ pos m) i a.fields e.index e.field p.1 met.known.field (rw (at_i p.0 p.3) at p.2) all) p.4
       ]
 
   fits_arrays : (new : NewFields below' (is_steady_in b) b.fields) (z : ℤ) (i j : ℕ) (es fs : List Entry) → ((by : ℕ) → same_place (o by) (n j) ≡ true → by ≡ i)
@@ -247,46 +229,29 @@ names_more ok ok' _ more h = refl
 earlier_steady : (d : Desc) (k i : ℕ) → is_earlier_in d k i ≡ true → is_steady_in d i ≡ true
 earlier_steady d k i h = grind arith
 
-test_named : (d : Desc) (k : ℕ) (t : Option Formula) → test_names_well d k t ≡ true → NamedRest (is_steady_in d) t
-test_named d k None h = tt
-test_named d k (Some t) h = names_more _ _ t (λ i e. earlier_steady d k i e) h
+-- what is named well is named as `ok` says, if that has all earlier steady fields
+module _ (d : Desc) (k : ℕ) (ok : ℕ → Bool) (has : (i : ℕ) → is_earlier_in d k i ≡ true → ok i ≡ true) where
+  test_named : (t : Option Formula) → test_names_well d k t ≡ true → NamedRest ok t
+  test_named t h = grind (arith, names_more)
 
-count_named : (d : Desc) (k : ℕ) (c : Count) → count_names_well d k c ≡ true → CountNamed (is_steady_in d) c
-count_named d k (Counted by most) h = earlier_steady d k by (and_parts (is_earlier_in d k by) (is_counting (slice_get d.fields by)) h).0
-count_named d k _ h = tt
-
-test_earlier : (d : Desc) (k : ℕ) (t : Option Formula) → test_names_well d k t ≡ true → NamedRest (is_earlier_in d k) t
-test_earlier d k None h = tt
-test_earlier d k (Some t) h = h
-
-count_earlier : (d : Desc) (k : ℕ) (c : Count) → count_names_well d k c ≡ true → CountNamed (is_earlier_in d k) c
-count_earlier d k (Counted by most) h = (and_parts (is_earlier_in d k by) (is_counting (slice_get d.fields by)) h).0
-count_earlier d k _ h = tt
+  count_named : (c : Count) → count_names_well d k c ≡ true → CountNamed ok c
+  count_named c h = grind arith
 
 counting : (g : Field) (i : Item) → is_counting (Some (record g { item = i })) ≡ true → IsCounting i
-counting g (Num U8) h = tt
-counting g (Num U16) h = tt
-counting g (Num U32) h = tt
-counting g _ h = absurd (cc)
+counting g i h = grind arith
 
 counter : (all : List Field) (by minimum : ℕ) (o : Option Field) → slice_get all by ≡ o → is_steady minimum o ≡ true → is_counting o ≡ true → Counter all by
 counter all by minimum None e h k = absurd (cc)
 counter all by minimum (Some g) e h k = record { field = g; stands = e; steady = steady minimum (Some g) g refl h; kind = counting g g.item k }
 
 count_known : (d : Desc) (k : ℕ) (c : Count) → count_names_well d k c ≡ true → CountKnown d.fields c
-count_known d k (Counted by most) h =
-    let p = and_parts (is_earlier_in d k by) (is_counting (slice_get d.fields by)) h in
-    counter d.fields by d.minimum (slice_get d.fields by) refl (earlier_steady d k by p.0) p.1
-count_known d k _ h = tt
+count_known d k c h = grind (arith, counter, earlier_steady)
 
 single : (i : Item) (c : Count) → has_good_count i c ≡ true → IsSingle i c
-single (Equal kind z) c h = h
-single (Unused n) c h = h
-single _ c h = tt
+single i c h = grind arith
 
 default_good : (i : Item) (caps : List ℕ) (z : ℤ) → defaults_well i z ≡ true → counts_well caps z ≡ true → ItemDefault i caps z
-default_good (Num kind) caps z h k = (ranges kind z h, within caps z k)
-default_good _ caps z h k = tt
+default_good i caps z h k = grind (arith, within)
 
 -- the rules 4, 5, 6 and 8 at a field
 pub record FieldFacts (k : ℕ) (d : Desc) (i : ℕ) (f : Field) : Type 0 where
@@ -307,15 +272,14 @@ module _ (k : ℕ) (d : Desc) where
   rules_named [] h = tt
   rules_named (t ∷ ts) h = ((h 0 t refl).1.1.1.0, rules_named ts (λ i u e. h (suc i) u e))
 
+  good_by : (ok : ℕ → Bool) (i : ℕ) (f : Field) → ((j : ℕ) → is_earlier_in d i j ≡ true → ok j ≡ true) → FieldFacts k d i f → NewGood k ok f
+  good_by ok i f has q = record { item = q.item; single = q.single; count = count_named d i ok has _ q.count; test = test_named d i ok has f.test q.test }
+
   desc_good : (rules : List Bool) → Clean k d rules → DescGood k d
   desc_good rules c = record {
     old = λ i f e. let q = facts i f e in record { item = q.item; single = q.single; count = count_known d i _ q.count };
-    new = λ i f e.
-        let q = facts i f e in
-        record { item = q.item; single = q.single; count = count_named d i _ q.count; test = test_named d i f.test q.test };
-    earlier = λ i f e.
-        let q = facts i f e in
-        record { item = q.item; single = q.single; count = count_earlier d i _ q.count; test = test_earlier d i f.test q.test };
+    new = λ i f e. good_by _ i f (λ j h. earlier_steady d i j h) (facts i f e);
+    earlier = λ i f e. good_by _ i f (λ j h. h) (facts i f e);
     defaults = defaults_good 0 _ (λ j f e. (let z : 0 + j ≡ j = omega arith in rw z (facts j f e)));
     rules = rules_named _ c.validations;
   } where

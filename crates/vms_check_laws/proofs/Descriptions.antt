@@ -3,29 +3,26 @@
 -- fit the cells of the newer set.
 use Rattle.vms_check_laws.proofs.AlignedDescs.{Clashes, entries_align, entries_clash, State}
 use Rattle.vms_check_laws.proofs.Counts.{caps_follow, IsIndexed, DescGood, indexed}
-use Rattle.vms_check_laws.proofs.Facade.{no_parent, passes, reduced, reduced_holds, same_reduced, truth, truth_of, either_of, ◌≤ℤ◌, ◌≡◌, inl, inr}
-use Rattle.vms_check_laws.proofs.Facade.{ℕ, zero, suc, ◌+◌, ◌<◌, ◌≤◌, Bool, true, false, List, ◌∷◌, ◌++◌, length, get_or, Option}
-use Rattle.vms_check_laws.proofs.Facade.{None, refl, arith, ℤ, pos, if◌then◌else◌, AllByRecursion, [], cells_in, Kind, Item, Num, Struct, Formula}
-use Rattle.vms_check_laws.proofs.Facade.{Field, Cell, times, counted, item_cells, field_cells, cells_from, Entry, same_kind, pair_structs, defaults, carry_item}
-use Rattle.vms_check_laws.proofs.Facade.{carry_items, carry_from, FitsAt, size_same, elements_fit, highest, InRange, is_num, FitsCell, ItemBelow, FieldsBelow}
-use Rattle.vms_check_laws.proofs.Facade.{desc_cells, is_steady_in, present, AllZip, sym, ◌∙◌, and_from, and_parts, list_all, list_any, Desc, Rule}
-use Rattle.vms_check_laws.proofs.Facade.{Meaning, slots_from, desc_slots, all_hold, Part, position_from, Comparer, compare_desc, Carrier, carry_desc, Holds}
-use Rattle.vms_check_laws.proofs.Facade.{Aligns, or_else_none, Spells, zeroed, Carries, Known, Reduced, compare_validations, here, is_kept}
-use Rattle.vms_check_laws.proofs.FieldsRead.{linked, agree_from, fields_settle, fields_carry, by_fields}
-use Rattle.vms_check_laws.proofs.PairLists.{if_least, one_cell, settled_more}
-use Rattle.vms_check_laws.proofs.Premises.{olds, news, older, newer, kinds_same, Matched, decoded, OldFields, NewFields, DefaultsGood, ItemDefault, Sides}
-use Rattle.vms_check_laws.proofs.Premises.{fields_below, FitCells, GoodCells, fit_append, fit_defaults, good_append, good_times, Met, entries_slots}
+use Rattle.vms_check_laws.proofs.Facade.{no_parent, reduced, reduced_holds, same_reduced, truth, truth_of, either_of, ◌≡◌, inl, inr, ℕ, suc, ◌+◌}
+use Rattle.vms_check_laws.proofs.Facade.{◌<◌, Bool, true, List, ◌∷◌, ◌++◌, get_or, Option, None, refl, arith, ℤ, [], cells_in, Item, Num}
+use Rattle.vms_check_laws.proofs.Facade.{Struct, Formula, Field, Cell, counted, item_cells, field_cells, cells_from, Entry, defaults, carry_field, carry_from}
+use Rattle.vms_check_laws.proofs.Facade.{FitsAt, ItemBelow, FieldsBelow, desc_cells, is_steady_in, present, AllZip, sym, ◌∙◌, and_from, and_parts}
+use Rattle.vms_check_laws.proofs.Facade.{list_all, list_any, Desc, Rule, Meaning, slots_from, desc_slots, all_hold, Part, position_from, Comparer, compare_desc}
+use Rattle.vms_check_laws.proofs.Facade.{Carrier, carry_desc, Holds, Aligns, or_else_none, Spells, zeroed, Carries, Known, Reduced, compare_validations, here}
+use Rattle.vms_check_laws.proofs.Facade.{is_kept}
+use Rattle.vms_check_laws.proofs.FieldsRead.{linked, agree_from, fields_settle, fields_carry, by_fields, field_sized, matched, covered_cells, there}
+use Rattle.vms_check_laws.proofs.PairLists.{settled_more}
+use Rattle.vms_check_laws.proofs.Premises.{olds, news, older, newer, decoded, OldFields, NewFields, DefaultsGood, ItemDefault, Sides}
+use Rattle.vms_check_laws.proofs.Premises.{fields_below, FitCells, GoodCells, fit_none, fit_append, fit_defaults, good_append, good_times, Met, entries_slots}
 use Rattle.vms_check_laws.proofs.Premises.{slots_entries, all_known, AreKnown, Two, Table, Meets, Reads, RulesNamed, all_met}
-use Rattle.vms_check_laws.proofs.Presence.{present_above, not_covered, Agree, Named, named_left, same_reduced_truth, fits_left, fits_right, fits_at, holds_at}
+use Rattle.vms_check_laws.proofs.Presence.{present_above, Agree, Named, named_left, same_reduced_truth, holds_at}
 use Rattle.vms_check_laws.proofs.Presence.{carries_append, spells_split, behind_first, aligns_append, aligns_rule}
 
 -- ---- the carried numbers fit new's cells
 
 pub good_item : (y : List (List Cell)) (k : ℕ) (j : Item) (caps : List ℕ) (d : ℤ) → ((i : ℕ) → i < k → GoodCells (get_or y i [])) → ItemBelow k j
     → ItemDefault j caps d → GoodCells (item_cells y j caps d)
-good_item y k (Num kind) caps d good below h = (h, tt)
-good_item y k (Struct i) caps d good below h = good i below
-good_item y k _ caps d good below h = tt
+good_item y k j caps d good below h = grind arith
 
 pub good_fields : (y : List (List Cell)) (k : ℕ) (all : List Field) (i : ℕ) (gs : List Field) → ((i : ℕ) → i < k → GoodCells (get_or y i []))
     → FieldsBelow k gs → DefaultsGood all i gs → GoodCells (cells_from y all i gs)
@@ -33,79 +30,23 @@ good_fields y k all i [] good below h = tt
 good_fields y k all i (g ∷ gs) good below h =
     good_append _ _ (good_times _ _ 0 0 (good_item y k g.item _ _ good below.0 h.0)) (good_fields y k all (suc i) gs good below.1 h.1)
 
--- what the older number fits, the newer's cell does
-abbrev Follows : (i j : Item) → (caps caps' : List ℕ) → Type 0
-Follows i j caps caps' =
-    (k : Kind) → i ≡ Num k → is_num j ≡ true → (z : ℤ) → z ≤ℤ highest k → AllByRecursion (λ m. z ≤ℤ pos m) caps → AllByRecursion (λ m. z ≤ℤ pos m) caps'
-
 module _ (sides : Sides) where
   open sides use {two, cs, numbers, at, below, below', table}
   open two use {ks, a, b, v, w, part, part', o, n}
-
-  abbrev fallback : Item → ℤ → List ℤ
-  fallback j d = defaults (item_cells (news sides) j [] d)
-
-  number_fits : (c : Bool) (k l : Kind) (caps caps' : List ℕ) (d' z : ℤ) → same_kind k l ≡ c
-      → FitsCell (record { kind = l; capacities = caps'; default = d' }) d' → InRange k z
-      → (c ≡ true → AllByRecursion (λ m. z ≤ℤ pos m) caps') → FitCells (one_cell l caps' d') (if c then z ∷ [] else d' ∷ [])
-  number_fits true k l caps caps' d' z same good range follow = ((rw (← (kinds_same k l same)) range, follow refl), tt)
-  number_fits false k l caps caps' d' z same good range follow = (good, tt)
-
-  fallback_fits : (j : Item) (caps' : List ℕ) (d' : ℤ) → GoodCells (item_cells (news sides) j caps' d')
-      → FitCells (item_cells (news sides) j caps' d') (fallback j d')
-  fallback_fits (Num l) caps' d' good = (good.0, tt)
-  fallback_fits (Struct j) caps' d' good = fit_defaults _ good
-  fallback_fits _ caps' d' good = tt
-
-  fit_item : (i j : Item) (caps caps' : List ℕ) (d d' : ℤ) (p : ℕ) → ItemBelow below i → ItemBelow below' j
-      → pair_structs ks a b v w part part' o n i j ≡ None → GoodCells (item_cells (news sides) j caps' d')
-      → FitsAt (item_cells (olds sides) i caps d) numbers p → Follows i j caps caps'
-      → FitCells (item_cells (news sides) j caps' d') (carry_item cs (olds sides) (news sides) numbers i j (fallback j d') p)
-  fit_item (Num k) (Num l) caps caps' d d' p below_a below_b none good fits follow =
-      let z : p + 0 ≡ p = omega arith in
-      let f : FitsCell (record { kind = k; capacities = caps; default = d }) (get_or numbers p (pos 0)) = rw (z) at (fits.each 0 (omega arith)) in
-      number_fits _ k l caps caps' d' _ refl good.0 f.0 (λ same. follow k refl refl (get_or numbers p (pos 0)) f.0.1 f.1)
-  fit_item (Struct i) (Struct j) caps caps' d d' p below_a below_b none good fits follow = ((table.rows j below_b).meets i below_a none p fits).fits
-  fit_item _ j caps caps' d d' p below_a below_b none good fits follow = fallback_fits j caps' d' good
-
-  fit_items : (i j : Item) (caps caps' : List ℕ) (d d' : ℤ) (m most most' q st q' st' p : ℕ) → m ≤ most → ItemBelow below i → ItemBelow below' j
-      → pair_structs ks a b v w part part' o n i j ≡ None
-      → GoodCells (item_cells (news sides) j caps' d') → FitsAt (times most (λ _. item_cells (olds sides) i caps d) q st) numbers p → Follows i j caps caps'
-      → FitCells (times most' (λ _. item_cells (news sides) j caps' d') q' st')
-      (carry_items cs (olds sides) (news sides) numbers i j (fallback j d') (length (item_cells (olds sides) i [] (pos 0))) m most' p)
-  fit_items i j caps caps' d d' m most zero q st q' st' p le below_a below_b none good fits follow = tt
-  fit_items i j caps caps' d d' zero most (suc most') q st q' st' p le below_a below_b none good fits follow =
-      fit_append _ _ _ _ (fallback_fits j caps' d' good)
-      (fit_items i j caps caps' d d' zero most most' q st (q' + st') st' p (omega arith) below_a below_b none good fits follow)
-  fit_items i j caps caps' d d' (suc m) zero (suc most') q st q' st' p le below_a below_b none good fits follow = absurd (omega arith)
-  fit_items i j caps caps' d d' (suc m) (suc most) (suc most') q st q' st' p le below_a below_b none good fits follow =
-      fit_append _ _ _ _ (fit_item i j caps caps' d d' p below_a below_b none good (fits_left _ fits) follow)
-      (fit_items i j caps caps' d d' m most most' (q + st) st (q' + st') st' _ (omega arith) below_a below_b none good
-      (fits_at (omega (arith, size_same (olds sides) i caps d)) (fits_right (item_cells (olds sides) i caps d) fits)) follow)
-
-  -- what is known of two paired fields
-  pub record FitPair (e f : Entry) : Type 0 where
-    pub structs : pair_structs ks a b v w part part' o n e.field.item f.field.item ≡ None
-    pub low : ItemBelow below e.field.item
-    pub fits : FitsAt (field_cells (olds sides) a.fields e.index e.field) numbers (at + e.place)
-    pub follow : Follows e.field.item f.field.item (counted e.index a.fields) (counted f.index b.fields)
 
   -- each pair's numbers follow
   module _ (old : OldFields below (older sides) a.fields) (new : NewFields below' (is_steady_in b) b.fields)
       (fits : FitsAt (desc_cells (olds sides) a) numbers at)
       (all : List Entry) (met : AllZip (Met sides) all (present (news sides) b w)) where
-    fit_pair : (e f : Entry) → Met sides e f × IsIndexed o n e f → FitPair e f
-    fit_pair e f h = record {
-      structs = h.0.good.structs;
-      low = (old e.index e.field h.0.known.field).item;
-      fits = h.0.known.fits fits;
-      follow = λ k is num z high caps.
-          let m : Matched two e f = elim (decoded two e f h.0.good) [
-            | inl c ↦ absurd (not_covered _ _ _ c.covers num)
-            | inr m ↦ m
-          ] in
-          caps_follow sides k all e f z is h.1 m high caps met new;
-    }
+    fit_pair : (e f : Entry) → Met sides e f × IsIndexed o n e f → GoodCells (item_cells (news sides) f.field.item (counted f.index b.fields) f.field.default)
+        → FitCells (field_cells (news sides) b.fields f.index f.field) (carry_field cs (olds sides) (news sides) numbers (older sides) v at e f.field)
+    fit_pair e f h good =
+        let low = (new f.index f.field h.0.known'.field).item in
+        elim (decoded two e f h.0.good) [
+          | inl c ↦ fit_none _ _ (covered_cells sides e f c) (field_sized sides e f.index f.field low)
+          | inr m ↦ (matched sides e f (there sides e) h.0.good m (old e.index e.field h.0.known.field).item low (h.0.known.fits fits)).fits good
+              (λ k is num z high caps. caps_follow sides k all e f z is h.1 m high caps met new)
+        ]
 
     pub fields_fit : DefaultsGood b.fields 0 b.fields → AllZip (λ e f. Met sides e f × IsIndexed o n e f) all (present (news sides) b w)
         → FitCells (desc_cells (news sides) b) (carry_from cs (olds sides) (news sides) numbers (older sides) v w at b.fields 0 b.fields all)
@@ -114,9 +55,7 @@ module _ (sides : Sides) where
         let here = good_item _ below' g.item _ _ (λ j l. (table.rows j l).good) lt good.0 in
         fit_append _ _ _ _ (fit_defaults _ (good_times _ _ 0 0 here)) (more good.1))
         (λ i p g gs rest e es fs zs lt h more good.
-        let q = fit_pair e _ h in
-        fit_append _ _ _ _ (fit_items _ g.item _ _ e.field.default g.default _ _ _ 0 0 0 0 _ (if_least _ _ _ (elements_fit e.field.count (older sides)))
-        q.low lt q.structs (good_item _ below' g.item _ _ (λ j l. (table.rows j l).good) lt good.0) q.fits q.follow) (more good.1))
+        fit_append _ _ _ _ (fit_pair e _ h (good_item _ below' g.item _ _ (λ j l. (table.rows j l).good) lt good.0)) (more good.1))
         0 0 _ all (fields_below _ _ (λ j f e. (new j f e).item)) h good
 
 -- ---- validations

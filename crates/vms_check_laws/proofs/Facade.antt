@@ -7,12 +7,12 @@ pub use Rattle.std.proofs.Math.Seq.{drop-append_seam, take-append_seam}
 pub use Rattle.std.proofs.lemmas.Bool.{and_from, and_parts, cases_eq, cases_lt, eq-eqb, eqb-true, false_from_ne_true, leb-true, ltb-true, or_parts}
 pub use Rattle.std.proofs.lemmas.List.{append-nil, ext_get_or, get_or-append-add, get_or_append_left, get_or_past, length-append, length-map, length-replicate}
 pub use Rattle.std.proofs.lemmas.Option.{get_or_from_slice_get, slice_get-get_or, slice_get-map, slice_get_within}
-pub use Rattle.std.specs.{List.AllByRecursion, List.AllZip, List.flat_map, List.list_all, List.list_any, List.slice_get, Option.option_and_then, Str.bytes_eq}
+pub use Rattle.std.specs.{List.AllByRecursion, List.AllZip, List.flat_map, List.list_all, List.list_any, List.slice_get, Option.option_and_then}
 pub use Rattle.byteorder.specs.Endian.{big_number}
-pub use Rattle.vms_kinds.specs.{Codes.InRange, Codes.code, Codes.highest, Codes.residue, Codes.width, declared.Item.Item, declared.Kind.Kind}
+pub use Rattle.vms_kinds.specs.{Codes.code, Codes.highest, Codes.residue, Codes.width, declared.Item.Item, declared.Kind.Kind}
 pub use Rattle.vms_kinds.specs.declared.Item.TheVariants.{Equal, Num, Struct, Unused}
 pub use Rattle.vms_kinds.specs.declared.Kind.TheVariants.{U16, U32, U8}
-pub use Rattle.vms_spec.proofs.ListsAndNumbers.{same_number_is, all_right, either_of, code_read, length-code}
+pub use Rattle.vms_spec.proofs.ListsAndNumbers.{same_number_is, either_of, code_read, length-code}
 pub use Rattle.vms_spec.proofs.Tables.{first_at, first_long, elements_fit, field_size, size_same, FieldsBelow, ItemBelow, desc_cells_same, first_same}
 pub use Rattle.vms_spec.proofs.Tables.{item_below, struct_cells_at, struct_slots}
 pub use Rattle.vms_spec.proofs.WellFormedLaws.{AllTrue, answers_none, every_one, few_devices, machine_short, or_else_none, Clean, device_found, device_parts}
@@ -36,6 +36,7 @@ pub use Rattle.vms_bodies.proofs.PartLaws.{at_other, cells_of_sub, part_apart, p
 pub use Rattle.vms_bodies.proofs.Places.{IsAbove, MeanAbove, field_above, item_above, meanings_above, MeanCells, cells_first, field_are, item_are, meanings_are}
 pub use Rattle.vms_bodies.proofs.Places.{has_left, has_right, names_append, none_in_both}
 pub use Rattle.vms_bodies.proofs.SettledLaws.{defaults_at, defaults_long, cells_in, its_below, its_in, named_inside, skip_long, stands_behind}
+pub use Rattle.vms_bodies.proofs.Heads.{found_is, sub_is}
 pub use Rattle.vms_bodies.specs.{Cells.AreCells}
 pub use Rattle.vms_stream.proofs.Stated.{trailed}
 pub use Rattle.vms_stream.specs.Streams.{HasSection, IsSection, IsStream, SectionsSpell}
@@ -43,10 +44,11 @@ pub use Rattle.vms_check.proofs.{PairLaws.passes, CapacityLaws.IfOpen, CapacityL
 pub use Rattle.vms_check.specs.{declared.mismatch.Mismatch.Mismatch, Comparing.position_from, Comparing.present, Comparing.present_from}
 pub use Rattle.vms_check.specs.Carrying.{Carrier, carried_at, carried_device, carried_sub, carrier_of, carriers, carry_desc, carry_field, carry_from}
 pub use Rattle.vms_check.specs.Carrying.{carry_item, carry_items, carry_next, carrying, default_field, defaults, entries_left, no_carrier, no_image, sub_came}
-pub use Rattle.vms_check.specs.Comparing.{same_constant, same_count, same_item, same_kind, same_place, same_reduced, same_rest, same_test, Comparer, Compatible}
+pub use Rattle.vms_check.specs.Comparing.{same_constant, same_count, same_item, same_kind, same_place, same_reduced, same_rest, same_test, uncovered_rules}
+pub use Rattle.vms_check.specs.Comparing.{Comparer, Compatible}
 pub use Rattle.vms_check.specs.Comparing.{Entry, absent_hold, bound, compare_desc, compare_device, compare_fields, compare_sub, compare_subs}
 pub use Rattle.vms_check.specs.Comparing.{compare_validations, comparer_of, comparers, comparing, entry_of, failing_pair, greatest, has_room, holds_as_much}
-pub use Rattle.vms_check.specs.Comparing.{is_covered, is_found, is_in, is_kept, least_of, names_match, no_comparer, pair_rules, pair_structs, paired_device}
+pub use Rattle.vms_check.specs.Comparing.{is_covered, is_found, is_in, is_kept, least_of, no_comparer, pair_rules, pair_structs, paired_device}
 pub use Rattle.vms_check.specs.Partners.{Pairer, array_partners, desc_partners, field_partners, fields_left, item_partners, named_partners, no_pairer}
 pub use Rattle.vms_check.specs.Partners.{pairer_of, pairers, part_partners, partners_from, unpaired}
 pub use Rattle.vms_check.specs.Reducing.{Known, Open, Reduced, left_of, presence, reduced, truth_of}

@@ -1,19 +1,27 @@
 -- Fields of both sides at one position: the newer set reads what the older one writes with the carried numbers, and what isn't in the
 -- bytes is at its default.
-use Rattle.vms_check_laws.proofs.{Presence.carries_nil, Presence.carries_append, Presence.carries_filler, PairLists.one_cell}
+use Rattle.vms_check_laws.proofs.Presence.{carries_nil, carries_append, carries_filler, aligns_nil, aligns_append, aligns_number, aligns_constant}
+use Rattle.vms_check_laws.proofs.Presence.{aligns_filler}
 use Rattle.vms_check_laws.proofs.Facade.{◌≡◌, inl, inr, ℕ, zero, suc, ◌+◌, ◌*◌, ◌≤◌, Bool, true, false, List, ◌∷◌, length, get_or}
 use Rattle.vms_check_laws.proofs.Facade.{Option, None, refl, sym, eq-eqb, ◌∙◌, arith, ℤ, pos, if◌then◌else◌, ◌++◌, Some, eqb-true, leb-true}
 use Rattle.vms_check_laws.proofs.Facade.{slice_get, ap, [], length-append, Kind, Item, Num, Equal, Unused, Struct, width, Count, One, Fixed, Counted, Formula}
-use Rattle.vms_check_laws.proofs.Facade.{Field, is_there, Slot, Number, no_parent, times, counted, capacity_of, item_cells, field_cells, elements_of}
-use Rattle.vms_check_laws.proofs.Facade.{item_slots, Entry, same_rest, same_count, same_kind, same_constant, holds_as_much, entry_of, present_from, defaults}
-use Rattle.vms_check_laws.proofs.Facade.{carry_item, carry_items, carry_field, Holds, FitsAt, Carries, size_same, elements_fit, ItemBelow, same_number_is, here}
-use Rattle.vms_check_laws.proofs.Facade.{presence, Cell, cells_from, slots_from, kind_of, is_steady_in, is_num, is_one, same_item, position_from, same_place}
-use Rattle.vms_check_laws.proofs.Facade.{carry_next, carry_from, entries_left, field_size, FieldsBelow, residue, desc_cells, AllZip}
+use Rattle.vms_check_laws.proofs.Facade.{Field, is_there, Slot, no_parent, times, counted, capacity_of, item_cells, field_cells, elements_of, item_slots, Entry}
+use Rattle.vms_check_laws.proofs.Facade.{same_rest, same_count, same_constant, holds_as_much, entry_of, present_from, defaults, carry_item, carry_items}
+use Rattle.vms_check_laws.proofs.Facade.{carry_field, Holds, FitsAt, Carries, size_same, elements_fit, ItemBelow, same_number_is, here, Aligns, FitsCell}
+use Rattle.vms_check_laws.proofs.Facade.{AllByRecursion, highest, ◌≤ℤ◌, presence, Cell, cells_from, slots_from, kind_of, is_steady_in, is_num, is_one}
+use Rattle.vms_check_laws.proofs.Facade.{same_item, position_from, same_place, carry_next, carry_from, entries_left, field_size, FieldsBelow, residue}
+use Rattle.vms_check_laws.proofs.Facade.{desc_cells, AllZip}
 use Rattle.vms_check_laws.proofs.PairLists.{when_there, defaults_size, Settled, settled_defaults, settled_empty, settled_append, same_defaults, if_least}
 use Rattle.vms_check_laws.proofs.Premises.{olds, news, older, newer, kinds_same, slots_at, entries_slots, known_there, Pairs, decoded, CoveredBy, Matched}
-use Rattle.vms_check_laws.proofs.Premises.{Sides, CountFits, CountNamed, OldGood, NewGood, OldFields, NewFields, Reads, covered_slots, Met}
+use Rattle.vms_check_laws.proofs.Premises.{Sides, CountFits, CountNamed, OldGood, NewGood, OldFields, NewFields, Reads, covered_slots, Met, PairGood, GoodCells}
+use Rattle.vms_check_laws.proofs.Premises.{FitCells, fit_append, fit_defaults}
 use Rattle.vms_check_laws.proofs.Presence.{covers_unused, filler_length, at_or_later, Agree, same_there, presence_named, there_here, not_covered, steady}
 use Rattle.vms_check_laws.proofs.Presence.{steady_rest, rest_none, one_number, Steady, holds_left, holds_right, holds_at, fits_left, fits_right, fits_at}
+
+-- what the older number fits, the newer's cell does
+abbrev pub Follows : (i j : Item) → (caps caps' : List ℕ) → Type 0
+Follows i j caps caps' =
+    (k : Kind) → i ≡ Num k → is_num j ≡ true → (z : ℤ) → z ≤ℤ highest k → AllByRecursion (λ m. z ≤ℤ pos m) caps → AllByRecursion (λ m. z ≤ℤ pos m) caps'
 
 module _ (sides : Sides) where
   open sides use {two, cs, ms, ns, numbers, numbers', at, at', below, below', table}
@@ -53,23 +61,19 @@ module _ (sides : Sides) where
   -- ---- how long it is
 
   item_sized : (i j : Item) (d : ℤ) (k : ℕ) → ItemBelow below' j → length (one_item i j d k) ≡ new_size j
-  item_sized (Num k) (Num l) d p lt = grind arith
-  item_sized (Struct i) (Struct j) d p lt = (table.rows j lt).sized i p
-  item_sized _ (Struct j) d p lt = defaults_size _
-  item_sized _ _ d p lt = refl
+  item_sized i j d k lt = grind (arith, defaults_size)
 
   items_sized : (i j : Item) (d : ℤ) (m most k : ℕ) → ItemBelow below' j → length (some_items i j d m most k) ≡ most * new_size j
   items_sized i j d m zero k lt = omega arith
   items_sized i j d zero (suc most) k lt = grind (arith, length-append, defaults_size, size_same, items_sized i j d zero most k lt)
   items_sized i j d (suc m) (suc most) k lt = grind (arith, length-append, item_sized, items_sized i j d m most (k + old_size i) lt)
 
-  field_sized : (e : Entry) (i : ℕ) (f : Field) → ItemBelow below' f.item → length (one_field e f) ≡ length (cells_at i f)
+  pub field_sized : (e : Entry) (i : ℕ) (f : Field) → ItemBelow below' f.item → length (one_field e f) ≡ length (cells_at i f)
   field_sized e i f lt = grind (arith, items_sized, field_size, news)
 
   next_sized : (i : ℕ) (g : Field) (pr : Option (Option Formula)) (es : List Entry) → ItemBelow below' g.item
       → length (next_field i g pr es) ≡ length (cells_at i g)
-  next_sized i g (Some rest) (e ∷ es) lt = field_sized e i g lt
-  next_sized i g _ _ lt = defaults_size _
+  next_sized i g pr es lt = grind (arith, field_sized, defaults_size)
 
   pub fields_sized : (i : ℕ) (gs : List Field) (es : List Entry) → FieldsBelow below' gs
       → length (all_fields i gs es) ≡ length (cells_from (news sides) b.fields i gs)
@@ -141,8 +145,7 @@ module _ (sides : Sides) where
   number_pair : (j i : Item) (d c : Count) (z : ℤ) (t : Bool) (x y : ℕ) → is_num j ≡ true → is_one d ≡ true → same_item i j ≡ true → same_count o n c d ≡ true
       → t ≡ true → Holds numbers' y (some_items i j z (if t then elements_of c (older sides) else 0) (capacity_of d) x)
       → residue (width (kind_of i)) (get_or numbers x (pos 0)) ≡ residue (width (kind_of j)) (get_or numbers' y (pos 0))
-  number_pair (Num l) (Num k) One One z true x y num one same counts there_is held = grind (arith, kinds_same, one_number)
-  number_pair _ _ _ _ z _ x y num one same counts there_is held = absurd (cc)
+  number_pair j i d c z t x y num one same counts there_is held = grind (arith, kinds_same, one_number)
 
   pair_agrees : (e f : Entry) → Met sides e f → Holds numbers' (at' + f.place) (one_field e f.field) → is_steady_in b f.index ≡ true
       → older sides e.index ≡ newer sides f.index
@@ -159,53 +162,117 @@ module _ (sides : Sides) where
 
   -- ---- one item, several items
 
-  number_reads : (t : Bool) (k l : Kind) (caps caps' : List ℕ) (d : ℤ) (x y : ℕ) → same_kind k l ≡ true → t ≡ true
-      → Holds numbers' y (if t then get_or numbers x (pos 0) ∷ [] else d ∷ [])
-      → Reads numbers numbers' (Number x k caps ∷ []) (Number y l caps' ∷ []) y (one_cell l caps' d) (if t then get_or numbers x (pos 0) ∷ [] else d ∷ [])
-  number_reads true k l caps caps' d x y same is held =
-      let e : y + 0 ≡ y = omega arith in
-      let f : get_or numbers x (pos 0) ≡ get_or numbers' y (pos 0) = sym (rw e at (held.each 0 (omega arith))) in
-      record {
-        carries = record { spells = ([], rw (f, kinds_same k l same), refl); rules = λ h. h };
-        settled = record { each = λ c lt. let z : y ≡ y + c = omega arith in inl (rw (← z, eq-eqb y y refl)) };
-      }
-  number_reads false k l caps caps' d x y same is held = absurd (cc)
+  -- what is known of elements of two items that may be paired: as of two descriptions, each fact by what it needs
+  pub record Elements (i j : Item) (caps caps' : List ℕ) (d' : ℤ) (xs : List Slot) (ys : ℕ → List Slot) (cells : List Cell) (segment : List ℤ) : Type 0 where
+    pub fits : GoodCells (item_cells (news sides) j caps' d') → Follows i j caps caps' → FitCells cells segment
+    pub aligned : (y : ℕ) → Aligns numbers xs numbers' (ys y)
+    pub reads : same_constant i j ≡ true → (y : ℕ) → Holds numbers' y segment → Reads numbers numbers' xs (ys y) y cells segment
 
-  item_reads : (i j : Item) (caps caps' : List ℕ) (d d' : ℤ) (x y : ℕ) → Pairs two below below' i j → same_constant i j ≡ true
-      → FitsAt (item_cells (olds sides) i caps d) numbers x → Holds numbers' y (one_item i j d' x)
-      → Reads numbers numbers' (item_slots ms i caps numbers x) (item_slots ns j caps' numbers' y) y (item_cells (news sides) j caps' d') (one_item i j d' x)
-  item_reads (Num k) (Num l) caps caps' d d' x y pair constant fits held = number_reads _ k l caps caps' d' x y pair.same pair.same held
-  item_reads (Equal k z) (Equal l u) caps caps' d d' x y pair constant fits held = search (arith, same_number_is, kinds_same, settled_empty)
-  item_reads (Unused m) (Unused r) caps caps' d d' x y pair constant fits held = record {
-    carries = carries_filler numbers numbers' _ r (filler_length numbers m ∙ eqb-true m r pair.same);
-    settled = settled_empty _ y [] [] refl;
+  item_meets : (i j : Item) (caps caps' : List ℕ) (d d' : ℤ) (x : ℕ) → Pairs two below below' i j → FitsAt (item_cells (olds sides) i caps d) numbers x
+      → Elements i j caps caps' d' (item_slots ms i caps numbers x) (λ y. item_slots ns j caps' numbers' y) (item_cells (news sides) j caps' d')
+      (one_item i j d' x)
+  item_meets (Num k) (Num l) caps caps' d d' x pair fits =
+      let e = kinds_same k l pair.same in
+      let z : x + 0 ≡ x = omega arith in
+      let f : FitsCell (record { kind = k; capacities = caps; default = d }) (get_or numbers x (pos 0)) = rw z at (fits.each 0 (omega arith)) in
+      rw pair.same (record {
+        fits = λ good follow. ((rw e at f.0, follow k refl refl (get_or numbers x (pos 0)) f.0.1 f.1), tt);
+        aligned = λ y. aligns_number _ _ x y k l caps caps' e;
+        reads = λ constant y held.
+            let u : y + 0 ≡ y = omega arith in
+            let same : get_or numbers x (pos 0) ≡ get_or numbers' y (pos 0) = sym (rw u at (held.each 0 (omega arith))) in
+            record {
+              carries = record { spells = ([], rw (same, e), refl); rules = λ h. h };
+              settled = record { each = λ c lt. let q : y ≡ y + c = omega arith in inl (rw (← q, eq-eqb y y refl)) };
+            };
+      })
+  item_meets (Equal k z) (Equal l u) caps caps' d d' x pair fits = record {
+    fits = λ good follow. tt;
+    aligned = λ y. aligns_constant _ _ k l z u (kinds_same k l pair.same);
+    reads = λ constant y held. search (arith, same_number_is, kinds_same, settled_empty);
   }
-  item_reads (Struct i) (Struct j) caps caps' d d' x y pair constant fits held = ((table.rows j pair.low').meets i pair.low pair.structs x fits).reads y held
-  item_reads _ _ caps caps' d d' x y pair constant fits held = absurd (cc)
+  item_meets (Unused m) (Unused r) caps caps' d d' x pair fits =
+      let e = filler_length numbers m ∙ eqb-true m r pair.same in
+      record {
+        fits = λ good follow. tt;
+        aligned = λ y. aligns_filler numbers numbers' _ r e;
+        reads = λ constant y held. record { carries = carries_filler numbers numbers' _ r e; settled = settled_empty _ y [] [] refl };
+      }
+  item_meets (Struct i) (Struct j) caps caps' d d' x pair fits =
+      let m = (table.rows j pair.low').meets i pair.low pair.structs x fits in
+      record { fits = λ good follow. m.fits; aligned = m.aligned; reads = λ constant. m.reads }
+  item_meets _ _ caps caps' d d' x pair fits = absurd (cc)
 
-  items_read : (i j : Item) (caps caps' : List ℕ) (d d' : ℤ) (m most most' p p' step step' x y : ℕ) → Pairs two below below' i j → same_constant i j ≡ true
-      → m ≤ most → m ≤ most' → FitsAt (times most (λ _. item_cells (olds sides) i caps d) p step) numbers x → Holds numbers' y (some_items i j d' m most' x)
-      → Reads numbers numbers' (times m (item_slots ms i caps numbers) x (old_size i)) (times m (item_slots ns j caps' numbers') y (new_size j)) y
+  items_meet : (i j : Item) (caps caps' : List ℕ) (d d' : ℤ) (m most most' p p' step step' x : ℕ) → Pairs two below below' i j → m ≤ most → m ≤ most'
+      → FitsAt (times most (λ _. item_cells (olds sides) i caps d) p step) numbers x
+      → Elements i j caps caps' d' (times m (item_slots ms i caps numbers) x (old_size i)) (λ y. times m (item_slots ns j caps' numbers') y (new_size j))
       (times most' (λ _. item_cells (news sides) j caps' d') p' step') (some_items i j d' m most' x)
-  items_read i j caps caps' d d' zero most zero p p' step step' x y pair constant le le' fits held =
-      record { carries = carries_nil; settled = settled_empty [] y [] [] refl }
-  items_read i j caps caps' d d' (suc m) most zero p p' step step' x y pair constant le le' fits held = absurd (omega arith)
-  items_read i j caps caps' d d' (suc m) zero (suc most') p p' step step' x y pair constant le le' fits held = absurd (omega arith)
-  items_read i j caps caps' d d' zero most (suc most') p p' step step' x y pair constant le le' fits held =
-      let first : Settled [] y (item_cells (news sides) j caps' d') (fallback j d') = rw (same_defaults _ j [] caps' d') (settled_defaults [] y _) in
-      let more =
-      items_read i j caps caps' d d' zero most most' p (p' + step') step step' x _ pair constant (omega arith) (omega arith) fits (holds_right _ held) in
+  items_meet i j caps caps' d d' zero most zero p p' step step' x pair le le' fits = record {
+    fits = λ good follow. tt;
+    aligned = λ y. aligns_nil _ _;
+    reads = λ constant y held. record { carries = carries_nil; settled = settled_empty [] y [] [] refl };
+  }
+  items_meet i j caps caps' d d' zero most (suc most') p p' step step' x pair le le' fits =
+      let more = items_meet i j caps caps' d d' zero most most' p (p' + step') step step' x pair (omega arith) (omega arith) fits in
+      let same = same_defaults (news sides) j [] caps' d' in
       let size = defaults_size (item_cells (news sides) j [] d') ∙ size_same _ j [] d' ∙ sym (size_same _ j caps' d') in
-      record { carries = carries_nil; settled = settled_append size first refl more.settled }
-  items_read i j caps caps' d d' (suc m) (suc most) (suc most') p p' step step' x y pair constant le le' fits held =
-      let sized = item_sized i j d' x pair.low' in
-      let first = item_reads i j caps caps' d d' x y pair constant (fits_left _ fits) (holds_left _ held) in
+      record {
+        fits = λ good follow. fit_append _ _ _ _ (rw same (fit_defaults _ good)) (more.fits good follow);
+        aligned = λ y. aligns_nil _ _;
+        reads = λ constant y held.
+            let first : Settled [] y (item_cells (news sides) j caps' d') (fallback j d') = rw same (settled_defaults [] y _) in
+            record { carries = carries_nil; settled = settled_append size first refl (more.reads constant _ (holds_right _ held)).settled };
+      }
+  items_meet i j caps caps' d d' (suc m) (suc most) (suc most') p p' step step' x pair le le' fits =
+      let first = item_meets i j caps caps' d d' x pair (fits_left _ fits) in
       let more =
-      items_read i j caps caps' d d' m most most' (p + step) (p' + step') step step' (x + old_size i) (y + new_size j) pair constant (omega arith) (omega arith)
-      (fits_at (omega (arith, size_same (olds sides) i caps d)) (fits_right (item_cells (olds sides) i caps d) fits))
-      (holds_at (omega arith) (holds_right (one_item i j d' x) held)) in
-      let settled = settled_append (sized ∙ sym (size_same (news sides) j caps' d')) first.settled (omega arith) more.settled in
-      record { carries = carries_append first.carries more.carries; settled = settled }
+      items_meet i j caps caps' d d' m most most' (p + step) (p' + step') step step' (x + old_size i) pair (omega arith) (omega arith)
+      (fits_at (omega (arith, size_same (olds sides) i caps d)) (fits_right (item_cells (olds sides) i caps d) fits)) in
+      let sized = item_sized i j d' x pair.low' in
+      record {
+        fits = λ good follow. fit_append _ _ _ _ (first.fits good follow) (more.fits good follow);
+        aligned = λ y. aligns_append numbers numbers' _ _ _ _ (first.aligned y) (more.aligned (y + new_size j));
+        reads = λ constant y held.
+            let one = first.reads constant y (holds_left _ held) in
+            let rest = more.reads constant (y + new_size j) (holds_at (omega arith) (holds_right (one_item i j d' x) held)) in
+            record {
+              carries = carries_append one.carries rest.carries;
+              settled = settled_append (sized ∙ sym (size_same (news sides) j caps' d')) one.settled (omega arith) rest.settled;
+            };
+      }
+  items_meet i j caps caps' d d' (suc m) _ _ p p' step step' x pair le le' fits = absurd (omega arith)
+
+  -- ---- two fields
+
+  abbrev pub there : Entry → Bool
+  there e = is_there e.field.test e.field.since v (older sides) no_parent
+
+  -- as many elements as an older field has, if it is there
+  abbrev pub count_if : Bool → Entry → ℕ
+  count_if t e = if t then elements_of e.field.count (older sides) else 0
+
+  abbrev old_slots : ℕ → Entry → List Slot
+  old_slots k e = times k (item_slots ms e.field.item (counted e.index a.fields) numbers) (at + e.place) (old_size e.field.item)
+
+  abbrev new_slots : ℕ → Entry → ℕ → List Slot
+  new_slots k f y = times k (item_slots ns f.field.item (counted f.index b.fields) numbers') y (new_size f.field.item)
+
+  elements_room : (c d : Count) → same_count o n c d ≡ true → holds_as_much c d ≡ true → elements_of c (older sides) ≤ capacity_of d
+  elements_room c d same room = grind arith
+
+  -- as many elements of one at which rules 7 to 12 hold
+  pub matched : (e f : Entry) (t : Bool) → PairGood two e f → Matched two e f → ItemBelow below e.field.item → ItemBelow below' f.field.item
+      → FitsAt (field_cells (olds sides) a.fields e.index e.field) numbers (at + e.place)
+      → Elements e.field.item f.field.item (counted e.index a.fields) (counted f.index b.fields) f.field.default (old_slots (count_if t e) e)
+      (λ y. new_slots (count_if t e) f y) (cells_at f.index f.field)
+      (some_items e.field.item f.field.item f.field.default (count_if t e) (capacity_of f.field.count) (at + e.place))
+  matched e f t good m low low' fits =
+      items_meet _ _ _ _ e.field.default _ _ _ _ 0 0 0 0 _ (record { same = m.item; structs = good.structs; low = low; low' = low' })
+      (if_least t _ _ (elements_fit e.field.count (older sides))) (if_least t _ _ (elements_room e.field.count f.field.count m.count m.room)) fits
+
+  -- what is covered has no cells
+  pub covered_cells : (e f : Entry) → CoveredBy two e f → length (cells_at f.index f.field) ≡ 0
+  covered_cells e f c = rw (field_size (news sides), (covers_unused e.field.item e.field.count f.field.item c.covers).1) (omega arith)
 
   module _ (ok : ℕ → Bool) where
     -- two present fields at which no rule fails, and what is known of them
@@ -220,90 +287,64 @@ module _ (sides : Sides) where
     same_elements : (c d : Count) → Agree o n ok (older sides) (newer sides) → CountFits (older sides) c → CountNamed ok d → same_count o n c d ≡ true
         → holds_as_much c d ≡ true
         → elements_of c (older sides) ≡ elements_of d (newer sides)
-    same_elements One One agree fits named same room = refl
-    same_elements (Fixed p) (Fixed q) agree fits named same room = eqb-true p q same
-    same_elements (Counted by most) (Counted by' most') agree fits named same room = grind arith
-    same_elements _ _ agree fits named same room = absurd (cc)
+    same_elements c d agree fits named same room = grind arith
 
-    elements_room : (c d : Count) → same_count o n c d ≡ true → holds_as_much c d ≡ true → elements_of c (older sides) ≤ capacity_of d
-    elements_room One One same room = omega arith
-    elements_room (Fixed p) (Fixed q) same room = omega (arith, eqb-true p q same)
-    elements_room (Counted by most) (Counted by' most') same room = omega (arith, leb-true most most' room)
-    elements_room _ _ same room = absurd (cc)
+    -- what is known of slots on both sides, at two fields where no rule fails: of none, of what is covered, and of as many elements
+    pub record PairMeets (e f : Entry) (xs ys : List Slot) : Type 0 where
+      pub aligned : Aligns numbers xs numbers' ys
+      pub reads : Holds numbers' (at' + f.place) (one_field e f.field)
+          → Reads numbers numbers' xs ys (at' + f.place) (cells_at f.index f.field) (one_field e f.field)
 
-    abbrev old_slots : ℕ → Entry → List Slot
-    old_slots k e = times k (item_slots ms e.field.item (counted e.index a.fields) numbers) (at + e.place) (old_size e.field.item)
-
-    abbrev new_slots : ℕ → Entry → List Slot
-    new_slots k f = times k (item_slots ns f.field.item (counted f.index b.fields) numbers') (at' + f.place) (new_size f.field.item)
-
-    -- as many elements as an older field has, if it is there
-    abbrev count_if : Bool → Entry → ℕ
-    count_if t e = if t then elements_of e.field.count (older sides) else 0
-
-    abbrev Both : (P : List Slot → List Slot → Type 0) → (e f : Entry) → ℕ → ℕ → Type 0
-    Both P e f k l = P (old_slots k e) (new_slots l f)
-
-    abbrev there : Entry → Bool
-    there e = is_there e.field.test e.field.since v (older sides) no_parent
-
-    -- a property of slots on both sides, at two fields where no rule fails: of none, of what is covered, and of as many elements
-    module _ (P : List Slot → List Slot → Type 0) where
-      pub pair_by : (e f : Entry) → Opposite e f
-          → (CoveredBy two e f → P [] [] × Both P e f (elements_of e.field.count (older sides)) (elements_of f.field.count (newer sides)))
-          → (Matched two e f → (t : Bool) → there e ≡ t → Both P e f (count_if t e) (count_if t e))
-          → P (slots_at ms a.fields v (older sides) numbers at e.index e.place e.field) (slots_at ns b.fields w (newer sides) numbers' at' f.index f.place f.field)
-      pair_by e f p covers items =
-          let there_f = is_there f.field.test f.field.since w (newer sides) no_parent in
-          let same : same_rest o n e.rest f.rest ≡ true → there e ≡ there_f = λ h.
-          there_here v e.field.test e.field.since e.rest (older sides) no_parent p.known.left
-          ∙ same_there o n ok (older sides) (newer sides) no_parent no_parent v w p.agree e.rest f.rest
-          (presence_named ok w f.field.test f.field.since f.rest p.new.test p.known'.left) h
-          ∙ sym (there_here w f.field.test f.field.since f.rest (newer sides) no_parent p.known'.left) in
-          let xs = old_slots (elements_of e.field.count (older sides)) e in
-          let ys = new_slots (elements_of f.field.count (newer sides)) f in
-          elim (decoded two e f p.good) [
-            | inl c ↦ when_there P _ _ xs ys (same c.rest) (λ is. (covers c).0) (λ is. (covers c).1)
-            | inr m ↦ when_there P _ _ xs ys (same m.rest) (items m false)
-                (λ is. rw (← (same_elements _ _ p.agree p.old.count p.new.count m.count m.room)) (items m true is))
-          ]
-
-    abbrev ReadsHere : (e f : Entry) → List Slot → List Slot → Type 0
-    ReadsHere e f xs ys = Reads numbers numbers' xs ys (at' + f.place) (cells_at f.index f.field) (one_field e f.field)
+    abbrev Both : (e f : Entry) → ℕ → ℕ → Type 0
+    Both e f k l = PairMeets e f (old_slots k e) (new_slots l f (at' + f.place))
 
     covers : (e f : Entry) → Opposite e f → CoveredBy two e f
-        → ReadsHere e f [] [] × Both (ReadsHere e f) e f (elements_of e.field.count (older sides)) (elements_of f.field.count (newer sides))
+        → PairMeets e f [] [] × Both e f (elements_of e.field.count (older sides)) (elements_of f.field.count (newer sides))
     covers e f p c =
-        let empty : length (one_field e f.field) ≡ 0 =
-        field_sized e f.index f.field p.new.item
-        ∙ rw (field_size (news sides), (covers_unused e.field.item e.field.count f.field.item c.covers).1) (omega arith) in
+        let empty = field_sized e f.index f.field p.new.item ∙ covered_cells e f c in
         let s =
         covered_slots ms ns numbers numbers' (older sides) (newer sides) e.field.item e.field.count f.field.item f.field.count (counted e.index a.fields)
         (counted f.index b.fields) (at + e.place) (at' + f.place) (old_size e.field.item) (new_size f.field.item) c.covers p.old.single p.new.single in
-        let settled : (xs : List Slot) → Settled xs (at' + f.place) (cells_at f.index f.field) (one_field e f.field) = λ xs. settled_empty xs _ _ _ empty in
-        (record { carries = carries_nil; settled = settled [] }, record { carries = rw s.1 (carries_filler numbers numbers' _ s.0 s.2); settled = settled _ })
+        let settled : (xs : List Slot) → Settled xs (at' + f.place) (cells_at f.index f.field) (one_field e f.field) = λ xs. settled_empty xs _ _ _ empty in (
+          record { aligned = aligns_nil _ _; reads = λ held. record { carries = carries_nil; settled = settled [] } },
+          record {
+            aligned = rw s.1 (aligns_filler numbers numbers' _ s.0 s.2);
+            reads = λ held. record { carries = rw s.1 (carries_filler numbers numbers' _ s.0 s.2); settled = settled _ };
+          },
+        )
 
-    items : (e f : Entry) → Opposite e f → Holds numbers' (at' + f.place) (one_field e f.field) → Matched two e f → (t : Bool) → there e ≡ t
-        → Both (ReadsHere e f) e f (count_if t e) (count_if t e)
-    items e f p held m t is =
-        let le = if_least t _ _ (elements_fit e.field.count (older sides)) in
-        let le' = if_least t _ _ (elements_room e.field.count f.field.count m.count m.room) in
-        let pair : Pairs two below below' e.field.item f.field.item = record { same = m.item; structs = p.good.structs; low = p.old.item; low' = p.new.item } in
-        rw is (items_read _ _ _ _ e.field.default f.field.default _ _ _ 0 0 0 0 _ _ pair m.constant le le' p.fits (rw is at held))
+    items : (e f : Entry) → Opposite e f → Matched two e f → (t : Bool) → there e ≡ t → Both e f (count_if t e) (count_if t e)
+    items e f p m t is =
+        let q = matched e f t p.good m p.old.item p.new.item p.fits in
+        record { aligned = q.aligned (at' + f.place); reads = rw is (q.reads m.constant (at' + f.place)) }
 
-    pub pair_reads : (e f : Entry) → Opposite e f → Holds numbers' (at' + f.place) (one_field e f.field)
-        → ReadsHere e f (slots_at ms a.fields v (older sides) numbers at e.index e.place e.field) (slots_at ns b.fields w (newer sides) numbers' at' f.index f.place f.field)
-    pair_reads e f p held = pair_by (ReadsHere e f) e f p (covers e f p) (items e f p held)
+    pub pair_meets : (e f : Entry) → Opposite e f
+        → PairMeets e f (slots_at ms a.fields v (older sides) numbers at e.index e.place e.field) (slots_at ns b.fields w (newer sides) numbers' at' f.index f.place f.field)
+    pair_meets e f p =
+        let there_f = is_there f.field.test f.field.since w (newer sides) no_parent in
+        let same : same_rest o n e.rest f.rest ≡ true → there e ≡ there_f = λ h.
+        there_here v e.field.test e.field.since e.rest (older sides) no_parent p.known.left
+        ∙ same_there o n ok (older sides) (newer sides) no_parent no_parent v w p.agree e.rest f.rest
+        (presence_named ok w f.field.test f.field.since f.rest p.new.test p.known'.left) h
+        ∙ sym (there_here w f.field.test f.field.since f.rest (newer sides) no_parent p.known'.left) in
+        let xs = old_slots (elements_of e.field.count (older sides)) e in
+        let ys = new_slots (elements_of f.field.count (newer sides)) f (at' + f.place) in
+        elim (decoded two e f p.good) [
+          | inl c ↦ when_there (PairMeets e f) _ _ xs ys (same c.rest) (λ is. (covers e f p c).0) (λ is. (covers e f p c).1)
+          | inr m ↦ when_there (PairMeets e f) _ _ xs ys (same m.rest) (items e f p m false)
+              (λ is. rw (← (same_elements _ _ p.agree p.old.count p.new.count m.count m.room)) (items e f p m true is))
+        ]
 
     -- all pairs of two descriptions
     module _ (old : OldFields below (older sides) a.fields) (new : NewFields below' ok b.fields) (fits : FitsAt (desc_cells (olds sides) a) numbers at)
         (agree : Agree o n ok (older sides) (newer sides)) where
       met_reads : (e f : Entry) → Met sides e f × Holds numbers' (at' + f.place) (one_field e f.field)
-          → ReadsHere e f (slots_at ms a.fields v (older sides) numbers at e.index e.place e.field) (slots_at ns b.fields w (newer sides) numbers' at' f.index f.place f.field)
+          → Reads numbers numbers' (slots_at ms a.fields v (older sides) numbers at e.index e.place e.field)
+          (slots_at ns b.fields w (newer sides) numbers' at' f.index f.place f.field) (at' + f.place) (cells_at f.index f.field) (one_field e f.field)
       met_reads e f h =
           let m = h.0 in
           let old_e = old e.index e.field m.known.field in
-          pair_reads e f (record { met = m; old = old_e; new = new f.index f.field m.known'.field; fits = m.known.fits fits; agree = agree }) h.1
+          (pair_meets e f (record { met = m; old = old_e; new = new f.index f.field m.known'.field; fits = m.known.fits fits; agree = agree })).reads h.1
 
       pub fields_carry : (es fs : List Entry) → Linked es fs
           → Carries numbers (entries_slots ms a.fields v (older sides) numbers at es) numbers' (entries_slots ns b.fields w (newer sides) numbers' at' fs)

@@ -13,8 +13,8 @@ use Rattle.vms_check_laws.proofs.Facade.{array_partners, field_partners, fields_
 use Rattle.vms_check_laws.proofs.Facade.{WellFormed, first_at, struct_slots, struct_cells_at, meanings_above, meanings_are, cells_first, carriers, carrying}
 use Rattle.vms_check_laws.proofs.Facade.{pairer_of, pairers, part_partners, within, get_or_past, slice_get-get_or, desc_cells_same, first_same, item_below}
 use Rattle.vms_check_laws.proofs.Facade.{first_long, Clean, struct_clean, first, carrier_of}
-use Rattle.vms_check_laws.proofs.PairLists.{IsPair, paired_append, same_defaults, defaults_append, paired_none, one_cell, Goes, IsWithin, goes_absent}
-use Rattle.vms_check_laws.proofs.PairLists.{goes_alone, goes_append, IsOnce}
+use Rattle.vms_check_laws.proofs.PairLists.{paired_append, same_defaults, defaults_append, paired_none, one_cell, Goes, IsWithin, goes_absent}
+use Rattle.vms_check_laws.proofs.PairLists.{goes_alone, goes_append}
 
 -- ---- slots are within their cells
 
@@ -48,32 +48,26 @@ module _ (structs : List Pairer) (cs : List Carrier) (ms : List Meaning) (y : Li
         → Goes (one_cell l caps d) (one_cell m caps' d') numbers (Number at l caps ∷ []) at at'
         ((if b then Some at' else None) ∷ []) (if b then get_or numbers at (pos 0) ∷ [] else d' ∷ [])
     one_goes l m caps caps' d d' at at' true same w = record {
-      paired = record { long = refl; pairs = λ c n e. pair c n e; once = λ b c n e f. both b c n e f };
+      paired = record {
+        long = refl;
+        pairs = λ c n e. let o = only c n e in record { r = 0; is = omega arith; inside = omega arith; kind = rw o.0 (kinds_same l m same) };
+        once = λ b c n e f. omega (arith, only b n e, only c n f);
+      };
       within = w;
       long = refl;
-      taken = taken;
-      other = other;
-    } where
-      pair : (c n : ℕ) → slice_get (Some at' ∷ []) c ≡ Some (Some n) → IsPair (one_cell l caps d) (one_cell m caps' d') at' c n
-      pair zero n e = let s : at' ≡ n = cc in record { r = 0; is = omega arith; inside = omega arith; kind = kinds_same l m same }
-      pair (suc c) n e = absurd (cc)
-
-      both : IsOnce (Some at' ∷ [])
-      both zero zero n e f = refl
-      both _ _ n e f = absurd (cc)
-
-      taken : (c r : ℕ) → slice_get (Some at' ∷ []) c ≡ Some (Some (at' + r)) → has_cell (Number at l caps ∷ []) (at + c) ≡ true
-          → get_or (get_or numbers at (pos 0) ∷ []) r (pos 0) ≡ get_or numbers (at + c) (pos 0)
-      taken zero zero e f = let z : at + 0 ≡ at = omega arith in rw z
-      taken zero (suc r) e f = grind arith
-      taken (suc c) r e f = absurd (cc)
-
-      other : (r : ℕ) → r < 1 → ((c : ℕ) → slice_get (Some at' ∷ []) c ≡ Some (Some (at' + r)) → has_cell (Number at l caps ∷ []) (at + c) ≡ false)
-          → get_or (get_or numbers at (pos 0) ∷ []) r (pos 0) ≡ (get_or (one_cell m caps' d') r no_cell).default
-      other r lt f =
+      taken = λ c r e f.
+          let c_is : c ≡ 0 = (only c _ e).0 in
+          let r_is : r ≡ 0 = omega (arith, only c _ e) in
+          let z : at + 0 ≡ at = omega arith in
+          rw (c_is, r_is, z);
+      other = λ r lt f.
           let z : at + 0 ≡ at = omega arith in
           let has : has_cell (Number at l caps ∷ []) (at + 0) ≡ true = rw (z, eq-eqb at at refl) in
-          absurd (cc (has, f 0 (ap (λ i. Some (Some i)) (omega arith))))
+          absurd (cc (has, f 0 (ap (λ i. Some (Some i)) (omega arith))));
+    } where
+      only : (c n : ℕ) → slice_get (Some at' ∷ []) c ≡ Some (Some n) → (c ≡ 0) × (at' ≡ n)
+      only zero n e = (refl, cc)
+      only (suc c) n e = cc
     one_goes l m caps caps' d d' at at' false same w = goes_alone 1 refl w refl
 
     item_goes : (a b : Item) (caps caps' : List ℕ) (d d' : ℤ) (at at' : ℕ) → ItemBelow k a → ItemBelow k' b

@@ -1,13 +1,13 @@
 -- The subsections of a device, and the partners of its cells.
 use Rattle.vms_check_laws.proofs.Facade.{places_apart, IsCellOf, ◌≡◌, ◌⊎◌, inl, inr, ℕ, zero, suc, ◌+◌, ◌<◌, ◌≤◌, Bool, true, false}
-use Rattle.vms_check_laws.proofs.Facade.{◌||◌, List, ◌∷◌, ◌++◌, length, get_or, Option, Some, None, ℤ, refl, sym, ◌∙◌, arith, flat_map}
-use Rattle.vms_check_laws.proofs.Facade.{slice_get, length-append, bytes_eq, bytes_eq-Decides, cases_lt, [], slice_get-get_or, Sub, Device, Set, Cell}
-use Rattle.vms_check_laws.proofs.Facade.{desc_cells, device_cells, struct_cells, has_cell, own_cells, came_slots, sub_slots, sub_place, find_sub, names_append}
-use Rattle.vms_check_laws.proofs.Facade.{sub_size, ◌*◌, ap, get_or_append_left, get_or-append-add, length-replicate, WellFormed, part_partners, no_cell}
-use Rattle.vms_check_laws.proofs.Facade.{sub_place_up, device_parts, sub_clean, sub_found, ArePartners, named_partners, device_partners}
+use Rattle.vms_check_laws.proofs.Facade.{◌||◌, List, ◌∷◌, length, get_or, Option, Some, None, ℤ, refl, sym, ◌∙◌, arith, flat_map, sub_is}
+use Rattle.vms_check_laws.proofs.Facade.{Image, carried_sub, carrying, defaults, sub_came, index, slice_get, length-append, bytes_eq-Decides, cases_lt, []}
+use Rattle.vms_check_laws.proofs.Facade.{slice_get-get_or, Sub, Device, Set, Cell, desc_cells, device_cells, struct_cells, has_cell, own_cells, came_slots}
+use Rattle.vms_check_laws.proofs.Facade.{sub_slots, sub_place, find_sub, names_append, sub_size, ◌*◌, ap, length-replicate, WellFormed, part_partners}
+use Rattle.vms_check_laws.proofs.Facade.{no_cell, sub_place_up, device_parts, sub_clean, sub_found, ArePartners, named_partners, device_partners}
+use Rattle.vms_check_laws.proofs.Facade.{get_or_from_slice_get, cells_of_sub, ◌-◌}
 use Rattle.vms_check_laws.proofs.GoesFields.{part_goes, below_of}
-use Rattle.vms_check_laws.proofs.PairLists.{IsBehind, at_left, at_right, before_or_behind, behind_at, AreFrom, at_none, once_append, IsOnce, IsPair}
-use Rattle.vms_check_laws.proofs.Presence.{RestAt, at_first, one_on, from_zero, if_is}
+use Rattle.vms_check_laws.proofs.PairLists.{IsBehind, at_left, at_right, before_or_behind, behind_at, AreFrom, at_none, IsOnce, IsPair, paired_append}
 
 -- ---- what has a name, and where it is
 
@@ -18,23 +18,32 @@ pub record Found (subs : List Sub) (name : List ℕ) : Type 0 where
   pub there : slice_get subs number ≡ Some sub
   pub name_is : sub.desc.name ≡ name
 
-found_from : (all : List Sub) (name : List ℕ) (k r : ℕ) (subs : List Sub) → RestAt all k subs → find_sub k subs name ≡ Some r
-    → (s : Sub) × (slice_get all r ≡ Some s) × (s.desc.name ≡ name)
-found_from all name k r [] at h = absurd (cc)
-found_from all name k r (s ∷ subs) at h = elim (if_is (λ o. o) (bytes_eq s.desc.name name) (Some k) (find_sub (suc k) subs name) h) [
-  | inl now ↦
-      let same : k ≡ r = cc (now.1) in
-      (s, rw same at (at_first (slice_get all) k at), (bytes_eq-Decides s.desc.name name).0 now.0)
-  | inr later ↦ found_from all name (suc k) r subs (one_on (slice_get all) k at) later.1
-]
-
 pub look_up : (subs : List Sub) (name : List ℕ) → (find_sub 0 subs name ≡ None) ⊎ Found subs name
 look_up subs name = by _ refl where
   by : (r : Option ℕ) → find_sub 0 subs name ≡ r → (find_sub 0 subs name ≡ None) ⊎ Found subs name
   by None h = inl h
   by (Some r) h =
-      let f = found_from subs name 0 r subs (from_zero (slice_get subs)) h in
-      inr (record { number = r; sub = f.0; found = h; there = f.1; name_is = f.2 })
+      let f = sub_is subs 0 name r h in
+      let same : f.i ≡ r = omega arith in
+      inr (record { number = r; sub = f.sub; found = h; there = rw same at f.there; name_is = (bytes_eq-Decides _ name).0 f.name_is })
+
+-- what is carried to a subsection of new: the one of its name came with the older image, or none did
+module _ (old new : Set) (d : Device) (image : Image) (t : Sub) where
+  pub record Comes : Type 0 where
+    pub f : Found d.subs t.desc.name
+    pub v : ℕ
+    pub is_come : slice_get image.came f.number ≡ Some (Some v)
+    pub segment : carried_sub old new d image t ≡ carrying old new image.numbers v f.sub.desc t.desc (sub_place old (own_cells old d) d.subs f.number)
+
+  pub record Stays : Type 0 where
+    pub came : sub_came old new (find_sub 0 d.subs t.desc.name) (slice_get image.came (index (find_sub 0 d.subs t.desc.name))) ≡ None
+    pub segment : carried_sub old new d image t ≡ defaults (desc_cells (struct_cells new) t.desc)
+
+  pub comes : Stays ⊎ Comes
+  comes = elim (look_up d.subs t.desc.name) [ inl none ↦ inl (record { came = rw none; segment = rw none }) | inr f ↦ by_came f _ refl ] where
+    by_came : (f : Found d.subs t.desc.name) (o : Option (Option ℕ)) → slice_get image.came f.number ≡ o → Stays ⊎ Comes
+    by_came f (Some (Some v)) g = inr (record { f = f; v = v; is_come = g; segment = rw (f.found, f.there, g) })
+    by_came f _ g = inl (record { came = rw (f.found, g); segment = rw (f.found, f.there, g) })
 
 -- ---- lists that have one part for each subsection
 
@@ -65,39 +74,34 @@ module _ {A : Type 0} (set : Set) (f : Sub → List A) where
           record { m = suc h.m; sub = h.sub; there = h.there; c = h.c; is = omega (arith, size 0 s refl); inside = h.inside; here = h.here }
 
   -- a part is at its subsection's place
-  pub record PartIn (from : ℕ) (subs : List Sub) (m : ℕ) (s : Sub) : Type 0 where
-    pub q : ℕ
-    pub place : sub_place set from subs m ≡ from + q
-    pub within : q + sub_size set s ≤ length (flat_map f subs)
-    pub at : (c : ℕ) → c < sub_size set s → slice_get (flat_map f subs) (q + c) ≡ slice_get (f s) c
-    pub long : length (f s) ≡ sub_size set s
-
-  pub part_in : (from : ℕ) (subs : List Sub) (m : ℕ) (s : Sub) → Sized subs → slice_get subs m ≡ Some s → PartIn from subs m s
-  part_in from [] m s size e = absurd (cc)
-  part_in from (t ∷ subs) zero s size e =
-      let same : t ≡ s = cc in
+  pub at_place : (from : ℕ) (subs : List Sub) (m : ℕ) (s : Sub) → Sized subs → slice_get subs m ≡ Some s → (b c : ℕ) → c < sub_size set s
+      → from + b ≡ sub_place set from subs m + c → slice_get (flat_map f subs) b ≡ slice_get (f s) c
+  at_place from [] m s size e b c lt is = absurd (cc)
+  at_place from (t ∷ subs) zero s size e b c lt is =
+      let same : s ≡ t = cc in
+      let b_is : b ≡ c = omega arith in
+      rw (same, b_is) (at_left (f t) (flat_map f subs) c (omega (arith, size 0 t refl, rw same at lt)))
+  at_place from (t ∷ subs) (suc m) s size e b c lt is =
+      let low = sub_place_up set (from + sub_size set t) subs m in
       let long = size 0 t refl in
-      let at : (c : ℕ) → c < sub_size set t → slice_get (f t ++ flat_map f subs) (0 + c) ≡ slice_get (f t) c = λ c lt.
-      let z : 0 + c ≡ c = omega arith in
-      rw z (at_left (f t) (flat_map f subs) c (omega arith)) in
-      rw (← same) (record { q = 0; place = omega arith; within = omega (arith, length-append (f t) (flat_map f subs)); at = at; long = long })
-  part_in from (t ∷ subs) (suc m) s size e =
-      let h = part_in (from + sub_size set t) subs m s (λ m' u g. size (suc m') u g) e in
-      record {
-        q = length (f t) + h.q;
-        place = omega (arith, size 0 t refl);
-        within = omega (arith, length-append (f t) (flat_map f subs));
-        at = λ c lt. let z : (length (f t) + h.q) + c ≡ length (f t) + (h.q + c) = omega arith in rw z (at_right (f t) _ _ ∙ h.at c lt);
-        long = h.long;
-      }
+      let b_is : b ≡ length (f t) + (b - length (f t)) = omega arith in
+      rw b_is (at_right (f t) _ _ ∙ at_place (from + sub_size set t) subs m s (λ k u g. size (suc k) u g) e (b - length (f t)) c lt (omega arith))
 
-  pub part_number : (from : ℕ) (subs : List Sub) (m : ℕ) (s : Sub) (h : PartIn from subs m s) (z : A) (c : ℕ) → c < sub_size set s
-      → get_or (flat_map f subs) (h.q + c) z ≡ get_or (f s) c z
-  part_number from subs m s h z c lt = grind (arith, slice_get-get_or)
+  pub number_at : (from : ℕ) (subs : List Sub) (m : ℕ) (s : Sub) → Sized subs → slice_get subs m ≡ Some s → (z : A) (b c : ℕ) → c < sub_size set s
+      → from + b ≡ sub_place set from subs m + c → get_or (flat_map f subs) b z ≡ get_or (f s) c z
+  number_at from subs m s size e z b c lt is =
+      get_or_from_slice_get (flat_map f subs) b _ z (at_place from subs m s size e b c lt is ∙ slice_get-get_or (f s) c z (omega (arith, size m s e)))
 
   pub all_long : (subs : List Sub) → Sized subs → length (flat_map f subs) ≡ length (flat_map (λ s. desc_cells (struct_cells set) s.desc) subs)
   all_long [] size = refl
   all_long (s ∷ subs) size = simp length-append (rw (size 0 s refl, all_long subs (λ m t e. size (suc m) t e)))
+
+-- a subsection's cells end among those of all
+pub sub_top : (set : Set) (from : ℕ) (subs : List Sub) (m : ℕ) (s : Sub) → slice_get subs m ≡ Some s
+    → sub_place set from subs m + sub_size set s ≤ from + length (flat_map (λ s. desc_cells (struct_cells set) s.desc) subs)
+sub_top set from subs m s e =
+    cells_of_sub (λ at xs. at + length xs ≤ from + length (flat_map (λ (s : Sub). desc_cells (struct_cells set) s.desc) subs))
+    (λ at xs ys h. omega (arith, length-append xs ys)) (λ at xs ys h. omega (arith, length-append xs ys)) set from subs m s e (omega arith)
 
 -- ---- which part a cell in the bytes is of
 
@@ -110,8 +114,7 @@ pub record HasPart (set : Set) (d : Device) (numbers : List ℤ) (from : ℕ) (s
   pub has : has_cell (sub_slots set sub version numbers (sub_place set from subs j)) c ≡ true
 
 pub or_split : (a b : Bool) → (a || b) ≡ true → (a ≡ true) ⊎ ((a ≡ false) × (b ≡ true))
-or_split true b h = inl refl
-or_split false b h = inr (refl, h)
+or_split a b h = grind arith
 
 pub has_part : (set : Set) (d : Device) (numbers : List ℤ) (from : ℕ) (subs : List Sub) (came : List (Option ℕ)) (c : ℕ)
     → has_cell (came_slots set d numbers from subs came) c ≡ true → HasPart set d numbers from subs came c
@@ -145,7 +148,7 @@ module _ (set : Set) where
   abbrev cells_of : Sub → List Cell
   cells_of s = desc_cells (struct_cells set) s.desc
 
-  in_one : (from : ℕ) (subs : List Sub) (c : ℕ) → from ≤ c → c < from + length (flat_map cells_of subs)
+  pub in_one : (from : ℕ) (subs : List Sub) (c : ℕ) → from ≤ c → c < from + length (flat_map cells_of subs)
       → (j : ℕ) × (s : Sub) × (slice_get subs j ≡ Some s) × (sub_place set from subs j ≤ c) × (c < sub_place set from subs j + sub_size set s)
   in_one from [] c low high = absurd (omega arith)
   in_one from (s ∷ subs) c low high = elim (cases_lt c (from + sub_size set s)) [
@@ -198,27 +201,10 @@ module _ (old new : Set) (good_old : WellFormed old) (good_new : WellFormed new)
   names_of : (s s' : Sub) (c c' k : ℕ) → IsSubPair s c k → IsSubPair s' c' k → s.desc.name ≡ s'.desc.name
   names_of s s' c c' k p q = grind (arith, one_part)
 
-  -- ---- the device
-
-  own : AreFrom (desc_cells (struct_cells old) d.desc) (desc_cells (struct_cells new) e.desc) 0 (part_partners old new d.desc.version d.desc e.desc 0)
-  own = (part_goes old new good_old good_new [] _ d.desc e.desc 0 0 (below_of _ d.desc _ (device_parts old good_old i d at_i).0)).paired
-
-  abbrev ps : List (Option ℕ)
-  ps = part_partners old new d.desc.version d.desc e.desc 0
-
   abbrev qs : List (Option ℕ)
   qs = flat_map (named_partners old new e) d.subs
 
-  abbrev xs : List Cell
-  xs = desc_cells (struct_cells old) d.desc
-
-  abbrev us : List Cell
-  us = desc_cells (struct_cells new) e.desc
-
-  own_pair : (c k : ℕ) → c < length ps → slice_get (ps ++ qs) c ≡ Some (Some k) → IsPair xs us 0 c k
-  own_pair c k lt f = own.pairs c k (sym (at_left ps qs c lt) ∙ f)
-
-  sized : (m : ℕ) (s : Sub) → slice_get d.subs m ≡ Some s → length (named_partners old new e s) ≡ sub_size old s
+  pub sized : (m : ℕ) (s : Sub) → slice_get d.subs m ≡ Some s → length (named_partners old new e s) ≡ sub_size old s
   sized m s at = (one_sub m s at).long
 
   -- the subsection that a cell is of, and its pair
@@ -231,9 +217,6 @@ module _ (old new : Set) (good_old : WellFormed old) (good_new : WellFormed new)
       let w = stands_in old _ _ d.subs b _ sized f in
       record { stands = w; pair = (one_sub w.m w.sub w.there).pairs w.c k w.here }
 
-  sub_pair : (c k : ℕ) (b : IsBehind (length ps) c) → slice_get (ps ++ qs) c ≡ Some (Some k) → InSub b.more k
-  sub_pair c k b f = in_sub b.more k (behind_at ps qs c b f)
-
   once_in : IsOnce qs
   once_in b c k f g =
       let x = in_sub b k f in
@@ -245,38 +228,38 @@ module _ (old new : Set) (good_old : WellFormed old) (good_new : WellFormed new)
       let one : v.sub ≡ w.sub = cc in
       omega (arith, (one_sub w.m w.sub w.there).once v.c w.c k (rw one at v.here) w.here, ap (sub_place old (own_cells old d) d.subs) same)
 
-  kinds : (c k : ℕ) → slice_get (ps ++ qs) c ≡ Some (Some k) → (c < length ps) ⊎ IsBehind (length ps) c
-      → (k < length (device_cells new e)) × ((get_or (device_cells old d) c no_cell).kind ≡ (get_or (device_cells new e) k no_cell).kind)
-  kinds c k f (inl lt) =
-      let p = own_pair c k lt f in
-      let k_is : k ≡ p.r = omega arith in
-      let before = get_or_append_left xs (flat_map old_cells d.subs) no_cell c (omega (arith, own.long)) in
-      let after = get_or_append_left us (flat_map new_cells e.subs) no_cell p.r p.inside in
-      rw k_is (omega (arith, length-append us (flat_map new_cells e.subs)), rw (before, after) p.kind)
-  kinds c k f (inr behind) =
-      let z = sub_pair c k behind f in
+  pair_in : (c k : ℕ) → slice_get qs c ≡ Some (Some k) → IsPair (flat_map old_cells d.subs) (flat_map new_cells e.subs) (own_cells new e) c k
+  pair_in c k f =
+      let z = in_sub c k f in
       let w = z.stands in
       let p = z.pair in
-      let h = part_in old old_cells (own_cells old d) d.subs w.m w.sub (λ m s e. refl) w.there in
-      let h' = part_in new new_cells (own_cells new e) e.subs p.f.number p.f.sub (λ m s e. refl) p.f.there in
-      let c_is : c ≡ length xs + (h.q + w.c) = omega (arith, own.long) in
-      let k_is : k ≡ length us + (h'.q + p.r) = omega arith in
-      let before =
-      get_or-append-add xs (flat_map old_cells d.subs) (h.q + w.c) no_cell
-      ∙ part_number old old_cells (own_cells old d) d.subs w.m w.sub h no_cell w.c w.inside in
-      let after =
-      get_or-append-add us (flat_map new_cells e.subs) (h'.q + p.r) no_cell
-      ∙ part_number new new_cells (own_cells new e) e.subs p.f.number p.f.sub h' no_cell p.r p.inside in
-      let kind : (get_or (device_cells old d) (length xs + (h.q + w.c)) no_cell).kind ≡ (get_or (device_cells new e) (length us + (h'.q + p.r)) no_cell).kind =
-      rw (before, after) p.kind in
-      (omega (arith, length-append us (flat_map new_cells e.subs)), rw (← c_is, ← k_is) at kind)
+      let b = k - own_cells new e in
+      let low = sub_place_up new (own_cells new e) e.subs p.f.number in
+      let is : own_cells new e + b ≡ sub_place new (own_cells new e) e.subs p.f.number + p.r = omega arith in
+      record {
+        r = b;
+        is = omega arith;
+        inside = omega (arith, sub_top new (own_cells new e) e.subs p.f.number p.f.sub p.f.there);
+        kind = rw (
+          number_at old old_cells _ d.subs w.m w.sub (λ m s e. refl) w.there no_cell c w.c w.inside w.is,
+          number_at new new_cells _ e.subs p.f.number p.f.sub (λ m s e. refl) p.f.there no_cell b p.r p.inside is,
+        )
+            p.kind;
+      }
+
+  -- the subsections, and before them the device's own cells
+  pub rest_paired : AreFrom (flat_map old_cells d.subs) (flat_map new_cells e.subs) (own_cells new e) (flat_map (named_partners old new e) d.subs)
+  rest_paired = record { long = all_long old _ d.subs sized; pairs = pair_in; once = once_in }
+
+  own : AreFrom (desc_cells (struct_cells old) d.desc) (desc_cells (struct_cells new) e.desc) 0 (part_partners old new d.desc.version d.desc e.desc 0)
+  own = (part_goes old new good_old good_new [] _ d.desc e.desc 0 0 (below_of _ d.desc _ (device_parts old good_old i d at_i).0)).paired
 
   pub device_paired : ArePartners (device_cells old d) (device_cells new e) (device_partners old new d e)
   unfolding device_partners
   device_paired =
+      let all = paired_append own (omega arith) rest_paired in
       record {
-        long = omega (arith, own.long, all_long old _ d.subs sized, length-append ps qs, length-append xs (flat_map old_cells d.subs));
-        kinds = λ c k f. kinds c k f (before_or_behind _ c);
-        once = once_append ps qs own.once once_in (λ b c k lt behind f g.
-            let z = sub_pair c k behind g in omega (arith, own_pair b k lt f, sub_place_up new (own_cells new e) e.subs z.pair.f.number));
+        long = all.long;
+        kinds = λ c k f. let p = all.pairs c k f in let k_is : k ≡ p.r = omega arith in rw k_is (p.inside, p.kind);
+        once = all.once;
       }

@@ -1,6 +1,6 @@
 -- Partners of cells among the cells from a place on; numbers that are in the bytes, or at their defaults.
 use Rattle.vms_check_laws.proofs.Facade.{◌≡◌, ◌⊎◌, inl, inr, ℕ, zero, suc, ◌+◌, ◌-◌, ◌<◌, ◌≤◌, List, ◌∷◌, ◌++◌}
-use Rattle.vms_check_laws.proofs.Facade.{length, get_or, replicate, Option, Some, None, refl, sym, ap, ◌∙◌, arith, slice_get, get_or_append_left}
+use Rattle.vms_check_laws.proofs.Facade.{length, get_or, replicate, Option, Some, None, refl, sym, ◌∙◌, arith, slice_get, get_or_append_left}
 use Rattle.vms_check_laws.proofs.Facade.{get_or-append-add, length-replicate, cases_lt, ℤ, pos, true, length-append, length-map, Bool, if◌then◌else◌}
 use Rattle.vms_check_laws.proofs.Facade.{[], false, or-false, or_parts, false_from_ne_true, slice_get_within, Cell, no_cell, Kind, Item, Num, Slot, item_cells}
 use Rattle.vms_check_laws.proofs.Facade.{has_cell, has_left, has_right, defaults, names_append, defaults_at, defaults_long, either_of}
@@ -30,9 +30,7 @@ if_least c m most h = grind arith
 -- what holds of none and of these holds of what is there on both sides, if it is
 pub when_there : (P : List Slot → List Slot → Type 0) (s t : Bool) (xs ys : List Slot) → s ≡ t → (s ≡ false → P [] []) → (s ≡ true → P xs ys)
     → P (if s then xs else []) (if t then ys else [])
-when_there P true true xs ys e none some = some refl
-when_there P false false xs ys e none some = none refl
-when_there P _ _ xs ys e none some = absurd (cc)
+when_there P s t xs ys e none some = grind arith
 
 -- ---- lists
 
@@ -142,8 +140,7 @@ settled_more s t at xs zs h = record { each = λ c lt. elim (h.each c lt) [ inl 
 
 -- defaults don't depend on what is counted
 pub same_defaults : (y : List (List Cell)) (j : Item) (caps caps' : List ℕ) (d : ℤ) → defaults (item_cells y j caps d) ≡ defaults (item_cells y j caps' d)
-same_defaults y (Num kind) caps caps' d = refl
-same_defaults y _ caps caps' d = refl
+same_defaults y j caps caps' d = grind arith
 
 -- ---- what is carried of a run of cells, cell by cell: the older number if it is in the bytes, else the default
 

@@ -6,10 +6,10 @@ use Rattle.vms_check_laws.proofs.Facade.{◌≡◌, ℕ, ◌<◌, ◌≤◌, Lis
 use Rattle.vms_check_laws.proofs.Facade.{inr, zero, suc, ◌+◌, ◌∷◌, map, Option, Some, refl, flat_map, slice_get, cells_in, Desc, no_desc, Cell}
 use Rattle.vms_check_laws.proofs.Facade.{Meaning, meanings, desc_cells, first_long, struct_slots, struct_cells_at, Comparer, no_comparer, comparer_of}
 use Rattle.vms_check_laws.proofs.Facade.{comparers, Carrier, no_carrier, carrier_of, carriers, FitsAt, first_at, Part, Set, struct_cells, desc_slots}
-use Rattle.vms_check_laws.proofs.Facade.{WellFormed, compare_desc, comparing, carry_desc, carrying, cells_first, Holds, Sub, Device, Image, IsVersionOf}
-use Rattle.vms_check_laws.proofs.Facade.{AreVersionsOf, RulesHold, sub_slots, sub_place, came_slots, carried_sub, defaults, rules_append, ◌++◌, Spells}
-use Rattle.vms_check_laws.proofs.Facade.{zeroed, own_slots, present, position_from, is_earlier_in, Field, numbers_of, Entry, IsPartOf, IsRead, FrontAligns}
-use Rattle.vms_check_laws.proofs.FieldsRead.{fields_sized, pair_reads}
+use Rattle.vms_check_laws.proofs.Facade.{WellFormed, comparing, carrying, cells_first, Holds, Sub, Device, Image, IsVersionOf, AreVersionsOf, RulesHold}
+use Rattle.vms_check_laws.proofs.Facade.{sub_slots, sub_place, came_slots, carried_sub, defaults, rules_append, ◌++◌, Spells, zeroed, own_slots, present}
+use Rattle.vms_check_laws.proofs.Facade.{position_from, is_earlier_in, Field, numbers_of, Entry, IsPartOf, IsRead, FrontAligns}
+use Rattle.vms_check_laws.proofs.FieldsRead.{fields_sized, pair_meets}
 use Rattle.vms_check_laws.proofs.PairLists.{Settled, settled_defaults, settled_append, settled_empty}
 use Rattle.vms_check_laws.proofs.Premises.{Table, by_less, Meets, fields_below, Reads, GoodCells, FitCells, fit_append, fit_defaults, fit_length, IsKnown}
 use Rattle.vms_check_laws.proofs.Premises.{AreKnown, all_known, PairGood, Sides, OldFields, Met, Row}
@@ -117,11 +117,11 @@ module _ (old new : Set) (good_old : WellFormed old) (good_new : WellFormed new)
   ns = meanings new.structs (length new.structs)
 
   -- the cells of structures, made either way
-  to_meanings : (P : (x y : List (List Cell)) → Type 0) → P (struct_cells old) (struct_cells new) → P (cells_in ms) (cells_in ns)
-  to_meanings P h = rw (cells_first _ _, cells_first _ _) h
+  old_first : cells_in ms ≡ struct_cells old
+  old_first = cells_first _ _
 
-  pub to_cells : (P : (x y : List (List Cell)) → Type 0) → P (cells_in ms) (cells_in ns) → P (struct_cells old) (struct_cells new)
-  to_cells P h = rw (← (cells_first _ _), ← (cells_first _ _)) h
+  new_first : cells_in ns ≡ struct_cells new
+  new_first = cells_first _ _
 
   pub all_tables : (numbers numbers' : List ℤ)
       → Table (rules_to old.structs new.structs (length new.structs)) (carries_to old.structs new.structs (length new.structs)) ms ns numbers numbers'
@@ -132,7 +132,7 @@ module _ (old new : Set) (good_old : WellFormed old) (good_new : WellFormed new)
   pub good_cells : (b : Desc) → DescGood (length new.structs) b → GoodCells (desc_cells (struct_cells new) b)
   good_cells b good =
       let below = fields_below _ _ (λ j f e. (good.new j f e).item) in
-      to_cells (λ x y. GoodCells (desc_cells y b)) (good_fields _ _ b.fields 0 b.fields (λ j l. ((all_tables [] []).rows j l).good) below good.defaults)
+      rw (← new_first) (good_fields _ _ b.fields 0 b.fields (λ j l. ((all_tables [] []).rows j l).good) below good.defaults)
 
   -- two parts at which no rule fails
   pub part_meets : (a b : Desc) (v : ℕ) (part part' : Part) → DescGood (length old.structs) a → DescGood (length new.structs) b
@@ -140,16 +140,14 @@ module _ (old new : Set) (good_old : WellFormed old) (good_new : WellFormed new)
       → Meets numbers numbers' (desc_slots ms a v numbers at) (λ y. desc_slots ns b v numbers' y) (desc_cells (struct_cells new) b)
       (carrying old new numbers v a b at)
   part_meets a b v part part' good_a good_b same numbers numbers' at fits =
-      let fits_in = to_meanings (λ x y. FitsAt (desc_cells x a) numbers at) fits in
-      to_cells (λ x y. Meets numbers numbers' (desc_slots ms a v numbers at) (λ q. desc_slots ns b v numbers' q) (desc_cells y b)
-      (carry_desc (carriers x y old.structs new.structs (length new.structs)) x y numbers v v a b at))
-      (desc_meets (all_tables _ _) a b v v part part' at (old_fields _ _ _ _ at fits_in good_a.old) good_b fits_in
-      (to_meanings (λ x y. compare_desc (comparers x y old.structs new.structs (length new.structs)) x y a b v v part part' ≡ None) same))
+      let fits_in = rw (← old_first) at fits in
+      rw (← old_first, ← new_first) (desc_meets (all_tables _ _) a b v v part part' at (old_fields _ _ _ _ at fits_in good_a.old) good_b fits_in
+      (rw (← old_first, ← new_first) at same))
 
   pub devices_clash : (i k : ℕ) (d e : Device) → slice_get old.devices i ≡ Some d → slice_get new.devices k ≡ Some e → (v : ℕ) (part part' : Part)
       (numbers numbers' : List ℤ) → ClashRefuses old new d e v part part' numbers numbers' (struct_cells old) (struct_cells new)
   devices_clash i k d e in_old in_new v part part' numbers numbers' =
-      to_cells (λ x y. ClashRefuses old new d e v part part' numbers numbers' x y) (λ clash fits.
+      rw (← old_first, ← new_first) (λ clash fits.
       let plain = old_fields _ _ _ _ 0 fits (device_good old good_old i d in_old).old in
       desc_clashes (all_tables _ _) d.desc e.desc v v part part' 0 plain (device_good new good_new k e in_new) fits 0 clash)
 
@@ -170,16 +168,16 @@ module _ (old new : Set) (good_old : WellFormed old) (good_new : WellFormed new)
     plain fits = old_fields _ _ _ _ at fits (part_good old good_old a of_old).old
 
     pub position_stands : IsRead old new a b v part part' numbers numbers' at at' (struct_cells old) (struct_cells new)
-    position_stands = to_cells (λ x y. IsRead old new a b v part part' numbers numbers' at at' x y) (λ p e f h.
+    position_stands = rw (← old_first, ← new_first) (λ p e f h.
         let k = known_at ms _ v _ at es p e h.on_old (all_known ms a.fields v numbers at) in
         let k' = known_at ns _ v _ at' fs p f h.on_new (all_known ns b.fields v numbers' at') in
         let met : Met here e f = record { good = record { rules = h.rules; structs = h.structs }; known = k; known' = k' } in
         let old_f = plain h.fits e.index e.field k.field in
         let new_f = good.earlier f.index f.field k'.field in
-        (pair_reads here (is_earlier_in b f.index) e f (record { met = met; old = old_f; new = new_f; fits = k.fits h.fits; agree = h.agree }) h.held).carries)
+        ((pair_meets here (is_earlier_in b f.index) e f (record { met = met; old = old_f; new = new_f; fits = k.fits h.fits; agree = h.agree })).reads h.held).carries)
 
     pub aligned_stands : FrontAligns old new a b v part part' numbers numbers' at at' (struct_cells old) (struct_cells new)
-    aligned_stands = to_cells (λ x y. FrontAligns old new a b v part part' numbers numbers' at at' x y) (λ p h.
+    aligned_stands = rw (← old_first, ← new_first) (λ p h.
         let first : (q : ℕ) (e f : Entry) → q < p → slice_get es q ≡ Some e → slice_get fs q ≡ Some f → PairGood here.two e f = λ q e f lt x y.
         let d = h.paired q e f lt x y in
         record { rules = d.rules; structs = d.structs } in

@@ -1,14 +1,14 @@
 -- What is known of fields and structures on both sides: present fields paired by position, numbers that fit cells, and premises.
 use Rattle.vms_check_laws.proofs.{Presence.from_zero, PairLists.Settled}
-use Rattle.vms_check_laws.proofs.Facade.{AllZip-long, ◌≡◌, ◌⊎◌, inl, inr, ℕ, Bool, true, List, ◌∷◌, Option, None, and_parts, [], ◌&&◌}
-use Rattle.vms_check_laws.proofs.Facade.{zero, suc, ◌+◌, ◌<◌, ◌++◌, length, get_or, refl, arith, ℤ, pos, ◌≤◌, Some, slice_get, eqb-true}
-use Rattle.vms_check_laws.proofs.Facade.{◌∙◌, get_or_from_slice_get, Item, Desc, counted, in_field, Part, Entry, same_rest, same_count, same_item}
-use Rattle.vms_check_laws.proofs.Facade.{same_constant, is_covered, holds_as_much, absent_hold, bound, Comparer, failing_pair, pair_rules, pair_structs}
-use Rattle.vms_check_laws.proofs.Facade.{compare_fields, passes, ItemBelow, or_else_none, names_match, Cell, no_cell, times, defaults, FitsCell, cells_in}
-use Rattle.vms_check_laws.proofs.Facade.{Equal, Unused, Count, Counted, Formula, Field, Meaning, no_meaning, names_well, nobody, is_one, no_comparer, Carrier}
-use Rattle.vms_check_laws.proofs.Facade.{no_carrier, Holds, FitsAt, Carries, Aligns, FieldsBelow, Slot, is_earlier_in, Num, Filler, Fixed, Kind, One}
-use Rattle.vms_check_laws.proofs.Facade.{cells_from, elements_of, entry_of, field_cells, here, is_there, item_slots, kind_of, presence, present_from, residue}
-use Rattle.vms_check_laws.proofs.Facade.{same_kind, slots_from, width, zeroed, no_field, field_slots, numbers_of, place_of, AllByRecursion, AllZip, flat_map}
+use Rattle.vms_check_laws.proofs.Facade.{AllZip-long, ◌≡◌, ◌⊎◌, inl, inr, ℕ, Bool, true, List, ◌∷◌, Option, None, and_parts, [], zero, suc}
+use Rattle.vms_check_laws.proofs.Facade.{◌+◌, ◌<◌, ◌++◌, length, get_or, refl, arith, ℤ, pos, ◌≤◌, Some, slice_get, eqb-true, ◌∙◌}
+use Rattle.vms_check_laws.proofs.Facade.{get_or_from_slice_get, Item, Desc, counted, in_field, Part, Entry, same_rest, same_count, same_item, same_constant}
+use Rattle.vms_check_laws.proofs.Facade.{is_covered, holds_as_much, absent_hold, bound, Comparer, failing_pair, pair_rules, pair_structs, compare_fields}
+use Rattle.vms_check_laws.proofs.Facade.{passes, ItemBelow, or_else_none, uncovered_rules, Cell, no_cell, times, defaults, FitsCell, cells_in, Equal, Unused}
+use Rattle.vms_check_laws.proofs.Facade.{Count, Counted, Formula, Field, Meaning, no_meaning, names_well, nobody, is_one, no_comparer, Carrier, no_carrier}
+use Rattle.vms_check_laws.proofs.Facade.{Holds, FitsAt, Carries, Aligns, FieldsBelow, Slot, is_earlier_in, Num, Filler, Fixed, Kind, One, cells_from}
+use Rattle.vms_check_laws.proofs.Facade.{elements_of, entry_of, field_cells, here, is_there, item_slots, kind_of, presence, present_from, residue, same_kind}
+use Rattle.vms_check_laws.proofs.Facade.{slots_from, width, zeroed, no_field, field_slots, numbers_of, place_of, AllByRecursion, AllZip, flat_map}
 use Rattle.vms_check_laws.proofs.Presence.{if_is, NamedRest, constant_length, numbers_length, presence_there, fits_at, fits_left, fits_right, one_on, at_first}
 use Rattle.vms_spec.specs.Images.{FitCells as AreFit}
 use Rattle.vms_kinds.specs.contracts.Kind.{the_type as kind_type}
@@ -55,20 +55,15 @@ module _ (two : Two) where
 
   pub decoded : (e f : Entry) → PairGood e f → CoveredBy e f ⊎ Matched e f
   decoded e f g =
-      let p = in_field part e.index in
-      let q = in_field part' f.index in
       let room = holds_as_much e.field.count f.field.count in
       let absent = absent_hold w f.index (bound e.field.item (counted e.index a.fields)) b.fields in
-      elim (if_is (λ (r : List (ℕ × Bool)). failing_pair r p q) (is_covered e.field.item e.field.count f.field.item) _ _ g.rules) [
-        | inl c ↦ inl (record { covers = c.0; rest = (passes 9 (same_rest o n e.rest f.rest) [] p q c.1).0 })
+      elim (if_is (λ (r : List (ℕ × Bool)). failing_pair r (in_field part e.index) (in_field part' f.index))
+      (is_covered e.field.item e.field.count f.field.item) _ _ g.rules) [
+        | inl c ↦ inl (record { covers = c.0; rest = (passes ((9, _) ∷ []) _ _ c.1).0 })
         | inr m ↦
-            let r7 = passes 7 (same_count o n e.field.count f.field.count) _ p q m.1 in
-            let r8 = passes 8 (same_item e.field.item f.field.item) _ p q r7.1 in
-            let r9 = passes 9 (same_rest o n e.rest f.rest) _ p q r8.1 in
-            let r11 = passes 11 (room && absent) _ p q (passes 10 (names_match e.field f.field) _ p q r9.1).1 in
-            let r12 = passes 12 (same_constant e.field.item f.field.item) [] p q r11.1 in
-            let both = and_parts room absent r11.0 in
-            inr (record { count = r7.0; item = r8.0; rest = r9.0; room = both.0; absent = both.1; constant = r12.0 })
+            let r = passes (uncovered_rules ks a b v w part part' o n e f) _ _ m.1 in
+            let both = and_parts room absent r.1.1.1.1.0 in
+            inr (record { count = r.0; item = r.1.0; rest = r.1.1.0; room = both.0; absent = both.1; constant = r.1.1.1.1.1.0 })
       ]
 
 -- ---- numbers that fit cells, one by one
@@ -92,6 +87,10 @@ pub fit_append : (xs ys : List Cell) (zs us : List ℤ) → FitCells xs zs → F
 fit_append [] ys [] us h k = k
 fit_append (x ∷ xs) ys (z ∷ zs) us h k = (h.0, fit_append xs ys zs us h.1 k)
 fit_append _ ys _ us h k = absurd h
+
+pub fit_none : (xs : List Cell) (zs : List ℤ) → length xs ≡ 0 → length zs ≡ length xs → FitCells xs zs
+fit_none [] [] e f = tt
+fit_none _ _ e f = absurd (omega arith)
 
 -- the default of each cell fits it
 abbrev pub GoodCells : List Cell → Type 0
@@ -252,8 +251,7 @@ module _ (structs : List Meaning) (all : List Field) (v : ℕ) (own : ℕ → �
 
   entry_slots : (i p : ℕ) (f : Field) (pr : Option (Option Formula)) (es : List Entry) → presence v f.test f.since ≡ pr
       → slots_at i p f ++ entries_slots es ≡ entries_slots (entry_of i p f pr ++ es)
-  entry_slots i p f None es h = rw (presence_there f.test _ v own _, h)
-  entry_slots i p f (Some rest) es h = refl
+  entry_slots i p f pr es h = grind (arith, presence_there)
 
   pub slots_entries : (i p : ℕ) (fs : List Field)
       → slots_from structs all v own numbers i (base + p) fs ≡ entries_slots (present_from (cells_in structs) all v i p fs)

@@ -17,13 +17,11 @@ use Rattle.vms_spec.specs.Sets as sets
 -- ---- the positions of present fields: those of earlier fields are lower
 
 pub same_some : (r s : Option ℕ) → same_place r s ≡ true → (q : ℕ) × (r ≡ Some q) × (s ≡ Some q)
-same_some (Some p) (Some q) h = (p, refl, ap Some (sym (eqb-true p q h)))
-same_some _ _ h = absurd (cc)
+same_some r s h = grind arith
 
 -- a choice has one of its two values
 pub if_is : {A B : Type 0} (f : A → B) (c : Bool) (x y : A) {z : B} → f (if c then x else y) ≡ z → ((c ≡ true) × (f x ≡ z)) ⊎ ((c ≡ false) × (f y ≡ z))
-if_is f true x y h = inl (refl, h)
-if_is f false x y h = inr (refl, h)
+if_is f c x y h = grind arith
 
 pub position_is : (p k : ℕ) (e : Entry) (es : List Entry) {r : Option ℕ} → position_from p (e ∷ es) k ≡ r
     → ((e.index ≡ k) × (Some p ≡ r)) ⊎ (((e.index == k) ≡ false) × (position_from (suc p) es k ≡ r))
@@ -78,12 +76,10 @@ there (Some None) v own parent = true
 there (Some (Some t)) v own parent = truth t v own parent
 
 left_there : (r : Reduced) (v : ℕ) (own parent : ℕ → ℕ) → there (left_of r) v own parent ≡ truth_of r v own parent
-left_there (Known true) v own parent = refl
-left_there _ v own parent = refl
+left_there r v own parent = grind arith
 
 pub presence_there : (test : Option Formula) (since v : ℕ) (own parent : ℕ → ℕ) → is_there test since v own parent ≡ there (presence v test since) v own parent
-presence_there None since v own parent = grind arith
-presence_there (Some t) since v own parent = grind (arith, left_there, reduced_holds)
+presence_there test since v own parent = grind (arith, left_there, reduced_holds)
 
 rels_same : (r s : Rel) → same_rel r s ≡ true → r ≡ s
 rels_same = same_true rel_type tt
@@ -110,52 +106,33 @@ module _ (ok : ℕ → Bool) where
   NamedRest (Some t) = names_well ok nobody t ≡ true
 
   left_named : (r : Reduced) (rest : Option Formula) → Named r → left_of r ≡ Some rest → NamedRest rest
-  left_named r None named h = tt
-  left_named (Known true) (Some t) named h = cc
-  left_named (Known false) (Some t) named h = cc
-  left_named (Open t) (Some s) named h = let e : t ≡ s = cc in rw (← e) named
+  left_named r rest named h = grind arith
 
   since_named : (b : Bool) (rest : Option Formula) → (if b then Some None else None) ≡ Some rest → NamedRest rest
-  since_named true None h = tt
-  since_named _ _ h = cc
+  since_named b rest h = grind arith
 
   -- the rest of a field's test names what its test names
   pub presence_named : (w : ℕ) (test : Option Formula) (since : ℕ) (rest : Option Formula) → NamedRest test → presence w test since ≡ Some rest → NamedRest rest
-  presence_named w None since rest named h = since_named _ rest h
-  presence_named w (Some t) since rest named h = left_named _ rest (named_left w t named) h
+  presence_named w test since rest named h = grind (arith, since_named, left_named, named_left)
 
 module _ (o n : ℕ → Option ℕ) (ok : ℕ → Bool) (own own' parent parent' : ℕ → ℕ) (v w : ℕ) (agree : Agree o n ok own own') where
   pub same_truth : (s t : Formula) → names_well ok nobody t ≡ true → same_test o n s t ≡ true → truth s v own parent ≡ truth t w own' parent'
   same_truth (sets.Cell Own i mask rel value) (sets.Cell Own j mask' rel' value') good h = grind (arith, rels_same, eqb-true)
   same_truth (Not s) (Not t) good h = rw (same_truth s t good h)
-  same_truth (And s s') (And t t') good h =
-      let p = and_parts (same_test o n s t) (same_test o n s' t') h in
-      let q = and_parts (names_well ok nobody t) (names_well ok nobody t') good in
-      rw (same_truth s t q.0 p.0, same_truth s' t' q.1 p.1)
-  same_truth (Or s s') (Or t t') good h =
-      let p = and_parts (same_test o n s t) (same_test o n s' t') h in
-      let q = and_parts (names_well ok nobody t) (names_well ok nobody t') good in
-      rw (same_truth s t q.0 p.0, same_truth s' t' q.1 p.1)
+  same_truth (And s s') (And t t') good h = grind (arith, and_parts, same_truth s t, same_truth s' t')
+  same_truth (Or s s') (Or t t') good h = grind (arith, and_parts, same_truth s t, same_truth s' t')
   same_truth _ _ good h = cc
 
   pub same_reduced_truth : (r q : Reduced) → Named ok q → same_reduced o n r q ≡ true → truth_of r v own parent ≡ truth_of q w own' parent'
-  same_reduced_truth (Known true) (Known true) named h = refl
-  same_reduced_truth (Known false) (Known false) named h = refl
-  same_reduced_truth (Open s) (Open t) named h = same_truth s t named h
-  same_reduced_truth _ _ named h = cc
+  same_reduced_truth r q named h = grind (arith, same_truth)
 
   -- the same remaining tests
   pub same_there : (s t : Option Formula) → NamedRest ok t → same_rest o n s t ≡ true → there (Some s) v own parent ≡ there (Some t) w own' parent'
-  same_there None None named h = refl
-  same_there (Some s) (Some t) named h = same_truth s t named h
-  same_there _ _ named h = cc
+  same_there s t named h = grind (arith, same_truth)
 
 -- what covers is unused bytes
 pub covers_unused : (i : Item) (c : Count) (j : Item) → is_covered i c j ≡ true → (r : ℕ) × (j ≡ Unused r)
-covers_unused (Equal k z) c (Unused r) covers = (r, refl)
-covers_unused (Num k) One (Unused r) covers = (r, refl)
-covers_unused (Num k) (Fixed p) (Unused r) covers = (r, refl)
-covers_unused _ _ _ covers = absurd (cc)
+covers_unused i c j covers = grind arith
 
 pub not_covered : (i : Item) (c : Count) (j : Item) → is_covered i c j ≡ true → is_num j ≡ true → ⊥
 not_covered i c j covers number = let unused = rw ((covers_unused i c j covers).1) at number in absurd (cc)
@@ -189,12 +166,10 @@ steady minimum (Some g) f e h =
 
 pub steady_rest : (w : ℕ) (test : Option Formula) (since : ℕ) (rest : Option Formula) → has_no_test test ≡ true → presence w test since ≡ Some rest
     → rest ≡ None
-steady_rest w None since rest h k = grind arith
-steady_rest w (Some t) since rest h k = absurd (cc)
+steady_rest w test since rest h k = grind arith
 
 pub rest_none : (o n : ℕ → Option ℕ) (r s : Option Formula) → s ≡ None → same_rest o n r s ≡ true → r ≡ None
-rest_none o n None s h k = refl
-rest_none o n _ _ h k = absurd (cc)
+rest_none o n r s h k = grind arith
 
 pub there_here : (v : ℕ) (test : Option Formula) (since : ℕ) (rest : Option Formula) (own parent : ℕ → ℕ) → presence v test since ≡ Some rest
     → is_there test since v own parent ≡ there (Some rest) v own parent
@@ -202,8 +177,7 @@ there_here v test since rest own parent h = rw (presence_there test since v own 
 
 pub one_number : (c : Bool) (numbers' : List ℤ) (y : ℕ) (z d : ℤ) → c ≡ true → Holds numbers' y ((if c then z ∷ [] else d ∷ []) ++ [])
     → get_or numbers' (y + 0) (pos 0) ≡ z
-one_number true numbers' y z d e h = h.each 0 (omega arith)
-one_number false numbers' y z d e h = absurd (cc)
+one_number c numbers' y z d e h = grind arith
 
 -- ---- segments of numbers, and slots of one side whose bytes are those of the other's. Bytes of both sides at one front: if
 -- slots of the newer set are at the front of what the older set wrote, they take exactly the bytes that it wrote for its own

@@ -1,14 +1,14 @@
 -- What the older set writes is a stream of the newer, with the carried images: each device's section is one of the newer set's, and the
 -- order takes each device once.
-use Rattle.vms_check_laws.proofs.Facade.{option_and_then, ◌≡◌, ℕ, suc, ◌+◌, Bool, true, false, ◌&&◌, ◌==◌, List, ◌∷◌, Option, Some}
-use Rattle.vms_check_laws.proofs.Facade.{None, refl, ◌∙◌, arith, slice_get, bytes_eq, bytes_eq-Decides, and_parts, eqb-true, inr, ◌≤◌, length, map}
-use Rattle.vms_check_laws.proofs.Facade.{get_or, list_all, IfSome, length-map, ap, [], inl, sym, first_answer, Device, Set, find_device, index, WellFormed}
-use Rattle.vms_check_laws.proofs.Facade.{here, Mismatch, failing_pair, compare_device, paired_device, is_found, is_in, passes, device_found, Image, HasSection}
-use Rattle.vms_check_laws.proofs.Facade.{SectionsSpell, IsReady, EachOnce, is_one_of, written_section, written_sections, is_version_of, Compatible}
-use Rattle.vms_check_laws.proofs.Facade.{first_mismatch, comparing, compare_subs, carried, carried_device, carried_at, no_image, ArePaired, DeviceLaw}
-use Rattle.vms_check_laws.proofs.Facade.{or_else_none, IsStream, IsConfiguration, configuration, trailer, optional, longest_text, written, AreReady, every_one}
-use Rattle.vms_check_laws.proofs.Facade.{machine_short, few_devices, UpgradeLaw, trailed, answers_none}
-use Rattle.vms_check_laws.proofs.Presence.{RestAt, at_first, one_on, from_zero, if_is}
+use Rattle.vms_check_laws.proofs.Facade.{found_is, option_and_then, ◌≡◌, ℕ, suc, ◌+◌, Bool, true, false, List, ◌∷◌, Option, Some, None, refl}
+use Rattle.vms_check_laws.proofs.Facade.{◌∙◌, arith, slice_get, bytes_eq-Decides, ◌≤◌, length, map, get_or, list_all, IfSome, length-map, ap, []}
+use Rattle.vms_check_laws.proofs.Facade.{sym, first_answer, Device, Set, find_device, index, WellFormed, here, Mismatch, failing_pair, compare_device}
+use Rattle.vms_check_laws.proofs.Facade.{paired_device, is_found, is_in, passes, device_found, Image, HasSection, SectionsSpell, IsReady, EachOnce, is_one_of}
+use Rattle.vms_check_laws.proofs.Facade.{written_section, written_sections, is_version_of, Compatible, first_mismatch, comparing, compare_subs, carried}
+use Rattle.vms_check_laws.proofs.Facade.{carried_device, carried_at, no_image, ArePaired, DeviceLaw, or_else_none, IsStream, IsConfiguration, configuration}
+use Rattle.vms_check_laws.proofs.Facade.{trailer, optional, longest_text, written, AreReady, every_one, machine_short, few_devices, UpgradeLaw, trailed}
+use Rattle.vms_check_laws.proofs.Facade.{answers_none}
+use Rattle.vms_check_laws.proofs.Presence.{RestAt, at_first, one_on, from_zero}
 use Rattle.vms_check_laws.proofs.Wholes.{saved, Among, section_whole, at_map, from_map, Rises, takes_each, all_came}
 use Rattle.vms_spec.specs.declared.Part.TheVariants as parts
 
@@ -20,24 +20,14 @@ pub record FoundDevice (devices : List Device) (name : List ℕ) (instance j : �
   pub name_is : device.desc.name ≡ name
   pub instance_is : device.instance ≡ instance
 
-pub found_device : (k : ℕ) (devices : List Device) (name : List ℕ) (instance r : ℕ) → find_device k devices name instance ≡ Some r
-    → (j : ℕ) × (r ≡ k + j) × FoundDevice devices name instance j
-found_device k [] name instance r h = absurd (cc)
-found_device k (d ∷ devices) name instance r h =
-    elim (if_is (λ o. o) (bytes_eq d.desc.name name && d.instance == instance) (Some k) (find_device (suc k) devices name instance) h) [
-      | inl now ↦
-          let same : k ≡ r = cc (now.1) in
-          let p = and_parts (bytes_eq d.desc.name name) (d.instance == instance) now.0 in
-          let name_is = (bytes_eq-Decides _ name).0 p.0 in
-          (0, omega arith, record { device = d; stands = refl; name_is = name_is; instance_is = eqb-true d.instance instance p.1 })
-      | inr later ↦
-          let f = found_device (suc k) devices name instance r later.1 in
-          (suc f.0, omega arith, record { device = f.2.device; stands = f.2.stands; name_is = f.2.name_is; instance_is = f.2.instance_is })
-    ]
+pub found_device : (devices : List Device) (name : List ℕ) (instance k : ℕ) → find_device 0 devices name instance ≡ Some k → FoundDevice devices name instance k
+found_device devices name instance k e =
+    let f = found_is devices 0 name instance k e in
+    let same : f.i ≡ k = omega arith in
+    record { device = f.device; stands = rw same at f.there; name_is = (bytes_eq-Decides _ name).0 f.name_is; instance_is = f.instance_is }
 
 pub found_some : (r : Option ℕ) → is_found r ≡ true → (k : ℕ) × (r ≡ Some k)
-found_some None h = absurd (cc)
-found_some (Some k) h = (k, refl)
+found_some r h = grind arith
 
 -- ---- a device of each
 
@@ -57,7 +47,13 @@ module _ (old new : Set) (good_old : WellFormed old)
     pub compared_is : compared old new i d ≡ compare_device old new i d (Some number) (Some device)
 
   pub pair : (i : ℕ) (d : Device) → slice_get old.devices i ≡ Some d → Pair i d
-  pair i d e = search (arith, found_some, answers_none, all_in, found_device)
+  pair i d e =
+      let r = found_some _ (passes ((2, _) ∷ []) (here (parts.Device (0 + i))) (here parts.Set) (answers_none _ 0 _ all_in i d e)).0 in
+      of r.0 r.1 (found_device _ _ _ r.0 r.1)
+    where
+      of : (k : ℕ) → find_device 0 new.devices d.desc.name d.instance ≡ Some k → FoundDevice new.devices d.desc.name d.instance k → Pair i d
+      of k is f =
+          record { number = k; found = is; device = f.device; stands = f.stands; name_is = f.name_is; instance_is = f.instance_is; compared_is = rw (is, f.stands) }
 
   pub back : (i : ℕ) (d : Device) → slice_get old.devices i ≡ Some d → (p : Pair i d) → find_device 0 old.devices p.device.desc.name p.device.instance ≡ Some i
   back i d e p = grind (arith, device_found)
@@ -75,7 +71,7 @@ device_stands old new good_old good_new i k d e paired image id saved lt =
     or_else_none (comparing old new d.desc e.desc d.desc.version (parts.Device i) (parts.Device k))
     (first_answer (compare_subs old new i k e) 0 d.subs) p.1 in
     section_whole old new good_old good_new i k d e paired.in_old paired.in_new q.1 image saved _ _ q.0
-    ((passes 4 (is_version_of e.desc d.desc.version) [] (here (parts.Device i)) (here (parts.Device k)) p.0).0) paired.names paired.instances id lt
+    (passes ((4, _) ∷ []) (here (parts.Device i)) (here (parts.Device k)) p.0).0 paired.names paired.instances id lt
 
 module _ (old new : Set) (good_old : WellFormed old) (good_new : WellFormed new) (none : Compatible old new) where
   -- what the rules on sets give
@@ -93,17 +89,27 @@ module _ (old new : Set) (good_old : WellFormed old) (good_new : WellFormed new)
   pub all_in : first_answer (λ i d. failing_pair ((2, is_in new d) ∷ []) (here (parts.Device i)) (here parts.Set)) 0 old.devices ≡ None
   all_in = rules.olds
 
+  -- old's device of the name and instance of new's device k
+  pub record Older (k : ℕ) (e : Device) : Type 0 where
+    pub i : ℕ
+    pub d : Device
+    pub stands : slice_get old.devices i ≡ Some d
+    pub found : find_device 0 old.devices e.desc.name e.instance ≡ Some i
+    pub back : find_device 0 new.devices d.desc.name d.instance ≡ Some k
+
+  pub older : (k : ℕ) (e : Device) → slice_get new.devices k ≡ Some e → Older k e
+  older k e at =
+      let r = found_some _ (passes ((3, _) ∷ []) (here parts.Set) (here (parts.Device (0 + k))) (answers_none _ 0 _ rules.news k e at)).0 in
+      let f = found_device _ _ _ r.0 r.1 in
+      record { i = r.0; d = f.device; stands = f.stands; found = r.1; back = rw (f.name_is, f.instance_is) (device_found new good_new k e at) }
+
   -- ---- each of new's devices has one section
 
   each_new : (k : ℕ) → slice_get (map (λ (d : Device). false) new.devices) k ≡ Some false → Among k (device_order new old.devices)
   each_new k waits =
       let x = from_map (λ (d : Device). false) _ k false waits in
-      let e = x.0 in
-      let r = found_some _ ((passes 3 (is_in old e) [] (here parts.Set) (here (parts.Device (0 + k))) (answers_none _ 0 _ rules.news k e x.1)).0) in
-      let f = found_device 0 _ _ _ r.0 r.1 in
-      let d = f.2.device in
-      let number : find_device 0 new.devices d.desc.name d.instance ≡ Some k = rw (f.2.name_is, f.2.instance_is) (device_found new good_new k e x.1) in
-      (f.0, at_map (λ (d : Device). index (find_device 0 new.devices d.desc.name d.instance)) old.devices f.0 d f.2.stands ∙ rw number)
+      let o = older k x.0 x.1 in
+      (o.i, at_map (λ (d : Device). index (find_device 0 new.devices d.desc.name d.instance)) old.devices o.i o.d o.stands ∙ rw o.back)
 
   abbrev none_came : List Bool
   none_came = map (λ (d : Device). false) new.devices

@@ -1,6 +1,7 @@
 -- A device with subsections: what the older set writes is a section of the newer with the carried image. An order that names each remaining
 -- one, and none twice, takes each once.
-use Rattle.vms_check_laws.proofs.{PairDevices.Found, PairDevices.look_up, PairLists.Settled, PairLists.settled_append, Counts.device_good, Counts.sub_good}
+use Rattle.vms_check_laws.proofs.{PairDevices.Found, PairDevices.look_up, PairDevices.comes, PairLists.Settled, PairLists.settled_append, Counts.device_good}
+use Rattle.vms_check_laws.proofs.{Counts.sub_good}
 use Rattle.vms_check_laws.proofs.Facade.{◌≡◌, ◌⊎◌, inl, inr, ℕ, zero, suc, Bool, true, false, cases_eq, slice_get-map, List, ◌∷◌, slice_set}
 use Rattle.vms_check_laws.proofs.Facade.{Option, Some, None, refl, sym, ap, ◌∙◌, slice_get, [], ◌+◌, ◌<◌, ◌++◌, length, map, arith, ℤ}
 use Rattle.vms_check_laws.proofs.Facade.{flat_map, slice_get_within, AreAll, ComesOnce, AllCame, at_other, Part, first_answer, Sub, Device, Set, struct_cells}
@@ -18,8 +19,7 @@ abbrev pub Among : ℕ → List ℕ → Type 0
 Among a order = (i : ℕ) × (slice_get order i ≡ Some a)
 
 among_rest : (k j : ℕ) (order : List ℕ) → (k ≡ j → ⊥) → (i : ℕ) → slice_get (j ∷ order) i ≡ Some k → Among k order
-among_rest k j order ne zero e = absurd (ne cc)
-among_rest k j order ne (suc i) e = (i, e)
+among_rest k j order ne i e = grind arith
 
 -- Places of a list, open all of them, where `back` gives places of another list that rise.
 module _ {A : Type 0} (Open : A → Type 0) (done : A) (back : ℕ → Option ℕ) where
@@ -161,11 +161,10 @@ module _ (old new : Set) (good_old : WellFormed old) (good_new : WellFormed new)
       }
 
   fact : (l : ℕ) (t : Sub) → slice_get e.subs l ≡ Some t → FactOf t
-  fact l t at_l = elim (look_up d.subs t.desc.name) [ inl none ↦ stayed l t at_l (rw none) (rw none) | inr f ↦ by_came f _ refl ] where
-    by_came : (f : Found d.subs t.desc.name) (o : Option (Option ℕ)) → slice_get image.came f.number ≡ o → FactOf t
-    by_came f (Some (Some v)) at_came = inr (came_is _ l f.sub t v f.there at_l f.name_is at_came f.found)
-    by_came f None at_came = stayed l t at_l (rw (f.found, at_came)) (rw (f.found, f.there, at_came))
-    by_came f (Some None) at_came = stayed l t at_l (rw (f.found, at_came)) (rw (f.found, f.there, at_came))
+  fact l t at_l = elim (comes old new d image t) [
+    | inl h ↦ stayed l t at_l h.came h.segment
+    | inr h ↦ inr (came_is _ l h.f.sub t h.v h.f.there at_l h.f.name_is h.is_come h.f.found)
+  ]
 
   facts_from : (l : ℕ) (ts : List Sub) → RestAt e.subs l ts → Facts old new good_old good_new d e image numbers' came ts
   facts_from l [] h = tt
@@ -191,18 +190,14 @@ module _ (old new : Set) (good_old : WellFormed old) (good_new : WellFormed new)
   order_has (x ∷ subs) (Some u ∷ cs) (suc j) l v s h h' is = let r = order_has subs cs j l v s h h' is in (suc r.0, r.1)
   order_has _ _ _ l v s h h' is = absurd (cc)
 
-  came_from : (o : Option (Option ℕ)) (j v : ℕ) → sub_came old new (Some j) o ≡ Some v → o ≡ Some (Some v)
-  came_from None j v h = absurd (cc)
-  came_from (Some o) j v h = ap Some h
-
   each_come : (l v : ℕ) → slice_get image'.came l ≡ Some (Some v) → Among l (sub_order e d.subs image.came)
   each_come l v h =
       let f = from_map came e.subs l (Some v) h in
-      elim (look_up d.subs f.0.desc.name) [
-        | inl is ↦ let bad : sub_came old new None (slice_get image.came 0) ≡ Some v = rw is at f.2 in absurd (cc)
+      elim (comes old new d image f.0) [
+        | inl stays ↦ absurd (cc (stays.came, f.2))
         | inr g ↦
-            let found : find_sub 0 e.subs g.sub.desc.name ≡ Some l = rw g.name_is (sub_found new good_new k l e f.0 at_k f.1) in
-            order_has d.subs _ _ l v g.sub g.there (came_from _ g.number v (rw g.found at f.2)) (ap index found)
+            let found : find_sub 0 e.subs g.f.sub.desc.name ≡ Some l = rw g.f.name_is (sub_found new good_new k l e f.0 at_k f.1) in
+            order_has d.subs _ _ l g.v g.f.sub g.f.there g.is_come (ap index found)
       ]
 
   module _ (held : Holds numbers' (own_cells new e) rest) where

@@ -1,7 +1,7 @@
 -- What was found of the devices, as the relations say it; of each state something comes back, and
 -- all is kept or something is lost first.
 use Rattle.vms_convert.proofs.{BackNormal.gives_long, HasBack.Made, HasBack.made, HasBack.extend, HasBack.has_back}
-use Rattle.vms_convert.proofs.Converts.{back_stands, given_carried, newest_kinds, recast_long}
+use Rattle.vms_convert.proofs.Converts.{may_be, ready_if, given_carried, newest_kinds, recast_long}
 use Rattle.vms_convert.proofs.Facade.{◌≡◌, ℕ, ◌<◌, List, [], ◌∷◌, length, get_or, map, Option, Some, None, Result, Ok, Err, ℤ, refl, sym}
 use Rattle.vms_convert.proofs.Facade.{◌∙◌, arith, length-map, slice_get-get_or, slice_get_within, slice_get, IsFit, Device, Set, Image, Cell}
 use Rattle.vms_convert.proofs.Facade.{device_cells, find_device, newest_set, AreReady, IsReady, WellFormed, device_at, IsNameAt, device_is, Typed, state_of}
@@ -9,8 +9,8 @@ use Rattle.vms_convert.proofs.Facade.{shipped_holds, AreKept, name_of, device_be
 use Rattle.vms_convert.proofs.Facade.{AreWritable, FirstInvalid, Judges, KeepsMachine, KeepsName, first_cell_at, first_of, IsValidAt, Loses, OfDevice}
 use Rattle.vms_convert.proofs.Facade.{OfMachine, first_cell, numbers_in, AreReturned, AreReturnedTo, IsFirstLost, Loss, LostCell, ext_get_or, ◌⊎◌, inl}
 use Rattle.vms_convert.proofs.Facade.{inr, zero, suc, Bool, true, false, pos, signed_Decides, int_eq, Slot, Rule, RulesHold, image_slots, is_one_of, no_image}
-use Rattle.vms_convert.proofs.Facade.{device_partners, IsBack, IsPairAt, AnswerLaw, DifferAt, KeepsAll, OfCell}
-use Rattle.vms_convert.proofs.LostLaws.{all_carried, cell_lost, no_device, older, older_pair, there_is, there_long}
+use Rattle.vms_convert.proofs.Facade.{older, device_partners, IsBack, IsPairAt, AnswerLaw, DifferAt, KeepsAll, OfCell}
+use Rattle.vms_convert.proofs.LostLaws.{all_carried, cell_lost, no_device, older_pair, there_is, there_long}
 
 -- ---- what was found of the devices, as the relations say it
 
@@ -37,27 +37,12 @@ module _ (to new : Set) (wanted : List (List ℤ)) (images : List Typed) (lost :
     writable = record {
       count = returned.count;
       of = returned.of;
-      may = λ i d image there at.
-          let newer = pair to new fit.well (all_in to new fit.well well compatible) i d there in
-          back_stands to new fit well i d newer.device there (get_or wanted newer.number []) (kinds newer.number newer.device newer.stands) image
-          (are_back.each i newer.number d newer.device image (record { in_old = there; found = newer.found; in_new = newer.stands }) at);
+      may = λ i d image there at. may_be to new fit well compatible wanted backs are_back kinds i d image there at;
     }
 
     -- images that are valid, each as the newer set's device of its name, are ready
     pub are_ready : ((k : ℕ) → k < length new.devices → IsValidAt to new backs k) → AreReady to backs
-    are_ready valid = record {
-      one_each = backs_long;
-      ready = λ i d image there at.
-          let newer = pair to new fit.well (all_in to new fit.well well compatible) i d there in
-          let may = writable.may i d image there at in
-          record {
-            normal = may.normal;
-            valid = valid newer.number (slice_get_within new.devices newer.number newer.device newer.stands) i d newer.device image newer.stands
-                (back to new fit.well (all_in to new fit.well well compatible) i d there newer) there at;
-            version = may.version;
-            needed = may.needed;
-          };
-    }
+    are_ready valid = ready_if to new fit well compatible wanted backs are_back kinds valid
 
 -- ---- one device
 
@@ -124,9 +109,7 @@ pub invalid_by : (to new : Set) (images : List Typed) (s : Set) (o found : Optio
 invalid_by to new images s o found set_is h same = rw (← same, ← set_is) h
 
 same_first : (numbers : List ℤ) (cells : List Cell) → length numbers ≡ length cells → first_cell numbers ≡ first_of cells
-same_first [] (c ∷ cells) e = absurd (omega arith)
-same_first (z ∷ numbers) [] e = absurd (omega arith)
-same_first _ _ e = refl
+same_first numbers cells e = grind arith
 
 -- images that a loader of the newest set keeps, and what comes back of them
 pub record ComesBack (to new : Set) (images : List Image) (typed : List Typed) (lost : Option LostCell) : Type 0 where
@@ -298,8 +281,7 @@ module _ (to new : Set) (fit : IsFit to) (well : WellFormed new) (compatible : C
     answered_name name same valid false e = inr (None, None, OfMachine name same valid refl e)
 
     answered_machine : (machine : Option (List ℕ)) → wanted ≡ there → AllValid → Answered machine
-    answered_machine None same valid = inl (record { cells = same; valid = valid; machine_is = tt })
-    answered_machine (Some name) same valid = answered_name name same valid _ refl
+    answered_machine machine same valid = grind (arith, answered_name)
 
     answered_all : (machine : Option (List ℕ)) → Answered machine
     answered_all machine =

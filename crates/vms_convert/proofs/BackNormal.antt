@@ -1,13 +1,14 @@
 -- The image of numbers has come as needed.
 use Rattle.vms_convert.proofs.{Facade.one_part, Facade.Number, Facade.at_map, Facade.MayBeWritten, Settling.comes_at, Settling.needed_same}
-use Rattle.vms_convert.proofs.Facade.{ne_eqb, ◌≡◌, ℕ, zero, suc, ◌+◌, ◌≤◌, Bool, true, List, [], ◌∷◌, Some, None, refl, ◌∙◌, arith, inl, inr, ◌<◌, length}
-use Rattle.vms_convert.proofs.Facade.{get_or, map, Option, ℤ, pos, false, if◌then◌else◌, length-set, ◌==◌, slice_get, leb-true, eq-eqb, or_parts, get_or-map}
-use Rattle.vms_convert.proofs.Facade.{get_or-set_other, get_or-set_same, length-map, false_from_ne_true, get_or_from_slice_get, Sub, Device, Set, Image}
-use Rattle.vms_convert.proofs.Facade.{FitsCell, has_cell, image_slots, own_slots, own_cells, came_slots, sub_slots, is_needed, needed_from, bare, image_of}
-use Rattle.vms_convert.proofs.Facade.{AreSubs, versions, needed, within_all, InRange, exceeds, Cell, no_cell, Slot, device_cells, WellFormed, FitsHeads, IsGood}
-use Rattle.vms_convert.proofs.Facade.{names_append, none_in_both, its_same, its_below, its_above, SameIn, sub_size, sub_place_up, parts_together, part_apart}
-use Rattle.vms_convert.proofs.Facade.{part_place, well_good, device_parts, sub_clean, IsCellOf, IsBack, taken, whole, ArePartners, AreOfKinds, own_or_sub}
-use Rattle.vms_convert.proofs.Facade.{Typed, WalkStep, changed, Changes, AreTargets, give_partner, give_step, device_partners, IsCarried, steps_of, its_in}
+use Rattle.vms_convert.proofs.Facade.{ne_eqb, ◌≡◌, ℕ, zero, suc, ◌+◌, ◌≤◌, Bool, true, List, [], ◌∷◌, Some, None, refl, ◌∙◌}
+use Rattle.vms_convert.proofs.Facade.{arith, inl, inr, ◌<◌, length, get_or, map, Option, ℤ, pos, false, if◌then◌else◌, length-set, ◌==◌}
+use Rattle.vms_convert.proofs.Facade.{slice_get, leb-true, eq-eqb, or_parts, get_or-map, get_or-set_other, get_or-set_same, length-map, false_from_ne_true}
+use Rattle.vms_convert.proofs.Facade.{get_or_from_slice_get, Sub, Device, Set, Image, FitsCell, has_cell, image_slots, own_slots, own_cells, came_slots}
+use Rattle.vms_convert.proofs.Facade.{sub_slots, is_needed, needed_from, bare, image_of, AreSubs, versions, needed, within_all, InRange, exceeds, Cell, no_cell}
+use Rattle.vms_convert.proofs.Facade.{Slot, device_cells, WellFormed, FitsHeads, IsGood, names_append, none_in_both, its_same, its_below, its_above, SameIn}
+use Rattle.vms_convert.proofs.Facade.{sub_size, sub_place_up, parts_together, part_apart, part_place, well_good, device_parts, sub_clean, IsCellOf, IsBack}
+use Rattle.vms_convert.proofs.Facade.{taken, whole, ArePartners, AreOfKinds, own_or_sub, Typed, WalkStep, changed, Changes, AreTargets, give_partner, give_step}
+use Rattle.vms_convert.proofs.Facade.{device_partners, IsCarried, steps_of, its_in}
 use Rattle.vms_walk.specs.declared.step.WalkStep.TheVariants.{Number as Step}
 
 pub all_subs : (subs : List Sub) → ((j : ℕ) (s : Sub) → slice_get subs j ≡ Some s → s.desc.minimum ≤ s.desc.version) → AreSubs subs

@@ -14,7 +14,7 @@ use Rattle.vms_convert.proofs.Facade.{slice_get_within, get_or-map, length-map, 
 use Rattle.vms_convert.proofs.Facade.{well_good, Compatible, carried, carried_device, pair, back, all_in, upgrade_stands, recast_twice, AreBack, IsConverted}
 use Rattle.vms_convert.proofs.Facade.{IsPairAt, OneBackLaw, BackLaw, numbers_in, device_partners, device_paired, U8, ArePartners, carried_stands, kinds_at}
 use Rattle.vms_convert.proofs.Facade.{default_at, state_of, IsBack, Changes, AreTargets, AreSources, IsWholeStream, Converts, at_option, IsStreamFor}
-use Rattle.vms_convert.proofs.Facade.{PutsStream, Judges, stream_of, ArePut}
+use Rattle.vms_convert.proofs.Facade.{PutsStream, Judges, stream_of, ArePut, Pair, MayBeWritten, IsValidAt}
 use Rattle.vms_parts.specs.Devices.{device_at}
 use Rattle.vms_spec.specs.declared.Part.TheVariants as parts
 
@@ -80,10 +80,13 @@ recast_long to (d ∷ devices) (n ∷ lists) l = ap suc (recast_long to devices 
 
 -- ---- images that a loader of the newest set keeps
 
+no_truth : (P : Type 0) → false ≡ true → P
+no_truth P e = cc
+
 pub port_is : (k : ℕ) → k < length newest_set.devices → is_port (device_at newest_set k) ≡ true → k ≡ 4
 port_is (suc (suc (suc (suc zero)))) lt e = refl
 port_is (suc (suc (suc (suc (suc k))))) lt e = absurd (omega arith)
-port_is _ lt e = absurd (cc)
+port_is _ lt e = no_truth _ e
 
 pub port_cells : (images : List Image) → AreKept newest_set images → (k : ℕ) (image : Image) → k ≡ 4
     → slice_get images k ≡ Some image → IsPortCells image.numbers
@@ -97,8 +100,7 @@ newest_kinds to new is images = rw is (λ kept. recast_of to images kept.one_eac
 
 accepted : (to : Set) (machine : Option (List ℕ)) (name : List ℕ) → IfSome machine (λ m. is_one_of to.machines m ≡ true) → machine ≡ Some name
     → is_one_of to.machines name ≡ true
-accepted to None name h e = absurd (cc)
-accepted to (Some m) name h e = grind arith
+accepted to machine name h e = grind arith
 
 module _ (to new : Set) (machine : Option (List ℕ)) (wanted there : List (List ℤ)) (backs : List Image) where
   abbrev Lost : Option ℕ → Option ℕ → Type 0
@@ -183,8 +185,7 @@ module _ (set : Set) (i : ℕ) (lt : i < length set.devices) (image : Image) (lo
   gave_own before = rw (append-nil (own_slots set dev dev.desc.version n))
 
   one_is : (j : ℕ) (o : Option ℕ) → one_slots set (sub_at dev j) o n (part_place set dev j) ≡ sub_slots_at set i j o n
-  one_is j None = refl
-  one_is j (Some v) = refl
+  one_is j o = grind arith
 
   pub gave_sub : (before now next : List ℤ) (j : ℕ) → j < length dev.subs → now ≡ gives_to j before
       → next ≡ changed (give_step partners n) (steps_of (part_slots set i j image)) now → next ≡ gives_to (j + 1) before
@@ -211,6 +212,34 @@ pub back_stands : BackLaw
 back_stands to new fit well i d e there numbers kinds image back =
     back_may to fit.well fit.heads i d there _ _ (device_paired to new fit.well well i d e there) _ kinds
     image back
+
+-- what comes back of numbers of the right kinds: each image may be written, and is ready if all are valid
+module _ (to new : Set) (fit : IsFit to) (well : WellFormed new) (compatible : Compatible to new) (wanted : List (List ℤ)) (backs : List Image)
+    (all_back : AreBack to new wanted backs) (kinds : (k : ℕ) (e : Device) → slice_get new.devices k ≡ Some e → AreOfKinds (device_cells new e) (get_or wanted k []))
+  where
+    pub newer : (i : ℕ) (d : Device) → slice_get to.devices i ≡ Some d → Pair to new fit.well (all_in to new fit.well well compatible) i d
+    newer i d there = pair to new fit.well (all_in to new fit.well well compatible) i d there
+
+    pub may_be : (i : ℕ) (d : Device) (image : Image) → slice_get to.devices i ≡ Some d → slice_get backs i ≡ Some image → MayBeWritten to d image
+    may_be i d image there at =
+        let n = newer i d there in
+        back_stands to new fit well i d n.device there (get_or wanted n.number []) (kinds n.number n.device n.stands) image
+        (all_back.each i n.number d n.device image (record { in_old = there; found = n.found; in_new = n.stands }) at)
+
+    pub ready_if : ((k : ℕ) → k < length new.devices → IsValidAt to new backs k) → AreReady to backs
+    ready_if valid = record {
+      one_each = all_back.one_each;
+      ready = λ i d image there at.
+          let n = newer i d there in
+          let may = may_be i d image there at in
+          record {
+            normal = may.normal;
+            valid = valid n.number (slice_get_within new.devices n.number n.device n.stands) i d n.device image n.stands
+                (back to new fit.well (all_in to new fit.well well compatible) i d there n) there at;
+            version = may.version;
+            needed = may.needed;
+          };
+    }
 
 -- recast twice
 twice : (to : Set) (e : Device) (numbers : List ℤ) → recast to e (recast to e numbers) ≡ recast to e numbers
@@ -249,23 +278,7 @@ module _ (to new : Set) (fit : IsFit to) (well : WellFormed new) (compatible : C
     wanted = recast_each to new.devices (numbers_in images)
 
     pub ready : AreReady to backs
-    ready = record {
-      one_each = converted.back.one_each;
-      ready = λ i d image there e.
-          let newer = pair to new fit.well (all_in to new fit.well well compatible) i d there in
-          let image_back = converted.back.each i newer.number d newer.device image (record { in_old = there; found = newer.found; in_new = newer.stands }) e in
-          let may =
-          back_stands to new fit well i d newer.device there (get_or wanted newer.number [])
-          (kinds newer.number newer.device newer.stands) image image_back in
-          record {
-            normal = may.normal;
-            valid = converted.keeps.valid newer.number
-                (slice_get_within new.devices newer.number newer.device newer.stands) i d newer.device image newer.stands
-                (back to new fit.well (all_in to new fit.well well compatible) i d there newer) there e;
-            version = may.version;
-            needed = may.needed;
-          };
-    }
+    ready = ready_if to new fit well compatible wanted backs converted.back kinds converted.keeps.valid
 
     pub converts_stand : Converts to new describe machine images bytes
     converts_stand =

@@ -2,8 +2,10 @@
 pub use Rattle.std.proofs.{Math.ListN.get_or-map, Math.Seq.get_or-append_seam, lemmas.Bool.false_from_ne_true, lemmas.Bool.leb-true, lemmas.Bool.ltb-false}
 pub use Rattle.std.proofs.{lemmas.Int.to_z-of_z, lemmas.Result.err_from_is_err_and, lemmas.Result.on_ok_weaker}
 pub use Rattle.std.proofs.Common.{Bool, Err, IfSome, List, None, Ok, Option, Result, Some, [], add-one, ap, append_assoc, arith, codes, drop, false, get_or}
-pub use Rattle.std.proofs.Common.{if◌then◌else◌, inl, inr, length, length-append, length-set, map, nat_lt, negsuc, not, pos, refl, replicate, rules, slice_set}
-pub use Rattle.std.proofs.Common.{subst, suc, sym, take, true, zero, ℕ, ℤ, ◌*◌, ◌++◌, ◌+◌, ◌-◌, ◌<◌, ◌==◌, ◌∙◌, ◌∷◌, ◌≡◌, ◌≤◌, ◌⊎◌}
+pub use Rattle.std.proofs.Common.{if◌then◌else◌, inl, inr, length, length-append, length-set, map, nat_lt, negsuc, not, pos, refl, replicate, rules}
+pub use Rattle.std.proofs.Common.{slice_set}
+pub use Rattle.std.proofs.Common.{subst, suc, sym, take, true, zero, ℕ, ℤ, ◌*◌, ◌++◌, ◌+◌, ◌-◌, ◌<◌, ◌==◌, ◌∙◌, ◌∷◌}
+pub use Rattle.std.proofs.Common.{◌≡◌, ◌≤◌, ◌⊎◌}
 pub use Rattle.std.proofs.lemmas.Bool.{ltb-true, ne_eqb, not-false, or_parts, OnFalse_at, OnFalse_from, OnTrue_at, OnTrue_from, and_parts, cases_lt, eq-eqb}
 pub use Rattle.std.proofs.lemmas.List.{append-nil, drop_all, drop_more, ext_get_or, get_or-set_other, get_or-set_same, get_or_append_left, get_or_default}
 pub use Rattle.std.proofs.lemmas.List.{length-map, map-append, replicate-append-replicate, take_all, take_more_set, with_items_is}
@@ -13,7 +15,7 @@ pub use Rattle.vms_kinds.specs.{Codes.InRange, declared.Item.Item, declared.Kind
 pub use Rattle.vms_kinds.specs.declared.Item.TheVariants.{Num, Struct, Unused}
 pub use Rattle.vms_spec.proofs.ListsAndNumbers.{within_all}
 pub use Rattle.vms_spec.proofs.Tables.{field_size, first_at, one_more, FieldsBelow, ItemBelow, all_below}
-pub use Rattle.vms_spec.proofs.WellFormedLaws.{answers_none, device_found, device_parts, earlier, sub_clean, well_good}
+pub use Rattle.vms_spec.proofs.WellFormedLaws.{device_parts, earlier, sub_clean, well_good}
 pub use Rattle.vms_spec.specs.{Good.IsFit, Good.IsGood, Heads.FitsHeads, Images.sub_place, Lists.at_option, Numbers.exceeds, Places.own_cell_count}
 pub use Rattle.vms_spec.specs.{Tests.is_there, Tests.truth, declared.Count.TheVariants.Counted, declared.Count.TheVariants.One, declared.Part.Part}
 pub use Rattle.vms_spec.specs.{declared.TheConstants.MOST_ITEMS, declared.Whose.TheVariants.Own, declared.Whose.TheVariants.Parent}
@@ -28,7 +30,7 @@ pub use Rattle.vms_spec.specs.Shipped.{divider, divisor, fcr, fifo, i8254_at_1, 
 pub use Rattle.vms_spec.specs.Shipped.{thr_ipending, timeout, timer}
 pub use Rattle.vms_spec.specs.Sound.{AreSound, AreSoundFields, IsEarlier, IsSound, IsSoundField}
 pub use Rattle.vms_spec.specs.Streams.{AreReady, IsReady, is_needed, is_one_of, longest_text, written}
-pub use Rattle.vms_spec.specs.WellFormed.{WellFormed, first_fault, here}
+pub use Rattle.vms_spec.specs.WellFormed.{WellFormed, first_fault}
 unfoldable pub use Rattle.vms_spec.specs.Layout.{first}
 pub use Rattle.vms_bodies.proofs.{Stated.shipped_holds, Places.place_next, Places.place_up, Places.there_same}
 pub use Rattle.vms_bodies.proofs.PartLaws.{same_lists, image_are, part_place, at_other, part_apart, parts_together, places_apart, sub_place_up, sub_size}
@@ -37,16 +39,16 @@ pub use Rattle.vms_bodies.proofs.SettledLaws.{its_above, its_below, its_in, its_
 pub use Rattle.vms_bodies.proofs.WalkLaws.{drop_next, place_first, zero_plus}
 pub use Rattle.vms_bodies.specs.{Cells.AreCells}
 pub use Rattle.vms_stream.specs.StreamLaws.{IsWholeStream}
-pub use Rattle.vms_check.proofs.{PairLaws.passes, WholeLaws.sub_in}
+pub use Rattle.vms_check.proofs.{WholeLaws.sub_in}
 pub use Rattle.vms_check.specs.{Reducing.presence, Sides.IsSide, Sides.desc_on, Sides.own_side, declared.side.Side.Side}
 pub use Rattle.vms_check.specs.Carrying.{carried_at, carried_device, no_image}
-pub use Rattle.vms_check.specs.Comparing.{Compatible, Entry, entry_of, is_absent, is_in, is_nothing, present, present_from}
+pub use Rattle.vms_check.specs.Comparing.{Compatible, Entry, entry_of, is_absent, is_nothing, present, present_from}
 pub use Rattle.vms_check.specs.Partners.{Pairer, array_partners, desc_partners, field_partners, fields_left, item_partners, named_partners, no_pairer}
 pub use Rattle.vms_check.specs.Partners.{pairer_of, partners_from, unpaired}
 unfoldable pub use Rattle.vms_check.specs.{Carrying.carried, Partners.device_partners}
 pub use Rattle.vms_check_laws.proofs.{GoesDevices.carried_stands, GoesFields.struct_is, Wholes.at_map}
 pub use Rattle.vms_check_laws.proofs.PairDevices.{device_paired, one_number, one_part, own_or_sub}
-pub use Rattle.vms_check_laws.proofs.Streaming.{all_in, back, found_device, found_some, pair, upgrade_stands}
+pub use Rattle.vms_check_laws.proofs.Streaming.{Older, Pair, all_in, back, found_device, older, pair, upgrade_stands}
 pub use Rattle.vms_check_laws.specs.{Carried.IsAtVersions, Carried.IsCarried, Pairing.AreOfKinds, Pairing.ArePartners, SubCells.IsCellOf}
 pub use Rattle.vms_convert.specs.{Changes.Changes, Changes.changed, Changes.changed_append, Giving.AreTargets, Giving.give_partner, Giving.give_step}
 pub use Rattle.vms_convert.specs.{Putting.AreSources, Putting.put_partner, Putting.put_step, Returning.FirstDifference, Returning.IsReturned, Rooms.AreFresh}

@@ -1,14 +1,15 @@
 -- Which cells are in the bytes is known, cell by cell, from the numbers before: tests and counts name only earlier
 -- fields.
-use Rattle.vms_convert.proofs.Facade.{get_or_append_left, get_or_from_slice_get, slice_get_within, ◌≡◌, ℕ, zero, suc, ◌+◌, ◌<◌, ◌≤◌, List, [], ◌∷◌, ◌++◌, ◌⊎◌}
-use Rattle.vms_convert.proofs.Facade.{length, get_or, drop, Option, Some, None, ℤ, refl, sym, ap, ◌∙◌, arith, Bool, true, false, if◌then◌else◌, length-append}
-use Rattle.vms_convert.proofs.Facade.{map, pos, inl, inr, slice_get, ext_get_or, slice_get-get_or, cases_lt, sub_place_up, IsCellOf, one_part, Item, Struct}
-use Rattle.vms_convert.proofs.Facade.{Field, Desc, Sub, Device, Set, is_there, Slot, Meaning, no_meaning, no_desc, item_slots, item_size, times, field_slots}
-use Rattle.vms_convert.proofs.Facade.{slots_from, desc_slots, desc_cells, struct_cells, field_cells, place_of, numbers_of, elements_of, counted, no_parent}
-use Rattle.vms_convert.proofs.Facade.{first, meaning, meanings, Cell, no_cell, device_cells, has_cell, own_cells, came_slots, image_slots, Image, one_more}
-use Rattle.vms_convert.proofs.Facade.{IsSound, AreSound, IsSoundField, AreSoundFields, IsEarlier, names_append, SameBelow, there_same, elements_same}
-use Rattle.vms_convert.proofs.Facade.{place_next, MeanAbove, meanings_above, field_above, SameIn, in_less, own_in, cells_in, drop_next, place_first, zero_plus}
-use Rattle.vms_convert.proofs.Facade.{is_needed, well_good, sub_within, image_of, AreSettled, AreTaken, taken, whole, IsBack, ComesBackLaw, own_or_sub}
+use Rattle.vms_convert.proofs.Facade.{get_or_append_left, get_or_from_slice_get, slice_get_within, ◌≡◌, ℕ, zero, suc, ◌+◌, ◌<◌, ◌≤◌, List}
+use Rattle.vms_convert.proofs.Facade.{[], ◌∷◌, ◌++◌, ◌⊎◌, length, get_or, drop, Option, Some, None, ℤ, refl, sym, ap, ◌∙◌, arith, Bool}
+use Rattle.vms_convert.proofs.Facade.{true, false, if◌then◌else◌, length-append, map, pos, inl, inr, slice_get, ext_get_or, slice_get-get_or, cases_lt}
+use Rattle.vms_convert.proofs.Facade.{sub_place_up, IsCellOf, one_part, Item, Struct, Field, Desc, Sub, Device, Set, is_there, Slot, Meaning, no_meaning}
+use Rattle.vms_convert.proofs.Facade.{no_desc, item_slots, item_size, times, field_slots, slots_from, desc_slots, desc_cells, struct_cells, field_cells}
+use Rattle.vms_convert.proofs.Facade.{place_of, numbers_of, elements_of, counted, no_parent, first, meaning, meanings, Cell, no_cell, device_cells, has_cell}
+use Rattle.vms_convert.proofs.Facade.{own_cells, came_slots, image_slots, Image, one_more, IsSound, AreSound, IsSoundField, AreSoundFields, IsEarlier}
+use Rattle.vms_convert.proofs.Facade.{names_append, SameBelow, there_same, elements_same, place_next, MeanAbove, meanings_above, field_above, SameIn, in_less}
+use Rattle.vms_convert.proofs.Facade.{own_in, cells_in, drop_next, place_first, zero_plus, is_needed, well_good, sub_within, image_of, AreSettled, AreTaken}
+use Rattle.vms_convert.proofs.Facade.{taken, whole, IsBack, ComesBackLaw, own_or_sub}
 use Rattle.vms_convert.proofs.Settling.{by_last}
 
 -- both have slot c, or neither has it
@@ -39,8 +40,7 @@ module _ (ms : List Meaning) (h : MeanKnown ms) (above : MeanAbove ms) where
   cs = cells_in ms
 
   item_known : (item : Item) (caps : List ℕ) (at c : ℕ) (n k : List ℤ) → SameIn at c n k → Alike c (item_slots ms item caps k at) (item_slots ms item caps n at)
-  item_known (Struct j) caps at c n k s = (h j).means at c n k s
-  item_known _ caps at c n k s = record { is = refl }
+  item_known item caps at c n k s = grind arith
 
   items_known : (item : Item) (caps : List ℕ) (count at step c : ℕ) (n k : List ℤ) → SameIn at c n k
       → Alike c (times count (item_slots ms item caps k) at step) (times count (item_slots ms item caps n) at step)
@@ -49,8 +49,7 @@ module _ (ms : List Meaning) (h : MeanKnown ms) (above : MeanAbove ms) where
       either_part (item_known item caps at c n k s) (items_known item caps count (at + step) step c n k (in_less at _ c c n k (omega arith) (omega arith) s))
 
   either : (c : ℕ) (b : Bool) (xs ys : List Slot) → Alike c xs ys → Alike c (if b then xs else []) (if b then ys else [])
-  either c true xs ys e = e
-  either c false xs ys e = alike c []
+  either c b xs ys e = grind (arith, alike)
 
   -- before a field none of its cells is in the bytes; from its first cell on it is known whether it is there and
   -- how often

@@ -4,16 +4,15 @@ use Rattle.vms_convert.proofs.Facade.{◌≡◌, ℕ, ◌+◌, ◌<◌, Bool, tr
 use Rattle.vms_convert.proofs.Facade.{Some, None, ℤ, refl, sym, ap, ◌∙◌, arith, if◌then◌else◌, get_or-append_seam, ltb-true, ltb-false}
 use Rattle.vms_convert.proofs.Facade.{get_or_append_left, get_or_default, length-map, get_or_from_slice_get, slice_get-get_or, slice_get_within, slice_get}
 use Rattle.vms_convert.proofs.Facade.{take_all, length-append, ◌≤◌, slice_set, take, map-append, take_more_set, back, Device, Set, Image, find_device}
-use Rattle.vms_convert.proofs.Facade.{index, WellFormed, here, device_found, device_at, device_is, carried, carried_at, carried_device, no_image, Compatible}
-use Rattle.vms_convert.proofs.Facade.{is_in, passes, found_device, found_some, pair, all_in, answers_none, at_map, DifferAt, Loses, OfCell, numbers_in}
-use Rattle.vms_convert.proofs.Facade.{FirstDifference, ArePaired, IsFirstLost, IsLostCell, carried_of, LostCell, IsBack, device_partners, default_image, Typed}
-use Rattle.vms_convert.proofs.Facade.{state_of, AreImagesOf, default_at, typed, IsReturned, AreReturnedTo, AreReturned, IsRecastFor, kinds_at, recast, AreFresh}
-use Rattle.vms_convert.proofs.Facade.{AreRoutes, IsRoute, Route, first, newest_set, AreKept, kinds, recast_each, at_other, IsImageOf}
+use Rattle.vms_convert.proofs.Facade.{index, WellFormed, device_at, device_is, carried, carried_at, carried_device, no_image, Compatible, found_device, pair}
+use Rattle.vms_convert.proofs.Facade.{all_in, at_map, DifferAt, Loses, OfCell, numbers_in, FirstDifference, ArePaired, IsFirstLost, IsLostCell, carried_of}
+use Rattle.vms_convert.proofs.Facade.{LostCell, IsBack, device_partners, default_image, Typed, state_of, AreImagesOf, default_at, typed, IsReturned}
+use Rattle.vms_convert.proofs.Facade.{AreReturnedTo, AreReturned, IsRecastFor, kinds_at, recast, AreFresh, AreRoutes, IsRoute, Route, first, newest_set}
+use Rattle.vms_convert.proofs.Facade.{AreKept, kinds, recast_each, at_other, IsImageOf}
+use Rattle.vms_convert.proofs.Facade.{Older, older}
 use Rattle.vms_convert.proofs.HasBack.{extend, appended}
-use Rattle.vms_convert.specs.{Returns.IsEarlier}
+use Rattle.vms_convert.specs.Returns.{IsEarlier}
 use Rattle.std.proofs.lemmas.List.{same_lists, length-set}
-use Rattle.vms_check_laws.proofs.Streaming.{rules}
-use Rattle.vms_spec.specs.declared.Part.TheVariants as parts
 
 abbrev pub no_device : Device
 no_device = device_at (record { machines = []; structs = []; devices = [] }) 0
@@ -74,8 +73,7 @@ module _ (to new : Set) (wanted : List (List ℤ)) where
 
     all_given : (known : Option LostCell) → IsFirstLost to new wanted n backs known → get_or wanted k [] ≡ gives
         → IsFirstLost to new wanted (n + 1) more known
-    all_given None h e = λ i l lt. upto l (λ i lt. h i l lt) (end_gives e l) i lt
-    all_given (Some l) h e = still l h (λ j less p. end_gives e j p)
+    all_given known h e = grind (arith, upto, end_gives, still)
 
     earlier_of : (l : LostCell) (c : ℕ) → IsLostCell to new wanted n backs l → DifferAt (get_or wanted k []) gives c
         → (b : Bool) → nat_lt l.device k ≡ b → IsFirstLost to new wanted (n + 1) more (if b then Some l else Some (record { device = k; cell = c }))
@@ -84,35 +82,10 @@ module _ (to new : Set) (wanted : List (List ℤ)) where
 
     pub lost_next : (known : Option LostCell) (cell : Option ℕ) (next : Option LostCell) → IsFirstLost to new wanted n backs known
         → FirstDifference (get_or wanted k []) gives cell → IsEarlier known k cell next → IsFirstLost to new wanted (n + 1) more next
-    lost_next None None next h e is = rw is (all_given None h e)
-    lost_next (Some l) None next h e is = rw is (all_given (Some l) h e)
-    lost_next None (Some c) next h e is = rw is (lost_here c e (λ i j lt less p. h i j lt p))
-    lost_next (Some l) (Some c) next h e is = rw is (earlier_of l c h e _ refl)
+    lost_next known cell next h e is = grind (arith, all_given, lost_here, earlier_of)
 
 module _ (to new : Set) (well_to : WellFormed to) (well_new : WellFormed new) (compatible : Compatible to new) where
-  -- the older set's device of the name and instance of device k
-  pub record Older (k : ℕ) (e : Device) : Type 0 where
-    pub i : ℕ
-    pub d : Device
-    pub stands : slice_get to.devices i ≡ Some d
-    pub found : find_device 0 to.devices e.desc.name e.instance ≡ Some i
-    pub back : find_device 0 new.devices d.desc.name d.instance ≡ Some k
-
-  pub older : (k : ℕ) (e : Device) → slice_get new.devices k ≡ Some e → Older k e
-  older k e at =
-      let h = answers_none _ 0 new.devices (rules to new well_to well_new compatible).news k e at in
-      let r = found_some (find_device 0 to.devices e.desc.name e.instance) ((passes 3 (is_in to e) [] (here parts.Set) (here (parts.Device (0 + k))) h).0) in
-      let f = found_device 0 to.devices e.desc.name e.instance r.0 r.1 in
-      let same : r.0 ≡ f.0 = omega arith in
-      record {
-        i = f.0;
-        d = f.2.device;
-        stands = f.2.stands;
-        found = cc;
-        back = rw (f.2.name_is, f.2.instance_is) (device_found new well_new k e at);
-      }
-
-  pub older_pair : (k : ℕ) (e : Device) (at : slice_get new.devices k ≡ Some e) (o : Older k e) → ArePaired to new o.i k
+  pub older_pair : (k : ℕ) (e : Device) (at : slice_get new.devices k ≡ Some e) (o : Older to new well_to well_new compatible k e) → ArePaired to new o.i k
   older_pair k e at o =
       let d_is = device_is to o.i o.d o.stands in
       let e_is = device_is new k e at in
@@ -126,7 +99,7 @@ module _ (to new : Set) (well_to : WellFormed to) (well_new : WellFormed new) (c
     abbrev given : List (List ℤ)
     given = numbers_in (carried to new backs)
 
-    pub there_is : (k : ℕ) (e : Device) (at : slice_get new.devices k ≡ Some e) (o : Older k e) → get_or given k [] ≡ carried_of to new backs o.i k
+    pub there_is : (k : ℕ) (e : Device) (at : slice_get new.devices k ≡ Some e) (o : Older to new well_to well_new compatible k e) → get_or given k [] ≡ carried_of to new backs o.i k
     unfolding carried
     there_is k e at o =
         let carry : Device → Image =
@@ -135,7 +108,7 @@ module _ (to new : Set) (well_to : WellFormed to) (well_new : WellFormed new) (c
         let stands = at_map (λ (image : Image). image.numbers) (map carry new.devices) k image (at_map carry new.devices k e at) in
         rw (get_or_from_slice_get given k _ [] stands, o.found, o.stands, device_is to o.i o.d o.stands, device_is new k e at)
 
-    older_inside : (k : ℕ) (e : Device) (o : Older k e) → o.i < length to.devices
+    older_inside : (k : ℕ) (e : Device) (o : Older to new well_to well_new compatible k e) → o.i < length to.devices
     older_inside k e o = slice_get_within to.devices o.i o.d o.stands
 
     pub there_long : length given ≡ length new.devices
@@ -152,7 +125,7 @@ module _ (to new : Set) (well_to : WellFormed to) (well_new : WellFormed new) (c
           one : (k : ℕ) → k < length new.devices → get_or wanted k [] ≡ get_or given k []
           one k lt =
               let at : slice_get new.devices k ≡ Some (device_at new k) = slice_get-get_or new.devices k no_device lt in
-              let o = older k (device_at new k) at in
+              let o = older to new well_to well_new compatible k (device_at new k) at in
               h o.i k (older_inside k (device_at new k) o) (older_pair k (device_at new k) at o) ∙ sym (there_is k (device_at new k) at o)
 
       -- this cell is lost first
@@ -165,13 +138,13 @@ module _ (to new : Set) (well_to : WellFormed to) (well_new : WellFormed new) (c
         before : (k : ℕ) → k < l.device → get_or wanted k [] ≡ get_or given k []
         before k less =
             let at : slice_get new.devices k ≡ Some (device_at new k) = slice_get-get_or new.devices k no_device (omega (arith, within)) in
-            let o = older k (device_at new k) at in
+            let o = older to new well_to well_new compatible k (device_at new k) at in
             h.before o.i k (older_inside k (device_at new k) o) less (older_pair k (device_at new k) at o) ∙ sym (there_is k (device_at new k) at o)
 
         differ : DifferAt (get_or wanted l.device []) (get_or given l.device []) l.cell
         differ =
             let at = h.pair.in_new in
-            let o = older _ (device_at new l.device) at in
+            let o = older to new well_to well_new compatible _ (device_at new l.device) at in
             let all = all_in to new well_to well_new compatible in
             let p = pair to new well_to all h.i (device_at to h.i) h.pair.in_old in
             let number : p.number ≡ l.device = cc (p.found, h.pair.found) in
@@ -203,9 +176,8 @@ module _ (to new : Set) (wanted : List (List ℤ)) where
 pub pair_found : (to new : Set) (i k : ℕ) → i < length to.devices → find_device 0 new.devices (device_at to i).desc.name (device_at to i).instance ≡ Some k
     → ArePaired to new i k
 pair_found to new i k lt found =
-    let f = found_device 0 new.devices (device_at to i).desc.name (device_at to i).instance k found in
-    let within : k < length new.devices = omega (arith, slice_get_within new.devices f.0 f.2.device f.2.stands) in
-    record { in_old = there to i lt; found = found; in_new = slice_get-get_or new.devices k no_device within }
+    let f = found_device new.devices (device_at to i).desc.name (device_at to i).instance k found in
+    record { in_old = there to i lt; found = found; in_new = there new k (slice_get_within new.devices k f.device f.stands) }
 
 pub always_found : (to new : Set) → WellFormed to → WellFormed new → Compatible to new → (i : ℕ) → i < length to.devices
     → find_device 0 new.devices (device_at to i).desc.name (device_at to i).instance ≡ None → ⊥

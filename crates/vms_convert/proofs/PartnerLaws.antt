@@ -1,9 +1,9 @@
 -- The partners of the rest of two descriptions, field by field.
-use Rattle.vms_convert.proofs.Facade.{add-one, ◌≡◌, ℕ, zero, suc, ◌+◌, ◌-◌, ◌*◌, ◌<◌, ◌≤◌, List, [], ◌∷◌, ◌++◌, length, length-append, get_or, drop, true}
-use Rattle.vms_convert.proofs.Facade.{false, Option, Some, None, refl, arith, ltb-true, drop_more, Item, Struct, Cell, first, no_desc, no_field}
-use Rattle.vms_convert.proofs.Facade.{capacity_of, item_size, field_cells, cells_from, struct_cells, uses_below, Formula, Field, Desc, Set, ItemBelow}
-use Rattle.vms_convert.proofs.Facade.{FieldsBelow, all_below, first_at, is_well_formed, struct_clean, Entry, entry_of, is_absent, is_nothing, present}
-use Rattle.vms_convert.proofs.Facade.{present_from, presence, Pairer, no_pairer, pairer_of, unpaired, item_partners, array_partners, field_partners}
+use Rattle.vms_convert.proofs.Facade.{add-one, ◌≡◌, ℕ, zero, suc, ◌+◌, ◌-◌, ◌*◌, ◌<◌, ◌≤◌, List, [], ◌∷◌, ◌++◌, length}
+use Rattle.vms_convert.proofs.Facade.{length-append, get_or, drop, true, false, Option, Some, None, refl, arith, ltb-true, drop_more, Item, Struct, Cell, first}
+use Rattle.vms_convert.proofs.Facade.{no_desc, no_field, capacity_of, item_size, field_cells, cells_from, struct_cells, uses_below, Formula, Field, Desc, Set}
+use Rattle.vms_convert.proofs.Facade.{ItemBelow, FieldsBelow, all_below, first_at, is_well_formed, struct_clean, Entry, entry_of, is_absent, is_nothing}
+use Rattle.vms_convert.proofs.Facade.{present, present_from, presence, Pairer, no_pairer, pairer_of, unpaired, item_partners, array_partners, field_partners}
 use Rattle.vms_convert.proofs.Facade.{fields_left, partners_from, desc_partners, table, struct_on}
 
 -- how far down structures go
@@ -12,8 +12,7 @@ depth (Struct j) = suc j
 depth item = 0
 
 pub depth_within : (k : ℕ) (item : Item) → uses_below k item ≡ true → depth item ≤ k
-depth_within k (Struct j) e = let lt : j < k = ltb-true j k e in omega arith
-depth_within k _ e = omega arith
+depth_within k item e = grind arith
 
 -- ---- places counted from the device's first cell
 
@@ -23,8 +22,7 @@ shifted at (e ∷ es) = record e { place = at + e.place } ∷ shifted at es
 
 one_shifted : (i p at : ℕ) (f : Field) (o : Option (Option Formula)) (es : List Entry)
     → shifted at (entry_of i p f o ++ es) ≡ entry_of i (at + p) f o ++ shifted at es
-one_shifted i p at f None es = refl
-one_shifted i p at f (Some rest) es = refl
+one_shifted i p at f o es = grind arith
 
 entries_shifted : (y : List (List Cell)) (all : List Field) (w i p at : ℕ) (gs : List Field)
     → shifted at (present_from y all w i p gs) ≡ present_from y all w i (at + p) gs
@@ -37,13 +35,11 @@ entries_shifted y all w i p at (g ∷ gs) =
 module _ (structs : List Pairer) (x y : List (List Cell)) where
   field_shifted : (f : Field) (o : Option (Option Formula)) (es : List Entry) (at : ℕ)
       → field_partners structs x y f o es at ≡ field_partners structs x y f o (shifted at es) 0
-  field_shifted f (Some rest) (e ∷ es) at = grind arith
-  field_shifted f _ _ at = refl
+  field_shifted f o es at = grind arith
 
   left_shifted : (o : Option (Option Formula)) (es : List Entry) (at : ℕ)
       → shifted at (fields_left structs x y o es) ≡ fields_left structs x y o (shifted at es)
-  left_shifted (Some rest) (e ∷ es) at = refl
-  left_shifted _ _ at = refl
+  left_shifted o es at = grind arith
 
   fields_shifted : (v at : ℕ) (fs : List Field) (es : List Entry) → partners_from structs x y v at fs es ≡ partners_from structs x y v 0 fs (shifted at es)
   fields_shifted v at [] es = refl
@@ -60,8 +56,7 @@ module _ (structs : List Pairer) (x y : List (List Cell)) where
 
 module _ (k : ℕ) (ts us : List Pairer) (same : (i : ℕ) → i < k → get_or ts i no_pairer ≡ get_or us i no_pairer) (x y : List (List Cell)) where
   item_same : (a b : Item) (at : ℕ) → ItemBelow k a → item_partners ts x y a b at ≡ item_partners us x y a b at
-  item_same (Struct i) (Struct j) at lt = rw (same i lt)
-  item_same _ _ at lt = refl
+  item_same a b at lt = grind arith
 
   array_same : (a b : Item) (n m at : ℕ) → ItemBelow k a → array_partners ts x y a b n m at ≡ array_partners us x y a b n m at
   array_same a b zero m at lt = refl
@@ -70,12 +65,10 @@ module _ (k : ℕ) (ts us : List Pairer) (same : (i : ℕ) → i < k → get_or 
 
   field_same : (f : Field) (o : Option (Option Formula)) (es : List Entry) (at : ℕ) → ItemBelow k f.item
       → field_partners ts x y f o es at ≡ field_partners us x y f o es at
-  field_same f (Some rest) (e ∷ es) at lt = grind (arith, array_same)
-  field_same f _ _ at lt = refl
+  field_same f o es at lt = grind (arith, array_same)
 
   left_same : (o : Option (Option Formula)) (es : List Entry) → fields_left ts x y o es ≡ fields_left us x y o es
-  left_same (Some rest) (e ∷ es) = refl
-  left_same _ _ = refl
+  left_same o es = grind arith
 
   fields_same : (v at : ℕ) (fs : List Field) (es : List Entry) → FieldsBelow k fs → partners_from ts x y v at fs es ≡ partners_from us x y v at fs es
   fields_same v at [] es lt = refl
@@ -104,16 +97,14 @@ module _ (old new : Set) (well : is_well_formed old ≡ true) where
 -- ---- field by field
 
 pub nothing : (o : Option (Option Formula)) → is_nothing o ≡ true → o ≡ None
-nothing None e = refl
-nothing (Some rest) e = absurd (cc)
+nothing o e = grind arith
 
 pub record IsThere (o : Option (Option Formula)) : Type 0 where
   pub rest : Option Formula
   pub is : o ≡ Some rest
 
 pub something : (o : Option (Option Formula)) → is_nothing o ≡ false → IsThere o
-something None e = absurd (cc)
-something (Some rest) e = record { rest = rest; is = refl }
+something o e = grind arith
 
 module _ (y : List (List Cell)) (all : List Field) (w : ℕ) where
   abbrev at_number : ℕ → Field
@@ -185,5 +176,4 @@ all_but_one n i size lt =
 
 -- one of some is no more than all
 pub one_of_all : (n size : ℕ) → 0 < n → size ≤ n * size
-one_of_all zero size lt = absurd (omega arith)
-one_of_all (suc n) size lt = omega arith
+one_of_all n size lt = grind arith

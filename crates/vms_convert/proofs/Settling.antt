@@ -1,11 +1,11 @@
 -- Whether a subsection is needed depends on its own cells and on those of its device.
-use Rattle.vms_convert.proofs.Facade.{cases_lt, inl, inr, ◌≡◌, ℕ, ◌+◌, List, length, get_or, Option, Some, None, ℤ, refl, ap, ◌∙◌, arith, Bool, true, not, suc}
-use Rattle.vms_convert.proofs.Facade.{◌<◌, ◌≤◌, false, pos, sym, if◌then◌else◌, zero, [], ◌∷◌, slice_get, and_parts, slice_get_within, slice_get-get_or, Own}
-use Rattle.vms_convert.proofs.Facade.{Parent, Formula, Not, And, Or, Field, Desc, Sub, Device, Set, truth, place_of, numbers_of, desc_cells, struct_cells}
-use Rattle.vms_convert.proofs.Facade.{no_cell, device_cells, Image, own_cells, is_needed, is_steady, is_steady_in, names_well, WellFormed, IsEarlier, place_up}
-use Rattle.vms_convert.proofs.Facade.{place_below, place_end, sub_size, sub_place_up, places_apart, part_place, SameIn, earlier, sub_clean, bare, needed_from}
-use Rattle.vms_convert.proofs.Facade.{IsCellOf, AreSettled, whole, IsBack, same_lists, IsAtVersions, device_at, needed_at, sub_at, ArePutAt, Typed, SettlesSub}
-use Rattle.vms_convert.proofs.Facade.{SettlesBy}
+use Rattle.vms_convert.proofs.Facade.{cases_lt, inl, inr, ◌≡◌, ℕ, ◌+◌, List, length, get_or, Option, Some, None, ℤ, refl, ap, ◌∙◌, arith}
+use Rattle.vms_convert.proofs.Facade.{Bool, true, not, suc, ◌<◌, ◌≤◌, false, pos, sym, if◌then◌else◌, zero, [], ◌∷◌, slice_get, and_parts}
+use Rattle.vms_convert.proofs.Facade.{slice_get_within, slice_get-get_or, Own, Parent, Formula, Not, And, Or, Field, Desc, Sub, Device, Set, truth, place_of}
+use Rattle.vms_convert.proofs.Facade.{numbers_of, desc_cells, struct_cells, no_cell, device_cells, Image, own_cells, is_needed, is_steady, is_steady_in}
+use Rattle.vms_convert.proofs.Facade.{names_well, WellFormed, IsEarlier, place_up, place_below, place_end, sub_size, sub_place_up, places_apart, part_place}
+use Rattle.vms_convert.proofs.Facade.{SameIn, earlier, sub_clean, bare, needed_from, IsCellOf, AreSettled, whole, IsBack, same_lists, IsAtVersions, device_at}
+use Rattle.vms_convert.proofs.Facade.{needed_at, sub_at, ArePutAt, Typed, SettlesSub, SettlesBy}
 use Rattle.vms_spec.specs.{Sets.Cell, Layout.Cell as OneCell}
 
 -- a test that names only fields of these numbers
@@ -157,8 +157,7 @@ module _ (set : Set) (d : Device) (image : Image) where
 -- ---- What comes back is at its set's versions.
 
 version_if : (b : Bool) (v w : ℕ) → (if b then Some v else None) ≡ Some w → w ≡ v
-version_if true v w e = cc
-version_if false v w e = cc
+version_if b v w e = grind arith
 
 needed_version : (set : Set) (d : Device) (image : Image) (i j : ℕ) (subs : List Sub) (s : Sub) (v : ℕ) → slice_get subs j ≡ Some s
     → slice_get (needed_from set d image i subs) j ≡ Some (Some v) → v ≡ s.desc.version

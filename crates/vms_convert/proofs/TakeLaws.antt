@@ -1,13 +1,14 @@
 -- What is taken of the older cells, and the defaults of the others.
-use Rattle.vms_convert.proofs.Facade.{subst, ne_eqb, inl, inr, cases_lt, ◌≡◌, ℕ, zero, suc, ◌<◌, List, [], ◌∷◌, ◌++◌, length, get_or, take, drop, slice_set, ℤ}
-use Rattle.vms_convert.proofs.Facade.{pos, refl, ap, arith, ◌+◌, map, Option, Some, None, sym, ◌∙◌, append_assoc, Bool, true, false, length-set, if◌then◌else◌}
-use Rattle.vms_convert.proofs.Facade.{◌≤◌, slice_get, get_or-set_other, get_or-set_same, map-append, length-map, eq-eqb, get_or-map, slice_get-get_or}
-use Rattle.vms_convert.proofs.Facade.{append-nil, take_all, add-one, IsSound, AreSound, Sub, Device, Set, Slot, desc_cells, struct_cells, Cell, no_cell, Number}
-use Rattle.vms_convert.proofs.Facade.{device_cells, own_cells, own_slots, sub_slots, sub_place, came_slots, has_cell, image_slots, its_same, its_below}
-use Rattle.vms_convert.proofs.Facade.{part_place, image_are, sub_size, sub_place_up, SameBelow, SameIn, exceeds, AreCells, least_of, steps_of, step_of}
-use Rattle.vms_convert.proofs.Facade.{exceeds_least, taken, AreTaken, whole, changed, changed_append, Changes, put_partner, put_step, AreSources, Keeps}
-use Rattle.vms_convert.proofs.Facade.{WalkStep, has_step_of, put_keeps, takes_keeps, Kind, Typed, InRange, U8, FitsHeads, own_cell_count, device_at}
-use Rattle.vms_convert.proofs.Facade.{is_well_formed, desc_at, kinds_at, good_of, ArePut, ArePutAt, at_map, IsGood, spot_slots, part_of, sub_at}
+use Rattle.vms_convert.proofs.Facade.{subst, ne_eqb, inl, inr, cases_lt, ◌≡◌, ℕ, zero, suc, ◌<◌, List, [], ◌∷◌, ◌++◌, length, get_or}
+use Rattle.vms_convert.proofs.Facade.{take, drop, slice_set, ℤ, pos, refl, ap, arith, ◌+◌, map, Option, Some, None, sym, ◌∙◌, append_assoc, Bool}
+use Rattle.vms_convert.proofs.Facade.{true, false, length-set, if◌then◌else◌, ◌≤◌, slice_get, get_or-set_other, get_or-set_same, map-append}
+use Rattle.vms_convert.proofs.Facade.{length-map, eq-eqb, get_or-map, slice_get-get_or, append-nil, take_all, add-one, IsSound, AreSound, Sub, Device, Set}
+use Rattle.vms_convert.proofs.Facade.{Slot, desc_cells, struct_cells, Cell, no_cell, Number, device_cells, own_cells, own_slots, sub_slots, sub_place}
+use Rattle.vms_convert.proofs.Facade.{came_slots, has_cell, image_slots, its_same, its_below, part_place, image_are, sub_size, sub_place_up, SameBelow, SameIn}
+use Rattle.vms_convert.proofs.Facade.{exceeds, AreCells, least_of, steps_of, step_of, exceeds_least, taken, AreTaken, whole, changed, changed_append, Changes}
+use Rattle.vms_convert.proofs.Facade.{put_partner, put_step, AreSources, Keeps, WalkStep, has_step_of, put_keeps, takes_keeps, Kind, Typed, InRange, U8}
+use Rattle.vms_convert.proofs.Facade.{FitsHeads, own_cell_count, device_at, is_well_formed, desc_at, kinds_at, good_of, ArePut, ArePutAt, at_map, IsGood}
+use Rattle.vms_convert.proofs.Facade.{spot_slots, part_of, sub_at}
 use Rattle.vms_desc.specs.Asks.{first_cell}
 use Rattle.vms_spec.specs.declared.Part.TheVariants as parts
 
@@ -131,8 +132,7 @@ module _ (all : List Cell) (partners : List (Option ℕ)) (source : List ℤ) wh
 
   -- from defaults on, the cells of the slots have taken theirs
   pub taken_at : (c : ℕ) (has : Bool) → taken_if c has (get_or all c no_cell).default ≡ taken source (get_or all c no_cell) has (get_or partners c None)
-  taken_at c true = grind arith
-  taken_at c false = refl
+  taken_at c has = grind arith
 
 -- ---- What the cells of a device have taken, part by part.
 

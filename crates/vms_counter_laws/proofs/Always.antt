@@ -8,14 +8,14 @@ use Rattle.vms_counter_laws.proofs.Facade.{slice_get_within, first_answer, IsByt
 use Rattle.vms_counter_laws.proofs.Facade.{here, reading_on, at_other, bytes_rest, Tail, Footed, Bare, judge, between, by_state, BeginsSection}
 use Rattle.vms_counter_laws.proofs.Facade.{section_read_holds, section_found_holds, compare_device, failing_pair, is_in, carried_device, ArePaired, compared}
 use Rattle.vms_counter_laws.proofs.Facade.{Pair, pair, back, device_stands, at_first, one_on, saved, ◌==◌, if◌then◌else◌, inl, inr, map, append-nil}
-use Rattle.vms_counter_laws.proofs.Facade.{ℤ, Field, struct_cells, desc_cells, Spells, default_image, own_slots, own_cells, zeroed, IsVersionOf, magic}
-use Rattle.vms_counter_laws.proofs.Facade.{end_mark, foot, written, written_subs, AreReady, Magic, Version, find_device, few_devices, machine_short, falses}
-use Rattle.vms_counter_laws.proofs.Facade.{defaults_of, version_decides, well_good, device_found, Unknown, AtMagic, AtVersion, reading, Headed, at_start}
-use Rattle.vms_counter_laws.proofs.Facade.{unit_on, taken_holds, Mismatch, presence, reduced, compare_fields, comparers, Comparer, Entry, first_mismatch}
-use Rattle.vms_counter_laws.proofs.Facade.{is_kept, present, position_from, FitsAt, fits_left, from_zero, fits_whole, devices_clash, at_map, default_images}
-use Rattle.vms_counter_laws.proofs.Facade.{machine_for, stream_of, Shows, IsPlain, AlwaysShown, OfMachine, OfVersion, OfConstant}
+use Rattle.vms_counter_laws.proofs.Facade.{ℤ, struct_cells, desc_cells, Spells, default_image, own_slots, own_cells, zeroed, IsVersionOf, magic, end_mark}
+use Rattle.vms_counter_laws.proofs.Facade.{foot, written, written_subs, AreReady, Magic, Version, find_device, few_devices, machine_short, falses, defaults_of}
+use Rattle.vms_counter_laws.proofs.Facade.{version_decides, well_good, device_found, Unknown, AtMagic, AtVersion, reading, Headed, at_start, unit_on}
+use Rattle.vms_counter_laws.proofs.Facade.{taken_holds, Mismatch, reduced, compare_fields, comparers, Comparer, Entry, first_mismatch, is_kept, present}
+use Rattle.vms_counter_laws.proofs.Facade.{position_from, FitsAt, fits_left, from_zero, fits_whole, devices_clash, at_map, default_images, machine_for}
+use Rattle.vms_counter_laws.proofs.Facade.{stream_of, Shows, IsPlain, AlwaysShown, OfMachine, OfVersion, OfConstant}
 use Rattle.vms_counter_laws.proofs.Inverted.{present_fields, clashes, else_some, one_rule, struct_no_device, tables_within, IsDevice, OfDevice, of_device}
-use Rattle.vms_counter_laws.proofs.Inverted.{Version as OfItsVersion, Own, Below, IsWithin, part_within, DeviceFails, device_fails, machine_fails}
+use Rattle.vms_counter_laws.proofs.Inverted.{Version as OfItsVersion, Own, Below, part_within, DeviceFails, device_fails, machine_fails}
 use Rattle.vms_stream.specs.State.{State}
 use Rattle.vms_spec.specs.declared.Part.TheVariants as parts
 

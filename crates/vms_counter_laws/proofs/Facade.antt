@@ -1,9 +1,12 @@
 -- The names of other crates, and of this crate's `specs`, that the proofs use.
-pub use Rattle.std.proofs.{Common.◌≤◌, Common.◌⊎◌, lemmas.Bool.or_left, lemmas.Bool.or_right, lemmas.Bool.Decides.Decides-and, lemmas.Bool.Decides.Decides-like}
+pub use Rattle.std.proofs.{Common.◌≤◌, Common.◌⊎◌, lemmas.Bool.or_left, lemmas.Bool.or_right, lemmas.Bool.Decides.Decides-and}
+pub use Rattle.std.proofs.{lemmas.Bool.Decides.Decides-like}
 pub use Rattle.std.proofs.{lemmas.List.length-set, lemmas.Option.slice_get_within, lemmas.Slice.Eq.bytes_eq-Decides}
-pub use Rattle.std.proofs.Common.{Bool, IfSome, List, None, Option, Some, [], ap, append-nil, append_assoc, arith, codes, false, get_or, if◌then◌else◌, inl}
-pub use Rattle.std.proofs.Common.{inr, length, map, pos, refl, slice_set, subst, suc, sym, true, zero, ℕ, ℤ, ◌&&◌, ◌++◌, ◌+◌, ◌<◌, ◌==◌, ◌^◌, ◌∙◌, ◌∷◌, ◌≡◌}
-pub use Rattle.std.specs.{Bool.Decides, List.list_all, List.slice_get}
+pub use Rattle.std.proofs.Common.{Bool, IfSome, List, None, Option, Some, [], ap, append-nil, append_assoc, arith, codes, false, get_or, if◌then◌else◌}
+pub use Rattle.std.proofs.Common.{inl}
+pub use Rattle.std.proofs.Common.{inr, length, map, pos, refl, slice_set, subst, suc, sym, true, zero, ℕ, ℤ, ◌&&◌, ◌++◌, ◌+◌, ◌<◌, ◌==◌}
+pub use Rattle.std.proofs.Common.{◌^◌, ◌∙◌, ◌∷◌, ◌≡◌}
+pub use Rattle.std.specs.{Bool.Decides, List.AllByRecursion, List.list_all, List.slice_get}
 pub use Rattle.vms_kinds.proofs.{ByteLemmas.bytes_rest}
 pub use Rattle.vms_kinds.specs.{Bytes.IsBytes, Codes.InRange, declared.Item.Item, declared.Item.TheVariants.Equal, declared.Item.TheVariants.Struct}
 pub use Rattle.vms_kinds.specs.{declared.Kind.Kind, declared.Kind.TheVariants.U16, declared.Kind.TheVariants.U8}
@@ -13,9 +16,9 @@ pub use Rattle.vms_spec.proofs.Examples.{box, box_set, counted_set, number, sub_
 pub use Rattle.vms_spec.proofs.WellFormedLaws.{device_found, well_good, few_devices, machine_short}
 pub use Rattle.vms_spec.specs.{Good.ConstantFits, Good.ConstantsFit, Heads.FitsHeads, Lists.first_answer, Lists.or_else, Lookup.find_device}
 pub use Rattle.vms_spec.specs.{Lookup.index, Numbers.same_number, Readiness.is_version_of, Shipped.set_1, Shipped.set_3, Units.Magic}
-pub use Rattle.vms_spec.specs.{Units.Version, declared.Count.TheVariants.Counted, declared.Part.Part, declared.Place.Place, declared.Reason.Reason}
+pub use Rattle.vms_spec.specs.{Units.Version, declared.Count.TheVariants.Counted, declared.Part.Part, declared.Place.Place}
 pub use Rattle.vms_spec.specs.Images.{Image, IsVersionOf, Spells, default_image, own_cells, own_slots, zeroed}
-pub use Rattle.vms_spec.specs.Layout.{Cell, counted, desc_cells, field_cells, no_desc, struct_cells}
+pub use Rattle.vms_spec.specs.Layout.{Cell, desc_cells, field_cells, no_desc, struct_cells}
 pub use Rattle.vms_spec.specs.Readings.{Accepted, Reading, Refused}
 pub use Rattle.vms_spec.specs.Sets.{Desc, Device, Field, Formula, Set, Sub}
 pub use Rattle.vms_spec.specs.Streams.{AreReady, IsConfiguration, IsReady, be32, configuration, end_mark, foot, is_one_of, magic, section_head, stream_head}
@@ -32,10 +35,10 @@ pub use Rattle.vms_stream.specs.{StreamLaws.BeginsSection, StreamLaws.Faulty, St
 pub use Rattle.vms_stream.specs.SoFar.{Bare, Footed, Tail, Unknown}
 unfoldable pub use Rattle.vms_stream.specs.{Finding.behind_at, Finding.between_at, Finding.trailer_at, Judge.reading}
 pub use Rattle.vms_check.specs.{Carrying.carried_device, Reducing.presence, Reducing.reduced, declared.mismatch.Mismatch.Mismatch}
-pub use Rattle.vms_check.specs.Comparing.{Comparer, Entry, absent_hold, bound, compare_desc, compare_device, compare_fields, compare_sub}
-pub use Rattle.vms_check.specs.Comparing.{compare_validations, comparer_of, comparers, comparing, entry_of, failing_pair, holds_as_much, is_covered, is_in}
-pub use Rattle.vms_check.specs.Comparing.{is_kept, names_match, no_comparer, pair_rules, pair_structs, position_from, present, present_from}
-pub use Rattle.vms_check.specs.Comparing.{same_constant, same_count, same_item, same_rest, uncovered_rules}
+pub use Rattle.vms_check.specs.Comparing.{Comparer, Entry, compare_desc, compare_device, compare_fields, compare_sub}
+pub use Rattle.vms_check.specs.Comparing.{compare_validations, comparer_of, comparers, comparing, entry_of, failing_pair, is_covered, is_in}
+pub use Rattle.vms_check.specs.Comparing.{is_kept, no_comparer, pair_rules, pair_structs, position_from, present, present_from}
+pub use Rattle.vms_check.specs.Comparing.{same_constant, same_item, same_rest, uncovered_rules}
 unfoldable pub use Rattle.vms_check.specs.Comparing.{first_mismatch}
 pub use Rattle.vms_check_laws.proofs.{Parts.devices_clash, Premises.Two, Premises.kinds_same, Wholes.at_map, Wholes.fits_whole, Wholes.saved}
 pub use Rattle.vms_check_laws.proofs.AlignedDescs.{Clash, Clashes, Differ}

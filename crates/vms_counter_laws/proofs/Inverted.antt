@@ -4,10 +4,10 @@ use Rattle.vms_counter_laws.proofs.Facade.{get_or, if◌then◌else◌, Option, 
 use Rattle.vms_counter_laws.proofs.Facade.{or_else, first_answer, Cell, first, no_desc, Desc, Sub, Device, Set, is_one_of, index, is_version_of, here, in_field}
 use Rattle.vms_counter_laws.proofs.Facade.{Mismatch, first_mismatch, comparing, compare_device, compare_sub, is_in, Entry, Comparer, no_comparer, comparer_of}
 use Rattle.vms_counter_laws.proofs.Facade.{comparers, compare_desc, compare_fields, compare_validations, failing_pair, is_covered, is_kept, pair_rules}
-use Rattle.vms_counter_laws.proofs.Facade.{pair_structs, present, same_rest, uncovered_rules, reduced, one_more, compared, ◌&&◌, ◌++◌, sym, ℤ, Kind}
-use Rattle.vms_counter_laws.proofs.Facade.{Equal, InRange, code, same_number, Formula, Field, field_cells, counted, value_code, ConstantFits, ConstantsFit}
-use Rattle.vms_counter_laws.proofs.Facade.{is_same, presence, absent_hold, bound, entry_of, holds_as_much, names_match, present_from, same_constant, same_count}
-use Rattle.vms_counter_laws.proofs.Facade.{same_item, RestAt, at_first, one_on, kinds_same, Two, Clash, Clashes, Differ}
+use Rattle.vms_counter_laws.proofs.Facade.{pair_structs, present, same_rest, uncovered_rules, reduced, one_more, compared, ◌++◌, sym, ℤ, Kind}
+use Rattle.vms_counter_laws.proofs.Facade.{AllByRecursion, Equal, InRange, code, same_number, Formula, Field, field_cells, value_code, ConstantFits}
+use Rattle.vms_counter_laws.proofs.Facade.{ConstantsFit, is_same, presence, entry_of, present_from, same_constant, same_item, RestAt, at_first, one_on}
+use Rattle.vms_counter_laws.proofs.Facade.{kinds_same, Two, Clash, Clashes, Differ}
 use Rattle.vms_spec.specs.declared.Part.TheVariants as parts
 
 -- ---- answers
@@ -243,14 +243,12 @@ differ _ _ fits fits' same h = absurd (cc)
 
 -- ---- rules in order
 
-next_rule : (r : ℕ) (b : Bool) (rules : List (ℕ × Bool)) (p q : Place) (m : Mismatch) → failing_pair ((r, b) ∷ rules) p q ≡ Some m
-    → ((m.rule ≡ r) × (b ≡ false) × (m.in_old ≡ p)) ⊎ ((b ≡ true) × (failing_pair rules p q ≡ Some m))
-next_rule r b rules p q m h = grind arith
-
--- a rule of another number doesn't fail
-not_this : (r : ℕ) (b : Bool) (rules : List (ℕ × Bool)) (p q : Place) (m : Mismatch) → (m.rule ≡ r → ⊥) → failing_pair ((r, b) ∷ rules) p q ≡ Some m
-    → (b ≡ true) × (failing_pair rules p q ≡ Some m)
-not_this r b rules p q m other h = grind (arith, next_rule)
+-- the last rule fails, if it is none of the others
+last_fails : (rules : List (ℕ × Bool)) (r : ℕ) (b : Bool) (p q : Place) (m : Mismatch) → AllByRecursion (λ x. m.rule ≡ x.0 → ⊥) rules
+    → failing_pair (rules ++ (r, b) ∷ []) p q ≡ Some m → AllByRecursion (λ x. x.1 ≡ true) rules × (b ≡ false) × (m.in_old ≡ p)
+last_fails [] r b p q m other h = let one = one_rule r b p q m h in (tt, one.0, one.2)
+last_fails ((k, true) ∷ rules) r b p q m other h = let more = last_fails rules r b p q m other.1 h in ((refl, more.0), more.1, more.2)
+last_fails ((k, false) ∷ rules) r b p q m other h = let same : record { rule = k; in_old = p; in_new = q } ≡ m = cc in absurd (other.0 (rw (← same)))
 
 no_left : (o n : ℕ → Option ℕ) (r s : Option Formula) → r ≡ None → same_rest o n r s ≡ true → s ≡ None
 no_left o n r s e h = grind arith
@@ -272,15 +270,10 @@ module _ (two : Two) (m : Mismatch) (twelve : m.rule ≡ 12) where
       (in_field part' f.index) ≡ Some m → Constants e f
   by_cover true e f h = absurd (other 9 (omega arith) (one_rule 9 _ _ _ m h).1)
   by_cover false e f h =
-      let p = in_field part e.index in
-      let q = in_field part' f.index in
-      let room = holds_as_much e.field.count f.field.count && absent_hold w f.index (bound e.field.item (counted e.index a.fields)) b.fields in
-      let h8 = not_this 7 (same_count o n e.field.count f.field.count) _ p q m (other 7 (omega arith)) h in
-      let h9 = not_this 8 (same_item e.field.item f.field.item) _ p q m (other 8 (omega arith)) h8.1 in
-      let h10 = not_this 9 (same_rest o n e.rest f.rest) _ p q m (other 9 (omega arith)) h9.1 in
-      let h12 = not_this 11 room _ p q m (other 11 (omega arith)) (not_this 10 (names_match e.field f.field) _ p q m (other 10 (omega arith)) h10.1).1 in
-      let last = one_rule 12 (same_constant e.field.item f.field.item) p q m h12.1 in
-      record { item = h9.0; rest = h10.0; constant = last.0; place = last.2 }
+      let r =
+      last_fails ((7, _) ∷ (8, _) ∷ (9, _) ∷ (10, _) ∷ (11, _) ∷ []) 12 _ (in_field part e.index) (in_field part' f.index) m
+      (other 7 (omega arith), (other 8 (omega arith), (other 9 (omega arith), (other 10 (omega arith), (other 11 (omega arith), tt))))) h in
+      record { item = r.0.1.0; rest = r.0.1.1.0; constant = r.1; place = r.2 }
 
   structs_answer : (within : StructsWithin ks) (i j : Item) → pair_structs ks a b v w part part' o n i j ≡ Some m → IsStruct m.in_old.part
   structs_answer within (Struct i) (Struct j) h = (within i j m h).1

@@ -1,27 +1,22 @@
-use Rattle.vms_check.proofs.Facade.{◌+◌, ◌*◌, ◌<◌, refl, sym, ap, ◌∙◌, arith, rules, struct_cells, field_of, described, reach, desc_mismatch}
-use Rattle.vms_check.proofs.Facade.{table_on, desc_on, own_side, Side}
-use Rattle.vms_check.proofs.WholeLaws.{first_is, later_is, desc_split, pair_passes, pair_stops, rule_fails, passes_whole, structs_are, uses_at}
+use Rattle.vms_check.proofs.Facade.{◌+◌, ◌*◌, ◌<◌, refl, sym, ap, ◌∙◌, arith, rules, field_of, described, reach, desc_mismatch, ◌≡◌}
+use Rattle.vms_check.proofs.Facade.{or_else, all_fields_on, table_on, desc_on, own_side, Side}
+use Rattle.vms_check.proofs.WholeLaws.{desc_split, pair_passes, pair_stops, rule_fails, passes_whole, structs_are, uses_at}
+use Rattle.vms_check.specs.Pairs.{validations_on}
 use Rattle.vms_spec.specs.declared.Part.TheVariants as parts
 use Rattle.vms_check.proofs.descs.+walk.Goals as goal
 
 -- ---- the whole description
 
+split : (s r : Side) → desc_mismatch s r ≡ or_else (all_fields_on s r) (validations_on s r)
+split s r = desc_split (table_on s r) _ _ (desc_on s) (desc_on r) s.version r.version s.part r.part
+
 pub compare_descs-returns-in-Some : goal.compare_descs-returns-in-Some
 compare_descs-returns-in-Some t c =
-    let s = c.args.old in
-    let r = c.args.new in
-    sym (desc_split (table_on s r) (struct_cells (described s.set.now)) (struct_cells (described r.set.now)) (desc_on s)
-    (desc_on r) s.version r.version s.part r.part
-    ∙ first_is _ _ c.in-Some.mismatch (sym c.compare_fields.ensures ∙ c.in-Some.is))
+    rw (split c.args.old c.args.new, ← c.compare_fields.ensures, c.in-Some.is)
 
 pub compare_descs-returns : goal.compare_descs-returns
 compare_descs-returns t c =
-    let s = c.args.old in
-    let r = c.args.new in
-    c.compare_validations.ensures
-    ∙ sym (desc_split (table_on s r) (struct_cells (described s.set.now)) (struct_cells (described r.set.now)) (desc_on s)
-    (desc_on r) s.version r.version s.part r.part
-    ∙ later_is _ _ (sym c.compare_fields.ensures ∙ c.in_default.is))
+    rw (split c.args.old c.args.new, ← c.compare_fields.ensures, c.in_default.is) c.compare_validations.ensures
 
 -- ---- its fields
 

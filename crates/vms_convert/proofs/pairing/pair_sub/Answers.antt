@@ -1,5 +1,5 @@
-use Rattle.vms_convert.proofs.Facade.{◌≡◌, ◌<◌, List, length, map, Some, ap, ◌∙◌, sym, arith, ◌++◌, ℕ, Option, length-map, on_ok_weaker, find_sub, Desc, Sub}
-use Rattle.vms_convert.proofs.Facade.{sub_of, described, device_at, few_subs, sub_in, desc_on}
+use Rattle.vms_convert.proofs.Facade.{◌≡◌, ◌<◌, List, length, map, Some, ap, ◌∙◌, sym, arith, ◌++◌, ℕ, Option, length-map, on_ok_weaker}
+use Rattle.vms_convert.proofs.Facade.{find_sub, Desc, Sub, sub_of, described, device_at, few_subs, sub_in, desc_on}
 use Rattle.vms_convert.proofs.PartnerSteps.{room_sub, sub_pairs}
 use Rattle.vms_convert.proofs.pairing.pair_sub.Goals.{After-as_slice, After-find_sub, In-Some}
 use Rattle.vms_convert.proofs.pairing.pair_sub.Goals as goal
