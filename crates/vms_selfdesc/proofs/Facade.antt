@@ -29,7 +29,7 @@ pub use Rattle.vms_spec.specs.WellFormed.{subs_items, deepest, devices_items, fi
 pub use Rattle.vms_spec.specs.declared.Count.TheVariants.{Counted, Fixed, One}
 unfoldable pub use Rattle.vms_spec.specs.Layout.{first}
 pub use Rattle.vms_words.specs.Words.{kind_word}
-pub use Rattle.vms_elements.proofs.{LinesOf.array_of, LinesOf.outs, Members.all_both, Members.decimal_all, Members.shapes_cells}
+pub use Rattle.vms_elements.proofs.{LinesOf.array_of, LinesOf.outs, Members.all_both, Members.all_more, Members.decimal_all, Members.shapes_cells}
 pub use Rattle.vms_elements.specs.Elements.{Element, Number, Shape, What, array_elements, behind, cells_in, desc_elements, dotted, elements_from}
 pub use Rattle.vms_elements.specs.Elements.{field_elements, index_text, item_elements, no_shape, shape, shapes}
 pub use Rattle.vms_desc.proofs.AskLaws.{few_cells, found_field, here_fields, own_inside_device, sub_first, sub_inside, sub_next}

@@ -1,6 +1,6 @@
 -- The length and the number of the entries of fields, and what well-formed sets say of names, sizes
 -- and depths.
-use Rattle.vms_selfdesc.proofs.Facade.{cases_lt, inl, inr, ◌≡◌, ℕ, zero, suc, ◌+◌, ◌*◌, ◌<◌, ◌≤◌, List, ◌∷◌, ◌++◌, length}
+use Rattle.vms_selfdesc.proofs.Facade.{AllByRecursion, all_both, all_more, cases_lt, inl, inr, ◌≡◌, ℕ, zero, suc, ◌+◌, ◌*◌, ◌<◌, ◌≤◌, List, ◌∷◌, ◌++◌, length}
 use Rattle.vms_selfdesc.proofs.Facade.{length-append, get_or, ℤ, Bool, true, append-nil, and-true, false, ◌&&◌, refl, arith, codes, [], get_or-eq_default}
 use Rattle.vms_selfdesc.proofs.Facade.{mul-le-mul_right, quoted, compact_text, number_text, of_integer, Item, Kind, Num, Equal, Unused, Struct, width}
 use Rattle.vms_selfdesc.proofs.Facade.{MOST_ITEMS, MOST_UNUSED, Count, One, Field, Desc, is_there, no_desc, no_parent, first, item_size, field_cells}
@@ -19,16 +19,10 @@ use Rattle.vms_kinds.specs.declared.Kind.TheVariants as kinds
 
 -- the texts of these entries are no longer than this
 abbrev pub AreLong : ℕ → List Entry → Type 0
-AreLong most [] = Unit {0}
-AreLong most (e ∷ es) = (length (compact_text (entry_tree e)) ≤ most) × AreLong most es
-
-append_long : (most : ℕ) (xs ys : List Entry) → AreLong most xs → AreLong most ys → AreLong most (xs ++ ys)
-append_long most [] ys p q = q
-append_long most (x ∷ xs) ys p q = (p.0, append_long most xs ys p.1 q)
+AreLong most = AllByRecursion (λ e. length (compact_text (entry_tree e)) ≤ most)
 
 pub longer : (a b : ℕ) (es : List Entry) → a ≤ b → AreLong a es → AreLong b es
-longer a b [] le p = tt
-longer a b (e ∷ es) le p = (omega arith, longer a b es le p.1)
+longer a b es le p = all_more es p (λ e short. omega arith)
 
 none_long : (most : ℕ) (es : List Entry) → length es ≤ 0 → AreLong most es
 none_long most [] le = tt
@@ -47,8 +41,7 @@ pub record IsSoundField (f : Field) : Type 0 where
   pub small : IsSmall f.item f.default
 
 abbrev pub AreSound : List Field → Type 0
-AreSound [] = Unit {0}
-AreSound (f ∷ fs) = IsSoundField f × AreSound fs
+AreSound = AllByRecursion IsSoundField
 
 -- at most so many entries, and if C, each with a text of at most so many bytes
 pub record Listed (C : Type 0) (items most : ℕ) (es : List Entry) : Type 0 where
@@ -59,7 +52,7 @@ both : {C D E : Type 0} {a b v w : ℕ} {xs ys : List Entry} (most : ℕ) → Li
     → Listed E (a + b) most (xs ++ ys)
 both {xs = xs} {ys = ys} most f g le le' part = record {
   few = omega (arith, length-append xs ys);
-  long = λ e. append_long most xs ys (longer _ most xs le (f.long (part e).0)) (longer _ most ys le' (g.long (part e).1));
+  long = λ e. all_both _ xs ys (longer _ most xs le (f.long (part e).0)) (longer _ most ys le' (g.long (part e).1));
 }
 
 -- ---- a structure
@@ -227,15 +220,10 @@ module _ (ds : List Desc) (most : ℕ) (sound : (j : ℕ) → j < most → AreSo
 -- ---- what well-formed sets say of names, sizes and depths: a number of 64 bits has at most 20 bytes
 
 pub natural_fits : (kind : Kind) (n : ℕ) → int_le (pos n) (highest kind) ≡ true → n < 2 ^ 64
-natural_fits kinds.U8 n e = omega (arith, leb-true n 0xff e)
-natural_fits _ n e = omega (arith, leb-true n _ e)
+natural_fits kind n e = grind arith
 
 pub negative_fits : (kind : Kind) (n : ℕ) → int_le (lowest kind) (negsuc n) ≡ true → n < 2 ^ 63
-negative_fits kinds.I8 n e = omega (arith, leb-true n 0x7f e)
-negative_fits kinds.I16 n e = omega (arith, leb-true n 0x7fff e)
-negative_fits kinds.I32 n e = omega (arith, leb-true n 0x7fff_ffff e)
-negative_fits kinds.I64 n e = omega (arith, leb-true n 0x7fff_ffff_ffff_ffff e)
-negative_fits _ n e = cc
+negative_fits kind n e = grind arith
 
 default_short : (kind : Kind) (z : ℤ) → in_range kind z ≡ true → length (number_text (of_integer z)) ≤ 20
 default_short kind (pos n) e =
@@ -248,9 +236,7 @@ default_short kind (negsuc n) e =
 -- ---- fields
 
 small_item : (item : Item) (z : ℤ) → defaults_well item z ≡ true → is_small_item item ≡ true → IsSmall item z
-small_item (Num kind) z e f = default_short kind z e
-small_item (Unused n) z e f = leb-true n MOST_UNUSED (and_parts (nat_le 1 n) (nat_le n MOST_UNUSED) f).1
-small_item _ z e f = tt
+small_item item z e f = grind (arith, default_short)
 
 sound_field : (k : ℕ) (d : Desc) (i : ℕ) (f : Field) → AllTrue (field_rules k d i f) → IsSoundField f
 sound_field k d i f rules =

@@ -1,15 +1,15 @@
 -- How long the text of the described tree is, and that ready images are images of their devices.
-use Rattle.vms_selfdesc.proofs.{Facade.clock_heads, Facade.by_number, ReadBack.reads_whole}
+use Rattle.vms_selfdesc.proofs.{Facade.AllByRecursion, Facade.clock_heads, Facade.by_number, ReadBack.reads_whole}
 use Rattle.vms_selfdesc.proofs.Facade.{clock_formed, fit_number, ShortLaw, ShippedLaw, ClockLaw, ◌≡◌, ℕ, suc, ◌+◌, ◌≤◌, length, List}
-use Rattle.vms_selfdesc.proofs.Facade.{◌∷◌, map, Bool, false, Option, Some, None, ℤ, pos, negsuc, refl, arith, is_some, [], ◌||◌, or_from, Data}
-use Rattle.vms_selfdesc.proofs.Facade.{object, array, depth, items_depth, items_of, has_float, items_have_float, Sub, Device, Set, desc_cells, struct_cells}
-use Rattle.vms_selfdesc.proofs.Facade.{Image, own_cells, Entry, with_value, sent_members, entry_tree, list_tree, sub_members, sub_trees, device_members}
-use Rattle.vms_selfdesc.proofs.Facade.{device_trees, described_tree, described_text, get_or, ◌*◌, ◌<◌, length-append, true, codes, mul-le-mul_left}
-use Rattle.vms_selfdesc.proofs.Facade.{mul-le-mul_right, AtLeast, no_desc, escape_byte, Members, no_members, member, quoted, members_text, boolean}
-use Rattle.vms_selfdesc.proofs.Facade.{compact_text, items_text, MOST_ITEMS, Field, Desc, items_in, struct_items, subs_items, devices_items, struct_depths}
-use Rattle.vms_selfdesc.proofs.Facade.{deepest, is_well_formed, shapes, part_entries, ap, sym, ◌∙◌, zero, is_none, slice_get-get_or, list_all, ltb-true}
-use Rattle.vms_selfdesc.proofs.Facade.{first, AreReady, longest_text, versions_long, device_at, shipped_set, clock_set, few_cells, IsOfDevice, read, FitsHeads}
-use Rattle.vms_selfdesc.proofs.Facade.{first_fault, none_is, few_items, few_devices, IsSound, shipped_sets, sub_at, few_subs, device_clean, sub_clean}
+use Rattle.vms_selfdesc.proofs.Facade.{◌∷◌, map, Bool, false, Option, Some, None, ℤ, pos, negsuc, refl, arith, is_some, [], Data, object, array, depth}
+use Rattle.vms_selfdesc.proofs.Facade.{items_of, has_float, Sub, Device, Set, desc_cells, struct_cells, Image, own_cells, Entry, with_value, sent_members}
+use Rattle.vms_selfdesc.proofs.Facade.{entry_tree, sub_members, sub_trees, device_members, device_trees, described_tree, described_text, get_or, ◌*◌}
+use Rattle.vms_selfdesc.proofs.Facade.{◌<◌, length-append, true, codes, mul-le-mul_left, mul-le-mul_right, AtLeast, no_desc, escape_byte, Members}
+use Rattle.vms_selfdesc.proofs.Facade.{no_members, member, quoted, members_text, boolean, compact_text, items_text, MOST_ITEMS, Field, Desc, items_in}
+use Rattle.vms_selfdesc.proofs.Facade.{struct_items, subs_items, devices_items, struct_depths, deepest, is_well_formed, shapes, part_entries, ap, sym}
+use Rattle.vms_selfdesc.proofs.Facade.{◌∙◌, zero, is_none, slice_get-get_or, list_all, ltb-true, first, AreReady, longest_text, versions_long, device_at}
+use Rattle.vms_selfdesc.proofs.Facade.{shipped_set, clock_set, few_cells, IsOfDevice, read, FitsHeads, first_fault, none_is, few_items, few_devices, IsSound}
+use Rattle.vms_selfdesc.proofs.Facade.{shipped_sets, sub_at, few_subs, device_clean, sub_clean}
 use Rattle.vms_selfdesc.proofs.Fits.{part_sound, fields_flat, AreLong, longer, AreSound, FitTables, tables_fit, entries_few, entries_long}
 use Rattle.vms_selfdesc.proofs.Plain.{quoted_long, IsShort, member_long, number_short, name_short, sub_name_short}
 use Rattle.std.specs.Prelude.{nat_lt}
@@ -23,8 +23,7 @@ pub record IsPlainTree (deepest : ℕ) (d : Data) : Type 0 where
   pub flat : depth d ≤ deepest
 
 abbrev pub ArePlain : ℕ → List Data → Type 0
-ArePlain deepest [] = Unit {0}
-ArePlain deepest (d ∷ ds) = IsPlainTree deepest d × ArePlain deepest ds
+ArePlain deepest = AllByRecursion (IsPlainTree deepest)
 
 list_plain : (deepest : ℕ) (ds : List Data) → ArePlain deepest ds → IsPlainTree (suc deepest) (array (items_of ds))
 list_plain deepest [] p = record { whole = refl; flat = omega arith }
@@ -96,8 +95,7 @@ entries_weight (e ∷ es) most p =
     omega (arith, entries_weight es most p.1)
 
 flag_short : (b : Bool) → length (compact_text (boolean b)) ≤ 5
-flag_short true = omega arith
-flag_short false = omega arith
+flag_short b = grind arith
 
 -- ---- objects
 
@@ -146,11 +144,6 @@ unfolding escape_byte
 whole_long ds = omega (arith, member_long false (codes "devices") (array (items_of ds)) no_members, array_long ds)
 
 -- ---- the parts of a well-formed set
-
--- how many subsections devices have
-abbrev pub subs_of : List Device → ℕ
-subs_of [] = 0
-subs_of (d ∷ devices) = length d.subs + subs_of devices
 
 -- a description of a set: its fields keep the rules, its name is short, and its version has four bytes
 pub record IsShortDesc (most : ℕ) (d : Desc) : Type 0 where
@@ -251,13 +244,13 @@ module _ (set : Set) (well : is_well_formed set ≡ true) where
   subs_less [] = omega arith
   subs_less (s ∷ subs) = omega (arith, fields_less s.desc.fields, subs_less subs)
 
-  devices_less : (devices : List Device) → devices_room (struct_items set.structs) (struct_depths set.structs) devices
-      ≤ 300 * (devices_items (struct_items set.structs) devices + subs_of devices + length devices)
-  devices_less [] = omega arith
-  devices_less (d ∷ devices) = omega (arith, fields_less d.desc.fields, subs_less d.subs, devices_less devices)
-
-  pub room_less : set_room set ≤ 300 * (devices_items (struct_items set.structs) set.devices + subs_of set.devices + length set.devices) + 14
-  room_less = omega (arith, devices_less set.devices)
+  -- a device has at most 32 subsections
+  pub devices_less : (devices : List Device) → AreShortDevices devices → devices_room (struct_items set.structs) (struct_depths set.structs) devices
+      ≤ 300 * (devices_items (struct_items set.structs) devices + 33 * length devices)
+  devices_less [] h = omega arith
+  devices_less (d ∷ devices) h =
+      let here = h 0 (omega arith) in
+      omega (arith, fields_less d.desc.fields, subs_less d.subs, devices_less devices (λ i lt. h (suc i) (omega arith)))
 
 -- ---- ready images are images of their devices
 
@@ -276,10 +269,6 @@ ready_device set well images ready i image lt is =
     }
 
 -- ---- The text of every well-formed set is shorter than what a description section may have, and that of a shipped set is short.
-
-few_of : (devices : List Device) → AreShortDevices devices → subs_of devices ≤ 32 * length devices
-few_of [] h = omega arith
-few_of (d ∷ devices) h = let here = h 0 (omega arith) in omega (arith, few_of devices (λ i lt. h (suc i) (omega arith)))
 
 module _ (set : Set) (well : is_well_formed set ≡ true) (heads : FitsHeads set) where
   short_device : (i : ℕ) → i < length set.devices → IsShortDevice (device_at set i)
@@ -303,7 +292,7 @@ module _ (set : Set) (well : is_well_formed set ≡ true) (heads : FitsHeads set
   set_long images = text_long set well images short_device (few_items set well)
 
   set_short : (images : List Image) → length (described_text set images) < longest_text
-  set_short images = omega (arith, set_long images, room_less set well, few_items set well, few_of set.devices short_device, few_devices set well)
+  set_short images = omega (arith, set_long images, devices_less set well set.devices short_device, few_items set well, few_devices set well)
 
 pub short_holds : ShortLaw
 short_holds = record { short = λ set well heads images. set_short set (ap is_none well) heads images }

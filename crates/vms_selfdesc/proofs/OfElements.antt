@@ -2,16 +2,15 @@
 -- numbers that agree.
 use Rattle.vms_selfdesc.proofs.Facade.{decimal, ◌≡◌, ℕ, suc, ◌+◌, ◌<◌, List, [], ◌∷◌, ◌++◌, length, get_or, map, ℤ, pos, refl, ap}
 use Rattle.vms_selfdesc.proofs.Facade.{◌∙◌, arith, ◌*◌, ◌≤◌, Bool, true, zero, append_assoc, false, ◌&&◌, codes, ltb-true, and_parts}
-use Rattle.vms_selfdesc.proofs.Facade.{append-nil, and-true, and-false, and_assoc, outs, array_of, fun_ext, Item, Struct, Num, Field, Desc, Set, no_desc}
-use Rattle.vms_selfdesc.proofs.Facade.{item_size, field_cells, desc_cells, struct_cells, capacity_of, counted, numbers_of, elements_of, no_parent, ItemBelow}
-use Rattle.vms_selfdesc.proofs.Facade.{FieldsBelow, item_cells_same, field_cells_same, desc_cells_same, own_same, row_same, first_same, all_below, first_at}
-use Rattle.vms_selfdesc.proofs.Facade.{Element, Shape, no_shape, shape, shapes, cells_in, dotted, item_elements, array_elements, field_elements, elements_from}
-use Rattle.vms_selfdesc.proofs.Facade.{desc_elements, What, Number, index_text, behind, shapes_cells, MOST_ITEMS, Count, One, Fixed, Counted, Part, uses_below}
-use Rattle.vms_selfdesc.proofs.Facade.{defaults_well, counts_well, field_at, own_numbers, is_well_formed, desc_at, reach, field_clean, struct_clean}
-use Rattle.vms_selfdesc.proofs.Facade.{field_sound, Entry, entries_of, sent_entry, listed_if, entry_of, is_field_sent, array_entries, element_entries}
-use Rattle.vms_selfdesc.proofs.Facade.{item_entries, item_list, field_list, part_list, element_path, HasPlace, HasElements, item_rank, part_rank, reach_whole}
-use Rattle.vms_selfdesc.proofs.Facade.{uses_more, rank_below, room_for_less, one_fits, elements_fit, is_there, sub_tree, AllByRecursion, sym, ap₂, Option}
-use Rattle.vms_selfdesc.proofs.Facade.{part_entries, Sub, is_some, object, sub_members}
+use Rattle.vms_selfdesc.proofs.Facade.{append-nil, and-true, and-false, and_assoc, outs, array_of, fun_ext, Item, Struct, Field, Desc, Set, no_desc, item_size}
+use Rattle.vms_selfdesc.proofs.Facade.{field_cells, desc_cells, struct_cells, capacity_of, counted, numbers_of, elements_of, no_parent, ItemBelow, FieldsBelow}
+use Rattle.vms_selfdesc.proofs.Facade.{item_cells_same, field_cells_same, desc_cells_same, own_same, row_same, first_same, all_below, first_at, Element, Shape}
+use Rattle.vms_selfdesc.proofs.Facade.{no_shape, shape, shapes, cells_in, dotted, item_elements, array_elements, field_elements, elements_from, desc_elements}
+use Rattle.vms_selfdesc.proofs.Facade.{What, index_text, behind, shapes_cells, MOST_ITEMS, Count, One, Fixed, Counted, Part, uses_below, defaults_well}
+use Rattle.vms_selfdesc.proofs.Facade.{counts_well, field_at, own_numbers, is_well_formed, desc_at, reach, field_clean, struct_clean, field_sound, Entry}
+use Rattle.vms_selfdesc.proofs.Facade.{entries_of, sent_entry, listed_if, entry_of, is_field_sent, array_entries, element_entries, item_entries, item_list}
+use Rattle.vms_selfdesc.proofs.Facade.{field_list, part_list, element_path, HasPlace, HasElements, item_rank, part_rank, reach_whole, uses_more, rank_below}
+use Rattle.vms_selfdesc.proofs.Facade.{room_for_less, one_fits, elements_fit, is_there, sub_tree, AllByRecursion, Option, part_entries, Sub, is_some}
 use Rattle.vms_selfdesc.specs.Alike.{IsFieldAlike, is_plain}
 use Rattle.vms_spec.specs.declared.Part.TheVariants as parts
 
@@ -85,8 +84,7 @@ of_step sent there p path text step (x ∷ xs) e =
 
 -- after one beyond the count
 none_of : (what : What) (path : List ℕ) → entry_of what false false path ≡ []
-none_of (Number cell) path = refl
-none_of _ path = refl
+none_of what path = grind arith
 
 of_past : (sent p : Bool) (path text : List ℕ) (step : ℕ × ℕ) (xs : List Element) → p ≡ false → entries_of sent path (map (behind step text false p) xs) ≡ []
 of_past sent p path text step [] e = refl
@@ -102,8 +100,7 @@ plain_is sent path size type = simp (append-nil, and-true)
 -- capacities are of no account
 any_capacities : (shapes : List Shape) (item : Item) (caps : List ℕ) (z : ℤ) (sent : Bool) (n : List ℤ) (path : List ℕ) (at : ℕ)
     → entries_of sent path (item_elements shapes item caps z n at) ≡ item_entries shapes item z sent n path at
-any_capacities shapes (Num kind) caps z sent n path at = refl
-any_capacities shapes _ caps z sent n path at = refl
+any_capacities shapes item caps z sent n path at = grind arith
 
 -- ---- fields
 
@@ -183,8 +180,7 @@ field_needs set well part base n h k cell f lt is room =
 
 pub array_many : (one : List ℕ → ℕ → List Entry) (c : Count) (n : ℕ) (path : List ℕ) (at step : ℕ) → (c ≡ One → ⊥)
     → array_entries one c n path at step ≡ element_entries one path at step 0 n
-array_many one One n path at step other = absurd (other refl)
-array_many one _ n path at step other = refl
+array_many one c n path at step other = grind arith
 
 -- a run of its elements is the field's entries
 pub field_run : (set : Set) (part : Part) (base k : ℕ) (sent : Bool) (n : List ℤ) (path : List ℕ) (cell : ℕ) (f : Field) (there : Bool) (whole : List ℕ)
@@ -237,8 +233,7 @@ AreFieldsAlike v own other = AllByRecursion (IsFieldAlike v own other)
 
 module _ (n m : List ℤ) where
   plain_same : (ss : List Shape) (item : Item) (caps : List ℕ) (z : ℤ) → is_plain item ≡ true → item_elements ss item caps z n ≡ item_elements ss item caps z m
-  plain_same ss (Struct j) caps z e = cc
-  plain_same ss _ caps z e = refl
+  plain_same ss item caps z e = grind arith
 
   field_same : (ss : List Shape) (fields : List Field) (v : ℕ) (own other : ℕ → ℕ) (i at : ℕ) (f : Field) → IsFieldAlike v own other f
       → field_elements ss fields v own n i at f ≡ field_elements ss fields v other m i at f

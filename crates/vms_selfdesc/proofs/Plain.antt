@@ -47,8 +47,7 @@ pub key_long : (key : List ℕ) → list_all is_name_byte key ≡ true → lengt
 key_long key e = quoted_long key (name_plain key e)
 
 pub word_plain : (kind : Kind) → list_all is_name_byte (kind_word kind) ≡ true
-word_plain U8 = refl
-word_plain _ = refl
+word_plain kind = grind arith
 
 -- a text of at most a number of bytes that is written as it is
 pub record IsShort (most : ℕ) (name : List ℕ) : Type 0 where
@@ -224,8 +223,7 @@ shown_tail kind = codes "\",\"size\":" ++ ((48 + width kind) ∷ (codes ",\"type
 
 shown_is : (kind : Kind) → shown_tail kind ≡ cell_tail kind
 unfolding digits
-shown_is U8 = refl
-shown_is _ = refl
+shown_is kind = grind arith
 
 pub cell_same : (kind k : Kind) → kind ≡ k → shown_tail k ≡ cell_tail kind
 cell_same kind k e = cc (shown_is k)
@@ -252,12 +250,10 @@ index_long path i lt =
     omega (arith, length-append path (91 ∷ (decimal i ++ 93 ∷ [])), length-append (decimal i) (93 ∷ []))
 
 pub item_levels_are : (item : Item) → item_rank item ≡ 5 * item_levels item
-item_levels_are (Struct j) = omega arith
-item_levels_are _ = omega arith
+item_levels_are item = grind arith
 
 pub levels_are : (set : Set) (part : Part) → part_rank set part ≡ 5 * part_levels set part
-levels_are set (parts.Struct j) = omega arith
-levels_are set _ = omega arith
+levels_are set part = grind arith
 
 pub few_levels : (set : Set) → is_well_formed set ≡ true → (part : Part) → HasPart set part → part_levels set part ≤ 64
 few_levels set well parts.Set h = absurd h

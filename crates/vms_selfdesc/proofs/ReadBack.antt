@@ -1,15 +1,15 @@
 -- A description is read back from its text: the bytes of a value's text, trees and whole
 -- descriptions.
-use Rattle.vms_selfdesc.proofs.Facade.{decimal_all, all_both, cases_lt, inl, inr, le-ltb, ◌≡◌, ℕ, suc, ◌<◌, ◌≤◌, ◌%◌, ◌/◌, ◌+◌}
-use Rattle.vms_selfdesc.proofs.Facade.{Bool, true, false, cond, ◌&&◌, ◌||◌, ◌==◌, nat_lt, nat_le, List, [], ◌∷◌, ◌++◌, map, Option, Some}
-use Rattle.vms_selfdesc.proofs.Facade.{None, ℤ, pos, negsuc, refl, arith, codes, AllByRecursion, list_all, and_parts, eqb-true, leb-true, ltb-true, ltb-false}
-use Rattle.vms_selfdesc.proofs.Facade.{lt-ltb, digit_char, escape, escape_byte, escape_letter, quoted, unsigned, negative, float, Data, null, boolean, number}
-use Rattle.vms_selfdesc.proofs.Facade.{string, array, object, Items, no_items, item, Members, no_members, member, items_of, number_text, comma_if, compact_text}
-use Rattle.vms_selfdesc.proofs.Facade.{items_text, members_text, Kind, kind_word, Entry, entry_tree, sub_members, device_members, ◌^◌, int_lt, ap}
-use Rattle.vms_selfdesc.proofs.Facade.{signed_decimal, mag, option_map, ItemsHaveNumbers, IsNumber-decimal, IsNumber-signed_decimal, put, of_integer, of_items}
-use Rattle.vms_selfdesc.proofs.Facade.{items_outline, number_of-decimal, number_of-negative, IsSound, AreSound, sent_entry, absent_entry, natural, list_tree}
-use Rattle.vms_selfdesc.proofs.Facade.{max, sym, ap₂, ◌∙◌, option_and_then, Token, tokens, tokens-print, value-json_tokens, ArePrintable-json_tokens}
-use Rattle.vms_selfdesc.proofs.Facade.{depth, items_depth, members_depth, of_json, read, max_depth, outline, members_outline, print-outline}
+use Rattle.vms_selfdesc.proofs.Facade.{nat_tests, decimal_all, all_both, cases_lt, inl, inr, le-ltb, ◌≡◌, ℕ, suc, ◌<◌, ◌≤◌, ◌%◌, ◌/◌}
+use Rattle.vms_selfdesc.proofs.Facade.{◌+◌, Bool, true, false, cond, ◌&&◌, nat_lt, nat_le, List, [], ◌∷◌, ◌++◌, map, Option, Some, None, ℤ}
+use Rattle.vms_selfdesc.proofs.Facade.{pos, negsuc, refl, arith, codes, AllByRecursion, list_all, and_parts, leb-true, ltb-true, ltb-false, lt-ltb, digit_char}
+use Rattle.vms_selfdesc.proofs.Facade.{escape, escape_byte, escape_letter, quoted, Data, null, boolean, number, string, array, object, Items, no_items, item}
+use Rattle.vms_selfdesc.proofs.Facade.{Members, no_members, member, items_of, number_text, comma_if, compact_text, items_text, members_text, Kind, kind_word}
+use Rattle.vms_selfdesc.proofs.Facade.{Entry, entry_tree, sub_members, device_members, ◌^◌, int_lt, ap, signed_decimal, mag, option_map, ItemsHaveNumbers}
+use Rattle.vms_selfdesc.proofs.Facade.{IsNumber-decimal, IsNumber-signed_decimal, put, of_integer, of_items, items_outline, number_of-decimal}
+use Rattle.vms_selfdesc.proofs.Facade.{number_of-negative, IsSound, AreSound, sent_entry, absent_entry, natural, list_tree, max, sym, ap₂, ◌∙◌}
+use Rattle.vms_selfdesc.proofs.Facade.{option_and_then, Token, tokens, tokens-print, value-json_tokens, ArePrintable-json_tokens, depth, items_depth}
+use Rattle.vms_selfdesc.proofs.Facade.{members_depth, of_json, read, max_depth, outline, members_outline, print-outline}
 use Rattle.std.proofs.Common.{append-nil}
 use Rattle.std.specs.Fmt.{decimal}
 use Rattle.serde_json.specs.Data.{Num}
@@ -60,27 +60,18 @@ module _ {Letter Good : ℕ → Type 0} (allows : Allows Letter Good) where
   decimal_good = decimal_all Good (λ d lt. allows.own (48 + d) (omega arith) (omega arith))
 
   number_good : (n : Num) → AllByRecursion Good (number_text n)
-  number_good (unsigned n) = decimal_good n
-  number_good (negative (pos n)) = decimal_good n
-  number_good (negative (negsuc n)) = (own 45 refl, decimal_good (suc n))
-  number_good (float x) = tt
+  number_good n = grind (arith, decimal_good)
 
   -- ---- texts in quotes
 
+  letter_low : (x : ℕ) → nat_lt 0 (escape_letter x) ≡ true → 34 ≤ escape_letter x
+  letter_low x e = grind (arith, nat_tests)
+
+  letter_high : (x : ℕ) → nat_lt 0 (escape_letter x) ≡ true → escape_letter x ≤ 125
+  letter_high x e = grind (arith, nat_tests)
+
   escaped : (x : ℕ) → nat_lt 0 (escape_letter x) ≡ true → Good (escape_letter x)
-  escaped x e = go (x == 34) (x == 92) (x == 8) (x == 12) (x == 10) (x == 13) (x == 9) (λ h. eqb-true x 34 h) (λ h. eqb-true x 92 h) e
-    where
-      go : (a b c d e f g : Bool) → (a ≡ true → x ≡ 34) → (b ≡ true → x ≡ 92)
-          → nat_lt 0 (cond (a || b) x (cond c 98 (cond d 102 (cond e 110 (cond f 114 (cond g 116 0)))))) ≡ true
-          → Good (cond (a || b) x (cond c 98 (cond d 102 (cond e 110 (cond f 114 (cond g 116 0))))))
-      go true b c d e f g p q h = let i = p refl in allows.own x (omega arith) (omega arith)
-      go false true c d e f g p q h = let i = q refl in allows.own x (omega arith) (omega arith)
-      go false false true d e f g p q h = own 98 refl
-      go false false false true e f g p q h = own 102 refl
-      go false false false false true f g p q h = own 110 refl
-      go false false false false false true g p q h = own 114 refl
-      go false false false false false false true p q h = own 116 refl
-      go false false false false false false false p q h = cc
+  escaped x e = allows.own _ (letter_low x e) (letter_high x e)
 
   hex : (d : ℕ) → d < 16 → Good (digit_char d)
   hex d lt = elim (cases_lt d 10) [
@@ -109,8 +100,7 @@ module _ {Letter Good : ℕ → Type 0} (allows : Allows Letter Good) where
   -- ---- values
 
   comma : (later : Bool) (text : List ℕ) → AllByRecursion Good text → AllByRecursion Good (comma_if later ++ text)
-  comma true text p = (own 44 refl, p)
-  comma false text p = p
+  comma later text p = grind arith
 
   mutual
     pub text_good : (d : Data) → HasLetters Letter d → AllByRecursion Good (compact_text d)
@@ -143,8 +133,7 @@ module _ {Letter Good : ℕ → Type 0} (allows : Allows Letter Good) where
       (allows.key b (leb-true 48 b q.0) (leb-true b 122 q.1), word text p.1)
 
   pub kind_letters : (kind : Kind) → AllByRecursion Letter (kind_word kind)
-  kind_letters kinds.U8 = word (kind_word kinds.U8) refl
-  kind_letters kind = word (kind_word kind) refl
+  kind_letters kind = grind arith
 
   entry_letters : (path type : List ℕ) (size : ℕ) (absent : Option ℤ) → AllByRecursion Letter path → AllByRecursion Letter type
       → HasLetters Letter (entry_tree (record { path = path; size = size; type = type; absent = absent }))

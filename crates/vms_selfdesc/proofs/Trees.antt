@@ -1,13 +1,14 @@
 -- Entries of elements and fields, written one after the other.
 use Rattle.vms_selfdesc.proofs.{Plain.member_more, Plain.further, Plain.same, Plain.unchanged, ReadBack.array_sound, ReadBack.whole_sound}
-use Rattle.vms_selfdesc.proofs.Facade.{add-one, map-id, ◌≡◌, ℕ, suc, ◌+◌, ◌*◌, ◌-◌, ◌<◌, ◌≤◌, List, ◌∷◌, ◌++◌, length, string_bytes, refl, append_assoc, get_or}
-use Rattle.vms_selfdesc.proofs.Facade.{map, drop, ℤ, sym, ap, ◌∙◌, arith, Bool, true, [], false, codes, None, drop_more, drop_all, append-nil, map-append, Data}
-use Rattle.vms_selfdesc.proofs.Facade.{string, boolean, array, object, Members, no_members, member, put, compact_text, items_text, members_text, Part, Set, Sub}
-use Rattle.vms_selfdesc.proofs.Facade.{AtLeast, no_field, field_cells, item_size, struct_cells, capacity_of, no_desc, field_size, shapes, cells_in}
-use Rattle.vms_selfdesc.proofs.Facade.{elements_from, field_at, own_numbers, first_cell, desc_at, sub_at, Entry, entries_of, texts, after, AreSound, Adds}
-use Rattle.vms_selfdesc.proofs.Facade.{IsSound, Extends, Begins, Lays, member_text, element_path, element_entries, field_list, part_list, natural, sub_tree}
-use Rattle.vms_selfdesc.proofs.Facade.{sub_trees, device_tree, device_trees, Draft, Path, escape_byte, items_of, Image, own_cells, device_at, sub_next}
-use Rattle.vms_selfdesc.proofs.Facade.{sub_first, Text, HasPlace, field_start, place_after, place_is, place_within}
+use Rattle.vms_selfdesc.proofs.Facade.{add-one, map-id, ◌≡◌, ℕ, suc, ◌+◌, ◌*◌, ◌-◌, ◌<◌, ◌≤◌, List, ◌∷◌, ◌++◌, length}
+use Rattle.vms_selfdesc.proofs.Facade.{string_bytes, refl, append_assoc, get_or, map, drop, ℤ, ap, ◌∙◌, arith, Bool, true, [], false, codes, None}
+use Rattle.vms_selfdesc.proofs.Facade.{drop_more, drop_all, append-nil, map-append, Data, string, boolean, array, object, Members, no_members, member, put}
+use Rattle.vms_selfdesc.proofs.Facade.{compact_text, items_text, members_text, Part, Set, Sub, AtLeast, no_field, field_cells, item_size, struct_cells}
+use Rattle.vms_selfdesc.proofs.Facade.{capacity_of, no_desc, field_size, shapes, cells_in, elements_from, field_at, own_numbers, first_cell, desc_at, sub_at}
+use Rattle.vms_selfdesc.proofs.Facade.{Entry, entries_of, texts, after, AreSound, Adds, IsSound, Extends, Begins, Lays, member_text, element_path}
+use Rattle.vms_selfdesc.proofs.Facade.{element_entries, field_list, part_list, natural, sub_tree, sub_trees, device_tree, device_trees, Draft, Path}
+use Rattle.vms_selfdesc.proofs.Facade.{escape_byte, items_of, Image, own_cells, device_at, sub_next, sub_first, Text, HasPlace, field_start, place_after}
+use Rattle.vms_selfdesc.proofs.Facade.{place_is, place_within}
 use Rattle.vms_selfdesc.proofs.OfElements.{of_append, of_desc, cells_are}
 use Rattle.vms_spec.specs.declared.Part.TheVariants as parts
 
@@ -24,16 +25,14 @@ pub record Leaves {A : Type 0} (f : A → Data) (old now : Draft) (whole left : 
   pub lists : Adds old now (map f done)
 
 after_true : (ds : List Data) → after true ds ≡ true
-after_true [] = refl
-after_true (d ∷ ds) = refl
+after_true ds = grind arith
 
 texts_append : (later : Bool) (ds es : List Data) → texts later (ds ++ es) ≡ texts later ds ++ texts (after later ds) es
 texts_append later [] es = refl
 texts_append later (d ∷ ds) es = simp (texts_append true ds es, after_true ds, append_assoc)
 
 after_append : (later : Bool) (ds es : List Data) → after later (ds ++ es) ≡ after (after later ds) es
-after_append later [] es = refl
-after_append later (d ∷ ds) es = sym (after_true es)
+after_append later ds es = grind (arith, after_true)
 
 sound_append : (ds es : List Data) → AreSound ds → AreSound es → AreSound (ds ++ es)
 sound_append [] es p q = q
@@ -82,9 +81,7 @@ element_room size first i n cell most lt e room =
     omega (arith, ap (λ k. k * size) whole, parts)
 
 pub next_element : (size first i cell : ℕ) → cell ≡ first + i * size → cell + size ≡ first + (i + 1) * size
-next_element size first i cell e =
-    let one : (i + 1) * size ≡ i * size + size = grind arith in
-    omega arith
+next_element size first i cell e = grind arith
 
 -- ---- fields
 

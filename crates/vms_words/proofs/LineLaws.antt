@@ -1,5 +1,5 @@
 -- The first line of a text.
-use Rattle.std.proofs.Common.{◌≡◌, ℕ, suc, ◌+◌, List, length, get_or, take, drop, Option, Some, None, refl, sym, ap, ◌∙◌, subst, arith}
+use Rattle.std.proofs.Common.{◌≡◌, ℕ, suc, ◌+◌, List, length, get_or, take, drop, Option, Some, None, sym, ap, ◌∙◌, subst, arith}
 use Rattle.std.proofs.lemmas.Bool.{eq-eqb, eqb-true}
 use Rattle.memchr.specs.Find.{Nowhere, NoneBefore, Passes, is_byte}
 use Rattle.vms_spec.specs.Spelling.{first_line}
@@ -19,9 +19,7 @@ no_line xs n = rw (no_line_in xs (λ k h is. n k (omega arith) h (eq-eqb (get_or
 
 -- the first line of the text is the one that was found
 pub first_is : (o : Option (List ℕ × List ℕ)) (line : NextLine) → IsFirstLine o (Some line) → o ≡ Some (line.text.now, line.after.now)
-first_is None line h = absurd h
-first_is (Some (text, after)) line h = rw (sym h.0, sym h.1)
+first_is o line h = grind arith
 
 pub first_none : (o : Option (List ℕ × List ℕ)) → IsFirstLine o None → o ≡ None
-first_none None h = refl
-first_none (Some (text, after)) h = absurd h
+first_none o h = grind arith

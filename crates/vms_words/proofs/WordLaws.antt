@@ -1,6 +1,6 @@
 -- The kinds and their words correspond.
 use Rattle.std.proofs.{Common.[], lemmas.List.drop_more, lemmas.List.drop_all, lemmas.Slice.Eq.bytes_eq-Decides}
-use Rattle.std.proofs.Common.{◌≡◌, ℕ, ◌+◌, ◌<◌, ◌≤◌, List, ◌∷◌, length, get_or, drop, Bool, true, false, Option, Some, None, if◌then◌else◌, refl, sym, ap, ◌∙◌}
+use Rattle.std.proofs.Common.{◌≡◌, ℕ, ◌+◌, ◌<◌, ◌≤◌, List, ◌∷◌, length, get_or, drop, Bool, true, false, Option, Some, None, if◌then◌else◌, refl, sym, ap, ◌∙◌, arith}
 use Rattle.std.specs.{Str.bytes_eq}
 use Rattle.vms_kinds.specs.declared.Kind.{Kind}
 use Rattle.vms_words.specs.Words.{kind_word, kind_if, kind_named, TellsKind}
@@ -12,8 +12,7 @@ HasWord word named = (kind : Kind) → named ≡ Some kind → word ≡ kind_wor
 
 by_test : (same : Bool) (word : List ℕ) (kind : Kind) (other : Option Kind)
     → (same ≡ true → word ≡ kind_word kind) → HasWord word other → HasWord word (if same then Some kind else other)
-by_test true word kind other has others k is = let one : kind ≡ k = cc in has refl ∙ ap kind_word one
-by_test false word kind other has others k is = others k is
+by_test same word kind other has others k is = grind arith
 
 tried : (word : List ℕ) (kind : Kind) (other : Option Kind) → HasWord word other → HasWord word (kind_if word kind other)
 tried word kind other others = by_test (bytes_eq word (kind_word kind)) word kind other (bytes_eq-Decides word (kind_word kind)).0 others
