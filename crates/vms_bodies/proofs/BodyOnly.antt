@@ -40,15 +40,7 @@ front_long n xs ys rest e len = le-ltb (length rest) n (omega (arith, ap length 
 value_taken : (kind : Kind) (reason : Reason) (fails : ℤ → Bool) (put : ℤ → List ℤ) (z : ℤ) (p : Progress) (r : List ℕ) → InRange kind z
     → fails z ≡ false → p.rest ≡ code kind z ++ r
     → take_value kind reason fails put p ≡ Ok (record { numbers = put z; place = p.place + width kind; rest = r })
-value_taken kind reason fails put z p r fits good e =
-    rw (
-      front_long _ _ r p.rest e (length-code kind z),
-      front_take _ _ r p.rest e (length-code kind z),
-      good_code kind z fits,
-      value_code kind z fits,
-      good,
-      front_drop _ _ r p.rest e (length-code kind z),
-    ) refl
+value_taken kind reason fails put z p r fits good e = grind (arith, front_long, length-code, front_take, good_code, value_code, front_drop)
 
 filler_taken : (filler r : List ℕ) (p : Progress) (n : ℕ) → length filler ≡ n → p.rest ≡ filler ++ r
     → take_slot (Filler n) p ≡ Ok (record { numbers = p.numbers; place = p.place + n; rest = r })

@@ -364,8 +364,7 @@ same_lists (x ∷ xs) (y ∷ ys) e h =
 pub agrees : (images now : List Image) (came : List Bool) (k j : ℕ) (image : Image) → k < length now → slice_get images k ≡ Some image
     → (slice_get came j ≡ Some true → slice_get now j ≡ slice_get images j) → slice_get (slice_set came k true) j ≡ Some true
     → (b : Bool) → (j == k) ≡ b → slice_get (slice_set now k image) j ≡ slice_get images j
-agrees images now came k j image lt found agree e true same = grind (arith, at_set)
-agrees images now came k j image lt found agree e false other = grind (arith, at_other)
+agrees images now came k j image lt found agree e b same = grind (arith, at_set, at_other)
 
 -- ---- subsections
 

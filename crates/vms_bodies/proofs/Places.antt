@@ -1,12 +1,12 @@
 -- Where the slots of a description begin, and which cells they name.
 use Rattle.vms_bodies.proofs.Facade.{◌≡◌, ℕ, List, ◌∷◌, ◌++◌, refl, sym, ◌∙◌, true, false, [], ◌||◌, if◌then◌else◌, or_parts}
 use Rattle.vms_bodies.proofs.Facade.{or_right, or_assoc, Slot, Number, has_cell, zero, suc, ◌+◌, ◌*◌, ◌<◌, ◌≤◌, length, get_or, drop, Option}
-use Rattle.vms_bodies.proofs.Facade.{Some, None, ℤ, pos, ap, arith, length-append, not, AllByRecursion, Item, Num, Count, One, Counted, Own, Formula, Not}
-use Rattle.vms_bodies.proofs.Facade.{And, Or, Field, Desc, truth, is_there, place_of, field_cells, item_size, capacity_of, cells_from, numbers_of, no_field}
-use Rattle.vms_bodies.proofs.Facade.{no_parent, all_hold, elements_of, field_size, IsNumber, IsOne, IsEarlier, NamesEarlier, IsSoundTest, IsSoundCount, ne_eqb}
-use Rattle.vms_bodies.proofs.Facade.{Struct, Meaning, no_meaning, no_desc, item_slots, times, field_slots, slots_from, desc_slots, counted, first, meaning}
-use Rattle.vms_bodies.proofs.Facade.{meanings, one_more, first_cells, drop_on, map, append_assoc, get_or-map, Cell, no_cell, item_cells, desc_cells, AreCells}
-use Rattle.vms_bodies.proofs.Facade.{size_same, elements_fit, Kind, U8, width}
+use Rattle.vms_bodies.proofs.Facade.{ℤ, pos, ap, arith, length-append, not, AllByRecursion, Item, Num, Count, One, Own, Formula, Not, And, Or, Field, Desc}
+use Rattle.vms_bodies.proofs.Facade.{truth, is_there, place_of, field_cells, item_size, capacity_of, cells_from, numbers_of, no_field, no_parent, all_hold}
+use Rattle.vms_bodies.proofs.Facade.{elements_of, field_size, IsNumber, IsOne, IsEarlier, NamesEarlier, IsSoundTest, IsSoundCount, ne_eqb, Struct, Meaning}
+use Rattle.vms_bodies.proofs.Facade.{no_meaning, no_desc, item_slots, times, field_slots, slots_from, desc_slots, counted, first, meaning, meanings, one_more}
+use Rattle.vms_bodies.proofs.Facade.{first_cells, drop_on, map, append_assoc, get_or-map, Cell, no_cell, item_cells, desc_cells, AreCells, size_same}
+use Rattle.vms_bodies.proofs.Facade.{elements_fit, Kind, width}
 use Rattle.std.proofs.Common.{Bool as Truth}
 use Rattle.vms_spec.specs.Layout.{Cell as OneCell}
 use Rattle.vms_spec.specs.Sets as sets
@@ -32,12 +32,10 @@ has_right s t c h = names_append s t c ∙ or_right _ _ h
 
 -- a property of both values, or of each where the test says so
 pub if_both : {A : Type 0} (P : A → Type 0) (b : Truth) (x y : A) → P x → P y → P (if b then x else y)
-if_both P true x y f g = f
-if_both P false x y f g = g
+if_both P b x y f g = grind (arith)
 
 pub if_so : {A : Type 0} (P : A → Type 0) (b : Truth) (x y : A) → (b ≡ true → P x) → (b ≡ false → P y) → P (if b then x else y)
-if_so P true x y f g = f refl
-if_so P false x y f g = g refl
+if_so P b x y f g = grind (arith)
 
 pub if_there : (P : List Slot → Type 0) → P [] → (b : Truth) (xs : List Slot) → P xs → P (if b then xs else [])
 if_there P none b xs x = if_both P b xs [] x none
@@ -119,13 +117,11 @@ module _ (fields : List Field) (i v : ℕ) (own now : ℕ → ℕ) (h : (j : ℕ
 
 pub there_same : (fields : List Field) (i v since : ℕ) (own now : ℕ → ℕ) → ((j : ℕ) → IsEarlier fields i j → now j ≡ own j) → (t : Option Formula)
     → IsSoundTest fields i t → is_there t since v now no_parent ≡ is_there t since v own no_parent
-there_same fields i v since own now h None x = refl
-there_same fields i v since own now h (Some t) x = truth_same fields i v own now h t x
+there_same fields i v since own now h t x = grind (arith, truth_same)
 
 pub elements_same : (fields : List Field) (i : ℕ) (own now : ℕ → ℕ) → ((j : ℕ) → IsEarlier fields i j → now j ≡ own j) → (c : Count)
     → IsSoundCount fields i c → elements_of c now ≡ elements_of c own
-elements_same fields i own now h (Counted by most) x = rw (h by x)
-elements_same fields i own now h _ x = refl
+elements_same fields i own now h c x = grind (arith)
 
 -- ---- the numbers of a description's slots are at its place or above
 
@@ -161,9 +157,7 @@ module _ (ms : List Meaning) (h : MeanAbove ms) where
 
   module _ (fields : List Field) (v : ℕ) (own : ℕ → ℕ) (numbers : List ℤ) where
     pub field_above : (i at : ℕ) (f : Field) → IsAbove at (field_slots ms fields v own numbers i at f)
-    field_above i at f =
-        if_there (IsAbove at) (above_none at) (is_there f.test f.since v own no_parent) _
-        (items_above f.item (counted i fields) numbers (elements_of f.count own) at _)
+    field_above i at f = grind (arith, if_there, above_none, items_above, counted)
 
     pub fields_above : (i at : ℕ) (fs : List Field) → IsAbove at (slots_from ms fields v own numbers i at fs)
     fields_above i at [] = above_none at
@@ -264,5 +258,4 @@ cells_first ds k = grind (arith, first_cells)
 -- ---- each kind has at least one byte
 
 pub width_positive : (kind : Kind) → 0 < width kind
-width_positive U8 = omega arith
-width_positive _ = omega arith
+width_positive kind = grind (arith)

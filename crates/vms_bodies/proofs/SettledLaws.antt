@@ -7,7 +7,7 @@ use Rattle.vms_bodies.proofs.Facade.{numbers_of, elements_of, capacity_of, count
 use Rattle.vms_bodies.proofs.Facade.{AreSoundFields, IsEarlier, field_size, elements_fit, one_more, ◌++◌, replicate, append-nil, true, false, ◌==◌}
 use Rattle.vms_bodies.proofs.Facade.{◌||◌, eq-eqb, eqb-true, cases_lt, false_from_ne_true, or_left, or_right, ⊎_elim, length-replicate, drop_at, Set}
 use Rattle.vms_bodies.proofs.Facade.{Slot, Number, Constant, Filler, Rule, no_cell, struct_cells, Spells, RulesHold, has_cell, AreCells, either_of, FitsCell}
-use Rattle.vms_bodies.proofs.Facade.{flat_map, length-map, InRange, Device, device_cells, own_slots, FitCells, ConstantsFit, Some, slice_get, Equal, sub_slots}
+use Rattle.vms_bodies.proofs.Facade.{flat_map, length-map, InRange, Device, device_cells, own_slots, FitCells, ConstantsFit, Some, slice_get, sub_slots}
 use Rattle.vms_bodies.proofs.Places.{there_same, elements_same, hold_same, place_next, place_end, place_up, place_below, desc_above, meanings_above, Stands}
 use Rattle.vms_bodies.proofs.Places.{desc_are, meanings_are, cells_first, if_there}
 use Rattle.std.proofs.lemmas.List.{length-append}
@@ -236,9 +236,7 @@ pub record MeansConstants (m : Meaning) : Type 0 where
 
 module _ (ms : List Meaning) (h : (j : ℕ) → MeansConstants (get_or ms j no_meaning)) where
   item_constants : (item : Item) → ConstantFits item → (caps : List ℕ) (numbers : List ℤ) (at : ℕ) → AreConstants (item_slots ms item caps numbers at)
-  item_constants (Equal kind y) f caps numbers at = (f, tt)
-  item_constants (Struct j) f caps numbers at = (h j).means at numbers
-  item_constants _ f caps numbers at = tt
+  item_constants item f caps numbers at = grind (arith)
 
   items_constants : (item : Item) → ConstantFits item → (caps : List ℕ) (numbers : List ℤ) (n at step : ℕ)
       → AreConstants (times n (item_slots ms item caps numbers) at step)

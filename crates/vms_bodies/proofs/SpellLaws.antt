@@ -296,8 +296,7 @@ set_twice _ _ x y = refl
 after_same : {S : Type 0} (go on : S → ℕ → List ℕ → Option (Reading S)) (at : ℕ) (rest : List ℕ) (v : Verdict S)
     → ((n : ℕ) (next : S) → v ≡ Goes n next → go next (at + n) (drop n rest) ≡ on next (at + n) (drop n rest))
     → reading_after go at rest v ≡ reading_after on at rest v
-after_same go on at rest (Goes n next) h = h n next refl
-after_same go on at rest _ h = refl
+after_same go on at rest v h = grind (arith)
 
 pub enough : {S : Type 0} (judge : S → List ℕ → Verdict S) → Advances judge → (m k : ℕ) (state : S) (at : ℕ) (rest : List ℕ)
     → length rest < m → length rest < k → reading_from judge m state at rest ≡ reading_from judge k state at rest

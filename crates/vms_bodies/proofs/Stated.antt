@@ -5,13 +5,13 @@ use Rattle.vms_bodies.proofs.Facade.{size_of_device, cell_count, field_size, ele
 use Rattle.vms_bodies.proofs.Facade.{◌≤◌, List, ◌∷◌, length, length-append, Option, Some, None, refl, arith, Bool, true, false, nat_lt}
 use Rattle.vms_bodies.proofs.Facade.{if◌then◌else◌, [], flat_map, slice_get, ltb-true, get_or_from_slice_get, Item, Num, Struct, Field, Desc, Sub, Device}
 use Rattle.vms_bodies.proofs.Facade.{Set, Cell, no_desc, first, item_size, capacity_of, place_of, field_cells, cells_from, desc_cells, struct_cells}
-use Rattle.vms_bodies.proofs.Facade.{device_cells, sub_place, own_cells, item_at, element_at, path_at, desc_of_sub, cell_in, cell_at, get_or, ℤ, pos, negsuc}
+use Rattle.vms_bodies.proofs.Facade.{device_cells, sub_place, own_cells, item_at, element_at, path_at, desc_of_sub, cell_in, cell_at, get_or, ℤ, pos}
 use Rattle.vms_bodies.proofs.Facade.{◌≤ℤ◌, ap, not, ◌&&◌, ◌==◌, nat_le, ◌||◌, AllByRecursion, and_parts, not-true, leb-true, le-leb}
-use Rattle.vms_bodies.proofs.Facade.{eqb-true, and_from, not_from_false, ints, Kind, lowest, InRange, same_number, no_cell, Slot, Rule, Image, has_cell}
-use Rattle.vms_bodies.proofs.Facade.{image_slots, IsVersionOf, AreVersionsOf, FitsCell, FitCells, IsNormal, RulesHold, is_needed, ComeAsNeeded, IsReady, int_le}
-use Rattle.vms_bodies.proofs.Facade.{in_range, counts_well, is_version_of, are_versions_of, fits_cell, fit_cells, are_settled, is_normal, rules_are_true}
-use Rattle.vms_bodies.proofs.Facade.{come_as_needed, is_ready, ranges, within, same_number_itself, same_number_is, Decides-and, Decides-eqb, Decides-like}
-use Rattle.vms_bodies.proofs.Facade.{Decides, replicate, length-replicate, Filler, Spells, zeroed, GoodLaw, ShippedLaw, well_good, shipped_stands}
+use Rattle.vms_bodies.proofs.Facade.{eqb-true, and_from, not_from_false, Kind, lowest, InRange, same_number, no_cell, Slot, Rule, Image, has_cell, image_slots}
+use Rattle.vms_bodies.proofs.Facade.{IsVersionOf, AreVersionsOf, FitsCell, FitCells, IsNormal, RulesHold, is_needed, ComeAsNeeded, IsReady, int_le, in_range}
+use Rattle.vms_bodies.proofs.Facade.{counts_well, is_version_of, are_versions_of, fits_cell, fit_cells, are_settled, is_normal, rules_are_true, come_as_needed}
+use Rattle.vms_bodies.proofs.Facade.{is_ready, ranges, within, same_number_itself, same_number_is, Decides-and, Decides-like, Decides, replicate}
+use Rattle.vms_bodies.proofs.Facade.{length-replicate, Filler, Spells, zeroed, GoodLaw, ShippedLaw, well_good, shipped_stands}
 
 -- ---- places
 
@@ -38,8 +38,7 @@ record Within (base size c : ℕ) : Type 0 where
   pub high : c < base + size
 
 some_if : (b : Bool) (o : Option ℕ) (c : ℕ) → (if b then o else None) ≡ Some c → (b ≡ true) × (o ≡ Some c)
-some_if true o c h = (refl, h)
-some_if false o c h = cc
+some_if b o c h = grind (arith)
 
 module _ (set : Set) where
   abbrev size_below : ℕ → Desc → ℕ
@@ -115,10 +114,7 @@ module _ (set : Set) where
 -- ---- the tests of readiness are the relations: numbers
 
 below_int : (z u : ℤ) → z ≤ℤ u → int_le z u ≡ true
-below_int (pos a) (pos b) h = le-leb a b (omega (arith, ints))
-below_int (pos a) (negsuc b) h = absurd (omega (arith, ints))
-below_int (negsuc a) (pos b) h = refl
-below_int (negsuc a) (negsuc b) h = le-leb b a (omega (arith, ints))
+below_int z u h = grind (arith)
 
 pub is_same : (z u : ℤ) → z ≡ u → same_number z u ≡ true
 is_same z u e = rw (← e) (same_number_itself z)
@@ -173,8 +169,7 @@ Settled slots from cells numbers =
     → get_or numbers c (pos 0) ≡ (get_or cells c no_cell).default
 
 unless : {P : Type 0} (b c : Bool) → Decides c P → Decides (b || c) (b ≡ false → P)
-unless true c d = (λ e f. cc, λ h. refl)
-unless false c d = (λ e f. d.0 e, λ h. d.1 (h refl))
+unless b c d = grind (arith)
 
 settled_decides : (slots : List Slot) (from : ℕ) (cells : List Cell) (numbers : List ℤ)
     → Decides (are_settled slots from cells numbers) (Settled slots from cells numbers)
@@ -232,12 +227,7 @@ module _ (set : Set) (d : Device) (image : Image) where
   are_needed j (s ∷ subs) (Some v ∷ came) h = grind (arith, and_from, are_needed (suc j) subs came h.2)
 
   pub ready_decides : Decides (is_ready set d image) (IsReady set d image)
-  ready_decides =
-      Decides-like _ (λ h. record { normal = h.0.0.0; valid = h.0.0.1; version = h.0.1; needed = h.1 })
-      (λ h. (((h.normal, h.valid), h.version), h.needed))
-      (Decides-and _ _
-      (Decides-and _ _ (Decides-and _ _ (normal_decides set d image) (rules_decide (image_slots set d image)))
-      (Decides-eqb image.version d.desc.version)) (needed_are 0 d.subs _, are_needed 0 d.subs _))
+  ready_decides = grind (arith, Decides-like, Decides-and, normal_decides, rules_decide, needed_are, are_needed)
 
 -- ---- the bytes that the writer gives for slots are of the slots
 

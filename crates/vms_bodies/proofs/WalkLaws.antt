@@ -2,16 +2,15 @@
 -- slot keeps, the whole keeps.
 use Rattle.vms_bodies.proofs.Facade.{◌≡◌, ◌≢◌, ◌>>=◌, ℕ, zero, suc, ◌+◌, ◌*◌, ◌≤◌, List, ◌∷◌, ◌++◌, length, get_or}
 use Rattle.vms_bodies.proofs.Facade.{map, take, drop, Ok, Err, IfOk, ℤ, refl, sym, ap, ◌∙◌, arith, append_assoc, append-nil, length-append, Bool, true}
-use Rattle.vms_bodies.proofs.Facade.{false, not, if◌then◌else◌, nat_lt, slice_set, get_or-set_other, [], mul-le-mul_right, Kind, Item, Num, Equal, Unused}
-use Rattle.vms_bodies.proofs.Facade.{Struct, width, value_of, Reason, is_bad_bool, Field, Desc, is_there, Slot, Number, Constant, Filler, Rule, Meaning}
-use Rattle.vms_bodies.proofs.Facade.{no_meaning, no_desc, item_slots, item_size, times, field_slots, slots_from, desc_slots, desc_cells, cells_from}
-use Rattle.vms_bodies.proofs.Facade.{field_cells, place_of, numbers_of, elements_of, capacity_of, counted, all_hold, no_parent, first, meanings, Taken}
-use Rattle.vms_bodies.proofs.Facade.{Progress, Refusal, Taker, no_taker, takers, cells_of, take_value, take_slot, take_item, take_items, take_field}
-use Rattle.vms_bodies.proofs.Facade.{take_fields, take_desc, check_rules, refuse, on, if_whole, IsSound, AreSound, IsSoundField, AreSoundFields, IsEarlier}
-use Rattle.vms_bodies.proofs.Facade.{field_size, elements_fit, ◌-◌, drop-drop}
+use Rattle.vms_bodies.proofs.Facade.{false, if◌then◌else◌, nat_lt, slice_set, get_or-set_other, [], mul-le-mul_right, Kind, Item, Num, Equal, Unused}
+use Rattle.vms_bodies.proofs.Facade.{Struct, width, value_of, Reason, is_bad_bool, Field, Desc, is_there, Slot, Number, Rule, Meaning, no_meaning, no_desc}
+use Rattle.vms_bodies.proofs.Facade.{item_slots, item_size, times, field_slots, slots_from, desc_slots, desc_cells, cells_from, field_cells, place_of}
+use Rattle.vms_bodies.proofs.Facade.{numbers_of, elements_of, capacity_of, counted, all_hold, no_parent, first, meanings, Taken, Progress, Refusal, Taker}
+use Rattle.vms_bodies.proofs.Facade.{no_taker, takers, cells_of, take_value, take_slot, take_item, take_items, take_field, take_fields, take_desc, check_rules}
+use Rattle.vms_bodies.proofs.Facade.{refuse, on, if_whole, IsSound, AreSound, IsSoundField, AreSoundFields, IsEarlier, field_size, elements_fit, ◌-◌}
+use Rattle.vms_bodies.proofs.Facade.{drop-drop}
 use Rattle.vms_bodies.proofs.Places.{IsAbove, MeanAbove, above_none, above_append, above_less, items_above, fields_above, meanings_above, SameBelow, same_refl}
 use Rattle.vms_bodies.proofs.Places.{same_less, same_trans, own_same, there_same, elements_same, hold_same, place_next, place_end, if_so}
-use Rattle.vms_spec.specs.Lookup.{exceeds, same_number}
 pub use Rattle.vms_bodies.proofs.Places.{place_first}
 use Rattle.vms_spec.specs.declared.Reason.TheVariants as reasons
 
@@ -31,18 +30,10 @@ module _ (P : Taken → Type 0) (p : Progress) (bad : (reason : Reason) (n : ℕ
       → (nat_lt (length p.rest) (width kind) ≡ false → is_bad_bool kind (take (width kind) p.rest) ≡ false → fails
       (value_of kind (take (width kind) p.rest)) ≡ false
       → P (on (width kind) (put (value_of kind (take (width kind) p.rest))) p)) → P (take_value kind reason fails put p)
-  value_gives kind reason fails put h =
-      let w = width kind in
-      whole_gives w _ (λ e1. if_so P (is_bad_bool kind (take w p.rest)) _ _ (λ _. bad reasons.BadBool w)
-      (λ e2. if_so P (fails (value_of kind (take w p.rest))) _ _ (λ _. bad reason w) (h e1 e2)))
+  value_gives kind reason fails put h = grind (arith, whole_gives, if_so)
 
   pub slot_gives : (slot : Slot) → ((n : ℕ) (numbers : List ℤ) → Sets slot p.numbers numbers → P (on n numbers p)) → P (Ok p) → P (take_slot slot p)
-  slot_gives (Number c kind capacities) h same =
-      value_gives kind reasons.CountTooLarge (exceeds capacities) (slice_set p.numbers c) (λ e1 e2 e3. h (width kind) _ (_, refl))
-  slot_gives (Constant kind z) h same = value_gives kind reasons.NotEqual (λ y. not (same_number y z)) (λ y. p.numbers) (λ e1 e2 e3. h (width kind) _ refl)
-  slot_gives (Filler n) h same = whole_gives n _ (λ e. h n _ refl)
-  slot_gives (Rule true) h same = same
-  slot_gives (Rule false) h same = bad reasons.Invalid 0
+  slot_gives slot h same = grind (arith, value_gives, whole_gives)
 
 pub record Keeps (cell : ℕ) (n : List ℤ) (t : Taken) : Type 0 where
   pub kept : IfOk t (λ q. SameBelow cell n q.numbers)

@@ -1,13 +1,13 @@
 -- A section, as the judge reads it: its head, and what comes after the fields of a part.
 use Rattle.vms_load.proofs.Facade.{no_desc, ◌≡◌, ℕ, ◌+◌, ◌<◌, List, length, map, drop, slice_set, Option, Some, None, Bool, true, false, Result}
-use Rattle.vms_load.proofs.Facade.{Ok, Err, refl, sym, ap, ◌∙◌, subst, zero, suc, ◌-◌, [], ◌∷◌, get_or, nat_lt, if◌then◌else◌, IfSome}
-use Rattle.vms_load.proofs.Facade.{arith, map-set, drop_all, slice_get-get_or, slice_get, Set, Device, Sub, Image, Piece, SubHead, Foot, part_slots, Goes}
-use Rattle.vms_load.proofs.Facade.{reading_after, find_device, find_sub, reading_on, set_twice, at_set, judge, ask, judge_seen, State, Free, Inside, after}
-use Rattle.vms_load.proofs.Facade.{by_state, or_none, slots_at, due_by, known_at, Head, Stand, Tail, Refusal, Typed, Unfit, opened_at, section_opened}
-use Rattle.vms_load.proofs.Facade.{opened_unless, reason_against_sub, sub_opened, Onward, Reads, ReadsOn, ReadsBehind, behind, Settles, concerning, state_in}
-use Rattle.vms_load.proofs.Facade.{in_fields, after_part, bytes_of, subs_due, spot_in, all_passed, after_fields, image_at, state_of, LoadFault, Section, Staged}
-use Rattle.vms_load.proofs.Facade.{AfterFields, begins_next, rules_hold, Good, seen, judged_holds, next_holds, seen_holds, device_at, sub_at, AnswersBehind}
-use Rattle.vms_load.proofs.Facade.{in_section, tail_of, FrameFault, Open, LONGEST_SUB_HEAD}
+use Rattle.vms_load.proofs.Facade.{Ok, Err, refl, sym, ap, ◌∙◌, subst, zero, suc, ◌-◌, [], ◌∷◌, get_or, IfSome, arith, map-set, drop_all}
+use Rattle.vms_load.proofs.Facade.{slice_get-get_or, slice_get, Set, Device, Sub, Image, Piece, SubHead, Foot, part_slots, Goes, reading_after, find_device}
+use Rattle.vms_load.proofs.Facade.{find_sub, reading_on, set_twice, at_set, judge, ask, judge_seen, State, Free, Inside, after, by_state, or_none, slots_at}
+use Rattle.vms_load.proofs.Facade.{due_by, known_at, Head, Stand, Tail, Refusal, Typed, Unfit, opened_at, section_opened, opened_unless, reason_against_sub}
+use Rattle.vms_load.proofs.Facade.{sub_opened, Onward, Reads, ReadsOn, ReadsBehind, behind, Settles, concerning, state_in, in_fields, after_part, bytes_of}
+use Rattle.vms_load.proofs.Facade.{subs_due, spot_in, all_passed, after_fields, image_at, state_of, LoadFault, Section, Staged, AfterFields, begins_next}
+use Rattle.vms_load.proofs.Facade.{rules_hold, Good, seen, judged_holds, next_holds, seen_holds, device_at, sub_at, AnswersBehind, in_section, tail_of}
+use Rattle.vms_load.proofs.Facade.{FrameFault, Open, LONGEST_SUB_HEAD}
 use Rattle.vms_load.proofs.HeadLemmas.{device_is, known_sub, sub_below, sub_is, verdict, section_judged, sub_judged}
 use Rattle.vms_load.proofs.ReadLemmas.{IsLong, refused_here, unit_fails, unit_settled, unit_of}
 use Rattle.vms_spec.specs.Units.{Head as HeadUnit}
@@ -57,12 +57,7 @@ module _ (set : Set) (names : List (List ℕ)) (staged : Staged) (first configur
   opens x n place k (Err why) e = cc
 
   pub section_long : (head : Head) → length staged.came.items ≡ length set.devices → IsLong (head_long head) (ask set names state (head_unit head) (head_long head))
-  section_long head came =
-      rw (section_judged set names state head.id head.name.items head.instance head.version (head_long head) came) (by_opened (section_opened set staged.came.items head.name.items head.instance head.version))
-    where
-      by_opened : (o : Result ℕ Unfit) → IsLong (head_long head) (verdict set names state (head_unit head) (head_long head) o)
-      by_opened (Ok k) = refl
-      by_opened (Err why) = tt
+  section_long head came = grind (arith, section_judged, verdict)
 
   -- a head that opens no section
   pub section_refused : {X : Type 0} (head : Head) (place : ℕ) (end : Stand) (bytes : List ℕ) (left : Option (List ℕ)) (next : X → Onward) (e : LoadFault) → length staged.came.items ≡ length set.devices
@@ -170,11 +165,7 @@ module _ (set : Set) (names : List (List ℕ)) (state : State) (section : Sectio
   pub after_next : (from to : Stand) (old left : Option (List ℕ)) → from.held ≡ None → to.at ≡ from.at
       → IfSome old (λ rest. AnswersBehind t section.id from.at rest to.held left (Ok afters.Next))
       → ReadsOn (after_fields set names state section part image) (after_part set names state (record section { tail = tails.Bare }) image) from to old left (Ok None)
-  after_next from to None left before far a = tt
-  after_next from to (Some []) left before far a = cc
-  after_next from to (Some (b ∷ more)) left before far a =
-      let none : from.at - from.at ≡ 0 = omega arith in
-      rw (far, a.1, before, a.2, none) (next_is from.at (b ∷ more) a.0, refl)
+  after_next from to old left before far a = grind (arith, next_is)
 
   -- the footer
   pub foot_settled : (at' : ℕ) → Settles (ask set names inner (Foot section.id) 5) at' (λ next. state_in state (record section { tail = tails.Footed }) image (spot_in (record section { tail = tails.Footed }) next)) 5 (Ok None)
@@ -220,21 +211,11 @@ module _ (set : Set) (names : List (List ℕ)) (state : State) (section : Sectio
 -- ---- a subsection that is opened hasn't come
 
 unless_came : (k j : ℕ) (s : Sub) (came : Option ℕ) (v place : ℕ) → Ok j ≡ opened_at place (opened_unless (Some k) j (reason_against_sub s came v)) → came ≡ None
-unless_came k j s None v place e = refl
-unless_came k j s (Some w) v place e = by_tests (nat_lt s.desc.version v) (nat_lt v s.desc.minimum) e
-  where
-    by_tests : (a b : Bool)
-        → Ok j ≡ opened_at place (opened_unless (Some k) j (if a then Some reasons.TooNew else (if b then Some reasons.TooOld else Some reasons.RepeatedSubsection))) → Some w ≡ None
-    by_tests false true e = cc
-    by_tests _ _ e = cc
+unless_came k j s came v place e = grind (arith)
 
 pub sub_new : (k : ℕ) (d : Device) (came : List (Option ℕ)) (name : List ℕ) (v j place : ℕ) → length came ≡ length d.subs → Ok j ≡ opened_at place (sub_opened k d came name v)
     → (j < length d.subs) × (slice_get came j ≡ Some None)
-sub_new k d came name v j place long e =
-    let f = sub_is k d came name v place j long e in
-    let lt : j < length d.subs = sub_below d.subs name j f in
-    let new = unless_came k j (sub_at d j) (get_or came j None) v place (e ∙ ap (opened_at place) (known_sub k d came name v j long f)) in
-    (lt, slice_get-get_or came j None (omega arith) ∙ ap (λ (o : Option ℕ). Some o) new)
+sub_new k d came name v j place long e = grind (arith, sub_is, sub_below, unless_came, sub_at, known_sub, slice_get-get_or)
 
 pub subs_taken : (set : Set) (subs : List Sub) (came : List (Option ℕ)) (j v : ℕ) (none : Sub) → length came ≡ length subs → slice_get came j ≡ Some None
     → subs_due set subs (slice_set came j (Some v)) + (LONGEST_SUB_HEAD + bytes_of set (get_or subs j none).desc) ≡ subs_due set subs came

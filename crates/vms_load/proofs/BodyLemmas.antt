@@ -38,11 +38,8 @@ record Passed (a b e : Bool) (x y : Piece) : Type 0 where
   other : e ≡ false
   same : x ≡ y
 
-good_is : (x y : Piece) (n m : ℕ) → Good x n ≡ Good y m → x ≡ y
-good_is x y n m e = cc
-
 passed : (a b e : Bool) (x y : Piece) (n : ℕ) (why : Reason) → by_tests a b e x n why ≡ Good y n → Passed a b e x y
-passed false false false x y n why h = record { cut = refl; bad = refl; other = refl; same = good_is x y n n h }
+passed false false false x y n why h = let e : Good x n ≡ Good y n = h in record { cut = refl; bad = refl; other = refl; same = cc }
 passed _ _ _ x y n why h = cc
 
 to_good : (a b e : Bool) (x y : Piece) (n : ℕ) (why : Reason) → a ≡ false → b ≡ false → e ≡ false → x ≡ y → by_tests a b e x n why ≡ Good y n
@@ -71,10 +68,7 @@ module _ (kind : Kind) (at : ℕ) (new : Option (List ℕ)) (rest : List ℕ) {f
   read_good v h = passed (cut kind rest) (bad kind rest) false _ _ (width kind) reasons.CountTooLarge (sym (number_by kind rest 0 []) ∙ h.0)
 
   own_ok : (v : ℤ) → ReadsNumber kind at (Some rest) new (Ok v) → own v ≡ false → (found ≡ Good (x v) (width kind)) × (new ≡ Some (drop (width kind) rest))
-  own_ok v h e =
-      let t = read_good v h in
-      let same = number_same kind (z kind rest) v t.same in
-      (is ∙ to_good _ _ _ _ _ (width kind) why t.cut t.bad (ap own same ∙ e) (ap x same), h.1)
+  own_ok v h e = grind (arith, read_good, number_same, to_good)
 
   own_fails : (v : ℤ) → ReadsNumber kind at (Some rest) new (Ok v) → own v ≡ true → (at ≡ at) × Fails found rest new why
   own_fails v h e =
@@ -111,20 +105,10 @@ module _ (rest : List ℕ) (new : Option (List ℕ)) (at to : ℕ) (numbers : Li
   seen_taken slot n result u h = rw (slot_seen 0 nothing_known from slot u) at h
 
   pub number_ok : (kind : Kind) (caps : List ℕ) (cell : ℕ) (x : ℤ) → to ≡ at + width kind → ReadsCapped kind caps at (Some rest) new (Ok x) → TakesAs (take_slot (NumberSlot cell kind caps) from) (slice_set numbers cell x) to new (Ok tt)
-  number_ok kind caps cell x far a =
-      let t = passed (cut kind rest) (bad kind rest) (exceeds caps (z kind rest)) _ (Number 0 kind x) (width kind) reasons.CountTooLarge (sym (number_by kind rest 0 caps) ∙ a.0) in
-      let same = number_same kind (z kind rest) x t.same in
-      seen_taken (NumberSlot cell kind caps) (slice_set numbers cell x) (Ok tt) tt
-      (good_taken from _ (Number cell kind x) (width kind) to new
-      (number_by kind rest cell caps ∙ to_good _ _ _ _ _ (width kind) reasons.CountTooLarge t.cut t.bad t.other (ap (Number cell kind) same)) far a.1)
+  number_ok kind caps cell x far a = grind (arith, passed, number_by, number_same, seen_taken, good_taken, to_good)
 
   pub number_err : (kind : Kind) (caps : List ℕ) (cell : ℕ) (n : List ℤ) (fault : FrameFault) → ReadsCapped kind caps at (Some rest) new (Err fault) → TakesAs (take_slot (NumberSlot cell kind caps) from) n to new (Err fault)
-  number_err kind caps cell n faults.ReadFault a = by_read_fault (take_slot (NumberSlot cell kind caps) from) n to new
-  number_err kind caps cell n (faults.Refused place reason) a =
-      seen_taken (NumberSlot cell kind caps) n (Err (faults.Refused place reason)) tt
-      (fails_taken from (seen (Field 0 (NumberSlot cell kind caps)) nothing_known rest) n to new place reason a.0
-      (rw (number_by kind rest cell caps) (fails_alike (cut kind rest) (bad kind rest) (exceeds caps (z kind rest)) _ _ (width kind) reasons.CountTooLarge rest new reason
-      (rw (number_by kind rest 0 caps) at a.1))))
+  number_err kind caps cell n fault a = grind (arith, by_read_fault, seen_taken, fails_taken, seen, number_by, fails_alike)
 
   -- a constant and unused bytes give no number
   plain : (slot : Slot) (x : Piece) (m : ℕ) (result : Result (Unit {0}) FrameFault) → IsUnit slot → OnOk result (to ≡ at + m) → put x numbers ≡ numbers
@@ -188,10 +172,7 @@ module _ {a b : Intake} (kind : Kind) (at : ℕ) (y : ℤ) where
       (λ rest left h. own_fails kind at (Some left) rest (differs y) (Constant kind) _ (constant_by kind rest y) v h (ap not other)) p))
 
   pub reads_no_constant : (e : FrameFault) → Plain a b kind at (Err e) → Fixed a b kind at y (Err e)
-  reads_no_constant e p =
-      reads_as (λ n l. l)
-      (λ rest left h. own_err kind at (Some left) rest (differs y) (Constant kind) _ (constant_by kind rest y) {X = Unit {0}} (λ _. Constant kind y)
-      (λ _. width kind) e h) p
+  reads_no_constant e p = grind (arith, reads_as, own_err, constant_by)
 
 -- nothing is read for the validations of a description
 pub reads_rule : (a : Intake) (holds : Bool) (numbers : List ℤ) (at : ℕ) (result : Result (Unit {0}) FrameFault) → a.given < 2 ^ 64 → OnOk result (holds ≡ true)
@@ -206,11 +187,10 @@ reads_rule a holds numbers at (Err e) counted ok err =
 -- The end of a part leaves the image and the source as they are.
 module _ (a : Told) {found holds : Bool} (is : found ≡ holds) (r : Result (Unit {0}) FrameFault) (counted : a.source.given < 2 ^ 64) (ok : OnOk r (found ≡ true))
     (err : IfErr r (λ fault. (found ≡ false) × (fault ≡ faults.Refused a.place reasons.Invalid))) where
-  reads : TakesOn a.source a.source 0 a.place a.place (λ rest. take_slot (Rule found) (progress a.image.numbers a.place rest)) a.image.numbers r
-  reads = reads_rule a.source found a.image.numbers a.place r counted ok err
-
   pub rule_fills : Fills (steps.Rule holds ∷ []) a r a
-  rule_fills = rw (← is) (step_fills (steps.Rule found) a a r reads refl (keeps_same _ a.image.numbers a.image.numbers refl) (stays r))
+  rule_fills =
+      let reads = reads_rule a.source found a.image.numbers a.place r counted ok err in
+      rw (← is) (step_fills (steps.Rule found) a a r reads refl (keeps_same _ a.image.numbers a.image.numbers refl) (stays r))
     where
       stays : (s : Result (Unit {0}) FrameFault) → OnErr s (a.image ≡ a.image)
       stays (Ok x) = tt

@@ -2,7 +2,7 @@
 use Rattle.vms_load.proofs.Facade.{⊎_elim, cases_eq, ◌≡◌, ℕ, Bool, true, false, List, [], ◌∷◌, slice_set, Option, Some, None, map, suc, zero}
 use Rattle.vms_load.proofs.Facade.{refl, sym, ap, subst, ◌∙◌, ◌+◌, ◌++◌, drop, Result, Ok, Err, IfSome, inl, inr, ◌≤◌, arith, length}
 use Rattle.vms_load.proofs.Facade.{length-append, length-drop, slice_get, same_Some, Device, Set, Image, EachOnce, none_left, HasSection, SectionsSpell, Takes}
-use Rattle.vms_load.proofs.Facade.{at_other, IsKept, AreKept, IsBytes, WellFormed, Reading, Accepted, Refused, FitsHeads, reading, State, by_state, at_start}
+use Rattle.vms_load.proofs.Facade.{at_other, IsKept, AreKept, IsBytes, WellFormed, Reading, Refused, FitsHeads, reading, State, by_state, at_start}
 use Rattle.vms_load.proofs.Facade.{accepted_holds, one_stream_holds, never_both_holds, one_fault_holds, state_refuses, Refusal, Intake, Last, MayFollow}
 use Rattle.vms_load.proofs.Facade.{bytes_both, no_bytes, reads_as, reads_told, Loads, GoesThrough, LoadReads, ReadsAll, name_of, most_given, LoadFault, Staged}
 use Rattle.vms_load.proofs.Facade.{capped, Piece, spell, spelled, Reason, Fault, Why, Cut, Wrong, EndsAtUnit, GivesStream, IsRefusedAt, ExactLaw, UnitLaw}
@@ -16,12 +16,7 @@ none_came (x ∷ devices) zero d e = refl
 none_came (x ∷ devices) (suc k) d e = none_came devices k d e
 
 section_is : (set : Set) (footed : Bool) (k : ℕ) (d : Device) (image : Image) (o : Option Device) (i : Option Image) (bytes : List ℕ) → o ≡ Some d → i ≡ Some image → HasSection set footed k o i bytes → IsKept set d image
-section_is set footed k d image (Some x) (Some y) bytes e f h =
-    let a : x ≡ d = cc in
-    let b : y ≡ image = cc in
-    rw (← a, ← b) (record { normal = h.1.normal; valid = h.1.valid })
-section_is set footed k d image (Some x) None bytes e f h = absurd h
-section_is set footed k d image None i bytes e f h = cc
+section_is set footed k d image o i bytes e f h = search (arith)
 
 module _ (set : Set) (footed : Bool) (images : List Image) (k : ℕ) (d : Device) (image : Image) (there : slice_get set.devices k ≡ Some d) (here : slice_get images k ≡ Some image) where
   -- a device that has not come yet comes in what follows
@@ -43,12 +38,7 @@ taken_kept set names input n machine images t = record {
 
 module _ (set : Set) (names : List (List ℕ)) (well : WellFormed set) (heads : FitsHeads set) (staged : Staged) (input : List ℕ) (ok : IsBytes input) (left : Option (List ℕ)) where
   taken_by : (taken : ℕ) (x : Option (Reading State)) → reading (by_state set names) (at_start set) input ≡ x → ReadsAll set x staged input left (Ok taken) → Loads set names input left (map untyped staged.images.items) taken (Ok staged.machine)
-  taken_by taken (Some (Accepted n end)) e h =
-      let takes : Takes set names input n end.machine end.images = accepted_holds set names well heads input n end ok e in (
-        rw h.0 at (rw h.1 at (rw h.2 at takes)),
-        h.3,
-      )
-  taken_by taken _ e h = absurd h
+  taken_by taken x e h = grind (arith, accepted_holds)
 
   refused_by : (images : List Image) (taken : ℕ) (fault : LoadFault) (x : Option (Reading State)) → reading (by_state set names) (at_start set) input ≡ x → ReadsAll set x staged input left (Err fault) → Loads set names input left images taken (Err fault)
   refused_by images taken (faults.Refused r) (Some (Refused place section reason long)) e h = (
@@ -71,14 +61,7 @@ Through a b set names staged result = GoesThrough a b set (reading (by_state set
 module _ {a b : Intake} (set : Set) (names : List (List ℕ)) (well : WellFormed set) (heads : FitsHeads set) (staged : Staged) (ok : IfSome b.left IsBytes) where
   -- a stream that is read to its end is one of the set
   pub loads_taken : (taken : ℕ) → Through a b set names staged (Ok taken) → LoadReads a b set names (map untyped staged.images.items) taken (Ok staged.machine)
-  loads_taken taken h = record {
-    bytes = h.bytes;
-    takes = h.takes;
-    long = h.long;
-    says = λ more f. taken_by set names well heads staged (h.bytes ++ more) (bytes_both h.bytes more h.takes.octets (last_bytes b.left more ok f)) (Some more) taken
-        (reading (by_state set names) (at_start set) (h.bytes ++ more)) refl (h.says more f);
-    cause = tt;
-  }
+  loads_taken taken h = search (arith, taken_by, bytes_both, last_bytes, by_state, at_start)
 
   -- one that is refused has a fault
   pub loads_refused : (images : List Image) (taken : ℕ) (fault : LoadFault) → Through a b set names staged (Err fault) → LoadReads a b set names images taken (Err fault)
@@ -100,12 +83,7 @@ loads_kept set names images taken machine h = taken_kept set names _ taken _ ima
 
 module _ (set : Set) (names : List (List ℕ)) (images : List Image) (taken : ℕ) {a b : Intake} where
   pub content : (r : Result (Option ℕ) LoadFault) → LoadReads a b set names images taken r → IfSome a.left (λ input. Loads set names input b.left images taken r)
-  content (Err faults.ReadFault) p = none a.left
-    where
-      none : (old : Option (List ℕ)) → IfSome old (λ input. Unit {0})
-      none None = tt
-      none (Some input) = tt
-  content r p = reads_told (λ input left. Loads set names input left images taken r) tt p
+  content r p = grind (arith, reads_told)
 
   pub given : (machine : Option ℕ) → LoadReads a b set names images taken (Ok machine) → b.given ≡ capped (a.given + taken)
   given machine p = omega arith
@@ -136,10 +114,7 @@ module _ (set : Set) (names : List (List ℕ)) (well : WellFormed set) (heads : 
   refuses (Err faults.ReadFault) l place section reason size fault = tt
 
 pub exact_holds : ExactLaw
-exact_holds set names well heads input ok left images taken result l = record {
-  stream = gives set names well heads input ok left images taken result l;
-  fault = refuses set names well heads input ok left images taken result l;
-}
+exact_holds set names well heads input ok left images taken result l = search (arith, gives, refuses)
 
 -- ---- what a refusal takes
 

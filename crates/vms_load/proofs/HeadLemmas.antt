@@ -1,13 +1,13 @@
 -- What heads open, as the judge has it, and what is read of a stream so far.
 use Rattle.vms_load.proofs.Facade.{◌≡◌, ℕ, ◌<◌, List, length, get_or, Option, Some, None, Bool, true, false, if◌then◌else◌, Ok, refl, sym, ap}
 use Rattle.vms_load.proofs.Facade.{◌∙◌, arith, Result, Err, not, nat_lt, slice_get, slice_get-get_or, slice_get_within, Reason, at_option, Device, Sub}
-use Rattle.vms_load.proofs.Facade.{Set, find_device, find_sub, index, did_come, found_inside, device_at, sub_at, section_opened, device_opened, opened_unless}
+use Rattle.vms_load.proofs.Facade.{Set, find_device, find_sub, index, found_inside, device_at, sub_at, section_opened, device_opened, opened_unless}
 use Rattle.vms_load.proofs.Facade.{reason_against, reason_against_sub, sub_opened, sub_opened_at, opened_at, unfit, Unfit, Piece, SubHead, device_named}
 use Rattle.vms_load.proofs.Facade.{found_is, first_row, is_none, test_some, asking, Known, ask, by_row, State, open_at, known_at, after, by_state, Verdict}
-use Rattle.vms_load.proofs.Facade.{Goes, Faulty, zero, suc, ◌+◌, ◌≤◌, [], ◌∷◌, map, replicate, slice_set, length-map, length-set}
-use Rattle.vms_load.proofs.Facade.{ext_get_or, get_or-map, ⊎_elim, cases_eq, get_or-set_same, get_or-set_other, get_or_from_slice_get, at_set, Image}
-use Rattle.vms_load.proofs.Facade.{default_image, Unknown, Before, at_start, Typed, default_at, IsImageOf, AreImagesOf, AreShaped, begun_at, no_image}
-use Rattle.vms_load.proofs.Facade.{section_bytes, sections_due, at_other}
+use Rattle.vms_load.proofs.Facade.{Goes, Faulty, zero, suc, ◌+◌, ◌≤◌, [], ◌∷◌, map, replicate, slice_set, length-map, length-set, ext_get_or}
+use Rattle.vms_load.proofs.Facade.{get_or-map, ⊎_elim, cases_eq, get_or-set_same, get_or-set_other, get_or_from_slice_get, at_set, Image, default_image}
+use Rattle.vms_load.proofs.Facade.{Unknown, Before, at_start, Typed, default_at, IsImageOf, AreImagesOf, AreShaped, begun_at, no_image, section_bytes}
+use Rattle.vms_load.proofs.Facade.{sections_due, at_other}
 use Rattle.vms_spec.specs.Units.{Head}
 use Rattle.vms_bodies.proofs.Heads.{sub_is as sub_found}
 use Rattle.vms_stream.specs.State.{image_at}
@@ -45,10 +45,7 @@ module _ (k : ℕ) (d : Device) (came : List (Option ℕ)) (name : List ℕ) (v 
 
   pub known_sub : (j : ℕ) → length came ≡ length d.subs → find_sub 0 d.subs name ≡ Some j
       → sub_opened k d came name v ≡ opened_unless (Some k) j (reason_against_sub (sub_at d j) (get_or came j None) v)
-  known_sub j long e =
-      let lt : j < length d.subs = sub_below d.subs name j e in
-      let there : slice_get d.subs j ≡ Some (sub_at d j) = slice_get-get_or d.subs j _ lt in
-      rw (e, there, slice_get-get_or came j None (omega (arith, lt, long)))
+  known_sub j long e = grind (arith, sub_below, sub_at, slice_get-get_or)
 
   pub opens_sub : (j : ℕ) (reason : Option Reason) → length came ≡ length d.subs → find_sub 0 d.subs name ≡ Some j → reason ≡ reason_against_sub (sub_at d j) (get_or came j None) v
       → opened_unless (Some k) j reason ≡ sub_opened k d came name v
@@ -61,18 +58,10 @@ opens_it section i k place None e = cc
 opens_it section i k place (Some reason) e = cc
 
 pub device_is : (set : Set) (came : List Bool) (name : List ℕ) (instance v place k : ℕ) → Ok k ≡ opened_at place (section_opened set came name instance v) → find_device 0 set.devices name instance ≡ Some k
-device_is set came name instance v place k e = by (find_device 0 set.devices name instance) refl
-  where
-    by : (found : Option ℕ) → find_device 0 set.devices name instance ≡ found → find_device 0 set.devices name instance ≡ Some k
-    by None f = let h : Ok k ≡ opened_at place (unfit None reasons.UnknownSection) = cc (unknown set came name instance v f) in cc
-    by (Some i) f = cc (opens_it (Some i) i k place _ (e ∙ ap (opened_at place) (known set came name instance v i f)))
+device_is set came name instance v place k e = grind (arith, unknown, opens_it, known)
 
 pub sub_is : (k : ℕ) (d : Device) (came : List (Option ℕ)) (name : List ℕ) (v place j : ℕ) → length came ≡ length d.subs → Ok j ≡ opened_at place (sub_opened k d came name v) → find_sub 0 d.subs name ≡ Some j
-sub_is k d came name v place j long e = by (find_sub 0 d.subs name) refl
-  where
-    by : (found : Option ℕ) → find_sub 0 d.subs name ≡ found → find_sub 0 d.subs name ≡ Some j
-    by None f = let h : Ok j ≡ opened_at place (unfit (Some k) reasons.UnknownSubsection) = cc (unknown_sub k d came name v f) in cc
-    by (Some i) f = cc (opens_it (Some k) i j place _ (e ∙ ap (opened_at place) (known_sub k d came name v i long f)))
+sub_is k d came name v place j long e = grind (arith, unknown_sub, opens_it, known_sub)
 
 -- ---- What the loader opens by a head is what the rows say of the head.
 
@@ -90,13 +79,7 @@ head_rows o d came v =
     else None
 
 known_head : (k : ℕ) (d : Device) (came : Bool) (v : ℕ) → head_rows (Some k) (Some d) (Some came) v ≡ unfit_for (device_opened v (Some k) (Some d) came)
-known_head k d true v = refl
-known_head k d false v = by (nat_lt d.desc.version v) (nat_lt v d.desc.minimum)
-  where
-    by : (a b : Bool) → (if a then Some (Some k, reasons.TooNew) else if b then Some (Some k, reasons.TooOld) else None)
-        ≡ unfit_for (opened_unless (Some k) k (if a then Some reasons.TooNew else if b then Some reasons.TooOld else None))
-    by false true = refl
-    by _ _ = refl
+known_head k d came v = grind (arith)
 
 head_opened : (set : Set) (names : List (List ℕ)) (k : Known) (id : ℕ) (name : List ℕ) (instance v : ℕ) → length k.came ≡ length set.devices
     → first_row (asking set names k (Head id name instance v)) ≡ unfit_for (section_opened set k.came name instance v)
@@ -121,13 +104,7 @@ sub_rows section o s came v =
     else None
 
 known_rows : (k j : ℕ) (s : Sub) (came : Option ℕ) (v : ℕ) → sub_rows (Some k) (Some j) (Some s) (Some came) v ≡ unfit_for (sub_opened_at k v (Some j) (Some s) (Some came))
-known_rows k j s came v = by (nat_lt s.desc.version v) (nat_lt v s.desc.minimum) came
-  where
-    by : (a b : Bool) (came : Option ℕ)
-        → (if a then Some (Some k, reasons.TooNew) else if b then Some (Some k, reasons.TooOld) else if not (is_none came) then Some (Some k, reasons.RepeatedSubsection) else None)
-        ≡ unfit_for (opened_unless (Some k) j (if a then Some reasons.TooNew else if b then Some reasons.TooOld else if did_come came then Some reasons.RepeatedSubsection else None))
-    by false false None = refl
-    by _ _ _ = refl
+known_rows k j s came v = grind (arith)
 
 sub_is_opened : (set : Set) (names : List (List ℕ)) (y : Known) (k : ℕ) (d : Device) (name : List ℕ) (v : ℕ) → y.section ≡ Some k → slice_get set.devices k ≡ Some d → length y.image.came ≡ length d.subs
     → first_row (asking set names y (SubHead name v)) ≡ unfit_for (sub_opened k d y.image.came name v)
@@ -247,11 +224,7 @@ unless_came k d false v place e = refl
 
 pub section_new : (set : Set) (came : List Bool) (name : List ℕ) (instance v k place : ℕ) → length came ≡ length set.devices → Ok k ≡ opened_at place (section_opened set came name instance v)
     → (k < length set.devices) × (slice_get came k ≡ Some false)
-section_new set came name instance v k place long e =
-    let f = device_is set came name instance v place k e in
-    let lt : k < length set.devices = device_below set.devices name instance k f in
-    let new = unless_came k (device_at set k) (get_or came k false) v place (e ∙ ap (opened_at place) (known set came name instance v k f)) in
-    (lt, slice_get-get_or came k false (omega arith) ∙ ap (λ (b : Bool). Some b) new)
+section_new set came name instance v k place long e = grind (arith, device_is, device_below, unless_came, device_at, known, slice_get-get_or)
 
 pub sections_taken : (set : Set) (devices : List Device) (came : List Bool) (k : ℕ) (none : Device) → length came ≡ length devices → slice_get came k ≡ Some false
     → sections_due set devices (slice_set came k true) + section_bytes set (get_or devices k none) ≡ sections_due set devices came

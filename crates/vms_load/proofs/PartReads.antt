@@ -1,14 +1,13 @@
 -- The fields of a part: its steps take what the structural reader takes, and the judge reads the same.
-use Rattle.vms_load.proofs.Facade.{◌≡◌, ℕ, ◌+◌, ◌≤◌, List, [], ◌∷◌, ◌++◌, length, take, slice_set, append_assoc, append-nil, ℤ}
-use Rattle.vms_load.proofs.Facade.{Option, Some, Ok, Err, Bool, ◌||◌, ◌==◌, if◌then◌else◌, refl, sym, ap, ◌∙◌, subst, ◌-◌, ◌<◌}
-use Rattle.vms_load.proofs.Facade.{drop, None, Result, IfSome, OnOk, arith, eq-eqb, or_parts, drop-drop, drop_all, slice_get, slice_get-get_or, ⊎_elim}
-use Rattle.vms_load.proofs.Facade.{cases_lt, Kind, width, value_of, is_bad_bool, Desc, Set, Device, has_cell, Image, Slot, Number, meanings, desc_slots, Taken}
-use Rattle.vms_load.proofs.Facade.{Progress, takers, take_desc, refuse, on, if_whole, take_slot, IsSound, AreSound, IsAbove, desc_above, meanings_above}
-use Rattle.vms_load.proofs.Facade.{SameBelow, same_refl, same_trans, Keeps, Keeping, Gives, ComesTo, IsFrom, slot_keeps, set_desc_comes, FrameFault, WalkStep}
-use Rattle.vms_load.proofs.Facade.{step_of, steps_of, steps_append, exceeds_least, TakesAs, slot_of, take_steps, last_numbers, numbers_then, take_append}
-use Rattle.vms_load.proofs.Facade.{last_taken, Told, from, IsFilled, Refused, part_slots, State, Inside, by_state, judge, reading_on, body_read, after_read}
-use Rattle.vms_load.proofs.Facade.{Stand, tail_of, IsGood, Leaves, desc_leaves, device_at, sub_at, Reads, ReadsOn, concerning, IsIn, IsOpen, part_desc}
-use Rattle.vms_load.proofs.Facade.{part_base, state_in, in_fields, after_fields, Section}
+use Rattle.vms_load.proofs.Facade.{◌≡◌, ℕ, ◌+◌, ◌≤◌, List, [], ◌∷◌, ◌++◌, length, take, append_assoc, append-nil, ℤ, Option, Some}
+use Rattle.vms_load.proofs.Facade.{Ok, Err, ◌||◌, ◌==◌, refl, sym, ap, ◌∙◌, subst, ◌-◌, ◌<◌, drop, None, Result, IfSome, OnOk, arith}
+use Rattle.vms_load.proofs.Facade.{eq-eqb, or_parts, drop-drop, drop_all, slice_get, slice_get-get_or, ⊎_elim, cases_lt, Kind, Desc, Set, Device, has_cell}
+use Rattle.vms_load.proofs.Facade.{Image, Slot, Number, meanings, desc_slots, Taken, Progress, takers, take_desc, on, take_slot, IsSound, AreSound, IsAbove}
+use Rattle.vms_load.proofs.Facade.{desc_above, meanings_above, SameBelow, same_refl, same_trans, Keeps, Keeping, Gives, ComesTo, IsFrom, slot_keeps}
+use Rattle.vms_load.proofs.Facade.{set_desc_comes, FrameFault, WalkStep, step_of, steps_of, steps_append, exceeds_least, TakesAs, slot_of, take_steps}
+use Rattle.vms_load.proofs.Facade.{last_numbers, numbers_then, take_append, last_taken, Told, from, IsFilled, Refused, part_slots, State, Inside, by_state}
+use Rattle.vms_load.proofs.Facade.{judge, reading_on, body_read, after_read, Stand, tail_of, IsGood, Leaves, desc_leaves, device_at, sub_at, Reads, ReadsOn}
+use Rattle.vms_load.proofs.Facade.{concerning, IsIn, IsOpen, part_desc, part_base, state_in, in_fields, after_fields, Section}
 use Rattle.vms_spec.specs.Taking.{Refusal}
 use Rattle.vms_stream.proofs.Bodies.{Reads as ReadsBody}
 use Rattle.vms_spec.specs.declared.Reason.TheVariants as reasons
@@ -16,13 +15,7 @@ use Rattle.vms_frames.specs.declared.fault.FrameFault.TheVariants as faults
 
 -- a step takes what its slot takes: the least of the capacities that a number counts decides
 slot_taken : (x : Slot) (p : Progress) → take_slot (slot_of (step_of x)) p ≡ take_slot x p
-slot_taken (Number c kind caps) p =
-    let w = width kind in
-    let z = value_of kind (take w p.rest) in
-    ap
-    (λ (b : Bool). if_whole w p (if is_bad_bool kind (take w p.rest) then refuse p reasons.BadBool w else if b then refuse p reasons.CountTooLarge w else on w (slice_set p.numbers c z) p))
-    (exceeds_least caps z)
-slot_taken _ p = refl
+slot_taken x p = grind (arith, exceeds_least)
 
 -- ---- steps leave the numbers below them
 

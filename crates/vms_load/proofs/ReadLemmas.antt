@@ -1,11 +1,11 @@
 -- Readings that go on from call to call.
 pub use Rattle.vms_frames.proofs.HeadLemmas.{err_is}
-use Rattle.vms_load.proofs.Facade.{◌≡◌, ℕ, ◌+◌, ◌-◌, ◌≤◌, List, length, drop, Option, Some, None, Result, Ok, Err, OnOk, refl, sym, ap}
-use Rattle.vms_load.proofs.Facade.{◌∙◌, arith, ◌<◌, ◌^◌, [], IfErr, drop-drop, drop_all, Reason, Verdict, Goes, Faulty, Over, Reading, Refused}
-use Rattle.vms_load.proofs.Facade.{reading_after, Piece, Set, State, by_state, Seen, Good, Bad, Short, judge_seen, judge, advances, solid, Stand, ahead, Fails}
-use Rattle.vms_load.proofs.Facade.{AnswersSeen, FrameFault, Refusal, Onward, behind, LeadsOn, Refuses, Reads, ReadsOn, ReadsBehind, IsBehind, Settles}
-use Rattle.vms_load.proofs.Facade.{concerning, IsRefused, reach, LoadFault, reading_on, one_unit, Intake, On, takes_none, reads_as, reads_both, reads_last}
-use Rattle.vms_load.proofs.Facade.{course, fault_course, IsSpent, GoesOn, GoesSoFar, GoesBehind, Moves}
+use Rattle.vms_load.proofs.Facade.{◌≡◌, ℕ, ◌+◌, ◌-◌, ◌≤◌, List, drop, Option, Some, None, Result, Ok, Err, OnOk, refl, ap, ◌∙◌}
+use Rattle.vms_load.proofs.Facade.{arith, ◌<◌, ◌^◌, [], IfErr, drop-drop, drop_all, Reason, Verdict, Goes, Faulty, Over, Reading, Refused}
+use Rattle.vms_load.proofs.Facade.{reading_after, Piece, Set, State, by_state, Seen, Good, judge_seen, judge, advances, solid, Stand, ahead, Fails, AnswersSeen}
+use Rattle.vms_load.proofs.Facade.{FrameFault, Refusal, Onward, behind, LeadsOn, Refuses, Reads, ReadsOn, ReadsBehind, IsBehind, Settles, concerning, IsRefused}
+use Rattle.vms_load.proofs.Facade.{reach, LoadFault, reading_on, one_unit, Intake, On, takes_none, reads_as, reads_both, reads_last, course, fault_course}
+use Rattle.vms_load.proofs.Facade.{IsSpent, GoesOn, GoesSoFar, GoesBehind, Moves}
 use Rattle.vms_io.specs.Reading.{Reads as Takes}
 use Rattle.vms_frames.specs.Reads.{fault_course as frame_course}
 use Rattle.vms_spec.specs.declared.Reason.TheVariants as reasons
@@ -48,11 +48,7 @@ still_behind reading same next other at to end last rest left new faults.ReadFau
 -- from a place on to the next, and from there on
 pub leads_on : (old mid new : Option (List ℕ)) (reading middle next : Onward) (from to end : Stand) → from.at ≤ to.at → to.at ≤ end.at
     → LeadsOn reading middle from to old mid → LeadsOn middle next to end mid new → LeadsOn reading next from end old new
-leads_on None mid new reading middle next from to end h i l r = tt
-leads_on (Some rest) None new reading middle next from to end h i l r = absurd l
-leads_on (Some rest) (Some left) None reading middle next from to end h i l r = absurd r
-leads_on (Some rest) (Some left) (Some last) reading middle next from to end h i l r =
-    (l.0 ∙ r.0, r.1 ∙ ap (λ l. drop (end.at - to.at) l) l.1 ∙ drop_between from.at to.at end.at (ahead from.held rest) h i)
+leads_on old mid new reading middle next from to end h i l r = grind (arith, drop_between)
 
 pub reads_on : {X : Type 0} (old mid new : Option (List ℕ)) (reading middle : Onward) (next : X → Onward) (from to end : Stand) (result : Result X LoadFault)
     → from.at ≤ to.at → OnOk result (to.at ≤ end.at)
@@ -65,11 +61,7 @@ reads_on (Some rest) (Some left) new reading middle next from to end (Err e) h i
 
 -- nothing was read
 pub leads_here : (old : Option (List ℕ)) (next : Onward) (from : Stand) → LeadsOn next next from from old old
-leads_here None next from = tt
-leads_here (Some rest) next from = (refl, ap (λ n. drop n (ahead from.held rest)) zero)
-  where
-    zero : 0 ≡ from.at - from.at
-    zero = omega arith
+leads_here old next from = grind (arith)
 
 -- ---- units
 
@@ -98,11 +90,7 @@ module _ (go : State → Onward) (section : Option ℕ) (it : Piece → ℕ → 
 
   pub unit_fails : {Y : Type 0} (found : Seen) (left : Option (List ℕ)) (next : Y → Onward) (to : Stand) (place : ℕ) (reason : Reason)
       → place ≡ at → Fails found rest left reason → Reads (judged found) next at to rest left (Err (faults.Refused (refusal section place reason)))
-  unit_fails (Good x n) left next to place reason e a = absurd a
-  unit_fails (Bad n why) left next to place reason e a = refused_here at rest left section why n _ (same_place place reason why e a.0) a.1
-  unit_fails Short left next to place reason e a =
-      let enough : length rest ≤ length rest = omega arith in
-      refused_here at rest left section reasons.Truncated (length rest) _ (same_place place reason reasons.Truncated e a.0) (a.1 ∙ ap (λ l. Some l) (sym (drop_all (length rest) rest enough)))
+  unit_fails found left next to place reason e a = grind (arith, refused_here, same_place, drop_all)
 
   pub unit_fault : {X Y : Type 0} (unit : X → Piece) (long : X → ℕ) (found : Seen) (left : Option (List ℕ)) (next : Y → Onward) (to : Stand) (fault : FrameFault)
       → AnswersSeen unit long found at rest left (Err fault) → Reads (judged found) next at to rest left (Err (concerning section fault))
@@ -111,10 +99,7 @@ module _ (go : State → Onward) (section : Option ℕ) (it : Piece → ℕ → 
 
   by_verdict : {Y : Type 0} (v : Verdict State) (n : ℕ) (to : Stand) (left : Option (List ℕ)) (next : Y → State) (result : Result Y LoadFault)
       → left ≡ Some (drop n rest) → to.at ≡ at + n → to.held ≡ None → Settles v at next n result → Reads (reading_after go at rest v) (λ y. go (next y)) at to rest left result
-  by_verdict (Goes m s) n to left next (Ok y) e far held h = rw (e, far, held, h.0, h.1) (refl, ap (λ k. drop k rest) (omega arith))
-  by_verdict (Faulty section' reason m) n to left next (Err (faults.Refused r)) e far held h =
-      refused_here at rest left section' reason m r h.0 (e ∙ ap (λ k. Some (drop k rest)) (sym h.1))
-  by_verdict _ n to left next _ _ far held h = absurd h
+  by_verdict v n to left next result e far held h = grind (arith, refused_here)
 
   -- a whole unit was found and judged
   pub unit_settled : {Y : Type 0} (found : Seen) (x : Piece) (n : ℕ) (left : Option (List ℕ)) (to : Stand) (next : Y → State) (result : Result Y LoadFault)

@@ -32,20 +32,11 @@ module _ (x : WalkStep) where
     OneReads r = TakesOn a.source b.source (step_long x) a.place b.place (λ rest. take_slot (slot_of x) (from a rest)) b.image.numbers r
 
     one_filled : (r : Result (Unit {0}) FrameFault) (rest left : List ℕ) → OnErr r (b.image ≡ a.image) → TakesAs (take_slot (slot_of x) (from a rest)) b.image.numbers b.place (Some left) r → IsFilled (x ∷ []) a r b rest left
-    one_filled (Ok y) rest left same h = (alone (take_slot (slot_of x) (from a rest)) b.image.numbers b.place (Some left) (Ok y) h, tt)
-    one_filled (Err (faults.Refused at reason)) rest left same h = (
-      alone (take_slot (slot_of x) (from a rest)) b.image.numbers b.place (Some left) (Err (faults.Refused at reason)) h,
-      same_then (take_slot (slot_of x) (from a rest)) a.image.numbers b.image.numbers b.place at reason (Some left) h (ap (λ image. image.numbers) same),
-    )
-    one_filled (Err faults.ReadFault) rest left same h = (alone (take_slot (slot_of x) (from a rest)) b.image.numbers b.place (Some left) (Err faults.ReadFault) h, tt)
+    one_filled r rest left same h = search (arith, alone, from, same_then)
 
     pub step_fills : (r : Result (Unit {0}) FrameFault) → OneReads r → b.image ≡ record a.image { numbers = b.image.numbers } → Keeps (x ∷ []) a.image.numbers b.image.numbers → OnErr r (b.image ≡ a.image)
         → Fills (x ∷ []) a r b
-    step_fills r reads kept keeps same = record {
-      reads = reads_as (λ n p. (omega (arith, p.0), p.1)) (λ rest left h. one_filled r rest left same h) reads;
-      kept = kept;
-      keeps = keeps;
-    }
+    step_fills r reads kept keeps same = search (arith, reads_as, one_filled)
 
 -- ---- What the steps at numbers of one kind, whose cells follow one another, take of their codes: all of them, or those before the
 -- one that is cut.

@@ -1,21 +1,21 @@
 -- What each description set has, and how many bytes the parts and the streams of a set may have.
 use Rattle.vms_load.proofs.Facade.{◌≡◌, ℕ, ◌+◌, ◌<◌, ◌≤◌, List, [], ◌∷◌, ◌++◌, length, map, Option, Some, None, ℤ, refl, sym}
-use Rattle.vms_load.proofs.Facade.{ap, ◌∙◌, subst, arith, true, nat_le, suc, get_or, Bool, ◌&&◌, zero, ◌*◌, ◌^◌, false, and_parts, leb-true}
+use Rattle.vms_load.proofs.Facade.{◌∙◌, subst, arith, true, nat_le, suc, get_or, Bool, ◌&&◌, zero, ◌*◌, ◌^◌, false, and_parts, leb-true}
 use Rattle.vms_load.proofs.Facade.{get_or-map, slice_get-get_or, slice_get_within, get_or_from_slice_get, slice_get, State, at_start, Set, Sub, Desc, Field}
-use Rattle.vms_load.proofs.Facade.{Device, Slot, Number, Constant, Filler, Rule, Cell, no_cell, no_desc, desc_slots, device_cells, first, capacity_of}
-use Rattle.vms_load.proofs.Facade.{own_cells, own_slots, sub_place, sub_slots, Kind, U8, own_cell_count, first_fault, WellFormed, has_few, item_count, items_in}
-use Rattle.vms_load.proofs.Facade.{struct_items, subs_items, devices_items, AreCells, sub_are, own_are, device_parts, Clean, struct_clean, sub_clean, device_at}
+use Rattle.vms_load.proofs.Facade.{Device, Slot, Number, Rule, Cell, no_cell, no_desc, desc_slots, device_cells, first, capacity_of, own_cells, own_slots}
+use Rattle.vms_load.proofs.Facade.{sub_place, sub_slots, Kind, U8, own_cell_count, first_fault, WellFormed, has_few, item_count, items_in, struct_items}
+use Rattle.vms_load.proofs.Facade.{subs_items, devices_items, AreCells, sub_are, own_are, device_parts, Clean, struct_clean, sub_clean, device_at}
 use Rattle.vms_load.proofs.Facade.{is_well_formed, first_cell, HasPart, desc_at, sub_at, kinds_at, few_cells, own_inside_device, sub_inside, none_is, few_items}
 use Rattle.vms_load.proofs.Facade.{few_devices, IsIn, part_of, part_desc, part_base, bytes_of, subs_due, HasSpot, table, spot_slots, steps_of, WalkStep}
-use Rattle.vms_load.proofs.Facade.{IsOfKind, AreOfKinds, PartAt, is_small_item, is_small_optional, Item, Num, Equal, Unused, Struct, MOST_UNUSED, first_long}
-use Rattle.vms_load.proofs.Facade.{width_small, item_bytes, fields_bytes, desc_bytes, struct_bytes, section_bytes, sections_due, subs_bytes, devices_most}
-use Rattle.vms_load.proofs.Facade.{FOOT_LENGTH, LONGEST_HEAD, LONGEST_SUB_HEAD, if◌then◌else◌, length-append, mul-le-mul_right, length-replicate}
-use Rattle.vms_load.proofs.Facade.{is_there, Meaning, no_meaning, item_slots, item_size, times, field_slots, slots_from, field_cells, numbers_of, elements_of}
-use Rattle.vms_load.proofs.Facade.{counted, all_hold, no_parent, meaning, meanings, desc_cells, struct_cells, elements_fit, cells_in, steps_append, field_bytes}
-use Rattle.vms_load.proofs.Facade.{steps_long, long_append, width, code, length-code, Image, zeroed, be32, optional, configuration, section_head, sub_head}
-use Rattle.vms_load.proofs.Facade.{foot, trailer, end_mark, stream_head, written, written_section, written_sections, written_subs}
+use Rattle.vms_load.proofs.Facade.{IsOfKind, AreOfKinds, PartAt, is_small_item, is_small_optional, Item, Struct, MOST_UNUSED, first_long, width_small}
+use Rattle.vms_load.proofs.Facade.{item_bytes, fields_bytes, desc_bytes, struct_bytes, section_bytes, sections_due, subs_bytes, devices_most, FOOT_LENGTH}
+use Rattle.vms_load.proofs.Facade.{LONGEST_HEAD, LONGEST_SUB_HEAD, length-append, mul-le-mul_right, length-replicate, is_there, Meaning, no_meaning, item_slots}
+use Rattle.vms_load.proofs.Facade.{item_size, times, field_slots, slots_from, field_cells, numbers_of, elements_of, counted, all_hold, no_parent, meaning}
+use Rattle.vms_load.proofs.Facade.{meanings, desc_cells, struct_cells, elements_fit, cells_in, steps_append, field_bytes, steps_long, long_append, length-code}
+use Rattle.vms_load.proofs.Facade.{Image, zeroed, optional, configuration, trailer, written, written_section, written_sections, written_subs}
+use Rattle.vms_bodies.proofs.Places.{if_there}
 use Rattle.vms_spec.proofs.Tables.{two_more}
-use Rattle.std.specs.{List.AllByRecursion, Prelude.replicate}
+use Rattle.std.specs.List.{AllByRecursion}
 
 -- ---- what each description set has, and the most bytes of its streams
 
@@ -42,18 +42,13 @@ module _ (set : Set) (well : is_well_formed set ≡ true) (k : ℕ) (lt : k < le
 
   pub part_spot : (sub : Option ℕ) → IsIn (device_at set k) sub → (n : List ℤ) → length n ≡ length (device_cells set (device_at set k)) → (spot : PartAt) → spot.part ≡ part_of k sub → spot.base ≡ first_cell set spot.part
       → HasSpot set spot n
-  part_spot sub h n long spot part base =
-      let here : spot.base ≡ first_cell set (part_of k sub) = cc in
-      let size = ap (λ p. own_cell_count set (desc_at set p)) part in
-      record { part = rw part (has_part sub h); few = omega (arith, few_cells set well k); room = omega (arith, inside sub h) }
+  part_spot sub h n long spot part base = search (arith, desc_at, has_part, few_cells, inside)
 
 -- the numbers of a part are of the kinds of the device's cells
 of_kinds : (cells : List Cell) (slots : List Slot) → AreCells cells slots → AreOfKinds (map (λ c. c.kind) cells) slots
 of_kinds cells [] are = tt
 of_kinds cells (Number c kind caps ∷ slots) are = (get_or-map (λ c. c.kind) cells c no_cell U8 are.0.within ∙ are.0.kind, of_kinds cells slots are.1)
-of_kinds cells (Constant kind z ∷ slots) are = (tt, of_kinds cells slots are)
-of_kinds cells (Filler n ∷ slots) are = (tt, of_kinds cells slots are)
-of_kinds cells (Rule b ∷ slots) are = (tt, of_kinds cells slots are)
+of_kinds cells (_ ∷ slots) are = (tt, of_kinds cells slots are)
 
 desc_kinds : (set : Set) (k : ℕ) (sub : Option ℕ) → IsIn (device_at set k) sub → (v : ℕ) (n : List ℤ)
     → AreOfKinds (kinds_at set k) (desc_slots (table set) (part_desc (device_at set k) sub) v n (part_base set (device_at set k) sub))
@@ -111,10 +106,7 @@ abbrev Small : List ℕ → List ℕ → Type 0
 Small bytes items = (j : ℕ) → IsSmall (get_or bytes j 0) (get_or items j 0)
 
 item_small : (bytes items : List ℕ) → Small bytes items → (item : Item) → is_small_item item ≡ true → item_bytes bytes item ≤ MOST_UNUSED * item_count items item
-item_small bytes items s (Num kind) h = omega (arith, width_small kind)
-item_small bytes items s (Equal kind z) h = omega (arith, width_small kind)
-item_small bytes items s (Unused n) h = omega (arith, leb-true n MOST_UNUSED (and_parts (nat_le 1 n) (nat_le n MOST_UNUSED) h).1)
-item_small bytes items s (Struct j) h = s j
+item_small bytes items s item h = grind (arith, width_small)
 
 times_small : (n b i : ℕ) → b ≤ MOST_UNUSED * i → n * b ≤ MOST_UNUSED * (n * i)
 times_small zero b i h = omega arith
@@ -126,7 +118,7 @@ times_small (suc n) b i h =
 fields_small : (bytes items : List ℕ) → Small bytes items → (fs : List Field) → AreSmall fs → fields_bytes bytes fs ≤ MOST_UNUSED * items_in items fs
 fields_small bytes items s [] h = omega arith
 fields_small bytes items s (f ∷ fs) h =
-    omega (arith, times_small (capacity_of f.count) (item_bytes bytes f.item) (item_count items f.item) (item_small bytes items s f.item h.0), fields_small bytes items s fs h.1)
+    omega (arith, times_small (capacity_of f.count) _ _ (item_small bytes items s f.item h.0), fields_small bytes items s fs h.1)
 
 abbrev items_to : List Desc → ℕ → List ℕ
 items_to ds k = first (λ sizes d. items_in sizes d.fields) ds k
@@ -140,14 +132,15 @@ structs_small ds small zero le j = omega arith
 structs_small ds small (suc k) le j =
     let s = structs_small ds small k (omega arith) in
     let d = get_or ds k no_desc in
-    two_more IsSmall 0 0 (omega arith) (struct_bytes ds k) (items_to ds k) (same_long ds k) s (desc_bytes (struct_bytes ds k) d) (items_in (items_to ds k) d.fields)
+    two_more IsSmall 0 0 (omega arith) _ _ (same_long ds k) s (desc_bytes (struct_bytes ds k) d) (items_in (items_to ds k) d.fields)
     (fields_small (struct_bytes ds k) (items_to ds k) s d.fields (small k (omega arith))) j
 
 -- ---- the parts of a set
 
 module _ (set : Set) (well : is_well_formed set ≡ true) where
   desc_small : (d : Desc) → AreSmall d.fields → bytes_of set d ≤ MOST_UNUSED * items_in (struct_items set.structs) d.fields
-  desc_small d small = fields_small (struct_bytes set.structs (length set.structs)) (struct_items set.structs) (structs_small set.structs (struct_small set (well_of set well)) (length set.structs) (omega arith)) d.fields small
+  desc_small d small =
+      fields_small _ _ (structs_small set.structs (struct_small set (well_of set well)) (length set.structs) (omega arith)) d.fields small
 
   subs_small : (subs : List Sub) → ((j : ℕ) (s : Sub) → slice_get subs j ≡ Some s → AreSmall s.desc.fields) → subs_bytes set subs ≤ MOST_UNUSED * subs_items (struct_items set.structs) subs
   subs_small [] h = omega arith
@@ -220,12 +213,14 @@ module _ (ms : List Meaning) (bytes : List ℕ) (bounds : Bounds ms bytes) where
   field_bound : (fields : List Field) (v : ℕ) (own : ℕ → ℕ) (n : List ℤ) (i at : ℕ) (f : Field) → long (field_slots ms fields v own n i at f) ≤ field_bytes bytes f
   field_bound fields v own n i at f =
       let count = elements_of f.count own in
-      by_test (is_there f.test f.since v own no_parent) (times count (item_slots ms f.item (counted i fields) n) at (item_size (cells_in ms) f.item))
-      (omega (arith, items_bound f.item (counted i fields) n count at (item_size (cells_in ms) f.item), mul-le-mul_right {m = count} {n = capacity_of f.count} (item_bytes bytes f.item) (elements_fit f.count own)))
-    where
-      by_test : (b : Bool) (xs : List Slot) → long xs ≤ field_bytes bytes f → long (if b then xs else []) ≤ field_bytes bytes f
-      by_test true xs h = h
-      by_test false xs h = omega arith
+      let size = item_size (cells_in ms) f.item in
+      if_there (λ xs. long xs ≤ field_bytes bytes f) (omega arith) (is_there f.test f.since v own no_parent)
+      (times count (item_slots ms f.item (counted i fields) n) at size)
+      (omega (
+        arith,
+        items_bound f.item (counted i fields) n count at size,
+        mul-le-mul_right {m = count} {n = capacity_of f.count} (item_bytes bytes f.item) (elements_fit f.count own),
+      ))
 
   fields_bound : (fields : List Field) (v : ℕ) (own : ℕ → ℕ) (n : List ℤ) (i at : ℕ) (fs : List Field) → long (slots_from ms fields v own n i at fs) ≤ fields_bytes bytes fs
   fields_bound fields v own n i at [] = omega arith
@@ -260,15 +255,10 @@ part_bound set spot n =
 both-le : (a b : List ℕ) (m n : ℕ) → length a ≤ m → length b ≤ n → length (a ++ b) ≤ m + n
 both-le a b m n p q = omega (arith, length-append a b)
 
-code-le : (kind : Kind) (z : ℤ) → length (code kind z) ≤ width kind
-code-le kind z = omega (arith, length-code kind z)
-
 zeroed-le : (numbers : List ℤ) (slots : List Slot) → length (zeroed numbers slots) ≤ long slots
 zeroed-le numbers [] = omega arith
-zeroed-le numbers (Number c kind capacities ∷ slots) = both-le _ _ (width kind) _ (code-le kind _) (zeroed-le numbers slots)
-zeroed-le numbers (Constant kind z ∷ slots) = both-le _ _ (width kind) _ (code-le kind z) (zeroed-le numbers slots)
-zeroed-le numbers (Filler n ∷ slots) = both-le (replicate n 0) _ n _ (omega (arith, length-replicate {A = ℕ} n 0)) (zeroed-le numbers slots)
 zeroed-le numbers (Rule b ∷ slots) = omega (arith, zeroed-le numbers slots)
+zeroed-le numbers (_ ∷ slots) = simp length-append (omega (arith, length-code, length-replicate {A = ℕ}, zeroed-le numbers slots))
 
 abbrev pub subs_long : Set → List Sub → ℕ
 subs_long set [] = 0
@@ -281,43 +271,24 @@ abbrev pub devices_long : Set → List Device → ℕ
 devices_long set [] = 0
 devices_long set (d ∷ devices) = device_long set d + devices_long set devices
 
-head-long : (id instance version : ℕ) (name : List ℕ) → length (section_head id name instance version) ≤ 14 + length name
-head-long id instance version name = omega (arith, length-append (name ++ be32 instance) (be32 version), length-append name (be32 instance))
-
-sub-long : (name : List ℕ) (v : ℕ) → length (sub_head name v) ≤ 6 + length name
-sub-long name v = omega (arith, length-append name (be32 v))
-
 module _ (set : Set) where
   own-long : (d : Desc) (v : ℕ) (numbers : List ℤ) (at : ℕ) → length (zeroed numbers (desc_slots (meanings set.structs (length set.structs)) d v numbers at)) ≤ bytes_of set d
   own-long d v numbers at =
-      let count = length set.structs in
-      let ms = meanings set.structs count in
-      omega (arith, zeroed-le numbers (desc_slots ms d v numbers at), desc_bound ms (struct_bytes set.structs count) (structs_bound set.structs count) d v numbers at)
-
-  one-sub-long : (s : Sub) (v : ℕ) (numbers : List ℤ) (at : ℕ) (rest : List ℕ) (most : ℕ) → length rest ≤ most
-      → length (sub_head s.desc.name v ++ zeroed numbers (sub_slots set s v numbers at) ++ rest) ≤ (6 + length s.desc.name + bytes_of set s.desc) + most
-  one-sub-long s v numbers at rest most le =
-      both-le (sub_head s.desc.name v ++ zeroed numbers (sub_slots set s v numbers at)) rest (6 + length s.desc.name + bytes_of set s.desc) most
-      (both-le (sub_head s.desc.name v) (zeroed numbers (sub_slots set s v numbers at)) (6 + length s.desc.name) (bytes_of set s.desc) (sub-long s.desc.name v) (own-long s.desc v numbers at))
-      le
+      let ms = meanings set.structs (length set.structs) in
+      omega (arith, zeroed-le numbers (desc_slots ms d v numbers at), desc_bound ms _ (structs_bound set.structs (length set.structs)) d v numbers at)
 
   subs-le : (d : Device) (image : Image) (at : ℕ) (subs : List Sub) (came : List (Option ℕ)) → length (written_subs set d image at subs came) ≤ subs_long set subs
   subs-le d image at [] came = omega arith
   subs-le d image at (s ∷ subs) [] = omega arith
   subs-le d image at (s ∷ subs) (None ∷ came) = omega (arith, subs-le d image (at + length (desc_cells (struct_cells set) s.desc)) subs came)
   subs-le d image at (s ∷ subs) (Some v ∷ came) =
-      one-sub-long s v image.numbers at (written_subs set d image (at + length (desc_cells (struct_cells set) s.desc)) subs came) (subs_long set subs)
-      (subs-le d image (at + length (desc_cells (struct_cells set) s.desc)) subs came)
+      let more = subs-le d image (at + length (desc_cells (struct_cells set) s.desc)) subs came in
+      simp length-append (omega (arith, own-long s.desc v image.numbers at, more))
 
   section-le : (d : Device) (image : Image) (id : ℕ) → length (written_section set d image id) ≤ device_long set d
   section-le d image id =
-      let head : List ℕ = section_head id d.desc.name d.instance image.version in
-      let body : List ℕ = zeroed image.numbers (own_slots set d image.version image.numbers) in
-      let subs : List ℕ = written_subs set d image (own_cells set d) d.subs image.came in
-      both-le (head ++ body ++ subs) (foot id) ((14 + length d.desc.name) + bytes_of set d.desc + subs_long set d.subs) 5
-      (both-le (head ++ body) subs ((14 + length d.desc.name) + bytes_of set d.desc) (subs_long set d.subs)
-      (both-le head body (14 + length d.desc.name) (bytes_of set d.desc) (head-long id d.instance image.version d.desc.name) (own-long d.desc image.version image.numbers 0))
-      (subs-le d image (own_cells set d) d.subs image.came)) (omega arith)
+      let subs = subs-le d image (own_cells set d) d.subs image.came in
+      simp length-append (omega (arith, own-long d.desc image.version image.numbers 0, subs))
 
   sections-le : (id : ℕ) (devices : List Device) (images : List Image) → length (written_sections set id devices images) ≤ devices_long set devices
   sections-le id [] images = omega arith
@@ -328,13 +299,4 @@ module _ (set : Set) where
 
   pub stream_le : (machine : Option (List ℕ)) (images : List Image) (text : Option (List ℕ))
       → length (written set machine images text) ≤ 8 + length (optional configuration machine) + devices_long set set.devices + 1 + length (optional trailer text)
-  stream_le machine images text =
-      let sections : List ℕ = written_sections set 0 set.devices images in
-      let config : List ℕ = optional configuration machine in
-      let behind : List ℕ = optional trailer text in
-      both-le (stream_head ++ config ++ sections ++ end_mark) behind (8 + length config + devices_long set set.devices + 1) (length behind)
-      (both-le (stream_head ++ config ++ sections) end_mark (8 + length config + devices_long set set.devices) 1
-      (both-le (stream_head ++ config) sections (8 + length config) (devices_long set set.devices)
-      (both-le stream_head config 8 (length config) (omega arith) (omega arith))
-      (sections-le 0 set.devices images))
-      (omega arith)) (omega arith)
+  stream_le machine images text = simp length-append (omega (arith, sections-le 0 set.devices images))

@@ -1,15 +1,14 @@
 -- A whole stream, as the judge reads it: the units before, between and after its sections.
 use Rattle.vms_load.proofs.{PartReads.concerns, AfterReads.head_unit, AfterReads.head_long, AfterReads.section_long}
-use Rattle.vms_load.proofs.Facade.{LoadFault, Staged, longest_text, ◌≡◌, ℕ, ◌+◌, ◌-◌, ◌≤◌, nat_lt, if◌then◌else◌, Bool, true, false}
-use Rattle.vms_load.proofs.Facade.{List, length, take, drop, Option, Some, None, Result, Ok, Err, IfSome, OnOk, refl, sym, ap, ◌∙◌, subst, arith}
-use Rattle.vms_load.proofs.Facade.{◌==◌, [], ◌∷◌, get_or, drop-drop, Set, Reason, number_at, bytes_at, Piece, Magic, Version, Long, Mark, Description}
-use Rattle.vms_load.proofs.Facade.{Verdict, Goes, Reading, reading_after, Accepted, Refused, reading_on, AMagic, AVersion, AfterEnd, first_row, alone, Whole}
-use Rattle.vms_load.proofs.Facade.{needs, text_at, trailer_at, judge, reading, ask, judge_seen, Seen, Good, Bad, Short, seen, seen_by, seen_in, State, Spot}
-use Rattle.vms_load.proofs.Facade.{Before, Headed, Free, by_state, Ended, at_start, nothing_known, judged_holds, Head, Stand, ahead, due_of, unit_of_step}
+use Rattle.vms_load.proofs.Facade.{LoadFault, Staged, ◌≡◌, ℕ, ◌+◌, ◌-◌, ◌≤◌, true, false, List, length, take, drop, Option, Some, None}
+use Rattle.vms_load.proofs.Facade.{Result, Ok, Err, IfSome, OnOk, refl, sym, ap, ◌∙◌, subst, arith, [], ◌∷◌, drop-drop, Set, Reason, number_at}
+use Rattle.vms_load.proofs.Facade.{bytes_at, Piece, Magic, Version, Verdict, Goes, Reading, reading_after, Accepted, Refused, reading_on, AMagic, AVersion}
+use Rattle.vms_load.proofs.Facade.{AfterEnd, alone, needs, text_at, trailer_at, judge, reading, ask, judge_seen, Seen, Good, seen, seen_by, seen_in, State}
+use Rattle.vms_load.proofs.Facade.{Spot, Before, Headed, Free, by_state, Ended, at_start, nothing_known, judged_holds, Head, Stand, ahead, due_of, unit_of_step}
 use Rattle.vms_load.proofs.Facade.{ReadsBetween, AnswersSeen, AnswersAfter, AnswersHead, Fails, AnswersEnd, ReadsEnd, Between, First, Step, FrameFault, Onward}
 use Rattle.vms_load.proofs.Facade.{Reads, ReadsOn, LeadsOn, ReadsBehind, IsBehind, Settles, concerning, state_of, spot_of, is_first, is_configured, ReadsAll}
 use Rattle.vms_load.proofs.ReadLemmas.{unit_fault, unit_settled, unit_behind, reads_on, unit_of, still_behind, unit_fails}
-use Rattle.vms_stream.specs.{Dues.Between as IsBetween, Finding.Cut, State.Over}
+use Rattle.vms_stream.specs.{Dues.Between as IsBetween, State.Over}
 use Rattle.vms_frames.specs.Calls.{step_long}
 use Rattle.vms_frames.specs.declared.units.Step.TheVariants as steps
 use Rattle.vms_frames.specs.declared.fault.FrameFault.TheVariants as frames
@@ -81,68 +80,53 @@ module _ (set : Set) (names : List (List ℕ)) (state : State) where
   abbrev onward : Unit {0} → Onward
   onward x = go set names (at_spot (Free true false))
 
-  -- the version, after the magic
-  version_read : (place : ℕ) (to : Stand) (rest : List ℕ) (left : Option (List ℕ)) (result : Result (Unit {0}) FrameFault) → OnOk result (to.at ≡ place + 4) → OnOk result (to.held ≡ None)
-      → AnswersSeen (λ _. Version (number_at 4 0 rest)) (λ _. 4) (seen AVersion nothing_known rest) place rest left result
-      → Reads (go set names (at_spot Headed) place rest) onward place to rest left (concerns None result)
-  version_read place to rest left (Ok x) far free a =
-      rw (version_is place rest) (unit_settled (go set names) None (asked Headed) place rest {Y = Unit {0}} (seen AVersion nothing_known rest) (Version (number_at 4 0 rest)) 4 left to (λ y. at_spot (Free true false)) (Ok x) a far free (refl, refl))
-  version_read place to rest left (Err fault) far free a =
-      rw (version_is place rest) (unit_fault (go set names) None (asked Headed) place rest {X = Unit {0}} (λ _. Version (number_at 4 0 rest)) (λ _. 4) (seen AVersion nothing_known rest) left onward to fault a)
-
   -- a magic that is whole
   abbrev IsMagic : List ℕ → Seen → Type 0
   IsMagic rest (Good x n) = (x ≡ Magic (take 4 rest)) × (n ≡ 4)
   IsMagic rest _ = Unit {0}
 
   is_magic : (rest : List ℕ) → IsMagic rest (seen AMagic nothing_known rest)
-  is_magic rest = by (nat_lt (length rest) 4)
-    where
-      by_row : (o : Option (Option ℕ × Reason)) → IsMagic rest (seen_by o (Magic (take 4 rest)) 4)
-      by_row None = (refl, refl)
-      by_row (Some (section, reason)) = tt
-
-      by : (b : Bool) → IsMagic rest (seen_in AMagic nothing_known (if b then Cut else Whole (Magic (take 4 rest)) 4))
-      by true = tt
-      by false = by_row (first_row (alone AMagic nothing_known (Magic (take 4 rest))))
+  is_magic rest = grind (arith, seen_by, alone)
 
   abbrev by_seen : ℕ → List ℕ → Seen → Option (Reading State)
   by_seen place rest found = reading_after (go set names) place rest (judge_seen None (asked Before) rest found)
 
-  on_version : (place : ℕ) (to : Stand) (rest : List ℕ) (left : Option (List ℕ)) (result : Result (Unit {0}) FrameFault) → OnOk result (to.at ≡ place + 8) → OnOk result (to.held ≡ None)
-      → AnswersSeen (λ _. Version (number_at 4 0 (drop 4 rest))) (λ _. 4) (seen AVersion nothing_known (drop 4 rest)) (place + 4) (drop 4 rest) left result
-      → Reads (go set names (at_spot Headed) (place + 4) (drop 4 rest)) onward place to rest left (concerns None result)
-  on_version place to rest left result far free a =
-      let four : 4 ≡ (place + 4) - place = omega arith in
-      let start : Stand = record { at = place; held = None } in
-      let middle : Stand = record { at = place + 4; held = None } in
-      reads_on {X = Unit {0}} (Some rest) (Some (drop 4 rest)) left (λ p l. go set names (at_spot Headed) (place + 4) (drop 4 l)) (go set names (at_spot Headed)) onward start middle to (concerns None result)
-      (omega arith) (up result far) (refl, ap (λ n. drop n rest) four) (version_read (place + 4) to (drop 4 rest) left result (further result far) free a)
-    where
-      up : (result : Result (Unit {0}) FrameFault) → OnOk result (to.at ≡ place + 8) → OnOk (concerns None result) (place + 4 ≤ to.at)
-      up (Ok x) h = omega arith
-      up (Err e) h = tt
+  module _ (place : ℕ) (to : Stand) (rest : List ℕ) (left : Option (List ℕ)) where
+    abbrev later : List ℕ
+    later = drop 4 rest
 
-      further : (result : Result (Unit {0}) FrameFault) → OnOk result (to.at ≡ place + 8) → OnOk result (to.at ≡ (place + 4) + 4)
-      further (Ok x) h = omega arith
-      further (Err e) h = tt
+    -- what is read from the version on, seen from the magic
+    from_magic : (result : Result (Unit {0}) LoadFault) → OnOk result (place + 4 ≤ to.at)
+        → Reads (go set names (at_spot Headed) (place + 4) later) onward (place + 4) to later left result
+        → Reads (go set names (at_spot Headed) (place + 4) later) onward place to rest left result
+    from_magic result up r =
+        reads_on {X = Unit {0}} (Some rest) (Some later) left (λ p l. go set names (at_spot Headed) (place + 4) (drop 4 l)) (go set names (at_spot Headed)) onward
+        (record { at = place; held = None }) (record { at = place + 4; held = None }) to result (omega arith) up
+        (let four : 4 ≡ (place + 4) - place = omega arith in (refl, ap (λ n. drop n rest) four)) r
 
-  by_magic : (place : ℕ) (to : Stand) (rest : List ℕ) (left : Option (List ℕ)) (result : Result (Unit {0}) FrameFault) (found : Seen) → IsMagic rest found → OnOk result (to.at ≡ place + 8) → OnOk result (to.held ≡ None)
-      → AnswersAfter found place rest left result → Reads (by_seen place rest found) onward place to rest left (concerns None result)
-  by_magic place to rest left result (Good x n) is far free a =
-      let goes : asked Before x n ≡ Goes 4 (at_spot Headed) = cc in
-      rw goes (on_version place to rest left result far free a)
-  by_magic place to rest left (Err fault) (Bad n reason) is far free a =
-      unit_fault (go set names) None (asked Before) place rest {X = Unit {0}} (λ _. Magic (take 4 rest)) (λ _. 4) (Bad n reason) left onward to fault a
-  by_magic place to rest left (Err fault) Short is far free a =
-      unit_fault (go set names) None (asked Before) place rest {X = Unit {0}} (λ _. Magic (take 4 rest)) (λ _. 4) Short left onward to fault a
-  by_magic place to rest left (Ok x) _ is far free a = let h = a.0 in cc
+    -- the version, after the magic
+    version_read : (result : Result (Unit {0}) FrameFault) → OnOk result (to.at ≡ place + 8) → OnOk result (to.held ≡ None)
+        → AnswersSeen (λ _. Version (number_at 4 0 later)) (λ _. 4) (seen AVersion nothing_known later) (place + 4) later left result
+        → Reads (go set names (at_spot Headed) (place + 4) later) onward place to rest left (concerns None result)
+    version_read (Ok x) far free a =
+        from_magic (Ok x) (omega arith) (rw (version_is (place + 4) later) (unit_settled (go set names) None (asked Headed) (place + 4) later {Y = Unit {0}}
+        (seen AVersion nothing_known later) (Version (number_at 4 0 later)) 4 left to (λ y. at_spot (Free true false)) (Ok x) a (omega arith) free (refl, refl)))
+    version_read (Err fault) far free a =
+        from_magic (Err (concerning None fault)) tt (rw (version_is (place + 4) later) (unit_fault (go set names) None (asked Headed) (place + 4) later {X = Unit {0}}
+        (λ _. Version (number_at 4 0 later)) (λ _. 4) (seen AVersion nothing_known later) left onward to fault a))
+
+    by_magic : (result : Result (Unit {0}) FrameFault) (found : Seen) → IsMagic rest found → OnOk result (to.at ≡ place + 8) → OnOk result (to.held ≡ None)
+        → AnswersAfter found place rest left result → Reads (by_seen place rest found) onward place to rest left (concerns None result)
+    by_magic result (Good x n) is far free a = let goes : asked Before x n ≡ Goes 4 (at_spot Headed) = cc in rw goes (version_read result far free a)
+    by_magic (Ok x) _ is far free a = let h = a.0 in cc
+    by_magic (Err fault) found is far free a =
+        unit_fault (go set names) None (asked Before) place rest {X = Unit {0}} (λ _. Magic (take 4 rest)) (λ _. 4) found left onward to fault a
 
   pub head_read : (from to : Stand) (old left : Option (List ℕ)) (result : Result (Unit {0}) FrameFault) → from.held ≡ None → OnOk result (to.at ≡ from.at + 8) → OnOk result (to.held ≡ None)
       → IfSome old (λ rest. AnswersHead from.at rest left result) → ReadsOn (go set names (at_spot Before)) onward from to old left (concerns None result)
   head_read from to None left result held far free a = tt
   head_read from to (Some rest) left result held far free a =
-      rw held (rw (magic_is from.at rest) (by_magic from.at to rest left result (seen AMagic nothing_known rest) (is_magic rest) far free a))
+      rw (held, magic_is from.at rest) (by_magic from.at to rest left result (seen AMagic nothing_known rest) (is_magic rest) far free a)
 
 -- ---- A whole stream, as the judge reads it.
 
@@ -211,23 +195,11 @@ module _ (set : Set) (names : List (List ℕ)) where
     line_last x n h (Some (section, reason)) = tt
 
     needs_last : (n : ℕ) (rest : List ℕ) (x : Piece) → ask set names ended x n ≡ Goes n closed_state → IsLast (seen_in AfterEnd nothing_known (needs n rest x))
-    needs_last n rest x h = by (nat_lt (length rest) n)
-      where
-        by : (b : Bool) → IsLast (seen_in AfterEnd nothing_known (if b then Cut else Whole x n))
-        by true = tt
-        by false = line_last x n h (first_row (alone AfterEnd nothing_known x))
+    needs_last n rest x h = grind (arith, line_last, alone)
 
     is_last : (rest : List ℕ) → IsLast (seen AfterEnd nothing_known rest)
     unfolding trailer_at
-    is_last rest = by (get_or rest 0 0 == 0x06)
-      where
-        text : (b : Bool) (n : ℕ) → IsLast (seen_in AfterEnd nothing_known (if b then needs 5 rest (Long 0x06 n) else needs (5 + n) rest (Description (bytes_at n 5 rest))))
-        text true n = needs_last 5 rest (Long 0x06 n) refl
-        text false n = needs_last (5 + n) rest (Description (bytes_at n 5 rest)) refl
-
-        by : (b : Bool) → IsLast (seen_in AfterEnd nothing_known (if b then text_at 0x06 longest_text Description rest (number_at 4 1 rest) else needs 1 rest (Mark (get_or rest 0 0))))
-        by true = text (nat_lt longest_text (number_at 4 1 rest)) (number_at 4 1 rest)
-        by false = needs_last 1 rest (Mark (get_or rest 0 0)) refl
+    is_last rest = grind (arith, bytes_at, needs_last, text_at)
 
     accepts : (place n end : ℕ) (input rest : List ℕ) (left : Option (List ℕ)) (state : State) (x : Option (Reading State)) → x ≡ Some (Accepted (place + n) state) → state.machine ≡ ended.machine → state.images ≡ ended.images
         → end ≡ place + n → left ≡ Some (drop n rest) → rest ≡ drop place input → ReadsAll set x staged input left (Ok end)
@@ -253,9 +225,7 @@ module _ (set : Set) (names : List (List ℕ)) where
     by_last place end b input more left (Ok x) (Good unit n) is there h =
         let rest = b ∷ more in
         accepts place n end input rest left closed_state (by_rest place rest (Good unit n)) (rw is (unit_of set names closed_state (place + n) (drop n rest))) refl refl h.0 h.1 there
-    by_last place end b input more left (Err (frames.Refused at reason)) (Good unit n) is there h = absurd h.1
-    by_last place end b input more left (Err (frames.Refused at reason)) (Bad n why) is there h = closed_fault place end input (b ∷ more) left at reason (Bad n why) there h.0 h.1
-    by_last place end b input more left (Err (frames.Refused at reason)) Short is there h = closed_fault place end input (b ∷ more) left at reason Short there h.0 h.1
+    by_last place end b input more left (Err (frames.Refused at reason)) f is there h = closed_fault place end input (b ∷ more) left at reason f there h.0 h.1
     by_last place end b input more left (Err frames.ReadFault) f is there h = all_fault (by_rest place (b ∷ more) f) staged input left
     by_last place end b input more left (Ok x) _ is there h = absurd h
 
@@ -273,10 +243,4 @@ module _ (set : Set) (names : List (List ℕ)) where
     pub closed : (start : State) (old mid left : Option (List ℕ)) (from to : Stand) (end : ℕ) (result : Result (Unit {0}) FrameFault) → start ≡ at_start set → from.at ≡ 0 → from.held ≡ None → to.held ≡ None
         → LeadsOn (goes start) (goes ended) from to old mid → ReadsEnd to.at end mid left result
         → IfSome old (λ input. ReadsAll set (whole input) staged input left (closes_at end result))
-    closed start None mid left from to end result is zero held free l h = tt
-    closed start (Some input) None left from to end result is zero held free l h = absurd l
-    closed start (Some input) (Some rest) left from to end result is zero held free l h =
-        let all : to.at - from.at ≡ to.at = omega arith in
-        let here : ahead to.held rest ≡ rest = rw free in
-        let there : rest ≡ drop to.at input = sym here ∙ l.1 ∙ ap (λ n. drop n (ahead from.held input)) all ∙ ap (λ o. drop to.at (ahead o input)) held in
-        rw (sym (begins start from input is zero held) ∙ l.0 ∙ ap (λ (r : List ℕ). goes ended to.at r) here) (closed_at to.at end input rest left result there h)
+    closed start old mid left from to end result is zero held free l h = grind (arith, begins, closed_at)
