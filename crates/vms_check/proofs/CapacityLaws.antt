@@ -15,22 +15,13 @@ module _ (v : ℕ) (own parent : ℕ → ℕ) where
   holds r = truth_of r v own parent
 
   not_holds : (r : Reduced) → holds (not_reduced r) ≡ not (holds r)
-  not_holds (Known b) = refl
-  not_holds (Open t) = refl
+  not_holds r = grind arith
 
   and_holds : (r s : Reduced) → holds (and_reduced r s) ≡ (holds r && holds s)
-  and_holds (Known true) s = refl
-  and_holds (Known false) s = refl
-  and_holds (Open t) (Known true) = sym (and-true (truth t v own parent))
-  and_holds (Open t) (Known false) = sym (and-false (truth t v own parent))
-  and_holds (Open t) (Open u) = refl
+  and_holds r s = grind (arith, and-true, and-false)
 
   or_holds : (r s : Reduced) → holds (or_reduced r s) ≡ (holds r || holds s)
-  or_holds (Known true) s = refl
-  or_holds (Known false) s = refl
-  or_holds (Open t) (Known true) = sym (or-true (truth t v own parent))
-  or_holds (Open t) (Known false) = sym (or-false (truth t v own parent))
-  or_holds (Open t) (Open u) = refl
+  or_holds r s = grind (arith, or-true, or-false)
 
   reduced_holds_at : (t : Formula) → holds (reduced v t) ≡ truth t v own parent
   reduced_holds_at (AtLeast n) = refl
@@ -58,21 +49,13 @@ pub record IsByParts (P : Formula → Type 0) : Type 0 where
 
 module _ (P : Formula → Type 0) (parts : IsByParts P) where
   not_open : (r : Reduced) → IfOpen P r → IfOpen P (not_reduced r)
-  not_open (Known b) h = tt
-  not_open (Open t) h = parts.of_not t h
+  not_open r h = grind arith
 
   and_open : (r q : Reduced) → IfOpen P r → IfOpen P q → IfOpen P (and_reduced r q)
-  and_open (Known true) q h g = g
-  and_open (Known false) q h g = tt
-  and_open (Open s) (Known true) h g = h
-  and_open (Open s) (Known false) h g = tt
-  and_open (Open s) (Open t) h g = parts.of_and s t h g
+  and_open r q h g = grind arith
 
   or_open : (r q : Reduced) → IfOpen P r → IfOpen P q → IfOpen P (or_reduced r q)
-  or_open (Known false) q h g = g
-  or_open (Open s) (Known false) h g = h
-  or_open (Open s) (Open t) h g = parts.of_or s t h g
-  or_open _ _ h g = tt
+  or_open r q h g = grind arith
 
   -- where each number that the test may name has it
   pub open_reduced : (ok : ℕ → Bool) → ((field mask : ℕ) (rel : Rel) (value : ℕ) → ok field ≡ true → P (Cell Own field mask rel value))
@@ -89,21 +72,17 @@ module _ (P : Formula → Type 0) (parts : IsByParts P) where
       let p = and_parts (names_well ok nobody s) (names_well ok nobody t) e in
       or_open (reduced v s) (reduced v t) (open_reduced ok has v s p.0) (open_reduced ok has v t p.1)
 
--- ---- the least capacity that a number counts, how large it can be, and for how much there is room
-
--- ---- the greatest number
+-- ---- the least capacity that a number counts, how large it can be, and for how much there is room: the greatest number
 
 some_least : (m : ℕ) (caps : List ℕ) → least_from (Some m) caps ≡ Some (comparing.least_of m caps)
 some_least m [] = refl
 some_least m (n ∷ caps) = some_least (min m n) caps
 
 pub bound_some : (item : Item) (caps : List ℕ) (most : ℕ) → Some most ≡ least_of caps → most ≡ bound item caps
-bound_some item [] most e = cc
-bound_some item (m ∷ caps) most e = cc (some_least m caps)
+bound_some item caps most e = grind (arith, some_least)
 
 pub bound_none : (item : Item) (caps : List ℕ) → None ≡ least_of caps → greatest item ≡ bound item caps
-bound_none item [] e = refl
-bound_none item (m ∷ caps) e = absurd (cc (some_least m caps))
+bound_none item caps e = grind (arith, some_least)
 
 pub ruleset bound_laws = (bound_some, bound_none)
 

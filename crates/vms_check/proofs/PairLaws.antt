@@ -48,15 +48,9 @@ presence_is v (Some t) since = refl
 -- where both are there
 pub left_same : (o n : ℕ → Option ℕ) (r q : Reduced) → is_nothing (left_of r) ≡ false → is_nothing (left_of q) ≡ false
     → same_reduced o n r q ≡ same_rest o n (tree_of r) (tree_of q)
-left_same o n (Known true) (Known true) x y = refl
-left_same o n (Known true) (Open t) x y = refl
-left_same o n (Open s) (Known true) x y = refl
-left_same o n (Open s) (Open t) x y = refl
-left_same o n _ _ x y = cc
+left_same o n r q x y = grind arith
 
--- ---- Two fields of the same position: no rule fails exactly where they are paired as the rules say.
-
--- ---- arrays that aren't there
+-- ---- Two fields of the same position: no rule fails exactly where they are paired as the rules say. Arrays that aren't there.
 
 room_there : (w i n : ℕ) (g : Field) (most : ℕ) → is_absent w g ≡ true → has_room w i n g (Counted i most) ≡ true → n ≤ most
 room_there w i n g most absent e = leb-true n most (rw (eq-eqb i i refl, absent) at e)
@@ -182,8 +176,7 @@ pub position_beyond : (v : ℕ) (fields : List CodeField) (k : ℕ) → length f
 position_beyond v fields k le = sym (spot_is v (map field_of fields) k ∙ rw (slice_get-map field_of fields k, slice_get_past fields k le))
 
 pub flipped : (b c : Bool) → not b ≡ c → b ≡ not c
-flipped true c e = rw (← e)
-flipped false c e = rw (← e)
+flipped b c e = grind arith
 
 -- ---- The next field that is there.
 
@@ -192,12 +185,10 @@ found v i f = record { index = i; place = 0; field = f; rest = tree_of (field_re
 
 there : (i : ℕ) (f : Field) (r : Reduced) → is_nothing (left_of r) ≡ false
     → entry_of i 0 f (left_of r) ≡ record { index = i; place = 0; field = f; rest = tree_of r } ∷ []
-there i f (Known false) e = cc
-there i f _ e = refl
+there i f r e = grind arith
 
 absent : (i : ℕ) (f : Field) (o : Option (Option Formula)) → is_nothing o ≡ true → entry_of i 0 f o ≡ []
-absent i f None e = refl
-absent i f (Some rest) e = cc
+absent i f o e = grind arith
 
 module _ (v : ℕ) (fields : List Field) (i : ℕ) (lt : i < length fields) where
   here : fields_from v i (drop i fields)

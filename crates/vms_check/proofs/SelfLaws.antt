@@ -23,10 +23,6 @@ all_bound : (item : Item) (ms : List ℕ) → AllByRecursion (λ m. bound item m
 all_bound item [] = tt
 all_bound item (m ∷ ms) = all_least (least_of m ms) m ms (omega arith)
 
-pub bound_counts : (item : Item) (i : ℕ) (fs : List Field) (k : ℕ) (g : Field) (most : ℕ) → slice_get fs k ≡ Some g → g.count ≡ Counted i most
-    → bound item (counted i fs) ≤ most
-bound_counts item i fs k g most there is = counted_at (λ m. bound item (counted i fs) ≤ m) i fs k g most there is (all_bound item (counted i fs))
-
 -- ---- The rest of a test is the same as itself, if each number that it names has a position.
 
 itself : (n : ℕ) → (n == n) ≡ true
@@ -76,14 +72,10 @@ module _ (o : ℕ → Option ℕ) where
         rw (same_here (o k) p.0 p.1, itself mask, true_same rel_type rel rel refl) (itself value)
 
   pub same_self : (r : Reduced) → IsSelf r → same_reduced o o r r ≡ true
-  same_self (Known true) h = refl
-  same_self (Known false) h = refl
-  same_self (Open t) h = h
+  same_self r h = grind arith
 
   rest_by : (r : Reduced) (rest : Option Formula) → IsSelf r → left_of r ≡ Some rest → same_rest o o rest rest ≡ true
-  rest_by (Known false) rest h e = cc
-  rest_by (Known true) rest h e = let none : None ≡ rest = cc in rw (← none)
-  rest_by (Open t) rest h e = let some : Some t ≡ rest = cc in rw (← some) h
+  rest_by r rest h e = grind arith
 
   pub rest_self : (v : ℕ) (test : Option Formula) (since : ℕ) (rest : Option Formula) → IsSelf (field_reduced v test since)
       → presence v test since ≡ Some rest → same_rest o o rest rest ≡ true
@@ -92,29 +84,20 @@ module _ (o : ℕ → Option ℕ) where
   -- ---- counts
 
   pub count_self : (c : Count) → ((by most : ℕ) → c ≡ Counted by most → HasPosition o by) → same_count o o c c ≡ true
-  count_self One h = refl
-  count_self (Fixed n) h = itself n
-  count_self (Counted by most) h = let p = h by most refl in same_here (o by) p.0 p.1
+  count_self c h = grind (arith, itself, same_here)
 
 -- ---- items and capacities
 
 pub item_self : (x : Item) → same_item x x ≡ true
-item_self (Num kind) = true_same kind_type kind kind refl
-item_self (Equal kind z) = true_same kind_type kind kind refl
-item_self (Unused n) = itself n
-item_self (Struct j) = refl
+item_self x = grind (arith, itself)
 
 pub constant_self : (x : Item) → same_constant x x ≡ true
-constant_self (Equal kind z) = same_number_itself z
-constant_self _ = refl
+constant_self x = grind arith
 
 pub holds_self : (c : Count) → holds_as_much c c ≡ true
-holds_self (Counted by most) = le-leb most most (omega arith)
-holds_self _ = refl
+holds_self c = grind arith
 
--- ---- A well-formed set is compatible to itself.
-
--- ---- entries
+-- ---- A well-formed set is compatible to itself: its entries.
 
 -- e is a field of these, and there
 abbrev IsEntry : ℕ → List Field → Entry → Type 0
@@ -162,9 +145,6 @@ module _ (d : Desc) (v : ℕ) (low : d.minimum ≤ v) where
   counts : (i : ℕ) (c : Count) → count_names_well d i c ≡ true → (by most : ℕ) → c ≡ Counted by most → HasPosition positions by
   counts i c e by most is = earlier i by (and_parts (is_earlier_in d i by) (is_counting (slice_get d.fields by)) (rw is at e)).0
 
-  structs_equal : (x : Item) (i j : ℕ) → x ≡ Struct i → x ≡ Struct j → (i == j) ≡ true
-  structs_equal x i j is_i is_j = eq-eqb i j cc
-
   pair_self : IsNamedWell → (p : ℕ) (e : Entry) → slice_get (fields_at d v) p ≡ Some e → ArePaired equal d d v v e e
   pair_self well p e h =
       let x = entries_are v d.fields 0 d.fields (λ k. let z : 0 + k ≡ k = omega arith in rw z) p e h in
@@ -178,9 +158,11 @@ module _ (d : Desc) (v : ℕ) (low : d.minimum ≤ v) where
           tests = tests;
           names = rw ((bytes_eq-Decides e.field.name e.field.name).1 refl);
           capacities = holds_self e.field.count;
-          room = λ k g most there absent is. bound_counts e.field.item e.index d.fields k g most there is;
+          room = λ k g most there absent is.
+              let caps = counted e.index d.fields in
+              counted_at (λ m. bound e.field.item caps ≤ m) e.index d.fields k g most there is (all_bound e.field.item caps);
           constants = constant_self e.field.item;
-          structs = structs_equal e.field.item;
+          structs = λ i j is_i is_j. eq-eqb i j cc;
         };
       }
 
@@ -193,21 +175,16 @@ module _ (d : Desc) (v : ℕ) (low : d.minimum ≤ v) where
         (same_self positions (reduced v t) (reduced_self positions (is_steady_in d) steady v t (well.validations k t there))));
   }
 
-named_well : (k : ℕ) (d : Desc) (rules : List Bool) (v : ℕ) (low : d.minimum ≤ v) → Clean k d rules → IsNamedWell d v low
-named_well k d rules v low c = record {
+clean_self : (k : ℕ) (d : Desc) (rules : List Bool) → Clean k d rules → d.minimum ≤ d.version → DescsFit (λ i j. i == j) d d d.version d.version
+clean_self k d rules c low = desc_self d d.version low (record {
   fields = λ i f e. and_parts (test_names_well d i f.test) (count_names_well d i f.count) (c.fields i f e).1.1.1.0;
   validations = λ i t e. (c.validations i t e).1.1.1.0;
-}
-
-clean_self : (k : ℕ) (d : Desc) (rules : List Bool) → Clean k d rules → d.minimum ≤ d.version → DescsFit (λ i j. i == j) d d d.version d.version
-clean_self k d rules c low = desc_self d d.version low (named_well k d rules d.version low c)
+})
 
 own_version : (d : Desc) → d.minimum ≤ d.version → is_version_of d d.version ≡ true
 own_version d low = rw (le-leb d.minimum d.version low) (le-leb d.version d.version (omega arith))
 
--- ---- the set
-
--- ---- names
+-- ---- the set: its names
 
 -- a name that is in a list of names is one of them
 pub is_among : (names : List (List ℕ)) (i : ℕ) (name : List ℕ) → slice_get names i ≡ Some name → is_one_of names name ≡ true

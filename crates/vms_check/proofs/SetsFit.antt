@@ -14,8 +14,6 @@ use Rattle.vms_spec.specs.declared.Part.TheVariants as parts
 
 -- ---- Two descriptions: no rule fails exactly where they fit as the rules say.
 
--- ---- two descriptions
-
 module _ (same : ℕ → ℕ → Bool) (structs : List Comparer) (k : ℕ) (a b : Desc) (v w : ℕ) (in_a in_b : Part) where
   abbrev compares : List Entry → List Entry → Option Mismatch
   compares es fs = compare_fields structs a b v w in_a in_b (in_old same a b v w) (in_new same a b v w) es fs
@@ -52,8 +50,7 @@ module _ (same : ℕ → ℕ → Bool) (structs : List Comparer) (k : ℕ) (a b 
   -- where both are structures, they are alike, so they are so said
   struct_none : Meant → (x y : Item) → uses_below k y ≡ true → ((i j : ℕ) → x ≡ Struct i → y ≡ Struct j → same i j ≡ true)
       → pair_structs structs a b v w in_a in_b (in_old same a b v w) (in_new same a b v w) x y ≡ None
-  struct_none meant (Struct i) (Struct j) below said = meant i j below (said i j refl refl)
-  struct_none meant x y below said = refl
+  struct_none meant x y below said = grind arith
 
   -- structures are never covered
   paired_structs : (e f : Entry) → ArePaired same a b v w e f → (i j : ℕ) → e.field.item ≡ Struct i → f.field.item ≡ Struct j → same i j ≡ true
@@ -176,11 +173,6 @@ module _ (old new : Set) (well : WellFormed new) where
             (slice_get e.subs (index (find_sub 0 e.subs s.desc.name))) refl refl (answers_none (compare_subs old new i k e) 0 d.subs q.1 j s inside);
       }
 
-  found_fits : (i k : ℕ) (d e : Device) → slice_get old.devices i ≡ Some d → find_device 0 new.devices d.desc.name d.instance ≡ Some k
-      → slice_get new.devices k ≡ Some e
-      → device_mismatch old new (0 + i) d ≡ None → DevicesFit same d e
-  found_fits i k d e inside found there none = device_fits (0 + i) k d e there (rw (found, there) at none)
-
   pub fits_so : Compatible old new → Fits old new
   fits_so none =
       let p = or_else_none (machines_mismatch old new) (or_else (lost_mismatch old new) (first_answer (device_mismatch old new) 0 old.devices))
@@ -195,7 +187,8 @@ module _ (old new : Set) (well : WellFormed new) where
           known = λ i d e. (passes ((3, _) ∷ []) _ _
               (answers_none (λ i d. failing_pair ((3, is_in old d) ∷ []) (here parts.Set) (here (parts.Device i))) 0 new.devices r.1 i d e)).0;
           structs = struct_fits;
-          devices = λ i k d e inside found there. found_fits i k d e inside found there (answers_none (device_mismatch old new) 0 old.devices q.1 i d inside);
+          devices = λ i k d e inside found there. device_fits (0 + i) k d e there
+              (rw (found, there) at (answers_none (device_mismatch old new) 0 old.devices q.1 i d inside));
         },
       )
 

@@ -16,8 +16,7 @@ use Rattle.vms_spec.specs.declared.Part.TheVariants as parts
 -- ---- answers one after the other
 
 pub both : {X : Type 0} (x y z : Option X) → or_else x (or_else y z) ≡ or_else (or_else x y) z
-both (Some a) y z = refl
-both None y z = refl
+both x y z = grind arith
 
 pub failing_some : (rules : List (ℕ × Bool)) (a b : Place) (r : ℕ) → failing_number rules ≡ Some r
     → failing_pair rules a b ≡ Some (record { rule = r; in_old = a; in_new = b })
@@ -37,8 +36,7 @@ unplaced e = record { index = e.index; place = 0; field = e.field; rest = e.rest
 
 one_unplaced : (i at : ℕ) (f : Field) (o : Option (Option Formula)) (es fs : List Entry) → map unplaced es ≡ fs
     → map unplaced (entry_of i at f o ++ es) ≡ entry_of i 0 f o ++ fs
-one_unplaced i at f None es fs e = e
-one_unplaced i at f (Some rest) es fs e = rw e
+one_unplaced i at f o es fs e = grind arith
 
 present_unplaced : (structs : List (List Cell)) (all : List Field) (v i at : ℕ) (fs : List Field)
     → map unplaced (present_from structs all v i at fs) ≡ fields_from v i fs
@@ -99,23 +97,20 @@ module _ (s t : Side) where
   rule_fails p q o r a b is some in_a in_b =
       rw (in_a, in_b, failing_some (rules_on s t p q) (in_field s.part p.number) (in_field t.part q.number) r (sym is ∙ some))
 
-  pub rules_pass : (p q : Present) (o : Option ℕ) → o ≡ failing_number (rules_on s t p q) → o ≡ None → structs_on s t p q ≡ pair_mismatch s t p q
-  rules_pass p q o is none = rw (failing_none (rules_on s t p q) (in_field s.part p.number) (in_field t.part q.number) (sym is ∙ none))
-
   abbrev items_on : Item → Item → Option Mismatch
   items_on a b = pair_structs (table_on s t) (desc_on s) (desc_on t) s.version t.version s.part t.part (position_on s) (position_on t) a b
 
   no_structs : (a b : Item) → ((i : ℕ) → a ≡ Struct i → ⊥) → items_on a b ≡ None
-  no_structs (Struct i) b h = absurd (h i refl)
-  no_structs a b h = refl
+  no_structs a b h = grind arith
 
   pub passes_whole : (p q : Present) (o : Option ℕ) → o ≡ failing_number (rules_on s t p q) → o ≡ None → ((i : ℕ) → p.field.now.item ≡ Struct i → ⊥)
       → None ≡ pair_mismatch s t p q
-  passes_whole p q o is none h = sym (no_structs p.field.now.item q.field.now.item h) ∙ rules_pass p q o is none
+  passes_whole p q o is none h =
+      rw (failing_none (rules_on s t p q) (in_field s.part p.number) (in_field t.part q.number) (sym is ∙ none))
+      (sym (no_structs p.field.now.item q.field.now.item h))
 
--- ---- The structures of two sets: how one compares is known from those of smaller numbers, so the whole table says it too.
-
--- ---- the end of a table isn't used
+-- ---- The structures of two sets: how one compares is known from those of smaller numbers, so the whole table says it too. The
+-- end of a table isn't used.
 
 -- each entry that is a structure has one of a number below k
 abbrev pub AllBelow : ℕ → List Entry → Type 0
@@ -123,8 +118,7 @@ AllBelow k es = AllByRecursion (λ e. uses_below k e.field.item ≡ true) es
 
 pub one_below : (k i at : ℕ) (f : Field) (o : Option (Option Formula)) (es : List Entry) → uses_below k f.item ≡ true → AllBelow k es
     → AllBelow k (entry_of i at f o ++ es)
-one_below k i at f None es h rest = rest
-one_below k i at f (Some left) es h rest = (h, rest)
+one_below k i at f o es h rest = grind arith
 
 pub all_uses : (k v i : ℕ) (fs : List Field) → ((j : ℕ) (f : Field) → slice_get fs j ≡ Some f → uses_below k f.item ≡ true) → AllBelow k (fields_from v i fs)
 all_uses k v i [] h = tt
@@ -134,8 +128,7 @@ module _ (k : ℕ) (ts us : List Comparer) (agree : (j : ℕ) → j < k → get_
     (in_a in_b : Part) where
   structs_same : (o n : ℕ → Option ℕ) (x y : Item) → uses_below k y ≡ true
       → pair_structs ts a b v w in_a in_b o n x y ≡ pair_structs us a b v w in_a in_b o n x y
-  structs_same o n (Struct i) (Struct j) h = rw (agree j (ltb-true j k h))
-  structs_same o n x y h = refl
+  structs_same o n x y h = grind arith
 
   fields_same : (o n : ℕ → Option ℕ) (es fs : List Entry) → AllBelow k fs
       → compare_fields ts a b v w in_a in_b o n es fs ≡ compare_fields us a b v w in_a in_b o n es fs
@@ -185,8 +178,6 @@ uses_at set well part h k lt f is j e =
     (low, omega (arith, reach_whole set part h))
 
 -- ---- Two whole sets: the devices that one of them doesn't have, and those that are found by their names.
-
--- ---- the whole
 
 pub whole_is : (old new : Set)
     → first_mismatch old new ≡ or_else (machines_mismatch old new) (or_else (lost_mismatch old new) (first_answer (device_mismatch old new) 0 old.devices))
