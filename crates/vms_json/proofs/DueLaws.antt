@@ -61,8 +61,7 @@ pub record Member (said : Option (Data × List Token)) (laid : Laid) (ts : List 
   pub more : AreEnough around (length ts)
 
 pub no_end : (k : TokenRead) → (k ≡ reads.EndArray → ⊥) → (ts : List Token) → after_end_array (token_of k ∷ ts) ≡ None
-no_end reads.EndArray not ts = absurd (not refl)
-no_end _ not ts = refl
+no_end k not ts = grind arith
 
 -- the number of levels doesn't matter for a value that opens none
 pub at_any_depth : (k : TokenRead) → (k ≡ reads.BeginObject → ⊥) → (k ≡ reads.BeginArray → ⊥) → (ts : List Token) (n : ℕ)

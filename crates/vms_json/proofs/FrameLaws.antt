@@ -12,52 +12,18 @@ use Rattle.json.specs.Json as json
 abbrev followed : {A : Type 0} → List Token → Option A → Option (A × List Token)
 followed ts x = option_map (λ a. (a, ts)) x
 
-item_or_none : (j : json.Json) (r : List Token) (more : Parse json.Items) (o : Option (json.Items × List Token)) → more r ≡ o → (x : Option Data)
-    → of_json j ≡ x
-    → converted of_items (parse_map (json.item j) (more r))
-    ≡ option_and_then (λ q. parse_map (item q.0) (converted of_items (more q.1))) (followed r x)
-item_or_none j r more None same None e = rw same
-item_or_none j r more None same (Some d) e = rw same
-item_or_none j r more (Some p) same None e = rw (same, e)
-item_or_none j r more (Some p) same (Some d) e = rw (same, e) (by_items (of_items p.0))
-  where
-    by_items : (x : Option Items) → followed p.1 (option_map (item d) x) ≡ parse_map (item d) (followed p.1 x)
-    by_items None = refl
-    by_items (Some is) = refl
-
-member_or_none : (k : List ℕ) (j : json.Json) (r : List Token) (old : Members) (more : Parse json.Members) (o : Option (json.Members × List Token))
-    → more r ≡ o
-    → (x : Option Data) → of_json j ≡ x
-    → converted (λ ms. of_members ms old) (parse_map (json.member k j) (more r))
-    ≡ option_and_then (λ q. converted (λ ms. of_members ms (put k q.0 old)) (more q.1)) (followed r x)
-member_or_none k j r old more None same None e = rw same
-member_or_none k j r old more None same (Some d) e = rw same
-member_or_none k j r old more (Some p) same None e = rw (same, e)
-member_or_none k j r old more (Some p) same (Some d) e = rw (same, e)
-
 module _ (p : Parse json.Json) (n : ℕ) where
   item_is : (ts : List Token) → after_end_array ts ≡ None
       → converted of_items (items p (suc n) ts) ≡ option_and_then (λ q. parse_map (item q.0) (converted of_items (items p n q.1)))
       (converted of_json (p ts))
   unfolding items
-  item_is ts going = rw going (by_value (p ts))
-    where
-      by_value : (o : Option (json.Json × List Token)) → converted of_items (option_and_then (λ q. parse_map (json.item q.0) (items p n q.1)) o)
-          ≡ option_and_then (λ q. parse_map (item q.0) (converted of_items (items p n q.1))) (converted of_json o)
-      by_value None = refl
-      by_value (Some q) = item_or_none q.0 q.1 (items p n) _ refl _ refl
+  item_is ts going = rw going (grind arith)
 
   member_is : (k : List ℕ) (old : Members) (ts s : List Token) → read_key ts ≡ Some (Some k, s)
       → converted (λ ms. of_members ms old) (members p (suc n) ts)
       ≡ option_and_then (λ q. converted (λ ms. of_members ms (put k q.0 old)) (members p n q.1)) (converted of_json (p s))
   unfolding members
-  member_is k old ts s key = rw key (by_value (p s))
-    where
-      by_value : (o : Option (json.Json × List Token))
-          → converted (λ ms. of_members ms old) (option_and_then (λ q. parse_map (json.member k q.0) (members p n q.1)) o)
-          ≡ option_and_then (λ q. converted (λ ms. of_members ms (put k q.0 old)) (members p n q.1)) (converted of_json o)
-      by_value None = refl
-      by_value (Some q) = member_or_none k q.0 q.1 old (members p n) _ refl _ refl
+  member_is k old ts s key = rw key (grind arith)
 
 -- ---- the whole text
 
@@ -65,13 +31,7 @@ abbrev whole : Option (json.Json × List Token) → Option Data
 whole o = option_and_then of_json (option_and_then (λ p. if_last p.0 p.1) o)
 
 whole_refused : (o : Option (json.Json × List Token)) → converted of_json o ≡ None → whole o ≡ None
-whole_refused None e = refl
-whole_refused (Some (j, [])) e = by_value (of_json j) e
-  where
-    by_value : (x : Option Data) → followed [] x ≡ None → x ≡ None
-    by_value None e = refl
-    by_value (Some d) e = absurd (cc)
-whole_refused (Some (j, t ∷ r)) e = refl
+whole_refused o e = grind arith
 
 -- ---- What the whole text says, one token later.
 
@@ -92,13 +52,7 @@ value_refused fs ts e = rw e
 contents_begin : {A B : Type 0} (outer : A → json.Json) (made : B → Data) (f : A → Option B) → ((a : A) → of_json (outer a) ≡ option_map made (f a))
     → (fs : List Frame) (o : Option (A × List Token))
     → option_and_then (λ p. after fs p.0 p.1) (converted of_json (parse_map outer o)) ≡ option_and_then (λ p. after fs (made p.0) p.1) (converted f o)
-contents_begin {A} {B} outer made f is fs None = refl
-contents_begin {A} {B} outer made f is fs (Some p) = rw (is p.0) (by_contents (f p.0))
-  where
-    by_contents : (x : Option B) → option_and_then (λ q. after fs q.0 q.1) (followed p.1 (option_map made x))
-        ≡ option_and_then (λ q. after fs (made q.0) q.1) (followed p.1 x)
-    by_contents None = refl
-    by_contents (Some b) = refl
+contents_begin outer made f is fs o = grind (arith, is)
 
 pub list_begins : (fs : List Frame) (ts : List Token) → length fs < max_depth → value_due fs (Token.begin_array ∷ ts) ≡ items_due (length ts) [] fs ts
 list_begins fs ts deep =
@@ -159,14 +113,7 @@ pub member_due : (n : ℕ) (found : Members) (k : List ℕ) (fs : List Frame) (t
 member_due zero found k fs ts s some key = absurd (omega arith)
 member_due (suc m) found k fs ts s some key =
     let one : suc m - 1 ≡ m = omega arith in
-    rw (one, member_is (inside fs) m k found ts s key, a_level fs s) (by_value (converted of_json (value (max_depth - suc (length fs)) s)))
-  where
-    by_value : (o : Option (Data × List Token))
-        → option_and_then (λ p. after fs (object p.0) p.1)
-        (option_and_then (λ q. converted (λ ms. of_members ms (put k q.0 found)) (members (inside fs) m q.1)) o)
-        ≡ option_and_then (λ p. after (in_object m found k ∷ fs) p.0 p.1) o
-    by_value None = refl
-    by_value (Some q) = refl
+    rw (one, member_is (inside fs) m k found ts s key, a_level fs s) (grind arith)
 
 -- ---- What a whole text says: before its first token, and if it says nothing.
 
@@ -174,8 +121,7 @@ abbrev pub said_by : List ℕ → Option (Data × List Token)
 said_by text = converted of_json (value max_depth (tokens text))
 
 same_after : (o : Option (Data × List Token)) → o ≡ option_and_then (λ p. after [] p.0 p.1) o
-same_after None = refl
-same_after (Some p) = refl
+same_after o = grind arith
 
 -- before the first token no row is laid
 pub whole_due : (text : List ℕ) (laid : Laid) (ts : List Token) → ts ≡ tokens text → laid.rows.items ≡ [] → laid.begun.items ≡ []

@@ -1,15 +1,14 @@
 -- Lists of keys, lists of answers of items, the value of bytes, and members one after the other.
-use Rattle.vms_json.proofs.Facade.{MatchOption, same_Some, ◌≡◌, ℕ, zero, suc, take, drop, false, List, ◌∷◌, ◌++◌, ◌&&◌, Bool, map}
-use Rattle.vms_json.proofs.Facade.{Ordering, Less, Equal, Greater, is_eq, refl, ap, true, sym, ◌∙◌, [], ◌||◌, ◌+◌, decimal, append_assoc}
-use Rattle.vms_json.proofs.Facade.{if◌then◌else◌, Option, Some, None, is_some, Result, Ok, Err, IfOk, IsUtf8, is_eq-slice_cmp, bytes_eq-Decides}
-use Rattle.vms_json.proofs.Facade.{slice_cmp, nat_cmp, match_ordering, list_all, list_any, bytes_eq, is_utf8, and-false, and_self_left, Bor, append-nil}
-use Rattle.vms_json.proofs.Facade.{map-append, IsUtf8-from_is_utf8, is_utf8-from_IsUtf8, Data, object, Members, no_members, member, put, Items, no_items, item}
-use Rattle.vms_json.proofs.Facade.{as_object, Row, front, data_in, members_in, tree_view, is_one_of, one_of_both, has, has_all, has_no_others, Fault, Answer}
-use Rattle.vms_json.proofs.Facade.{good, bad, under, next, changed, each_from, Refuses, read, value_in, Tree, NoNode, ◌≤◌, cond, eqb, ltb}
-use Rattle.vms_json.proofs.Facade.{option_and_then, length, codes, arith, position, position_or_len, false≢true, length-append, position_or_len_push}
-use Rattle.vms_json.proofs.Facade.{prefix_len-le-length, get, as_str, or_else, at_name, text_or_none, names_of, first_of}
+use Rattle.vms_json.proofs.Facade.{MatchOption, ◌≡◌, ℕ, zero, suc, take, drop, false, List, ◌∷◌, ◌++◌, ◌&&◌, Bool, map, Ordering, Less}
+use Rattle.vms_json.proofs.Facade.{Equal, Greater, is_eq, refl, ap, true, sym, ◌∙◌, [], ◌||◌, ◌+◌, decimal, append_assoc, if◌then◌else◌}
+use Rattle.vms_json.proofs.Facade.{Option, Some, None, is_some, Result, IfOk, IsUtf8, is_eq-slice_cmp, bytes_eq-Decides, slice_cmp, nat_cmp, match_ordering}
+use Rattle.vms_json.proofs.Facade.{list_all, list_any, bytes_eq, is_utf8, and-false, and_self_left, Bor, append-nil, map-append, IsUtf8-from_is_utf8}
+use Rattle.vms_json.proofs.Facade.{is_utf8-from_IsUtf8, Data, object, Members, no_members, member, put, Items, no_items, item, as_object, Row, front, data_in}
+use Rattle.vms_json.proofs.Facade.{members_in, tree_view, is_one_of, one_of_both, has, has_all, has_no_others, Fault, Answer, good, bad, under, next, changed}
+use Rattle.vms_json.proofs.Facade.{each_from, Refuses, read, value_in, Tree, NoNode, ◌≤◌, cond, eqb, ltb, option_and_then, length, codes, arith, position}
+use Rattle.vms_json.proofs.Facade.{position_or_len, length-append, position_or_len_push, prefix_len-le-length, get, as_str, or_else, at_name, text_or_none}
+use Rattle.vms_json.proofs.Facade.{names_of, first_of}
 use Rattle.vms_json.specs.Answers.{IsUnder}
-use Rattle.std.proofs.lemmas.Bool.Decides.{nat_tests}
 use Rattle.vms_json.specs.declared.node.Row.TheVariants as rows
 use Rattle.vms_json.specs.declared.fault.Fault.TheVariants as faults
 
@@ -26,8 +25,7 @@ any_is key (k ∷ ks) = rw (any_is key ks)
 -- ---- the keys of members that are added in order
 
 turned : (a b c : Bool) → (a && (b && c)) ≡ (b && (a && c))
-turned true b c = refl
-turned false b c = sym (and-false b)
+turned a b c = grind (arith, and-false)
 
 put_key : (keys : List (List ℕ)) (k : List ℕ) (d : Data) (ms : Members) → has_no_others keys (put k d ms) ≡ (is_one_of keys k && has_no_others keys ms)
 put_key keys k d no_members = refl
@@ -70,8 +68,7 @@ before_one done a (good rest) = ap good (sym (append_assoc done (a ∷ []) rest)
 before_one done a (bad path) = refl
 
 pub before_none : {A : Type 0} (answer : Answer (List A)) → answer ≡ before [] answer
-before_none (good rest) = refl
-before_none (bad path) = refl
+before_none answer = grind arith
 
 pub goes_on : {A T : Type 0} (m : T → A) (says : Data → Answer A) (i : ℕ) {now : Items} (rest : Items) {d : Data} {whole : Answer (List A)}
     (done : List T) (t : T)
@@ -82,10 +79,7 @@ goes_on m says i rest done t e is said =
 
 refused : {A B : Type 0} (done : List B) (key : List ℕ) (answer : Answer A) (f : A → Answer (List B)) (fault result : Fault)
     → Refuses answer fault → IsUnder key fault result → Refuses (before done (next (under key answer) f)) result
-refused done key answer f (faults.Shape path) (faults.Shape p) said is = rw said (ap bad (sym is))
-refused done key answer f (faults.Shape path) faults.NoMemory said is = tt
-refused done key answer f faults.NoMemory (faults.Shape p) said is = absurd is
-refused done key answer f faults.NoMemory faults.NoMemory said is = tt
+refused done key answer f fault result said is = grind arith
 
 pub stops : {A : Type 0} (says : Data → Answer A) (i : ℕ) {now : Items} (rest : Items) (d : Data) {whole : Answer (List A)} (done : List A)
     (fault result : Fault)
@@ -114,27 +108,23 @@ has_none text no_read = no_value_if text (is_utf8 text) refl no_read
 
 pub if_read : (bytes text : List ℕ) → text ≡ bytes → IsUtf8 bytes → (r : Result Tree NoNode) → IfOk r (λ v. read text ≡ Some (tree_view v))
     → IfOk r (λ v. value_in bytes ≡ Some (tree_view v))
-if_read bytes text same utf8 (Ok v) e = has_value bytes (tree_view v) utf8 (rw same at e)
-if_read bytes text same utf8 (Err why) e = e
+if_read bytes text same utf8 r e = grind (arith, has_value)
 
 -- ---- Members that are read one after the other.
 
 pub object_is : (d : Data) (ms : Members) → Some ms ≡ as_object d → d ≡ object ms
-object_is (object ns) ms e = ap object (sym (same_Some ms ns e))
-object_is _ ms e = absurd (cc)
+object_is d ms e = grind arith
 
 -- after the last one
 pub none_left : {A : Type 0} (o : Option A) (P : Type 0) (Q : A → Type 0) → is_some o ≡ false → MatchOption o P Q → P
-none_left None P Q e m = m
-none_left (Some a) P Q e m = absurd (cc)
+none_left o P Q e m = grind arith
 
 -- ---- one more at the end
 
 -- the first number below n, or one more, if the first q fail
 one_more : (n q : ℕ) (b : Bool) → q ≤ n → cond (ltb (cond (eqb q n) (n + cond b 0 1) q) (n + 1)) (Some (cond (eqb q n) (n + cond b 0 1) q)) None
     ≡ or_else (cond (ltb q n) (Some q) None) (if b then Some n else None)
-one_more n q true le = grind (arith, nat_tests)
-one_more n q false le = grind (arith, nat_tests)
+one_more n q b le = grind arith
 
 pub position_push : {X : Type 0} (p : X → Bool) (xs : List X) (y : X)
     → position p (xs ++ y ∷ []) ≡ or_else (position p xs) (if p y then Some (length xs) else None)
@@ -160,21 +150,13 @@ names_end before e none = rw (e, none, append-nil before)
 -- ---- one more in the index
 
 or_else_none : {A : Type 0} (o : Option A) → or_else o None ≡ o
-or_else_none None = refl
-or_else_none (Some a) = refl
-
-by_name : (same : Bool) (number : ℕ) (old : Option ℕ) → (same ≡ true → old ≡ None)
-    → cond same (Some number) old ≡ or_else old (if same then Some number else None)
-by_name true number old none = ap (λ o. or_else o (Some number)) (sym (none refl))
-by_name false number old none = sym (or_else_none old)
+or_else_none o = grind arith
 
 -- a name that wasn't in the index
 pub put_one : (name q : List ℕ) (number : ℕ) (old : List ℕ → Option ℕ) (new : Option ℕ) → old name ≡ None
     → new ≡ cond (bytes_eq name q) (Some number) (old q)
     → new ≡ or_else (old q) (if bytes_eq name q then Some number else None)
-put_one name q number old new none is =
-    is ∙ by_name (bytes_eq name q) number (old q) (λ same. ap old (sym ((bytes_eq-Decides name q).0 same)) ∙ none)
+put_one name q number old new none is = grind (arith, bytes_eq-Decides, or_else_none)
 
 pub is_none_of : (o : Option ℕ) → is_some o ≡ false → o ≡ None
-is_none_of None e = refl
-is_none_of (Some k) e = absurd (false≢true (sym e))
+is_none_of o e = grind arith

@@ -1,12 +1,12 @@
 -- The value of rows, and rows that are laid in order.
 use Rattle.vms_json.proofs.Facade.{◌≡◌, Bool, true, false, cond, if◌then◌else◌, Option, Some, None, ℕ, zero, suc, ◌+◌, ◌*◌, ◌<◌}
 use Rattle.vms_json.proofs.Facade.{◌≤◌, List, [], ◌∷◌, length, take, drop, refl, sym, ap, ap₂, ◌∙◌, arith, length-take, length-drop}
-use Rattle.vms_json.proofs.Facade.{◌++◌, append_assoc, ◌||◌, is_some, Bor, bytes_eq, false≢true, bytes_eq-Decides, append-nil, length-append}
-use Rattle.vms_json.proofs.Facade.{or-false, or-true, take-append_seam, drop-append_seam, Data, null, array, object, Members, no_members, put, no_items, item}
-use Rattle.vms_json.proofs.Facade.{get_member-put, get_member-put_other, get_member, as_number, as_str, as_bool, as_array, as_object, Row, flag_at, is_list}
-use Rattle.vms_json.proofs.Facade.{is_object, key_at, number_at, text_at, front, data_in, items_in, members_in, rows_view, count_at, Token, token_of, value}
-use Rattle.vms_json.proofs.Facade.{value_is, number_view, Number, number_of, of_json, converted, Frame, in_list, in_object, before, has_one, AreBelow, IsRowOf}
-use Rattle.vms_json.proofs.Facade.{items_of, IsOpen, IsRun, AreItems, AreMembers, InList, InObject, IsLaid, HasValue}
+use Rattle.vms_json.proofs.Facade.{◌++◌, append_assoc, ◌||◌, Bor, bytes_eq, false≢true, bytes_eq-Decides, append-nil, length-append, take-append_seam}
+use Rattle.vms_json.proofs.Facade.{drop-append_seam, Data, null, array, object, Members, no_members, put, no_items, item, get_member-put, get_member-put_other}
+use Rattle.vms_json.proofs.Facade.{get_member, as_number, as_str, as_bool, as_array, as_object, Row, flag_at, is_list, is_object, key_at, number_at, text_at}
+use Rattle.vms_json.proofs.Facade.{front, data_in, items_in, members_in, rows_view, count_at, Token, token_of, value, value_is, number_view, Number, number_of}
+use Rattle.vms_json.proofs.Facade.{of_json, converted, Frame, in_list, in_object, before, has_one, AreBelow, IsRowOf, items_of, IsOpen, IsRun, AreItems}
+use Rattle.vms_json.proofs.Facade.{AreMembers, InList, InObject, IsLaid, HasValue}
 use Rattle.vms_json.proofs.FrameLaws.{before_one}
 use Rattle.json.specs.declared.token.Token.{Token as TokenRead}
 use Rattle.vms_json.specs.declared.node.Row.TheVariants as rows
@@ -58,8 +58,7 @@ mutual
 
 pub no_items_left : (rs : List Row) → length rs ≡ 0 → items_in (2 * length rs + 1) rs ≡ no_items
 unfolding items_in
-no_items_left [] none = refl
-no_items_left (r ∷ rs) none = absurd (omega arith)
+no_items_left rs none = grind arith
 
 pub an_item_left : (rs first rest : List Row) → 0 < length rs → first ≡ take (front rs) rs → rest ≡ drop (front rs) rs
     → items_in (2 * length rs + 1) rs ≡ item (rows_view first) (items_in (2 * length rest + 1) rest)
@@ -89,28 +88,21 @@ pub no_member_at : (rs inside : List Row) (r : Row) (found : Members) → rs ≡
 unfolding members_in
 no_member_at rs inside r found is none =
     let one : 2 * length (r ∷ inside) + 1 ≡ suc (2 * length (r ∷ inside)) = omega arith in
-    rw (is, one) (at r none)
-  where
-    at : (r : Row) → key_at r ≡ None → members_in (suc (2 * length (r ∷ inside))) (r ∷ inside) found ≡ found
-    at (rows.Key x) none = absurd (cc)
-    at _ none = refl
+    rw (is, one) (grind arith)
 
 pub no_member_left : (rs : List Row) (found : Members) → length rs ≡ 0 → members_in (2 * length rs + 1) rs found ≡ found
 unfolding members_in
-no_member_left [] found none = refl
-no_member_left (r ∷ rs) found none = absurd (omega arith)
+no_member_left rs found none = grind arith
 
 pub key_is : (r : Row) (k : Bor (List ℕ)) → key_at r ≡ Some k → r ≡ rows.Key k
-key_is (rows.Key x) k is = cc
-key_is _ k is = cc
+key_is r k is = grind arith
 
 two_more : (r : Row) (rs : List Row) → 2 * length (r ∷ rs) ≡ suc (2 * length rs + 1)
 two_more r rs = omega arith
 
 pub none_in : {A : Type 0} (f : Data → Option A) (rs : List Row) → length rs ≡ 0 → f null ≡ None → f (rows_view rs) ≡ None
 unfolding data_in
-none_in f [] none is = is
-none_in f (r ∷ rs) none is = absurd (omega arith)
+none_in f rs none is = grind arith
 
 -- the value by its first row and those after it
 pub record SaysAt (r : Row) (rs : List Row) (d : Data) : Type 0 where
@@ -137,20 +129,10 @@ pub put_found : (b : Bool) (q k : List ℕ) (d : Data) (ms : Members) → bytes_
 put_found true q k d ms e = rw (sym ((bytes_eq-Decides k q).0 e)) (get_member-put k d ms)
 put_found false q k d ms e = get_member-put_other q k d ms (λ same. false≢true (sym e ∙ (bytes_eq-Decides k q).1 (sym same)))
 
-has_put : (q k : List ℕ) (d : Data) (ms : Members) (b : Bool) → bytes_eq k q ≡ b
-    → is_some (get_member q (put k d ms)) ≡ (is_some (get_member q ms) || b)
-has_put q k d ms true e = rw (put_found true q k d ms e, or-true (is_some (get_member q ms)))
-has_put q k d ms false e = rw (put_found false q k d ms e, or-false (is_some (get_member q ms)))
-
-both_or : (x y a b : Bool) → ((x || a) || (y || b)) ≡ ((x || y) || (a || b))
-both_or false true true b = refl
-both_or _ _ _ b = refl
-
 -- one of two keys
 pub one_put : (q r k : List ℕ) (d : Data) (ms : Members) (b : Bool) → b ≡ (bytes_eq k q || bytes_eq k r)
     → has_one q r (put k d ms) ≡ (has_one q r ms || b)
-one_put q r k d ms b e =
-    rw (has_put q k d ms _ refl, has_put r k d ms _ refl, e) (both_or (is_some (get_member q ms)) (is_some (get_member r ms)) (bytes_eq k q) (bytes_eq k r))
+one_put q r k d ms b e = let f = put_found _ q k d ms refl in let g = put_found _ r k d ms refl in grind arith
 
 -- ---- Rows that are laid in order: of a value, of the items of a list, of the members of an object.
 

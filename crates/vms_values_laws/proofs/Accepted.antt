@@ -84,9 +84,6 @@ abbrev of_demand : ℕ → Demand → Bool
 of_demand c (ForNumber x) = x.cell == c
 of_demand c _ = false
 
-by_demand : (c : ℕ) (e : Entry) → is_of_cell c e ≡ of_demand c (demand_of e)
-by_demand c e = grind arith
-
 module _ (n m : List ℤ) (short : AreShort n) (short' : AreShort m) where
   one_number : (e f : Entry) (c : ℕ) → IsOwn n e → IsOwn m f → demand_of e ≡ demand_of f → entry_line e ≡ entry_line f → is_of_cell c e ≡ true
       → get_or n c (pos 0) ≡ get_or m c (pos 0)
@@ -101,7 +98,7 @@ module _ (n m : List ℤ) (short : AreShort n) (short' : AreShort m) where
         → ((has_line es c ≡ false → get_or n c (pos 0) ≡ z) → (has_line fs c ≡ false → get_or m c (pos 0) ≡ z) → get_or n c (pos 0) ≡ get_or m c (pos 0))
         → get_or n c (pos 0) ≡ get_or m c (pos 0)
     by true p later = one_number e f c a.0 b.0 h.0 h.1 p
-    by false p later = grind (arith, by_demand)
+    by false p later = grind arith
   same_at c z _ _ a b h u u' = absurd h
 
 abbrev came_with : Entry → List (Option ℕ) → List (Option ℕ)
@@ -127,13 +124,9 @@ one_came s t (Some v) (Some w) same a b e = rw (a, b, same) refl
 one_came s t None (Some w) same a b e = absurd (not_both t w (rw same at e))
 one_came s t (Some v) None same a b e = absurd (not_both t v (sym (rw same at e)))
 
-came_one : (n m : List ℤ) (e f : Entry) (came : List (Option ℕ)) → IsOwn n e → IsOwn m f → demand_of e ≡ demand_of f → entry_line e ≡ entry_line f
-    → came_with e came ≡ came_with f came
-came_one n m e f came a b h l = grind (arith, one_came)
-
 came_same : (n m : List ℤ) (es fs : List Entry) → AreOwn n es → AreOwn m fs → Match es fs → came_of es ≡ came_of fs
 came_same n m [] [] a b h = refl
-came_same n m (e ∷ es) (f ∷ fs) a b h = grind (arith, came_one, came_same n m es fs a.1 b.1 h.2)
+came_same n m (e ∷ es) (f ∷ fs) a b h = grind (arith, one_came, came_same n m es fs a.1 b.1 h.2)
 came_same n m _ _ a b h = absurd h
 
 module _ (set : Set) (d : Device) (image : Image) where

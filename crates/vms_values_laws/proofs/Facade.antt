@@ -1,25 +1,24 @@
 -- The names of other crates, and of this crate's `specs`, that the proofs use.
-pub use Rattle.std.proofs.{Math.ListN.get_or-eq_default, Math.Seq.drop-append_seam, Math.Seq.drop-cons, lemmas.Int.ints, lemmas.Slice.Eq.bytes_eq-Decides}
+pub use Rattle.std.proofs.{Math.ListN.get_or-eq_default, Math.Seq.drop-append_seam, Math.Seq.drop-cons, lemmas.Slice.Eq.bytes_eq-Decides}
 pub use Rattle.std.proofs.Common.{Bool, Err, List, None, Ok, Option, Result, Some, [], ap, append-nil, append_assoc, arith, codes, drop, false, get_or}
-pub use Rattle.std.proofs.Common.{get_or-set_other, if◌then◌else◌, inl, inr, length, map, nat_le, negsuc, not, pos, refl, slice_set, subst, suc, sum_by}
-pub use Rattle.std.proofs.Common.{sym, take, true, zero, ℕ, ℤ, ⊎_elim, ◌&&◌, ◌*◌, ◌++◌, ◌+◌, ◌-◌, ◌<◌, ◌==◌, ◌||◌}
-pub use Rattle.std.proofs.Common.{◌∙◌, ◌∷◌, ◌≡◌, ◌≤◌, ◌⊎◌}
+pub use Rattle.std.proofs.Common.{get_or-set_other, if◌then◌else◌, inl, inr, length, map, nat_le, not, pos, refl, slice_set, subst, suc, sum_by, sym}
+pub use Rattle.std.proofs.Common.{take, true, zero, ℕ, ℤ, ⊎_elim, ◌&&◌, ◌*◌, ◌++◌, ◌+◌, ◌-◌, ◌<◌, ◌==◌, ◌||◌, ◌∙◌}
+pub use Rattle.std.proofs.Common.{◌∷◌, ◌≡◌, ◌≤◌, ◌⊎◌}
 pub use Rattle.std.proofs.Math.Bool.{and-false, and-true, and_assoc, or_assoc}
-pub use Rattle.std.proofs.lemmas.Bool.{and_from, and_parts, cases_eq, cases_lt, eq-eqb, eqb-true, le-leb, le-ltb, leb-true, lt-ltb, ne_eqb, not-true, or_from}
-pub use Rattle.std.proofs.lemmas.Bool.{or_parts, or_right}
+pub use Rattle.std.proofs.lemmas.Bool.{and_from, and_parts, cases_eq, cases_lt, eq-eqb, leb-true, ne_eqb, not-true, or_from, or_parts, or_right}
 pub use Rattle.std.proofs.lemmas.List.{append_cancel_left, ext_get_or, get_or-append-add, get_or-map, get_or-set_same, get_or_append_left, length-append}
 pub use Rattle.std.proofs.lemmas.List.{length-map, length-set, map-append, map-id, take-append-drop, Sums.sum_by-cons}
 pub use Rattle.std.proofs.lemmas.Option.{get_or_from_slice_get, same_Some, some_pair_parts}
 pub use Rattle.std.specs.{Fmt.decimal, Fmt.signed_decimal, Str.bytes_eq, List.AllByRecursion, List.flat_map, List.list_all, List.slice_get}
 pub use Rattle.vms_kinds.specs.declared.Item.{Item, TheVariants.Num, TheVariants.Struct}
-pub use Rattle.vms_kinds.specs.declared.Kind.{Kind, TheVariants.I64, TheVariants.U64, TheVariants.U8}
+pub use Rattle.vms_kinds.specs.declared.Kind.{Kind, TheVariants.I64, TheVariants.U64}
 pub use Rattle.vms_spec.proofs.{WellFormedLaws.ranges, Tables.readers_cells, Tables.elements_fit, Tables.field_size, Tables.first_long, Tables.two_more}
 pub use Rattle.vms_spec.proofs.ListsAndNumbers.{name_byte_high, either_of, or_second, not_exceeds, same_number_is, within_all}
 pub use Rattle.vms_spec.proofs.WellFormedLaws.{struct_clean, sub_clean, well_good, few_devices, machine_short, or_else_none, Clean, device_parts, get_none}
 pub use Rattle.vms_spec.specs.{Images.image_slots, Readiness.rules_are_true, Rules.in_range, Sets.Desc, Sets.Device, Sets.Field, Sets.Set, Sets.Sub}
 pub use Rattle.vms_spec.specs.{Spelling.begins_with, Spelling.first_line, Spelling.number_spelled, Streams.is_one_of, Values.values_text, Values.version_text}
 pub use Rattle.vms_spec.specs.{declared.Count.Count, declared.Place.Place, declared.ValuesReason.ValuesReason, Good.DefaultsFit, Good.IsFit, Good.IsGood}
-pub use Rattle.vms_spec.specs.{Lists.first_answer, Lists.or_else, Names.is_name, Names.is_name_byte, Names.is_sub_name}
+pub use Rattle.vms_spec.specs.{Lists.or_else, Names.is_name, Names.is_name_byte, Names.is_sub_name}
 pub use Rattle.vms_spec.specs.Images.{own_cells, own_slots, sub_slots, AreVersionsOf, FitsCell, Image, RulesHold, came_slots, default_image, has_cell}
 pub use Rattle.vms_spec.specs.Layout.{Cell, Slot, all_hold, capacity_of, cells_from, counted, desc_cells, desc_slots, device_cells, elements_of, field_cells}
 pub use Rattle.vms_spec.specs.Layout.{item_size, meanings, no_cell, no_desc, no_field, numbers_of, place_of, struct_cells}
@@ -31,7 +30,7 @@ pub use Rattle.vms_spec.specs.ValuesReading.{also, answer_of, are_defaults, devi
 pub use Rattle.vms_spec.specs.ValuesReading.{judge_subs, judged, machine_named, next_line, no_reader, or_bad, put_line, put_number, read_array, read_desc}
 pub use Rattle.vms_spec.specs.ValuesReading.{read_devices, read_elements, read_field, read_fields, read_item, read_sub, read_subs, reader, readers, rest_of}
 pub use Rattle.vms_spec.specs.ValuesReading.{sub_fails, sub_said, then_subs, with_device, ◌>>=◌}
-pub use Rattle.vms_spec.specs.WellFormed.{WellFormed, device_fault, failing, here, set_rules, size_rules, struct_fault}
+pub use Rattle.vms_spec.specs.WellFormed.{WellFormed, failing, here}
 pub use Rattle.vms_spec.specs.declared.Count.TheVariants.{Counted, Fixed, One}
 unfoldable pub use Rattle.vms_spec.specs.{Layout.first, ValuesReading.values_read, WellFormed.first_fault}
 pub use Rattle.vms_words.proofs.{Lines.begun, Lines.line_splits, Spells.number_holds, Spells.spelled_holds}
@@ -46,9 +45,9 @@ pub use Rattle.vms_elements.proofs.Members.{shapes_cells, all_both, all_from, al
 pub use Rattle.vms_elements.proofs.Walk.{AreCounted, walks}
 pub use Rattle.vms_elements.specs.Elements.{Element, Number, Rule, Shape, Stand, What, array_elements, behind, cells_in, desc_elements, dotted, elements_from}
 pub use Rattle.vms_elements.specs.Elements.{field_elements, index_text, item_elements, no_shape, shape, shapes, single, stand_of}
-pub use Rattle.vms_elements.specs.Entries.{Entry, OfMachine, OfNumber, OfSection, OfSub, came_well, device_entries, devices_entries, element_reason, entries}
-pub use Rattle.vms_elements.specs.Entries.{entry_line, front_reason, has_default, have_defaults, if_not, line_reason, number_entries, number_reason}
-pub use Rattle.vms_elements.specs.Entries.{part_reason, rule_holds, rules_hold, spelled_reason, sub_holds, subs_entries, wanted_reason}
+pub use Rattle.vms_elements.specs.Entries.{Entry, OfNumber, OfSection, OfSub, came_well, device_entries, devices_entries, element_reason, entries, entry_line}
+pub use Rattle.vms_elements.specs.Entries.{front_reason, has_default, have_defaults, if_not, line_reason, number_entries, number_reason, part_reason}
+pub use Rattle.vms_elements.specs.Entries.{rule_holds, rules_hold, spelled_reason, sub_holds, subs_entries, wanted_reason}
 pub use Rattle.vms_elements.specs.Lines.{number_line, printed, section_line, sub_line, text_of}
 pub use Rattle.vms_elements.specs.Parts.{CountsUp, cells_of, cells_with, elements_in, is_number, numbers_in, slot_of, slots_of}
 pub use Rattle.vms_elements.specs.Reading.{AllUnsaid, AreAtVersions, AreFine, AreShaped, AreUnsaid, IsAtVersion, IsBadLine, IsMachineOf, IsShaped, IsText}

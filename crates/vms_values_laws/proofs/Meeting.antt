@@ -9,8 +9,8 @@ use Rattle.vms_values_laws.proofs.Facade.{spelled_holds, begun, What, Number, El
 use Rattle.vms_values_laws.proofs.Facade.{line_reason, front_reason, Demand, ForMachine, ForSection, ForSub, ForNumber, reason_for, demand_of, Taken, lines_of}
 use Rattle.vms_values_laws.proofs.Facade.{AreFineTaken, Follows, ValuesReason, AreFine, Count, Field, Desc, Sub, Device, Set, no_desc, counted, desc_cells}
 use Rattle.vms_values_laws.proofs.Facade.{struct_cells, Image, index_text, is_number, printed, OfNumber, number_entries, subs_entries, device_entries}
-use Rattle.vms_values_laws.proofs.Facade.{devices_entries, entries, Place, is_name_byte, is_name, is_sub_name, is_one_of, machine_named, WellFormed}
-use Rattle.vms_values_laws.proofs.Facade.{first_fault, failing, here, Clean, struct_clean, device_parts, sub_clean, get_none}
+use Rattle.vms_values_laws.proofs.Facade.{devices_entries, entries, is_name_byte, is_name, is_sub_name, is_one_of, machine_named, WellFormed, first_fault}
+use Rattle.vms_values_laws.proofs.Facade.{Clean, struct_clean, device_parts, sub_clean, get_none}
 use Rattle.vms_spec.specs.declared.ValuesReason.TheVariants as reasons
 use Rattle.vms_spec.specs.declared.Part.TheVariants as parts
 
@@ -59,16 +59,12 @@ by_front x a true e f h =
     (by_what x.what _ _ f))
 by_front x a false e f h = cc
 
-pub section_feed : (name : List ℕ) (instance version : ℕ) → NoFeed name
-    → NoFeed (codes "section " ++ (name ++ (codes " " ++ (decimal instance ++ (codes " v" ++ decimal version)))))
-section_feed name instance version h = grind (arith, feed_append, decimal_feed)
-
 pub sub_feed : (name text : List ℕ) → NoFeed name → NoFeed text → NoFeed (codes "sub " ++ (name ++ (codes " " ++ text)))
 sub_feed name text h g = (refl, (refl, (refl, (refl, feed_append name _ h (refl, g)))))
 
 -- a fine line has none
 pub fine_feed : (demand : Demand) (a : List ℕ) → IsClean demand → reason_for demand (Some (a, [])) ≡ None → NoFeed a
-fine_feed demand a h e = grind (arith, by_bytes, section_feed, either_of, if_none, bytes_eq-Decides, sub_feed, decimal_feed, by_front)
+fine_feed demand a h e = grind (arith, by_bytes, feed_append, either_of, if_none, bytes_eq-Decides, sub_feed, decimal_feed, by_front)
 
 -- ---- A text leads along one list of lines: those that were taken are those of each state that has the text's lines.
 
@@ -86,9 +82,6 @@ pub record Same (taken : List Taken) (before : List Entry) (o o' : Option Values
   pub lines : lines_of taken ≡ map entry_line before
   pub reason : o ≡ o'
 
-both_end : (o o' : Option ValuesReason) (rest : List ℕ) (es : List Entry) → Ends o rest es → Ends o' rest es → o ≡ o'
-both_end o o' rest es f g = grind arith
-
 -- a fine line doesn't end them
 not_ended : (o : Option ValuesReason) (e : Entry) (es : List Entry) (line rest : List ℕ) → NoFeed line → reason_for (demand_of e) (Some (line, [])) ≡ None
     → Ends o (line ++ 10 ∷ rest) (e ∷ es) → ⊥
@@ -101,7 +94,7 @@ pub meet : (taken : List Taken) (before after : List Entry) (rest rest' : List �
     → Follows taken (λ es. Ends o rest es) (before ++ after) → AreClean (before ++ after)
     → AreFineTaken taken → AreFine before → text_of (lines_of taken) ++ rest ≡ text_of (map entry_line before) ++ rest' → Ends o' rest' after
     → Same taken before o o'
-meet [] [] after rest rest' o o' f clean fine fine' e ends = record { long = refl; lines = refl; reason = both_end o o' rest after f (rw e ends) }
+meet [] [] after rest rest' o o' f clean fine fine' e ends = grind arith
 meet [] (x ∷ before) after rest rest' o o' f clean fine fine' e ends =
     let is : rest ≡ entry_line x ++ 10 ∷ (text_of (map entry_line before) ++ rest') =
     e ∙ append_assoc (entry_line x) (10 ∷ text_of (map entry_line before)) rest' in
@@ -190,9 +183,6 @@ clean_sub_name device name h e =
 clean_fields : (k : ℕ) (d : Desc) (rules : List Bool) → Clean k d rules → AreCleanFields d.fields
 clean_fields k d rules c = all_from _ _ (λ i f e. clean_name 32 f.name (and_parts (is_name 32 f.name) (list_all (is_name 32) f.former) (c.fields i f e).0).0)
 
-first_true : (b : Bool) (rules : List Bool) (place : Place) → failing 1 (b ∷ rules) place ≡ None → b ≡ true
-first_true b rules place e = grind arith
-
 named_one : (machines : List (List ℕ)) (name : List ℕ) → list_all (is_name 64) machines ≡ true → is_one_of machines name ≡ true → NoFeed name
 named_one [] name e h = cc
 named_one (m ∷ machines) name e h =
@@ -226,7 +216,7 @@ module _ (set : Set) (well : WellFormed set) where
 
   machines_named : list_all (is_name 64) set.machines ≡ true
   unfolding first_fault
-  machines_named = grind (arith, first_true, here, or_else_none, failing)
+  machines_named = grind (arith, or_else_none)
 
   pub clean_named : (name : List ℕ) → is_one_of set.machines name ≡ true → NoFeed name
   clean_named name h = named_one _ name machines_named h

@@ -1,11 +1,11 @@
 -- The subsections of a device, read as entries.
 use Rattle.vms_values_laws.proofs.{Facade.Desc, SecondPass.along_then}
-use Rattle.vms_values_laws.proofs.Facade.{all_parts, ◌≡◌, ℕ, suc, ◌+◌, ◌≤◌, List, ◌∷◌, ◌++◌, length, map, Bool, true, false}
-use Rattle.vms_values_laws.proofs.Facade.{if◌then◌else◌, Option, Some, None, ℤ, Ok, Err, AllByRecursion, Result, refl, sym, ap, ◌∙◌, arith}
-use Rattle.vms_values_laws.proofs.Facade.{append_assoc, [], length-append, length-map, flat_map, bytes_eq, bytes_eq-Decides, Sub, Device, Set, desc_cells}
-use Rattle.vms_values_laws.proofs.Facade.{struct_cells, Image, first_line, Standing, Read, BadLine, ReadSubs, read_subs, read_sub, sub_said, also, then_subs}
-use Rattle.vms_values_laws.proofs.Facade.{next_line, rest_of, IsSound, AreSound, line_splits, sub_line, Entry, OfSub, number_entries, subs_entries, has_line}
-use Rattle.vms_values_laws.proofs.Facade.{IsAtVersion, AreAtVersions, Said, Agrees, Demand, ForSub, ForNumber, reason_for, Taken, Follows, Along, Begins, Moved}
+use Rattle.vms_values_laws.proofs.Facade.{all_parts, ◌≡◌, ℕ, suc, ◌+◌, ◌≤◌, List, ◌∷◌, ◌++◌, length, map, Option, Some, None, ℤ}
+use Rattle.vms_values_laws.proofs.Facade.{Ok, Err, AllByRecursion, Result, refl, sym, ap, ◌∙◌, arith, append_assoc, [], length-append, length-map}
+use Rattle.vms_values_laws.proofs.Facade.{flat_map, bytes_eq-Decides, Sub, Device, Set, desc_cells, struct_cells, Image, first_line, Standing, Read, BadLine}
+use Rattle.vms_values_laws.proofs.Facade.{ReadSubs, read_subs, read_sub, sub_said, also, then_subs, next_line, rest_of, IsSound, AreSound, line_splits}
+use Rattle.vms_values_laws.proofs.Facade.{sub_line, Entry, OfSub, number_entries, subs_entries, has_line, IsAtVersion, AreAtVersions, Said, Agrees, Demand}
+use Rattle.vms_values_laws.proofs.Facade.{ForSub, ForNumber, reason_for, Taken, Follows, Along, Begins, Moved}
 use Rattle.vms_values_laws.proofs.SaidLaws.{all_taken, moved_none, moved_one, moved_then, Told, told_none, told_both, has_said}
 use Rattle.vms_values_laws.proofs.SecondPass.{AreShort, NumbersRead, NumbersStop, NumbersCome, numbers_come, heard_on, lines_on, sub_numbers, follows_then}
 use Rattle.vms_spec.specs.declared.ValuesReason.TheVariants as reasons
@@ -29,15 +29,9 @@ said_by : (s : Sub) (line rest : List ℕ) (came : Option ℕ) → line ≡ sub_
     → SaidSub s (Some (line, rest)) came
 said_by s line rest came is fine version = record { rest = rest; is = rw is refl; fine = rw is at fine; version = version }
 
-by_tests : (s : Sub) (line rest : List ℕ) (a b : Bool) → bytes_eq line (sub_line s (Some s.desc.version)) ≡ a → bytes_eq line (sub_line s None) ≡ b
-    → SubLine s (Some (line, rest)) (if a then Some (Some s.desc.version) else if b then Some None else None)
-by_tests s line rest true b e f = said_by s line rest _ ((bytes_eq-Decides line _).0 e) (rw e refl) refl
-by_tests s line rest false true e f = said_by s line rest None ((bytes_eq-Decides line _).0 f) (rw (e, f) refl) tt
-by_tests s line rest false false e f = rw (e, f) refl
-
 sub_line_is : (s : Sub) (o : Option (List ℕ × List ℕ)) → SubLine s o (sub_said s o)
 sub_line_is s None = refl
-sub_line_is s (Some (line, rest)) = by_tests s line rest _ _ refl refl
+sub_line_is s (Some (line, rest)) = grind (arith, said_by, bytes_eq-Decides)
 
 -- What was said and taken up to a place. The entries follow on what was taken, whichever subsections have come and whatever comes after them.
 -- Those that have come have its lines.
