@@ -40,10 +40,7 @@ three_counters _ default e = absurd (omega arith)
 
 -- A fact of each of three.
 pub each_of : (P : ℕ → Type 0) → P 0 → P 1 → P 2 → (k : ℕ) → k < 3 → P k
-each_of P a b c zero l = a
-each_of P a b c (suc zero) l = b
-each_of P a b c (suc (suc zero)) l = c
-each_of P a b c (suc (suc (suc k))) l = absurd (omega arith)
+each_of P a b c k l = grind (arith, nat_tests)
 
 -- ---- which steps of a counter leave its counting as it was
 

@@ -1,5 +1,5 @@
 -- Edges of OUT in a span of time, and the ticks at which they are.
-use Rattle.dev_pit.proofs.Facade.{◌≡◌, ℕ, ◌+◌, ◌/◌, ◌<◌, ◌≤◌, ◌==◌, Bool, false, not, ◌&&◌, ◌||◌, Option, Some, None}
+use Rattle.dev_pit.proofs.Facade.{◌≡◌, ℕ, ◌+◌, ◌/◌, ◌<◌, ◌≤◌, ◌==◌, Bool, false, not, ◌&&◌, ◌||◌, Option, Some}
 use Rattle.dev_pit.proofs.Facade.{refl, arith, nat_tests, nat_lt, nat_le, grown, quotient_mono, rises, ticks, period, edge_of, edge_since, TicksGoOn}
 use Rattle.dev_pit.proofs.Facade.{SecondsHaveTicks, EdgeInParts, Mode, TerminalCount, RateGenerator, SquareWave, SoftwareStrobe, ◌-◌, ◌*◌, ◌%◌}
 use Rattle.dev_pit.proofs.Facade.{true, ⊎_elim, cases_lt, cases_Bool, le-div, mod-mul-add, out_at, high_part, EdgeTurnsHigh}
@@ -207,8 +207,7 @@ rises-from_turns _ count before after t = absurd (no_turns _ count before after 
 -- The same for a counter and moments.
 since-turns : (load : Option ℕ) (mode : Mode) (count from to : ℕ) → edge_since load mode count from to ≡ true
     → (start : ℕ) × (load ≡ Some start) × Turns mode count (ticks start from) (ticks start to)
-since-turns None mode count from to e = cc
-since-turns (Some load) mode count from to e = (load, refl, turns-from_rises mode count _ _ e)
+since-turns load mode count from to e = grind (arith, nat_tests, turns-from_rises)
 
 turns-since : (load : Option ℕ) (mode : Mode) (count from to start : ℕ) → load ≡ Some start → Turns mode count (ticks start from) (ticks start to)
     → edge_since load mode count from to ≡ true

@@ -4,8 +4,8 @@ use Rattle.dev_pit.proofs.Facade.{refl, NumbersAre, ◌≡◌, ℕ, ◌-◌, ◌
 use Rattle.dev_pit.proofs.Facade.{⊎_elim, nat_tests, nat_le, is_some, cases_Bool, Call, reads, writes, IsCall, called, programs, sets_mode_of, reads_latch}
 use Rattle.dev_pit.proofs.Facade.{is_last, control_word, loaded, written, read_of, counted_of, latched, status_latched, read_back, LatchStays, counter_of}
 use Rattle.dev_pit.proofs.Facade.{pit_read, asked_back, controlled, pit_written, ControlWord, LatchCount, SetMode, ReadBack, Counter, READ_BACK_LEVEL, Pit}
-use Rattle.dev_pit.proofs.Facade.{either, status_holds, ReadBackByLevel, Channel, ◌+◌, ◌*◌, ◌/◌, ◌%◌, ap, ◌∙◌, flag_number, out_of}
-use Rattle.dev_pit.proofs.Facade.{status_of, TellsStatus, StatusTells, mode_number, access_number, flag-back}
+use Rattle.dev_pit.proofs.Facade.{either, status_holds, ReadBackByLevel, Channel, out_of}
+use Rattle.dev_pit.proofs.Facade.{status_of, TellsStatus, StatusTells, flag-back}
 
 -- ---- the numbers are the constants' by their definition
 
@@ -110,22 +110,7 @@ read_back_by_level = record { none = none-asked; asks = asked; rule = not-latche
 
 tells : (counter : Counter) (now : ℕ) → TellsStatus counter now (status_of counter now)
 unfolding status_of
-tells counter now =
-    let out = flag_number (out_of counter now) in
-    let bcd = flag_number counter.bcd in
-    let byte = 128 * out + 16 * access_number counter.access + 2 * mode_number counter.mode + bcd in
-    let o = flag-small (out_of counter now) in
-    let a = (access-small counter.access).1 in
-    let m = mode-small counter.mode in
-    let b = flag-small counter.bcd in
-    let sixth : byte / 64 % 2 ≡ 0 = omega arith in
-    record {
-      out = ap (λ n. n == 1) (omega arith) ∙ flag-back (out_of counter now);
-      null = ap (λ n. n == 1) sixth;
-      access = omega arith;
-      mode = omega arith;
-      bcd = ap (λ n. n == 1) (omega arith) ∙ flag-back counter.bcd;
-    }
+tells counter now = grind (arith, nat_tests, out_of, flag-small, access-small, mode-small, flag-back)
 
 pub status_tells : StatusTells
 status_tells = record { tells = tells }

@@ -263,10 +263,7 @@ module _ (load : ℕ) (counter : Counter) (since base to : ℕ) (loaded : counte
 
   is-turn : {at : ℕ} → IsMark (ticks load base) (marks_of counter.mode (period counter.count) (ticks load base)) at → ticks load base < at
       → IsTurn (turns_since load counter base) base (moment_of load at)
-  is-turn (inl e) f = absurd (omega arith)
-  is-turn (inr (inl e)) f = inr (inl (ap (moment_of load) e))
-  is-turn (inr (inr (inl e))) f = inr (inr (inl (ap (moment_of load) e)))
-  is-turn (inr (inr (inr e))) f = inr (inr (inr (ap (moment_of load) e)))
+  is-turn m f = grind (arith, nat_tests)
 
   by_mark : load ≤ since → Mark → Done
   by_mark by m = ⊎_elim
@@ -292,6 +289,4 @@ module _ (load : ℕ) (counter : Counter) (since base to : ℕ) (loaded : counte
       }) (cases_lt (ticks load base) m.at)
 
 pub turns_loaded : (load : ℕ) (counter : Counter) (base : ℕ) → counter.loaded_at ≡ Some load → AreTurns (turns_since load counter base) counter base
-turns_loaded load counter base e since to h b l =
-    by_mark load counter since base to e b l (rw e at h)
-    (marked counter.mode counter.count (ticks load since) (ticks load base) (ticks load to) (ticks-mono load since base b) (ticks-mono load base to l))
+turns_loaded load counter base e since to h b l = grind (arith, nat_tests, by_mark, marked, ticks-mono)

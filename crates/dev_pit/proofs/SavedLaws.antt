@@ -2,15 +2,15 @@
 use Rattle.dev_pit.proofs.CallLaws.{each_of, three_counters}
 use Rattle.dev_pit.proofs.Facade.{ℕ, ◌≤◌, Bool, true, false, cond, List, [], ◌++◌, ℤ, length, codes, arith, nat_le, numbers_of, STATUS_SINCE}
 use Rattle.dev_pit.proofs.Facade.{CELLS, named_statuses, channel_cells, status_cells, three_cells, Channel, Access, LowThenHigh, Pit, ◌≡◌, ◌+◌}
-use Rattle.dev_pit.proofs.Facade.{◌<◌, subst, ◌∙◌, ◌^◌, ◌==◌, not, ◌&&◌, Ok, ◌∷◌, slice_index_or, refl, ⊎_elim, ◌||◌}
-use Rattle.dev_pit.proofs.Facade.{get_or-append, get_or-append-add, nat_tests, cases_Bool, InRange, Kind, U8, kinds_under, status_rows, CHANNEL_CELLS, cell_at}
+use Rattle.dev_pit.proofs.Facade.{◌<◌, subst, ◌∙◌, ◌^◌, ◌==◌, not, ◌&&◌, Ok, ◌∷◌, slice_index_or, refl, ◌||◌}
+use Rattle.dev_pit.proofs.Facade.{get_or-append, get_or-append-add, nat_tests, InRange, Kind, U8, kinds_under, status_rows, CHANNEL_CELLS, cell_at}
 use Rattle.dev_pit.proofs.Facade.{kind_at, NEWEST, LAST_MOMENT, channel_kinds, channel_place, latched_place, status_place, IsChannelAt, IsPitCells, channel_at}
 use Rattle.dev_pit.proofs.Facade.{IsLevel, number-lt, AllTrue, judged-ok, hook-ok, held_if, counter_from, moment_holds, status_holds, toggles_hold, LoadedBy}
 use Rattle.dev_pit.proofs.Facade.{powered_on, RestoredIsSound, access_of, three_hold, pit_of, restored_pit, HeldBelow, IsSoundCounter, IsSoundPit}
 use Rattle.dev_pit.proofs.Facade.{READ_BACK_LEVEL, Option, None, ap, sym, is_some, channel_rows, STATUS_LATCHED, Numbers, flag_number, flag_at, number_at}
 use Rattle.dev_pit.proofs.Facade.{AreOf, MayRestore, first_failing, of_none, of_more, of_both, byte, word, long, flag, flag-back, AllHold, one_holds, of_rows}
 use Rattle.dev_pit.proofs.Facade.{carried_rows, none_failing, all_true, judged-all, ok-hook, kinds_of, named, channel_in, pit_cells, carried, field_place}
-use Rattle.dev_pit.proofs.Facade.{AreCellsOf, channel_of, registers_hold, held_or, SoundMeetsRules, SavedAreCells, SavedIsRestored, mode_number, mode_of}
+use Rattle.dev_pit.proofs.Facade.{AreCellsOf, channel_of, held_or, SoundMeetsRules, SavedAreCells, SavedIsRestored, mode_number, mode_of}
 use Rattle.dev_pit.proofs.Facade.{access_number, counter_of, CanSave, CanRestore, hook_restored, HasWidths, Counter, Mode}
 use Rattle.dev_pit.proofs.SoundLaws.{PlainSound, StatusFits, TogglesFit, sound-from_plain, plain-from_sound, mode-small, access-small, held-below}
 use Rattle.dev_pit.specs.Saved.{rules}
@@ -107,9 +107,7 @@ three rw_number e = grind arith
 
 if-toggles : (rw_number : ℕ) (read_high held : Bool) (n : ℕ) → ((rw_number == 3) || (not read_high && not held)) ≡ true
     → TogglesFit (access_of rw_number) read_high (held_if held n)
-if-toggles rw_number read_high held n h =
-    ⊎_elim (λ e. let both : TogglesFit LowThenHigh read_high (held_if held n) = tt in rw (three rw_number e) both)
-    (λ e. let rest : (not read_high && not held) ≡ true = rw e at h in halves (access_of rw_number) read_high held n rest) (cases_Bool (rw_number == 3))
+if-toggles rw_number read_high held n h = grind (arith, nat_tests, three, halves)
 
 counter-sound : (level now : ℕ) (channel : Channel) → HasRanges channel → moment_holds now channel ≡ true → status_holds level channel ≡ true
     → toggles_hold channel ≡ true → PlainSound level now (counter_from channel)
@@ -197,12 +195,7 @@ pit_of-saved pit three = simp (first-back, second-back, third-back, counter-back
 -- The cells of a chip fit their kinds: each field has as many numbers of its kind as it counts.
 channel-holds : (counter : Counter) → HasWidths counter → AllHold (named (channel_of counter)) channel_rows
 unfolding channel_of
-channel-holds counter h =
-    one_holds _ _ (word _ h.count)
-    (one_holds _ _ (byte _ (omega (arith, mode-small counter.mode))) (one_holds _ _ (byte _ (omega (arith, access-small counter.access)))
-    (one_holds _ _ (flag _) (one_holds _ _ (flag _) (one_holds _ _ (long _ (held-below (2 ^ 64) 0 counter.loaded_at h.loaded_at (omega arith)))
-    (one_holds _ _ (flag _) (one_holds _ _ (flag _) (one_holds _ _ (byte _ (held-below (2 ^ 8) 0 counter.held_low h.held_low (omega arith)))
-    (one_holds _ _ (flag _) (one_holds _ _ (word _ (held-below (2 ^ 16) 0 counter.latch h.latch (omega arith))) tt))))))))))
+channel-holds counter h = grind (arith, nat_tests, one_holds, word, byte, mode-small, access-small, flag, long, held-below)
 
 channel-of : (counter : Counter) → HasWidths counter → AreOf channel_kinds (channel_cells (channel_of counter))
 unfolding channel_cells
@@ -233,33 +226,14 @@ module _ (now : ℕ) (pit : Pit) (s : IsSoundPit now pit) where
   -- All rules hold.
   met : AllTrue (rules pit.level now (pit_cells NEWEST pit))
   unfolding pit_cells
-  met =
-      let a = s.counters 0 (omega arith) in
-      let b = s.counters 1 (omega arith) in
-      let c = s.counters 2 (omega arith) in
-      let hold = λ (rule : Channel → Bool). rule-saved rule (channel_in 0 pit) (channel_in 1 pit) (channel_in 2 pit) in (
-        hold registers_hold a.registers b.registers c.registers,
-        (
-          hold (moment_holds now) a.moment b.moment c.moment,
-          (hold (status_holds pit.level) a.status b.status c.status, (hold toggles_hold a.toggles b.toggles c.toggles, tt)),
-        ),
-      )
+  met = grind (arith, nat_tests, rule-saved)
 
   pub restored-newest : restored_pit pit.level now (pit_cells NEWEST pit) ≡ Ok pit
   restored-newest = cc (judged-all (rules pit.level now (pit_cells NEWEST pit)) (pit_of pit.level (pit_cells NEWEST pit)) met, pit_of-saved pit s.count)
 
   statuses-hold : AllHold (named_statuses (channel_of first) (channel_of second) (channel_of third)) status_rows
   unfolding channel_of
-  statuses-hold =
-      let low : (k : ℕ) → k < 3 → held_or (counter_of k pit).status 0 < 2 ^ 8 =
-      λ k l. held-below (2 ^ 8) 0 (counter_of k pit).status (widths k l).status (omega arith) in (
-        of_more _ _ _ _ (flag _) (of_more _ _ _ _ (flag _) (of_more _ _ _ _ (flag _) of_none)),
-        (
-          of_more _ _ _ _ (byte _ (low 0 (omega arith))) (of_more _ _ _ _ (byte _ (low 1 (omega arith)))
-              (of_more _ _ _ _ (byte _ (low 2 (omega arith))) of_none)),
-          tt,
-        ),
-      )
+  statuses-hold = grind (arith, nat_tests, counter_of, held-below, widths, of_more, flag, of_none, byte)
 
   of-kinds : (set : ℕ) → AreOf (kinds_of set) (pit_cells set pit)
   unfolding pit_cells three_cells channel_cells status_cells

@@ -1,13 +1,13 @@
 -- A chip and each of its counters are sound at power on, and stay so.
 use Rattle.dev_pit.proofs.CallLaws.{at_step, count-with, each_of, loaded_by-later}
 use Rattle.dev_pit.proofs.Facade.{◌≡◌, ℕ, ◌≤◌, ◌==◌, Bool, true, false, not, ◌&&◌, ◌||◌, Option, Some, None, refl, arith, ◌^◌}
-use Rattle.dev_pit.proofs.Facade.{◌<◌, le-leb, nat_tests, nat_le, is_some, channel_of, registers_hold, moment_holds, status_holds, toggles_hold, LoadedBy}
+use Rattle.dev_pit.proofs.Facade.{◌<◌, nat_tests, nat_le, is_some, channel_of, registers_hold, moment_holds, status_holds, toggles_hold, LoadedBy}
 use Rattle.dev_pit.proofs.Facade.{held_or, live_of, out_of, status_of, written, programmed, powered_on, read_of, counted_of, latched, status_latched, read_back}
 use Rattle.dev_pit.proofs.Facade.{mode_number, access_number, HasWidths, IsSoundCounter, HeldBelow, Counter, READ_BACK_LEVEL, Access, LowByte, HighByte}
 use Rattle.dev_pit.proofs.Facade.{LowThenHigh, Mode, flag_number, LAST_MOMENT, live_at, square, either, ◌-◌, ◌∷◌, slice_index_or, ⊎_elim, []}
 use Rattle.dev_pit.proofs.Facade.{cases_Bool, IsLevel, control_word, SoundStays, StepsKeepLevel, counter_of, with_counter, new_pit, pit_read, asked_back}
 use Rattle.dev_pit.proofs.Facade.{controlled, pit_written, IsSoundPit, ControlWord, LatchCount, SetMode, ReadBack, Pit}
-use Rattle.dev_pit.proofs.Facade.{nat_lt, high_part, RateGenerator, SquareWave, ◌%◌}
+use Rattle.dev_pit.proofs.Facade.{nat_lt, high_part, ◌%◌}
 use Rattle.dev_pit.specs.Counter.{loaded as loading}
 
 -- ---- what the rules say about a counter itself
@@ -37,9 +37,7 @@ access-small access = search arith
 
 pub registers-hold : (counter : Counter) → registers_hold (channel_of counter) ≡ true
 unfolding registers_hold channel_of
-registers-hold counter =
-    let access = access-small counter.access in
-    rw (le-leb _ 5 (mode-small counter.mode), le-leb 1 _ access.0, le-leb _ 3 access.1)
+registers-hold counter = grind (arith, nat_tests, access-small, mode-small)
 
 moment-from : (now : ℕ) (load : Option ℕ) → LoadedBy now load → (nat_le (held_or load 0) now && (is_some load || (held_or load 0 == 0))) ≡ true
 moment-from now load h = grind (arith, nat_tests)
@@ -79,9 +77,7 @@ square-word n k = either (λ m. m < 2 ^ 16) (nat_lt (k % n) (high_part n)) _ _ (
 
 live_at-word : (mode : Mode) (count k : ℕ) → count < 2 ^ 16 → live_at mode count k < 2 ^ 16
 unfolding live_at
-live_at-word RateGenerator count k h = either (λ m. m < 2 ^ 16) (count == 1) _ _ (omega arith) (omega arith)
-live_at-word SquareWave count k h = either (λ m. m < 2 ^ 16) (count == 1) _ _ (omega arith) (square-word _ k)
-live_at-word _ count k h = omega arith
+live_at-word mode count k h = grind (arith, nat_tests, either, square-word)
 
 live-word : (counter : Counter) (now : ℕ) → HasWidths counter → live_of counter now < 2 ^ 16
 unfolding live_of
@@ -107,16 +103,12 @@ changed s low latch byte fits toggles = search
 -- Latching.
 pub latched-sound : (level now : ℕ) (counter : Counter) → PlainSound level now counter → PlainSound level now (latched now counter)
 unfolding latched
-latched-sound level now counter s =
-    let w = s.widths in
-    changed s w.held_low (held-below (2 ^ 16) (live_of counter now) counter.latch w.latch (live-word counter now w)) w.status s.status s.toggles
+latched-sound level now counter s = grind (arith, nat_tests, changed, held-below, live-word)
 
 status_latched-sound : (level now : ℕ) (counter : Counter) → READ_BACK_LEVEL ≤ level → PlainSound level now counter
     → PlainSound level now (status_latched now counter)
 unfolding status_latched
-status_latched-sound level now counter h s =
-    let w = s.widths in
-    changed s w.held_low w.latch (held-below (2 ^ 8) (status_of counter now) counter.status w.status (status-byte counter now)) h s.toggles
+status_latched-sound level now counter h s = grind (arith, nat_tests, changed, held-below, status-byte)
 
 pub read_back-sound : (count status : Bool) (level now : ℕ) (counter : Counter) → READ_BACK_LEVEL ≤ level → PlainSound level now counter
     → PlainSound level now (read_back count status now counter)
@@ -248,8 +240,7 @@ HasLevel level pit = pit.level ≡ level
 
 controlled-level : (word : ControlWord) (now : ℕ) (pit : Pit) → HasLevel pit.level (controlled word now pit)
 unfolding controlled asked_back
-controlled-level (ReadBack count status first second third) now pit = either (HasLevel pit.level) (nat_le READ_BACK_LEVEL pit.level) _ _ refl refl
-controlled-level _ now pit = refl
+controlled-level word now pit = grind (arith, nat_tests, either)
 
 written-level : (port value now : ℕ) (pit : Pit) → HasLevel pit.level (pit_written port value now pit)
 unfolding pit_written
