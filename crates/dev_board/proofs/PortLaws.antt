@@ -1,7 +1,7 @@
 -- What each port reaches.
 use Rattle.dev_board.proofs.Facade.{◌≡◌, ◌≢◌, ℕ, ◌-◌, ◌<◌, ◌≤◌, ◌==◌, ◌⊎◌, inl, inr, Bool, true, false, ◌&&◌}
-use Rattle.dev_board.proofs.Facade.{◌||◌, if◌then◌else◌, refl, ◌∙◌, arith, sym, subst, ⊎_elim, and-false, lt-leb, cond_both, nat_le}
-use Rattle.dev_board.proofs.Facade.{nat_tests, is_port, PortsAre, target_of, Target, Pair, Counter, Control, Register, Nothing, IsPort, HasDevices, State}
+use Rattle.dev_board.proofs.Facade.{◌||◌, if◌then◌else◌, refl, ◌∙◌, arith, sym, subst, ⊎_elim, and-false, cond_both, nat_le, nat_tests}
+use Rattle.dev_board.proofs.Facade.{is_port, PortsAre, target_of, Target, Pair, Counter, Control, Register, Nothing, IsPort, HasDevices, State}
 
 -- What a port reaches that isn't the pair's.
 abbrev other : ℕ → Target
@@ -35,12 +35,10 @@ register_of port offset low high back = grind arith
 
 -- A port below or above a range isn't in it.
 out_of : (low high port : ℕ) → (port < low) ⊎ (high < port) → (nat_le low port && nat_le port high) ≡ false
-out_of low high port (inl below) = rw (lt-leb low port below) refl
-out_of low high port (inr above) = grind (arith, and-false)
+out_of low high port h3 = grind (arith, and-false)
 
 wider : (port : ℕ) → (port < 0x40) ⊎ (0x43 < port) → (port < 0x40) ⊎ (0x42 < port)
-wider port (inl below) = inl below
-wider port (inr above) = inr (omega arith)
+wider port h1 = grind arith
 
 pub ports_are : PortsAre
 ports_are = record {

@@ -4,9 +4,9 @@ use Rattle.dev_board.proofs.Facade.{◌≡◌, ℕ, Bool, true, false, ◌==◌,
 use Rattle.dev_board.proofs.Facade.{cond_both, false≢true, nat_tests, and-false, and-true, or-false, has, bits_where, lines_of, written_pair, acked, PicPair}
 use Rattle.dev_board.proofs.Facade.{HasTaken, IsBefore, is_command, Stays, ack_touches, leaves_port, read_touches, time_touches, write_touches, has-or, either}
 use Rattle.dev_board.proofs.Facade.{State, Act, waited, Before, Touch, Untouched, Command, Access, pit_out, lsr_of, lsr_read, Port, line_of, target_of, read_at}
-use Rattle.dev_board.proofs.Facade.{written_at, read, write, IsSound, Target, Pair, Counter, Register, Nothing, ◌<◌, Option, None, Some, IfSome, int_of}
-use Rattle.dev_board.proofs.Facade.{is_nothing, is_untouched, HasDevices, written, saying, Event, Read, Write, step, acted, after_act, wires_after, settled}
-use Rattle.dev_board.proofs.Facade.{wires_of, IsCalm, Pit, pit_read}
+use Rattle.dev_board.proofs.Facade.{written_at, read, write, IsSound, Target, Pair, Counter, Register, ◌<◌, Option, None, Some, IfSome, int_of, is_nothing}
+use Rattle.dev_board.proofs.Facade.{is_untouched, HasDevices, written, saying, Event, Read, Write, step, acted, after_act, wires_after, settled, wires_of}
+use Rattle.dev_board.proofs.Facade.{IsCalm, Pit, pit_read}
 use Rattle.dev_board.proofs.SoundLaws.{read-out, read_at-kept, serial-written, calm-read, calm-write, settled-sound}
 use Rattle.dev_board.specs.{declared.touch.Touch.TheVariants.Port as OfPort, Kept.IsKept, Ports.has_port, Ports.is_device, declared.kept.Kept.Kept}
 use Rattle.std.specs.Prelude.{MatchOption}
@@ -226,9 +226,7 @@ module _ (m seen : State) (port : ℕ) (view : m ≡ seen) (at : port ≡ 0x3fd)
 
   status-leaves : (value : ℕ) → Status value → leaves_port 5 value ≡ true
   unfolding leaves_port
-  status-leaves value e =
-      let none : m.serial.receiver.overrun ≡ false = ap (λ done. done.1.receiver.overrun) e in
-      rw (ap (λ done. done.0) e, lsr-overrun m.serial, none) refl
+  status-leaves value e = grind (arith, lsr-overrun)
 
   pub status-touch : (A : Type 0) → (o : Option ℕ) → MatchOption o A Status → IfSome o (λ value. read_touches (target_of seen.level port) value ≡ Untouched)
   status-touch A None e = tt
@@ -249,8 +247,7 @@ module _ (m seen : State) (port : ℕ) (view : m ≡ seen) (at : port ≡ 0x40) 
 -- A port without a device.
 none_at : (target : Target) (port : ℕ) (m : State) → is_device target ≡ false → (0xff, m) ≡ read_at target port m
 unfolding read_at
-none_at Nothing port m e = refl
-none_at _ port m e = cc
+none_at target port m e = grind arith
 
 pub none-read : (m : State) (port : ℕ) (has : Bool) → has ≡ has_port m.level port → has ≡ false → (0xff, m) ≡ read port m
 none-read m port has e none = grind (arith, none_at)

@@ -7,7 +7,7 @@ use Rattle.dev_board.proofs.Facade.{bit_at_cat_high, bit_at-pow_other, and_pow, 
 use Rattle.dev_board.proofs.Facade.{without_input, requests_hold, level_inputs_of, taken, answered, cascaded, lines_of, slave_int_of, settled_pair}
 use Rattle.dev_board.proofs.Facade.{with_cascade, written_pair, acked, acked_for, from_slave, Chip, PicPair, HasTaken, IsSettled, is_command, Stays, is_nothing}
 use Rattle.dev_board.proofs.Facade.{asks_timer, asks_port, is_access, is_quiet, is_untouched, DRIVEN, WIRES, level_inputs-lt, and-twice, each_input}
-use Rattle.dev_board.proofs.Facade.{without_input-lt, Keeps, even-keeps, odd-keeps, winner-lt, State, inputs_of, Before, Touch, Untouched, Command}
+use Rattle.dev_board.proofs.Facade.{without_input-lt, Keeps, even-keeps, odd-keeps, winner-lt, State, inputs_of, Before, Touch}
 use Rattle.dev_pic.specs.Chip.{settled}
 use Rattle.dev_board.specs.Step.{settled as settled_board}
 
@@ -220,9 +220,7 @@ quiet-settled wires inputs before edge touch m stays is e =
 -- If nothing was touched, the inputs are the lines.
 untouched : (touch : Touch) (test : Bool) → (is_nothing touch && test) ≡ true
     → (asks_timer touch ≡ false) × (asks_port touch ≡ false) × (is_access touch ≡ false) × (test ≡ true)
-untouched Untouched test e = (refl, refl, refl, e)
-untouched Command test e = (refl, refl, refl, e)
-untouched _ test e = cc
+untouched touch test e = grind arith
 
 two-parts : (n a b : ℕ) → bit_or (bit_and n a) (bit_and n b) ≡ bit_and n (bit_or a b)
 two-parts n a b = same_from_bits _ _ (λ k. simp (bit_at_and, bit_at_or) (omega (arith, bit_at-lt n k, bit_at-lt a k, bit_at-lt b k)))

@@ -8,9 +8,9 @@ use Rattle.dev_board.proofs.Facade.{saved-count, saved_are_cells, kinds, saved_c
 use Rattle.dev_board.proofs.Facade.{pair-same, pit_of-saved, rules, pit_of, numbers-back, lines_alike, restored-saved, line_of, IsTold, SoundMeetsRules}
 use Rattle.dev_board.proofs.Facade.{HasLines}
 use Rattle.dev_board.proofs.SavedLaws.{has-lines, comes-back}
-use Rattle.dev_serial.proofs.SavedCells.{carried-saved as serial-carried}
 use Rattle.dev_serial.proofs.RestoredLaws.{restored_is_sound as port-sound, sound_meets_rules as port-meets}
 use Rattle.dev_serial.specs.{PortNumbers.saved as port-saved, Rules.restored as port-restored, Sound.IsSound as IsSoundPort}
+use Rattle.dev_serial.proofs.SavedCells.{carried-saved as serial-carried}
 use Rattle.dev_pic.proofs.SavedLaws.{carried-saved as chip-carried}
 use Rattle.dev_pit.proofs.SavedLaws.{carried-saved as pit-carried}
 
@@ -28,8 +28,7 @@ pub record IsMadeOf (level : ℕ) (of_timer : Result ℕ Misfit) (of_pair : Resu
 
 -- What a test lets through.
 pub let-through : {A E : Type 0} (b : Bool) (found m : A) (fault : E) → cond b (Ok found) (Err fault) ≡ Ok m → (b ≡ true) × (found ≡ m)
-let-through true found m fault e = (refl, cc)
-let-through false found m fault e = cc
+let-through b found m fault e = grind arith
 
 agreed-ok : (found m : State) → agreed found ≡ Ok m → (lines_agree found ≡ true) × (found ≡ m)
 unfolding agreed
@@ -45,13 +44,11 @@ made_of level _ _ _ _ m e = cc
 
 pub chip-ok : (outcome : Result PicPair ChipFault) (pair : PicPair) → by_chip outcome ≡ Ok pair → outcome ≡ Ok pair
 unfolding by_chip
-chip-ok (Ok found) pair e = cc
-chip-ok (Err fault) pair e = cc
+chip-ok outcome pair e = grind arith
 
 pub device-ok : {D : Type 0} (place : ℕ) (outcome : Result D ℕ) (device : D) → by_device place outcome ≡ Ok device → outcome ≡ Ok device
 unfolding by_device
-device-ok place (Ok found) device e = cc
-device-ok place (Err rule) device e = cc
+device-ok place outcome device e = grind arith
 
 -- The moment of a timer whose rule holds.
 pub record IsTimed (moment found : ℕ) : Type 0 where

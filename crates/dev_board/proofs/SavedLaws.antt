@@ -1,11 +1,11 @@
 -- What is saved of a board is restored as a board like it, which answers each event alike.
-use Rattle.dev_board.proofs.Facade.{◌≡◌, ℕ, Bool, List, [], ◌∷◌, refl, sym, ap, subst, PicPair, reads_alike, writes_alike, bytes_in_alike}
-use Rattle.dev_board.proofs.Facade.{advances_alike, lines_alike, alike_itself, alike_back, alike_on, Port, AnswersAlike, StaysAlike, AlikeStays, Likeness}
-use Rattle.dev_board.proofs.Facade.{target_of, read_at, written_at, Alike, State, Act, valued, waited, acted, wires_after, inputs_of, settled, after_act, step}
-use Rattle.dev_board.proofs.Facade.{after_by, answers_by, wires_of, Answer, Event, Read, Target, pos, ◌≤◌, true, Result, Ok, arith, and_from, nat_tests}
-use Rattle.dev_board.proofs.Facade.{nat_le, of_none, of_more, long, has, AreOf, IsLevel, MaySave, MayRestore, NEWEST, LAST_MOMENT, hook-ok, carried-saved}
-use Rattle.dev_board.proofs.Facade.{pair-restored, set-of, saved_cells, lines_of, slave_int_of, restored_pair, ChipFault, pit_cells, AreCellsOf, pit_out}
-use Rattle.dev_board.proofs.Facade.{restored_pit, Pit, cells_at, restored_cells, numbers_at, saved, carried, MaySaveUnder, timer_kinds, AreSavedCells}
+use Rattle.dev_board.proofs.Facade.{subst, IsLevel, ◌≡◌, ℕ, Bool, List, [], ◌∷◌, refl, sym, ap, PicPair, reads_alike, writes_alike}
+use Rattle.dev_board.proofs.Facade.{bytes_in_alike, advances_alike, lines_alike, alike_itself, alike_back, alike_on, Port, AnswersAlike, StaysAlike, AlikeStays}
+use Rattle.dev_board.proofs.Facade.{Likeness, target_of, read_at, written_at, Alike, State, Act, valued, waited, acted, wires_after, inputs_of, settled}
+use Rattle.dev_board.proofs.Facade.{after_act, step, after_by, answers_by, wires_of, Answer, Event, Read, Target, pos, ◌≤◌, true, Result, Ok, arith}
+use Rattle.dev_board.proofs.Facade.{and_from, nat_tests, nat_le, of_none, of_more, long, has, AreOf, MaySave, MayRestore, NEWEST, LAST_MOMENT, hook-ok}
+use Rattle.dev_board.proofs.Facade.{carried-saved, pair-restored, set-of, saved_cells, lines_of, slave_int_of, restored_pair, ChipFault, pit_cells, AreCellsOf}
+use Rattle.dev_board.proofs.Facade.{pit_out, restored_pit, Pit, cells_at, restored_cells, numbers_at, saved, carried, MaySaveUnder, timer_kinds, AreSavedCells}
 use Rattle.dev_board.proofs.Facade.{AreBoardCells, timed, by_chip, by_device, lines_agree, agreed, joined, restored, SavedAreCells, ComesBack, SavedComesBack}
 use Rattle.dev_board.proofs.Facade.{SavedGoesOn, HasLines, IsSound, Misfit, PIT_DEVICE, SERIAL_DEVICE, ◌∙◌}
 use Rattle.dev_serial.proofs.SavedCells.{saved_are_cells as serial-saved, saved_comes_back as serial-comes-back}

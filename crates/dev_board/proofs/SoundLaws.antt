@@ -1,17 +1,16 @@
 -- What each event keeps: level and moment, sound devices, and what is known of the timer.
-use Rattle.dev_board.proofs.Facade.{refl, NumbersAre, ◌≡◌, ℕ, AnswersTellInt, ClockGoesOn, moment_left, target_of, read_at, written_at, State, Act}
-use Rattle.dev_board.proofs.Facade.{waited, acted, settled, after_act, step, Event, Read, Write, Target, Pair, ◌-◌, ◌<◌, ◌≤◌, true, ◌&&◌}
-use Rattle.dev_board.proofs.Facade.{arith, ap, sym, subst, List, ◌∙◌, either, LAST_MOMENT, steps_keep_registers, is_port, read_pair, written_pair, acked}
-use Rattle.dev_board.proofs.Facade.{PairHasRegisters, PicPair, sound_stays, IsLoadedBy, pit_read, pit_written, IsSoundPit, Pit, reads_keep_sound}
-use Rattle.dev_board.proofs.Facade.{writes_keep_sound, bytes_in_keep_sound, advances_keep_sound, reads_keep_level, writes_keep_level, bytes_in_keep_level}
-use Rattle.dev_board.proofs.Facade.{advances_keep_level, read_of, written, came_in, advanced, Port, IsEvent, write, HasDevices, later_by, Byte, Wait, Wire, Ack}
-use Rattle.dev_board.proofs.Facade.{Counter, Register, Access, ◌/◌, Bool, false, Option, Some, None, or_parts, nat_tests, nat_lt, at_step, same}
-use Rattle.dev_board.proofs.Facade.{read-goes_on, edge_in_parts, period, rises, ticks, edge_of, edge_since, out_of, GoesOn, counter_of, pit_edge, pit_out}
-use Rattle.dev_board.proofs.Facade.{AreTurns, IsTurn, Mode, RateGenerator, SquareWave, Turns, IsCalm, calm_by, later, read, calm_after, is_command}
-use Rattle.dev_board.proofs.Facade.{write_touches, Control, Touch, Command, wires_after, after_all, after_by, AreWires, wires_of, ◌^◌, [], ◌∷◌}
-use Rattle.dev_board.proofs.Facade.{IsLevel, lines_are_taken, but_not, winner_at, served_of, winner_of, ready_among, chip_on, lines_of, slave_int_of}
-use Rattle.dev_board.proofs.Facade.{settled_pair, IsSoundPair, powered_on, new_pit, power_on_is_sound, bits_where, interrupt, line_of, AreEvents, SoundStays}
-use Rattle.dev_board.proofs.Facade.{HasLines, IsSound, power_on, inputs_of}
+use Rattle.dev_board.proofs.Facade.{Command, Access, is_command, Control, refl, NumbersAre, ◌≡◌, ℕ, AnswersTellInt, ClockGoesOn, moment_left, target_of}
+use Rattle.dev_board.proofs.Facade.{read_at, written_at, State, Act, waited, acted, settled, after_act, step, Event, Read, Write, Target, Pair, ◌-◌}
+use Rattle.dev_board.proofs.Facade.{◌<◌, ◌≤◌, true, ◌&&◌, arith, ap, sym, subst, List, ◌∙◌, either, LAST_MOMENT, steps_keep_registers}
+use Rattle.dev_board.proofs.Facade.{is_port, read_pair, written_pair, acked, PairHasRegisters, PicPair, sound_stays, IsLoadedBy, pit_read, pit_written}
+use Rattle.dev_board.proofs.Facade.{IsSoundPit, Pit, reads_keep_sound, writes_keep_sound, bytes_in_keep_sound, advances_keep_sound, reads_keep_level}
+use Rattle.dev_board.proofs.Facade.{writes_keep_level, bytes_in_keep_level, advances_keep_level, read_of, written, came_in, advanced, Port, IsEvent, write}
+use Rattle.dev_board.proofs.Facade.{HasDevices, later_by, Byte, Wait, Wire, Ack, Counter, Register, Bool, false, Option, or_parts, nat_tests, nat_lt, at_step}
+use Rattle.dev_board.proofs.Facade.{same, read-goes_on, edge_in_parts, rises, edge_of, edge_since, out_of, GoesOn, counter_of, pit_edge, pit_out, AreTurns}
+use Rattle.dev_board.proofs.Facade.{IsTurn, Mode, Turns, IsCalm, calm_by, later, read, calm_after, write_touches, Touch, wires_after, after_all, after_by}
+use Rattle.dev_board.proofs.Facade.{AreWires, wires_of, ◌^◌, [], ◌∷◌, IsLevel, lines_are_taken, but_not, winner_at, served_of, winner_of, ready_among}
+use Rattle.dev_board.proofs.Facade.{chip_on, lines_of, slave_int_of, settled_pair, IsSoundPair, powered_on, new_pit, power_on_is_sound, bits_where, interrupt}
+use Rattle.dev_board.proofs.Facade.{line_of, AreEvents, SoundStays, HasLines, IsSound, power_on, inputs_of}
 use Rattle.dev_board.proofs.WireLaws.{names, wires_of-are, wires_after-are, one-lt, inputs-lt, inputs-out, inputs-serial}
 use Rattle.dev_pic.proofs.StepLaws.{steps_keep_level as pair_keeps_level}
 use Rattle.dev_pic.specs.Pair.{power_on as pair_on}
@@ -143,13 +142,10 @@ no-more x q = grind (arith, nat_tests)
 
 no-rise : (mode : Mode) (count a : ℕ) → rises mode count a a ≡ false
 unfolding rises
-no-rise RateGenerator count a = no-more _ (a / period count)
-no-rise SquareWave count a = no-more _ (a / period count)
-no-rise _ count a = grind (arith, nat_tests)
+no-rise mode count a = grind (arith, no-more)
 
 no-edge_since : (load : Option ℕ) (mode : Mode) (count at : ℕ) → edge_since load mode count at at ≡ false
-no-edge_since None mode count at = refl
-no-edge_since (Some load) mode count at = no-rise mode count (ticks load at)
+no-edge_since load mode count at = grind (arith, no-rise)
 
 no-edge : (counter : Counting) (at : ℕ) → edge_of counter at at ≡ false
 unfolding edge_of

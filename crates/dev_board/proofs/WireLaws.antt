@@ -38,14 +38,12 @@ with_wire-are input wires false e w = record {
 
 pub wires_after-are : (event : Event) (wires : ℕ) → names_wire event ≡ true → AreWires wires → AreWires (wires_after event wires)
 unfolding wires_after names_wire
-wires_after-are (Wire input up) wires e w = with_wire-are input wires up e w
-wires_after-are _ wires e w = w
+wires_after-are event wires e w = grind (arith, with_wire-are)
 
 -- If an event names a wire, it is one.
 pub names : (event : Event) → IsEvent event → names_wire event ≡ true
 unfolding names_wire
-names (Wire input up) e = e
-names _ e = refl
+names event e = grind arith
 
 -- The input of a wire's event.
 pub named-bound : (event : Event) (input : ℕ) (up : Bool) → names_wire event ≡ true → event ≡ Wire input up → input < 16

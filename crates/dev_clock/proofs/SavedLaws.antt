@@ -125,14 +125,11 @@ of-moment moment = either MayBePlaced (nat_le moment LAST_MOMENT) _ _ tt (omega 
 
 of-chips : (level : ℕ) (master slave : Result Chip ℕ) → MayBePlaced (by_chip (pair_of level master slave))
 unfolding by_chip pair_of
-of-chips level (Err rule) slave = omega arith
-of-chips level (Ok master) (Err rule) = omega arith
-of-chips level (Ok master) (Ok slave) = tt
+of-chips level master slave = grind arith
 
 of-device : {D : Type 0} (place : ℕ) (outcome : Result D ℕ) → place ≤ 4 → MayBePlaced (by_device place outcome)
 unfolding by_device
-of-device place (Ok device) l = tt
-of-device place (Err rule) l = l
+of-device place outcome l = grind arith
 
 of-lines : (m : State) → MayBePlaced (agreed m)
 unfolding agreed
@@ -141,11 +138,7 @@ of-lines m = either MayBePlaced (lines_agree m) _ _ tt (omega arith)
 of-all : (level : ℕ) (moment : Result ℕ Misfit) (pair : Result PicPair Misfit) (pit : Result Pit Misfit) (port : Result Port Misfit) → MayBePlaced moment
     → MayBePlaced pair → MayBePlaced pit → MayBePlaced port → MayBePlaced (board_joined level moment pair pit port)
 unfolding board_joined
-of-all level (Err misfit) pair pit port a b c d = a
-of-all level (Ok moment) (Err misfit) pit port a b c d = b
-of-all level (Ok moment) (Ok pair) (Err misfit) port a b c d = c
-of-all level (Ok moment) (Ok pair) (Ok pit) (Err misfit) a b c d = d
-of-all level (Ok moment) (Ok pair) (Ok pit) (Ok port) a b c d = of-lines _
+of-all level moment pair pit port a b c d = grind (arith, of-lines)
 
 pub placed : (level : ℕ) (cells : BoardCells) (misfit : Misfit) → board_restored level cells ≡ Err misfit → IsPlaced misfit
 placed level cells misfit e =

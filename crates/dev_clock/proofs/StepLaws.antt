@@ -4,7 +4,7 @@ use Rattle.dev_clock.proofs.Facade.{refl, NumbersAre, ◌≡◌, ℕ, ◌==◌, 
 use Rattle.dev_clock.proofs.Facade.{version_stays, is_port, line_of, AnswersTellInt, ClockGoesOn, ClockState, waited, acted, follows_line, step, CLOCK_INPUT}
 use Rattle.dev_clock.proofs.Facade.{◌<◌, Bool, List, [], ◌∷◌, arith, IsLevel, IsUpTo, NEWEST, wires_stay, IsEvent, AreEvents, State, after_by}
 use Rattle.dev_clock.proofs.Facade.{chip_on, lines_of, calls_keep_sound, read_of, passed, NEWEST_CLOCK, Rtc, SoundStays, HasDevices, IsSound, power_on}
-use Rattle.dev_clock.proofs.Facade.{on_board, clock_read, clock_written, after_all, true, false, cond, ap, stays-alike, AnswersAlike, AlikeStays, Alike}
+use Rattle.dev_clock.proofs.Facade.{on_board, clock_read, clock_written, after_all, ap, stays-alike, AnswersAlike, AlikeStays, Alike}
 use Rattle.dev_board.proofs.SavedLaws.{alike_stays as board_alike}
 use Rattle.dev_board.proofs.SoundLaws.{answers_tell_int as board_tells_int, clock_goes_on as board_goes_on, sound_stays_on as board_stays}
 use Rattle.dev_board.specs.{Sound.IsSound as IsSoundBoard, Sound.Alike as AlikeBoards, State.power_on as board_on, Step.step as board_step}
@@ -152,11 +152,6 @@ sound_stays_on = record { power_on = on-sound; event = step-sound; events = all-
 
 -- ---- devices that are alike give equal answers to each event
 
--- Two choices by one test.
-chosen : (b : Bool) (x y p q : Answer × ClockState) → AnswersAlike Alike x p → AnswersAlike Alike y q → AnswersAlike Alike (cond b x y) (cond b p q)
-chosen true x y p q first second = first
-chosen false x y p q first second = second
-
 -- The others have the same chip, and a board like the first.
 module _ (m : ClockState) (board : State) (a : AlikeBoards m.board board) where
   abbrev other : ClockState
@@ -171,17 +166,14 @@ module _ (m : ClockState) (board : State) (a : AlikeBoards m.board board) where
   unfolding waited
   waited-alike ns =
       let answers = board_alike.event (Wait ns) m.board board a in
-      record { value = answers.value; alike = record { clock = rw (ap (λ (s : State). s.moment) answers.alike.same, ap (λ (s : State). s.moment) a.same); board = answers.alike } }
+      record {
+        value = answers.value;
+        alike = record { clock = rw (ap (λ (s : State). s.moment) answers.alike.same, ap (λ (s : State). s.moment) a.same); board = answers.alike };
+      }
 
   acted-alike : (event : Event) → AnswersAlike Alike (acted event m) (acted event other)
   unfolding acted
-  acted-alike (Read port) = chosen (is_port port) _ _ _ _ (record { value = refl; alike = record { clock = refl; board = a } }) (on_board-alike (Read port))
-  acted-alike (Write port value) =
-      chosen (is_port port) _ _ _ _ (record { value = refl; alike = record { clock = refl; board = a } }) (on_board-alike (Write port value))
-  acted-alike (Wait ns) = waited-alike ns
-  acted-alike (Wire input up) =
-      chosen (input == CLOCK_INPUT) _ _ _ _ (record { value = refl; alike = record { clock = refl; board = a } }) (on_board-alike (Wire input up))
-  acted-alike event = on_board-alike event
+  acted-alike event = search (arith, nat_tests, on_board-alike, waited-alike)
 
 follows-alike : (first second : Answer × ClockState) → AnswersAlike Alike first second → AnswersAlike Alike (follows_line first) (follows_line second)
 unfolding follows_line

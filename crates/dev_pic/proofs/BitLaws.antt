@@ -13,13 +13,10 @@ pow_lt i h = pow_below i 8 h
 
 -- Tests of bits.
 both_tests : (a b : ℕ) → a < 2 → b < 2 → ((min a b == 1) ≡ ((a == 1) && (b == 1))) × ((max a b == 1) ≡ ((a == 1) || (b == 1)))
-both_tests (suc (suc a)) b h l = absurd (omega arith)
-both_tests a (suc (suc b)) h l = absurd (omega arith)
-both_tests _ _ h l = (refl, refl)
+both_tests a b h l = grind arith
 
 pub not_test : (a : ℕ) → a < 2 → ((1 - a) == 1) ≡ not (a == 1)
-not_test (suc (suc a)) h = absurd (omega arith)
-not_test _ h = refl
+not_test a h = grind arith
 
 pub has-and : (a b i : ℕ) → has (bit_and a b) i ≡ (has a i && has b i)
 has-and a b i = grind (arith, bit_at_and, both_tests, bit_at-lt)

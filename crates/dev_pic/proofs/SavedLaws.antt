@@ -1,14 +1,14 @@
 -- What is saved of a pair and restored from it, and what its hooks return.
-use Rattle.dev_pic.proofs.Facade.{◌≡◌, ℕ, ◌≤◌, ◌%◌, true, List, ℤ, take, drop, Result, Ok, Err, arith, nat_tests, IsLevel}
-use Rattle.dev_pic.proofs.Facade.{U8, number-lt, AllTrue, judged-ok, hook-ok, cell_count, IsChipCells, chip_of, registers_hold, rules}
-use Rattle.dev_pic.proofs.Facade.{restored, RestoredIsSound, pair_of, restored_pair, by_number, IsSoundChip, IsSoundPair, Chip, Role, Master, Slave, ChipFault}
-use Rattle.dev_pic.proofs.Facade.{PicPair, ◌++◌, length, subst, ◌∙◌, sym, ap, zero, suc, ◌+◌, ◌-◌, ◌<◌, ◌==◌, Bool, false, cond, []}
-use Rattle.dev_pic.proofs.Facade.{◌∷◌, refl, pos, codes, Option, Some, None, take-append_seam, drop-append_seam, nat_le, kinds, cell_in}
-use Rattle.dev_pic.proofs.Facade.{flag_in, state_number, state_of, named, saved_cells, carried, levels_hold, mode_holds, cells_under, i8259_rows, Numbers}
-use Rattle.dev_pic.proofs.Facade.{flag_number, AreOf, MayRestore, NEWEST, either, byte, flag, flag-back, AllHold, one_holds, none_lacks, of_rows, carried_rows}
-use Rattle.dev_pic.proofs.Facade.{none_failing, all_true, judged-all, ok-hook, first_failing_is_first, SoundMeetsRules, SavedAreCells, SavedIsRestored}
-use Rattle.dev_pic.proofs.Facade.{FaultsAreTold, CanSave, CanRestore, pair_cells, pair_carried, hook_rule, fault_of, hook_restored, HasRegisters, MeetsRules}
-use Rattle.dev_pic.proofs.Facade.{InitState, Ready, ELCR_SINCE, LTIM_SINCE, HookFault, hook_result, first_failing, judged_by}
+use Rattle.dev_pic.proofs.Facade.{◌≡◌, ℕ, ◌≤◌, ◌%◌, true, List, ℤ, take, drop, Result, Ok, Err, arith, nat_tests, IsLevel, U8, number-lt}
+use Rattle.dev_pic.proofs.Facade.{AllTrue, judged-ok, hook-ok, cell_count, IsChipCells, chip_of, registers_hold, rules, restored, RestoredIsSound, pair_of}
+use Rattle.dev_pic.proofs.Facade.{restored_pair, by_number, IsSoundChip, IsSoundPair, Chip, Role, Master, Slave, ChipFault, PicPair, ◌++◌, length, subst}
+use Rattle.dev_pic.proofs.Facade.{◌∙◌, sym, ap, zero, suc, ◌+◌, ◌-◌, ◌<◌, ◌==◌, Bool, false, cond, [], ◌∷◌, refl, pos, codes}
+use Rattle.dev_pic.proofs.Facade.{Option, Some, take-append_seam, drop-append_seam, nat_le, kinds, cell_in, flag_in, state_number, state_of, named, saved_cells}
+use Rattle.dev_pic.proofs.Facade.{carried, levels_hold, mode_holds, cells_under, i8259_rows, Numbers, flag_number, AreOf, MayRestore, NEWEST, either, byte}
+use Rattle.dev_pic.proofs.Facade.{flag, flag-back, AllHold, one_holds, none_lacks, of_rows, carried_rows, none_failing, all_true, judged-all, ok-hook}
+use Rattle.dev_pic.proofs.Facade.{first_failing_is_first, SoundMeetsRules, SavedAreCells, SavedIsRestored, FaultsAreTold, CanSave, CanRestore, pair_cells}
+use Rattle.dev_pic.proofs.Facade.{pair_carried, hook_rule, fault_of, hook_restored, HasRegisters, MeetsRules, InitState, ELCR_SINCE, LTIM_SINCE, HookFault}
+use Rattle.dev_pic.proofs.Facade.{hook_result, first_failing, judged_by}
 use Rattle.vms_kinds.specs.declared.Kind.TheVariants.{Bool as Truth}
 
 -- ---- a restored pair is sound
@@ -46,8 +46,7 @@ made_of level _ _ pair e = cc
 
 pub number-ok : (outcome : Result PicPair ChipFault) (pair : PicPair) → by_number outcome ≡ Ok pair → outcome ≡ Ok pair
 unfolding by_number
-number-ok (Ok found) pair e = cc
-number-ok (Err fault) pair e = cc
+number-ok outcome pair e = grind arith
 
 pub pair-sound : (level : ℕ) (master slave : List ℤ) (pair : PicPair) → IsLevel level → IsChipCells master → IsChipCells slave
     → restored_pair level master slave ≡ Ok pair → IsSoundPair pair × (pair.level ≡ level)
@@ -83,12 +82,10 @@ slave_cells master slave both joined first cells = rw joined (subst IsChipCells 
 
 -- A state is that of its own number.
 state-back : (s : InitState) → state_of (state_number s) ≡ s
-state-back Ready = refl
-state-back _ = refl
+state-back s = grind arith
 
 state-le : (s : InitState) → state_number s ≤ 3
-state-le Ready = omega arith
-state-le _ = omega arith
+state-le s = grind arith
 
 -- A chip is that of its own cells.
 pub chip_of-saved : (chip : Chip) → chip_of (saved_cells NEWEST chip) ≡ chip
@@ -99,9 +96,7 @@ chip_of-saved chip = simp (flag-back, state-back)
 registers-met : (level : ℕ) (role : Role) (chip : Chip) → HasRegisters level role chip
     → registers_hold chip.lowest (state_number chip.init_state) chip.base ≡ true
 unfolding registers_hold
-registers-met level role chip h =
-    let state = state-le chip.init_state in
-    grind (arith, nat_tests)
+registers-met level role chip h = grind (arith, state-le)
 
 -- All rules hold for a sound chip.
 met : (level : ℕ) (role : Role) (chip : Chip) → IsSoundChip level role chip → AllTrue (rules level role (saved_cells NEWEST chip))
@@ -255,8 +250,7 @@ record IsFault (fault : ChipFault) : Type 0 where
 
 failing : (answer : Option ℕ) (chip : Chip) (rule : ℕ) → judged_by answer chip ≡ Err rule → answer ≡ Some rule
 unfolding judged_by
-failing None chip rule e = cc
-failing (Some found) chip rule e = cc
+failing answer chip rule e = grind arith
 
 chip-rule : (level : ℕ) (role : Role) (cells : List ℤ) (rule : ℕ) → restored level role cells ≡ Err rule → IsRule rule
 chip-rule level role cells rule e =

@@ -42,8 +42,7 @@ masked_never_wins role chip input bound within masked e =
 -- Except in special mask and special fully nested mode, all of `isr` counts.
 plain_service : (role : Role) (chip : Chip) → chip.special_mask ≡ false → chip.nested ≡ false → served_of role chip ≡ chip.isr
 unfolding served_of
-plain_service Master chip mask nested = simp (mask, nested)
-plain_service Slave chip mask nested = simp mask
+plain_service role chip mask nested = grind arith
 
 pub served_blocks_lower : ServedBlocksLower
 served_blocks_lower role chip place lower mask nested le within served e =

@@ -3,7 +3,7 @@ use Rattle.dev_pic.proofs.BitLaws.{level-lines, level_inputs-lt, but_not-lt, wit
 use Rattle.dev_pic.proofs.Facade.{refl, ◌≡◌, ℕ, Option, Some, None, false, ◌-◌, ◌%◌, ◌<◌, ◌≤◌, ◌==◌, Bool, true, IfSome, arith}
 use Rattle.dev_pic.proofs.Facade.{nat_tests, or_of_8, and_le_l, bit_and, nat_le, either, has, ended, ended_lowest, commanded, selected, written_even}
 use Rattle.dev_pic.proofs.Facade.{written_odd_in, level_inputs, level_inputs_of, ltim_after, requests_of, served_of, winner_at, taken, settled, started}
-use Rattle.dev_pic.proofs.Facade.{polled_by, read_of, answered, cascaded, command_of, HasInput, Chip, InitState, Icw2, Ocw2, but_not, with_input, without_input}
+use Rattle.dev_pic.proofs.Facade.{polled_by, read_of, answered, cascaded, command_of, HasInput, Chip, InitState, Ocw2, but_not, with_input, without_input}
 use Rattle.dev_pic.proofs.Facade.{requests_hold, mode_holds, HasRegisters, IsSoundChip, Role, LTIM_SINCE, ◌^◌, or-true, cond_both, levels_hold, elcr_mask}
 use Rattle.dev_pic.proofs.Facade.{elcr_written, cascade_input, IsLevel, StepsKeepRegisters, StepsKeepLevel, chip_on, power_on, is_port, with_cascade}
 use Rattle.dev_pic.proofs.Facade.{settled_pair, read_pair, written_pair, acked, acked_for, PairHasRegisters, IsSoundPair, Master, Slave, ELCR_SINCE, PicPair}
@@ -108,11 +108,7 @@ module _ (level : ℕ) (role : Role) (chip : Chip) (h : HasRegisters level role 
 
   pub written_odd-registers : (s : InitState) (value : ℕ) → value < 256 → HasRegisters level role (written_odd_in s value chip)
   unfolding written_odd_in
-  written_odd-registers Icw2 value v =
-      let below : value - value % 8 < 256 = omega arith in
-      let clear : (value - value % 8) % 8 ≡ 0 = omega arith in
-      search
-  written_odd-registers _ value v = search
+  written_odd-registers s value v = grind arith
 
 module _ (level : ℕ) (role : Role) (chip : Chip) (h : HasRegisters level role chip) where
   polled-registers : (o : Option ℕ) → IfSome o (λ w. w < 8) → HasRegisters level role (polled_by o chip).1
@@ -166,9 +162,7 @@ levels_off level _ = grind (arith, nat_tests)
 -- Rule 2 holds for what a write keeps, at a level with edge/level registers.
 levels_written : (level : ℕ) (role : Role) (value : ℕ) → ELCR_SINCE ≤ level → levels_hold level role (bit_and value (elcr_mask role)) ≡ true
 unfolding levels_hold
-levels_written level role value h =
-    let twice = and-twice value (elcr_mask role) in
-    grind (arith, nat_tests)
+levels_written level role value h = grind (arith, and-twice)
 
 -- The level mode is off at power on.
 mode_off : (level : ℕ) → mode_holds level false ≡ true

@@ -86,8 +86,7 @@ module _ (lowest requests served : ℕ) where
 
 -- No two inputs meet the relation, and none does if there is no winner.
 only_for : (lowest requests served winner : ℕ) (o : Option ℕ) → MeansWinner lowest requests served o → IsWinner lowest requests served winner → o ≡ Some winner
-only_for lowest requests served winner None none w = grind arith
-only_for lowest requests served winner (Some found) f w = grind arith
+only_for lowest requests served winner o none w = grind arith
 
 pub winner_is_least_request : WinnerIsLeastRequest
 winner_is_least_request = search (arith, winner_of-means, only_for)

@@ -20,7 +20,7 @@ pub use Rattle.vms_fields.specs.declared.serial.TheConstants.{TX_DATA, TX_DUE, T
 pub use Rattle.vms_hooks.specs.Numbers.{Numbers}
 pub use Rattle.dev_base.proofs.CellLaws.{all_set, bytes_within, firsts_more, one_set, byte, number-lt, of_more, of_none, timer, word, AllHold, AllLack}
 pub use Rattle.dev_base.proofs.CellLaws.{carried_rows, none_lacks, of_rows, one_holds}
-pub use Rattle.dev_base.proofs.RuleLaws.{either, AllTrue, first_failing_is_first, hook-ok, judged-all, judged-ok}
+pub use Rattle.dev_base.proofs.RuleLaws.{either, first_failing_is_first, hook-ok, judged-all, judged-ok}
 pub use Rattle.dev_base.specs.{Levels.IsLevel, Tables.since, declared.limits.TheConstants.LAST_MOMENT, declared.limits.TheConstants.NEWEST}
 pub use Rattle.dev_base.specs.Bits.{bits_where, has, same}
 pub use Rattle.dev_base.specs.Cells.{AreOf, cell_at, firsts, kind_at, nat_of, number_at}

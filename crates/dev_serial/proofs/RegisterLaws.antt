@@ -4,7 +4,7 @@ use Rattle.dev_serial.proofs.Facade.{refl, NumbersAre, ◌≡◌, ℕ, Bool, tru
 use Rattle.dev_serial.proofs.Facade.{None, sym, ap, ◌∙◌, ◌/◌, arith, is_some, is_empty, switch_of, fcr_cleared, fcr_written, nat_tests}
 use Rattle.dev_serial.proofs.Facade.{receiver_cleared, transmitter_cleared, read_of, thr_written, ier_written, written, came_in, advanced, has, Port, asks}
 use Rattle.dev_serial.proofs.Facade.{interrupt, is_pending, line_of, IsFirstAsking, IdentifiesFirst, SomeAsks, LineTellsAsking, HasNoBytes, SwitchClearsBoth}
-use Rattle.dev_serial.proofs.Facade.{IsResetBy, ResetsByBits, StaysOff, IsSwitched, WritesSwitch, Interrupt, LineStatus, NonePending, Trigger, ReadsKeepLevel}
+use Rattle.dev_serial.proofs.Facade.{IsResetBy, ResetsByBits, StaysOff, IsSwitched, WritesSwitch, Interrupt, NonePending, Trigger, ReadsKeepLevel}
 use Rattle.dev_serial.proofs.Facade.{WritesKeepLevel, BytesInKeepLevel, AdvancesKeepLevel, cond_both, first_asking, priorities, All-cons, All-nil, LoopsModem}
 use Rattle.dev_serial.proofs.Facade.{◌+◌, ◌*◌, ◌%◌, ◌<◌, bit_or, bits_where, msr_of, ReachesDivisor, ◌≤◌, length, append_assoc}
 use Rattle.dev_serial.proofs.Facade.{append-nil, common_steps, room_of, received, all_came, RoomIsHeld}
@@ -41,9 +41,7 @@ module _ (now : ℕ) (port : Port) where
 
   -- if one is requested, that of highest priority isn't NonePending
   pending : (some : Interrupt) → Pending some → asks now port some ≡ true → Pending (first_asking now port priorities)
-  pending LineStatus p h = rw h
-  pending NonePending p h = cc
-  pending _ p h = grind (arith, nat_tests)
+  pending some p h = grind arith
 
   line : (line_of now port ≡ true → SomeAsks now port) × (SomeAsks now port → line_of now port ≡ true)
   unfolding line_of interrupt

@@ -6,10 +6,10 @@ use Rattle.dev_serial.proofs.Facade.{nat_lt, is_some, judged-ok, first_failing_i
 use Rattle.dev_serial.proofs.Facade.{registers_hold, fcr_holds, status_holds, shift_holds, timeout_holds, latch_holds, rules, restored, unused_hold, id_holds}
 use Rattle.dev_serial.proofs.Facade.{once_holds, rings_hold, longest_timeout, is_unused, PortNumbers, first_failing, judged_by, IsFirstFailing, is_empty}
 use Rattle.dev_serial.proofs.Facade.{IsShort, same, has, AreBytes, IsShift, IsTimeout, IsSound, HasRegisters, IsReceiver, IsTransmitter, Trigger}
-use Rattle.dev_serial.proofs.Facade.{LONGEST_CHARACTER, NEVER, cell_at, number_at, IsLevel, U8, U16, number-lt, IsPortCells, bytes_at, array_at, ring_at}
-use Rattle.dev_serial.proofs.Facade.{numbers_of, IsSoundAt, RestoredIsSound, DIVISOR, THR_IPENDING, RX_COUNT, RX, TX_COUNT, TX, TIMEOUT_AT, RX_DATA, TX_DATA}
-use Rattle.dev_serial.proofs.Facade.{eqb-true, LAST_MOMENT, lsr_of, SoundMeetsRules, saved, fcr_number, moment_number, due_number, IsHeld}
-use Rattle.dev_serial.proofs.SavedLaws.{unused-at, in_arrays, ring-bytes, stored-empty, stored-short, stored-bytes, firsts-bytes, byte-at, restored-saved, on}
+use Rattle.dev_serial.proofs.Facade.{LONGEST_CHARACTER, NEVER, cell_at, IsLevel, U16, number-lt, IsPortCells, array_at, ring_at, numbers_of, IsSoundAt}
+use Rattle.dev_serial.proofs.Facade.{RestoredIsSound, DIVISOR, RX_COUNT, RX, TX_COUNT, TX, RX_DATA, TX_DATA, LAST_MOMENT, lsr_of, SoundMeetsRules, saved}
+use Rattle.dev_serial.proofs.Facade.{fcr_number, moment_number, due_number, IsHeld}
+use Rattle.dev_serial.proofs.SavedLaws.{unused-at, in_arrays, in_rings, bytes-in, stored-empty, stored-short, stored-bytes, byte-at, restored-saved, on}
 
 -- ---- every rule holds for numbers that are restored
 
@@ -102,9 +102,7 @@ implied a b h e = grind arith
 module _ (level now : ℕ) (n : PortNumbers) (is_level : IsLevel level) (ranges : HasRanges n) (rules : Hold level now n) where
   registers : HasRegisters level n.divisor n.ier n.lcr n.mcr n.scr (is_some (fifos_of n.fcr))
   unfolding registers_hold fcr_holds
-  registers =
-      let fifos = level-on level n.fcr rules.fcr in
-      search (arith, and_parts, leb-true)
+  registers = grind (arith, level-on)
 
   receiver : IsReceiver now level (is_some (fifos_of n.fcr)) (port_of level n).receiver
   unfolding port_of timeout_holds
@@ -136,42 +134,33 @@ module _ (level now : ℕ) (n : PortNumbers) (is_level : IsLevel level) (ranges 
 
 -- the ranges of cells
 module _ (cells : List ℤ) (is : IsPortCells cells) where
-  array-bytes : (place : ℕ) → THR_IPENDING < place → place + 16 ≤ TIMEOUT_AT → AreBytes (bytes_at cells place)
-  array-bytes place low high =
-      firsts-bytes (λ i. number_at cells (place + i)) 0 16 (λ k l m. number-lt U8 (cell_at cells (place + k)) (in_arrays cells place 16 is.of_kinds (omega arith) high (place + k) (omega arith) (omega arith)))
-
   ranges-of : HasRanges (numbers_of cells)
   unfolding numbers_of
   ranges-of =
       let divisor = number-lt U16 (cell_at cells DIVISOR) (is.of_kinds.in_range DIVISOR (omega arith)) in
-      let rx = stored-bytes (array_at cells RX_COUNT) (ring_at cells RX_DATA) (array-bytes RX (omega arith) (omega arith))
-      (ring-bytes cells is.of_kinds RX_DATA (omega arith) (omega arith)) in
-      let tx = stored-bytes (array_at cells TX_COUNT) (ring_at cells TX_DATA) (array-bytes TX (omega arith) (omega arith))
-      (ring-bytes cells is.of_kinds TX_DATA (omega arith) (omega arith)) in
+      let rx = stored-bytes (array_at cells RX_COUNT) (ring_at cells RX_DATA) (bytes-in cells RX (in_arrays cells RX 16 is.of_kinds (omega arith) (omega arith)))
+      (bytes-in cells RX_DATA (in_rings cells RX_DATA 16 is.of_kinds (omega arith) (omega arith))) in
+      let tx = stored-bytes (array_at cells TX_COUNT) (ring_at cells TX_DATA) (bytes-in cells TX (in_arrays cells TX 16 is.of_kinds (omega arith) (omega arith)))
+      (bytes-in cells TX_DATA (in_rings cells TX_DATA 16 is.of_kinds (omega arith) (omega arith))) in
       search (arith, byte-at cells is.of_kinds)
 
-own-level : (level : ℕ) (n : PortNumbers) → (port_of level n).level ≡ level
-unfolding port_of
-own-level level n = refl
-
 pub restored_is_sound : RestoredIsSound
+unfolding port_of
 restored_is_sound numbers cells port can e =
     let h = hold numbers.level numbers.moment (numbers_of cells) port (hook-ok _ port e) in
     subst (IsSoundAt numbers.level numbers.moment) h.1 (record {
       sound = sound numbers.level numbers.moment (numbers_of cells) can.pass.is_level (ranges-of cells can.port_cells) h.0;
-      own_level = own-level numbers.level (numbers_of cells);
+      own_level = refl;
     })
 
 -- ---- a port is sound exactly if a stream can describe it and the rules hold for what is saved
 
 -- from sound to held
 told : (now : ℕ) (runs : Bool) (timeout : Option ℕ) → now ≤ LAST_MOMENT → IsTimeout now runs timeout → IsTold timeout
-told now runs None h t = tt
-told now runs (Some moment) h t = omega arith
+told now runs timeout h t = grind arith
 
 is-byte : (now : ℕ) (shift : Option Shift) → IsShift now shift → IsByte shift
-is-byte now None s = tt
-is-byte now (Some shift) s = s.byte
+is-byte now shift s = grind arith
 
 held : (now : ℕ) (port : Port) → now ≤ LAST_MOMENT → IsSound now port → IsHeld port
 held now port h s =
@@ -186,16 +175,14 @@ fifos-level level fifos rest h e = grind (arith, on)
 shift-from : (now : ℕ) (shift : Option Shift) (idle empty five : Bool) → idle ≡ (empty && not (is_some shift)) → IsByte shift
     → (same idle (due_number shift == NEVER) && cond idle five (nat_lt now (due_number shift) && nat_le (due_number shift) (now + LONGEST_CHARACTER))) ≡ true
     → IsShift now shift
-shift-from now None idle empty five e b h = tt
-shift-from now (Some shift) idle empty five e b h = search (arith, and_parts, ltb-true, leb-true)
+shift-from now shift idle empty five e b h = grind arith
 
 idle-from : (shift : Option Shift) (idle empty rest : Bool) → idle ≡ (empty && not (is_some shift)) → (same idle (due_number shift == NEVER) && rest) ≡ true
     → is_some shift ≡ false → empty ≡ true
 idle-from shift idle empty rest e h n = grind (arith, and_parts)
 
 timeout-from : (now : ℕ) (runs : Bool) (timeout : Option ℕ) → IsTold timeout → cond runs (not (moment_number timeout == NEVER) && nat_le (moment_number timeout) (now + longest_timeout)) (moment_number timeout == NEVER) ≡ true → IsTimeout now runs timeout
-timeout-from now runs None t h = grind arith
-timeout-from now runs (Some moment) t h = search (arith, and_parts, leb-true, eqb-true)
+timeout-from now runs timeout t h = grind arith
 
 module _ (now : ℕ) (port : Port) (is : IsHeld port) (rules : Hold port.level now (saved 4 now port)) where
   abbrev lsr : IsStatus (lsr_of port) (not (is_empty port.receiver.held)) port.receiver.overrun (is_empty port.transmitter.waiting)
@@ -204,9 +191,7 @@ module _ (now : ℕ) (port : Port) (is : IsHeld port) (rules : Hold port.level n
 
   port-registers : HasRegisters port.level port.divisor port.ier port.lcr port.mcr port.scr (is_some port.fifos)
   unfolding registers_hold fcr_holds saved
-  port-registers =
-      let fifos = fifos-level port.level port.fifos _ rules.fcr in
-      search (arith, and_parts, leb-true)
+  port-registers = grind (arith, fifos-level)
 
   port-timeout : IsTimeout now (nat_le 3 port.level && (is_some port.fifos && not (is_empty port.receiver.held))) port.receiver.timeout
   unfolding timeout_holds saved

@@ -1,15 +1,15 @@
 -- The saved cells of a port, of its own set and carried to the newest one.
 use Rattle.dev_serial.proofs.AlikeLaws.{lsr-status}
 use Rattle.dev_serial.proofs.Facade.{PlacesAre, IsArray, ◌≡◌, ℕ, zero, suc, ◌+◌, ◌<◌, ◌≤◌, ◌^◌, Bool, true, false, cond, List}
-use Rattle.dev_serial.proofs.Facade.{◌∷◌, ◌++◌, map, replicate, ℤ, pos, refl, [], arith, append_assoc, length, take, drop, Option, Some, None}
-use Rattle.dev_serial.proofs.Facade.{⊎_elim, range_with_len, nat_le, is_some, cases_lt, get_or-append-add, get_or_append_left, get_or-map, get_or_past}
-use Rattle.dev_serial.proofs.Facade.{and_le_r, nil_from_length, serial_rows, InRange, U8, I8, of_none, of_more, byte, word, timer, AllHold, one_holds, of_rows}
-use Rattle.dev_serial.proofs.Facade.{AreOf, firsts, cell_at, since, named, field_cells, array_cells, ring_cells, cells_of, kinds, IsPortCells, FIFOS_SINCE}
-use Rattle.dev_serial.proofs.Facade.{TIMEOUT_SINCE, RINGS_SINCE, PortNumbers, Counted, Ring, NEWEST, LAST_MOMENT, lsr_of, AreSaved, SavedAreCells, IsShort}
-use Rattle.dev_serial.proofs.Facade.{Port, interrupt, id_number, saved, ipending_of, single_byte, fifo_bytes, in_array, in_ring, fcr_number, shift_number}
-use Rattle.dev_serial.proofs.Facade.{due_number, moment_number, IsSound, AreBytes, IsShift, IsTimeout, byte_of, padded, counted_of, ring_of, Interrupt, Shift}
-use Rattle.dev_serial.proofs.Facade.{Trigger, RX, TX_COUNT, TX, TIMEOUT_AT, number_at, RX_COUNT, cells_at, hook_restored, Ok, nat_tests, AllLack, none_lacks}
-use Rattle.dev_serial.proofs.Facade.{carried_rows, carried, numbers_of, SavedComesBack, Alike, Numbers, hook_result, CanSave, CanRestore}
+use Rattle.dev_serial.proofs.Facade.{◌∷◌, ◌++◌, map, replicate, ℤ, pos, refl, [], arith, append_assoc, length, take, drop, Option, None}
+use Rattle.dev_serial.proofs.Facade.{range_with_len, nat_le, is_some, get_or-append-add, get_or_append_left, get_or-map, get_or_past, and_le_r, nil_from_length}
+use Rattle.dev_serial.proofs.Facade.{serial_rows, InRange, U8, I8, of_none, of_more, byte, word, timer, AllHold, one_holds, of_rows, AreOf, firsts, cell_at}
+use Rattle.dev_serial.proofs.Facade.{since, named, field_cells, array_cells, ring_cells, cells_of, kinds, IsPortCells, FIFOS_SINCE, TIMEOUT_SINCE, RINGS_SINCE}
+use Rattle.dev_serial.proofs.Facade.{PortNumbers, Counted, Ring, NEWEST, LAST_MOMENT, lsr_of, AreSaved, SavedAreCells, IsShort, Port, interrupt, id_number}
+use Rattle.dev_serial.proofs.Facade.{saved, ipending_of, single_byte, fifo_bytes, in_array, in_ring, fcr_number, shift_number, due_number, moment_number}
+use Rattle.dev_serial.proofs.Facade.{IsSound, AreBytes, IsShift, IsTimeout, byte_of, padded, counted_of, ring_of, Interrupt, Shift, Trigger, RX, TX_COUNT, TX}
+use Rattle.dev_serial.proofs.Facade.{TIMEOUT_AT, number_at, RX_COUNT, cells_at, hook_restored, Ok, nat_tests, AllLack, none_lacks, carried_rows, carried}
+use Rattle.dev_serial.proofs.Facade.{numbers_of, SavedComesBack, Alike, Numbers, hook_result, CanSave, CanRestore}
 use Rattle.dev_serial.proofs.SavedLaws.{byte_of-lt, byte_of-padded, array-short, ring-short, restored-saved}
 
 -- ---- the places are the constants' by their definition
@@ -104,24 +104,19 @@ id-range : (interrupt : Interrupt) → id_number interrupt < 256
 id-range interrupt = grind arith
 
 single-range : (fifos : Option Trigger) (bytes : List ℕ) → AreBytes bytes → single_byte fifos bytes < 256
-single-range None (byte ∷ bytes) b = b.0
-single-range _ _ b = grind arith
+single-range fifos bytes b = grind arith
 
 fifo-range : (fifos : Option Trigger) (bytes : List ℕ) → AreBytes bytes → AreBytes (fifo_bytes fifos bytes)
-fifo-range None bytes b = tt
-fifo-range (Some trigger) bytes b = b
+fifo-range fifos bytes b = grind arith
 
 shift-range : (now : ℕ) (shift : Option Shift) → IsShift now shift → shift_number shift < 256
-shift-range now None s = omega arith
-shift-range now (Some shift) s = s.byte
+shift-range now shift s = grind arith
 
 due-range : (now : ℕ) (shift : Option Shift) → now ≤ LAST_MOMENT → IsShift now shift → due_number shift < 18446744073709551616
-due-range now None h s = omega arith
-due-range now (Some shift) h s = omega arith
+due-range now shift h s = grind arith
 
 moment-range : (now : ℕ) (runs : Bool) (timeout : Option ℕ) → now ≤ LAST_MOMENT → IsTimeout now runs timeout → moment_number timeout < 18446744073709551616
-moment-range now runs None h t = omega arith
-moment-range now runs (Some timeout) h t = omega arith
+moment-range now runs timeout h t = grind arith
 
 fcr-range : (fifos : Option Trigger) → fcr_number fifos < 256
 fcr-range fifos = grind arith
@@ -162,9 +157,7 @@ module _ (set now : ℕ) (port : Port) (early : now ≤ LAST_MOMENT) (sound : Is
 
 -- a number from 2 to 4 is one of these
 from_two : (P : ℕ → Type 0) (set : ℕ) → FIFOS_SINCE ≤ set → set ≤ NEWEST → P 2 → P 3 → P 4 → P set
-from_two P set low high b c d =
-    ⊎_elim (λ below. let e : set ≡ 2 = omega arith in rw e b) (λ from3.
-    ⊎_elim (λ below. let e : set ≡ 3 = omega arith in rw e c) (λ from4. let e : set ≡ 4 = omega arith in rw e d) (cases_lt set 4)) (cases_lt set 3)
+from_two P set low high b c d = grind arith
 
 -- a counted array by its index: the elements after the count are 0 from the count on
 zero-from : (front back : List ℤ) (bytes : List ℕ) (i : ℕ) → length bytes ≤ i → i < 16

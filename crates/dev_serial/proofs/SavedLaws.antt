@@ -1,5 +1,5 @@
 -- The saved numbers of a sound port meet every rule, and are restored as a port like it.
-use Rattle.dev_serial.proofs.{Facade.AllTrue, SoundLaws.not_empty}
+use Rattle.dev_serial.proofs.SoundLaws.{not_empty}
 use Rattle.dev_serial.proofs.AlikeLaws.{IsStatus, lsr-status, latch_back, IsLatchBack, latch_comes_back}
 use Rattle.dev_serial.proofs.Facade.{◌≡◌, ℕ, ◌+◌, ◌<◌, Bool, true, false, take, ap, ◌∙◌, arith, zero, suc, ◌-◌, ◌%◌, ◌≤◌}
 use Rattle.dev_serial.proofs.Facade.{◌==◌, not, ◌&&◌, cond, List, [], ◌∷◌, length, map, refl, sym, ◌++◌, ℤ, replicate, subst, nat_tests}
@@ -132,11 +132,9 @@ pub in_rings : (cells : List ℤ) (place count : ℕ) → AreOf (kinds 4) cells 
 in_rings cells place count all low high k l h =
     subst (λ kind. InRange kind (cell_at cells k)) (ring-kinds k (omega arith) (omega arith)) (all.in_range k (omega arith))
 
--- the elements of a ring
-pub ring-bytes : (cells : List ℤ) → AreOf (kinds 4) cells → (place : ℕ) → RX_DATA ≤ place → place + 16 ≤ 84 → AreBytes (bytes_at cells place)
-ring-bytes cells of_kinds place low high =
-    firsts-bytes (λ i. number_at cells (place + i)) 0 16
-    (λ k l m. number-lt U8 (cell_at cells (place + k)) (in_rings cells place 16 of_kinds low high (place + k) (omega arith) (omega arith)))
+-- the sixteen elements of an array or a ring
+pub bytes-in : (cells : List ℤ) (place : ℕ) → AreBytesIn cells place 16 → AreBytes (bytes_at cells place)
+bytes-in cells place are = firsts-bytes (λ i. number_at cells (place + i)) 0 16 (λ k l m. number-lt U8 (cell_at cells (place + k)) (are (place + k) (omega arith) (omega arith)))
 
 -- ---- each part of a port is restored from its numbers
 
@@ -233,41 +231,6 @@ module _ (set now : ℕ) (port : Port) (early : now ≤ LAST_MOMENT) (sound : Is
       (is_empty port.transmitter.waiting && not (is_some port.transmitter.shift))
   lsr = lsr-status port
 
-  registers : registers_hold (saved set now port) ≡ true
-  unfolding registers_hold saved
-  registers = and_from _ _ (le-leb _ _ sound.registers.ier_range) (and_from _ _ (le-leb _ _ sound.registers.mcr_range) (eq-eqb _ _ lsr.mask))
-
-  fcr : fcr_holds port.level (saved set now port) ≡ true
-  unfolding fcr_holds saved
-  fcr = fcr-saved port.level port.fifos sound.registers.fifos
-
-  unused : unused_hold (saved set now port) ≡ true
-  unfolding unused_hold saved
-  unused = rw (unused-at set port.fifos port.receiver.held, unused-at set port.fifos port.transmitter.waiting) (unused-saved port.fifos _ _)
-
-  line_status : status_holds (saved set now port) ≡ true
-  unfolding status_holds saved
-  line_status = rw (unused-at set port.fifos port.receiver.held, unused-at set port.fifos port.transmitter.waiting)
-      (status-saved port.fifos _ _ _ _ lsr.ready_bit lsr.empty_bit)
-
-  shift : shift_holds now (saved set now port) ≡ true
-  unfolding shift_holds saved
-  shift = rw lsr.empty_bit (shift-saved now port.transmitter.shift _ _ early sound.transmitter.shift sound.transmitter.idle lsr.idle_bit)
-
-  timeout : timeout_holds port.level now (saved set now port) ≡ true
-  unfolding timeout_holds saved
-  timeout = rw (unused-at set port.fifos port.receiver.held)
-      (timeout-saved port.level now port.fifos port.receiver.held port.receiver.timeout early sound.receiver.timeout)
-
-  once : once_holds (saved set now port) ≡ true
-  unfolding once_holds saved
-  once = and_from _ _ (once-at set port.fifos port.receiver.held) (once-at set port.fifos port.transmitter.waiting)
-
-  rings : rings_hold (saved set now port) ≡ true
-  unfolding rings_hold saved
-  rings = and_from _ _ (ring_of-holds _ (ring-short set port.fifos _ sound.receiver.short))
-      (ring_of-holds _ (ring-short set port.fifos _ sound.transmitter.short))
-
   -- the port that comes back
   back_latch : Bool
   back_latch = latch_back (has port.ier 2 && port.receiver.overrun) (has port.ier 0 && is_data_ready port.fifos port.receiver.held) (has port.ier 0 && (nat_le 3 port.level && has_come now port.receiver.timeout)) (has port.ier 1) port.thr_empty
@@ -294,10 +257,6 @@ module _ (set now : ℕ) (port : Port) (early : now ≤ LAST_MOMENT) (sound : Is
     shift-back now port.transmitter.shift early sound.transmitter.shift,
   )
 
-  latch : latch_holds (saved set now port) ≡ true
-  unfolding latch_holds saved interrupt
-  latch = and_from _ _ tells.known (implied _ _ (λ h. lsr.empty_bit ∙ sound.transmitter.latched (tells.was_set h)))
-
   same_id : id_number (interrupt now port) ≡ id_number (interrupt now back)
   unfolding interrupt back back_latch
   same_id = ap id_number (sym tells.same_id)
@@ -314,12 +273,27 @@ module _ (set now : ℕ) (port : Port) (early : now ≤ LAST_MOMENT) (sound : Is
   unfolding back back_latch
   alike = record { same = refl; enabled = tells.while_enabled }
 
-  all : AllTrue (rules port.level now (saved set now port))
-  all = (registers, (fcr, (unused, (line_status, (shift, (timeout, (latch, (id, (once, (rings, tt))))))))))
+  all : (registers_hold (saved set now port) ≡ true) × (fcr_holds port.level (saved set now port) ≡ true) × (unused_hold (saved set now port) ≡ true) × (status_holds (saved set now port) ≡ true) × (shift_holds now (saved set now port) ≡ true) × (timeout_holds port.level now (saved set now port) ≡ true) × (latch_holds (saved set now port) ≡ true) × (id_holds port.level now (saved set now port) ≡ true) × (once_holds (saved set now port) ≡ true) × (rings_hold (saved set now port) ≡ true)
+  unfolding registers_hold fcr_holds unused_hold status_holds shift_holds timeout_holds latch_holds once_holds rings_hold saved interrupt
+  all = (
+    and_from _ _ (le-leb _ _ sound.registers.ier_range) (and_from _ _ (le-leb _ _ sound.registers.mcr_range) (eq-eqb _ _ lsr.mask)),
+    fcr-saved port.level port.fifos sound.registers.fifos,
+    rw (unused-at set port.fifos port.receiver.held, unused-at set port.fifos port.transmitter.waiting) (unused-saved port.fifos _ _),
+    rw (unused-at set port.fifos port.receiver.held, unused-at set port.fifos port.transmitter.waiting)
+        (status-saved port.fifos _ _ _ _ lsr.ready_bit lsr.empty_bit),
+    rw lsr.empty_bit (shift-saved now port.transmitter.shift _ _ early sound.transmitter.shift sound.transmitter.idle lsr.idle_bit),
+    rw (unused-at set port.fifos port.receiver.held)
+        (timeout-saved port.level now port.fifos port.receiver.held port.receiver.timeout early sound.receiver.timeout),
+    and_from _ _ tells.known (implied _ _ (λ h. lsr.empty_bit ∙ sound.transmitter.latched (tells.was_set h))),
+    id,
+    and_from _ _ (once-at set port.fifos port.receiver.held) (once-at set port.fifos port.transmitter.waiting),
+    and_from _ _ (ring_of-holds _ (ring-short set port.fifos _ sound.receiver.short)) (ring_of-holds _ (ring-short set port.fifos _ sound.transmitter.short)),
+  )
 
   restored-there : restored port.level now (saved set now port) ≡ Ok (port_of port.level (saved set now port))
   unfolding restored
-  restored-there = judged-all (rules port.level now (saved set now port)) _ all
+  restored-there = judged-all (rules port.level now (saved set now port)) _
+      (all.0, (all.1, (all.2, (all.3, (all.4, (all.5, (all.6, (all.7, (all.8, (all.9, tt))))))))))
 
   pub restored-saved : (other : Port) × (restored port.level now (saved set now port) ≡ Ok other) × Alike port other
   restored-saved = (back, restored-there ∙ ap Ok port-back, alike)

@@ -1,19 +1,13 @@
 -- The bytes that leave, and their order.
 use Rattle.dev_serial.proofs.Facade.{◌≡◌, ℕ, ◌+◌, ◌<◌, ◌≤◌, Bool, true, false, cond, List, ◌∷◌, ◌++◌, length, Some, None, refl}
-use Rattle.dev_serial.proofs.Facade.{sym, ap, ◌∙◌, arith, [], append_assoc, append-nil, get_or, suc, ◌-◌, Option, not, ◌&&◌, nat_tests, nat_le}
-use Rattle.dev_serial.proofs.Facade.{remove, nat_lt, is_some, not-false, map-append, length-map, ReceiverState, timetable, departures, gone, staying, holding}
-use Rattle.dev_serial.proofs.Facade.{arrived, on_line, looped_in, bytes_of, run_until, gone_by, pending_of, queued, loaded, Mode, Shift, is_empty, thr_written}
-use Rattle.dev_serial.proofs.Facade.{advanced, character_time, Port, Event, Writes, Advances, after, after_all, left_in, left_in_all, accepted_in}
-use Rattle.dev_serial.proofs.Facade.{accepted_in_all, replaces, pending, SendsInOrder, ReplacesOne, LeavesForLine}
+use Rattle.dev_serial.proofs.Facade.{sym, ap, ◌∙◌, arith, [], append_assoc, append-nil, get_or, ◌-◌, Option, not, ◌&&◌, nat_tests, nat_le, remove}
+use Rattle.dev_serial.proofs.Facade.{nat_lt, is_some, not-false, map-append, length-map, ReceiverState, timetable, departures, gone, staying, holding, arrived}
+use Rattle.dev_serial.proofs.Facade.{on_line, looped_in, bytes_of, run_until, gone_by, pending_of, queued, loaded, Mode, Shift, is_empty, thr_written, advanced}
+use Rattle.dev_serial.proofs.Facade.{character_time, Port, Event, Writes, Advances, after, after_all, left_in, left_in_all, accepted_in, accepted_in_all}
+use Rattle.dev_serial.proofs.Facade.{replaces, pending, SendsInOrder, ReplacesOne, LeavesForLine, le-leb, lt-leb, length-map}
 use Rattle.dev_serial.specs.Transmit.{byte_of}
 
 -- ---- one byte at a time
-
-not_yet : (due to : ℕ) → to < due → nat_le due to ≡ false
-not_yet due to h = grind (arith, nat_tests)
-
-due_by : (due to : ℕ) → due ≤ to → nat_le due to ≡ true
-due_by due to h = grind (arith, nat_tests)
 
 -- a timetable is of its bytes
 pub bytes_of-timetable : (character due : ℕ) (bytes : List ℕ) → bytes_of (timetable character due bytes) ≡ bytes
@@ -39,14 +33,14 @@ looped_none looped mode receiver = grind (arith, nat_tests)
 module _ (mode : Mode) (to : ℕ) (shift : Shift) where
   -- the byte in the shift register is not due
   module _ (h : to < shift.due) where
-    none-gone : (waiting : List ℕ) → gone to (departures mode.character (Some shift) waiting) ≡ []
+    pub none-gone : (waiting : List ℕ) → gone to (departures mode.character (Some shift) waiting) ≡ []
     unfolding departures timetable gone
-    none-gone waiting = rw (not_yet shift.due to h)
+    none-gone waiting = rw (lt-leb shift.due to h)
 
     pub stays-left : (whole : List Shift) (waiting : List ℕ) → whole ≡ staying to (departures mode.character (Some shift) waiting)
         → record { waiting = waiting; shift = Some shift } ≡ holding whole
     unfolding departures timetable staying holding
-    stays-left whole waiting e = rw (e, not_yet shift.due to h, bytes_of-timetable mode.character (shift.due + mode.character) waiting)
+    stays-left whole waiting e = rw (e, lt-leb shift.due to h, bytes_of-timetable mode.character (shift.due + mode.character) waiting)
 
     pub stays-line : (whole line waiting : List ℕ) → whole ≡ line ++ on_line mode (gone to (departures mode.character (Some shift) waiting)) → line ≡ whole
     stays-line whole line waiting e = grind (arith, none-gone, none_on_line)
@@ -61,12 +55,12 @@ module _ (mode : Mode) (to : ℕ) (shift : Shift) where
     pub ends-left : (whole : List Shift) (waiting : List ℕ) → whole ≡ staying to (departures mode.character (Some shift) waiting) → length waiting ≡ 0
         → record { waiting = waiting; shift = None } ≡ holding whole
     unfolding departures timetable staying holding
-    ends-left whole [] e z = rw (e, due_by shift.due to h)
+    ends-left whole [] e z = rw (e, le-leb shift.due to h)
     ends-left whole (x ∷ xs) e z = absurd (omega arith)
 
     one-gone : (waiting : List ℕ) → length waiting ≡ 0 → gone to (departures mode.character (Some shift) waiting) ≡ shift ∷ []
     unfolding departures timetable gone
-    one-gone [] z = rw (due_by shift.due to h)
+    one-gone [] z = rw (le-leb shift.due to h)
     one-gone (x ∷ xs) z = absurd (omega arith)
 
     pub ends-line : (whole line longer waiting : List ℕ) → longer ≡ line ++ on_line mode (shift ∷ [])
@@ -81,12 +75,12 @@ module _ (mode : Mode) (to : ℕ) (shift : Shift) where
     gone-next : (waiting rest : List ℕ) (next : ℕ) → 0 < length waiting → next ≡ get_or waiting 0 next → rest ≡ remove waiting 0 → gone to (departures mode.character (Some shift) waiting) ≡ shift ∷ gone to (departures mode.character (Some (record { byte = next; due = shift.due + mode.character })) rest)
     unfolding departures timetable gone
     gone-next [] rest next l n r = absurd (omega arith)
-    gone-next (x ∷ xs) rest next l n r = rw (due_by shift.due to h, n, r)
+    gone-next (x ∷ xs) rest next l n r = rw (le-leb shift.due to h, n, r)
 
     pub moves-left : (whole : List Shift) (waiting rest : List ℕ) (next : ℕ) → next ≡ get_or waiting 0 next → rest ≡ remove waiting 0 → whole ≡ staying to (departures mode.character (Some shift) waiting) → 0 < length waiting → whole ≡ staying to (departures mode.character (Some (record { byte = next; due = shift.due + mode.character })) rest)
     unfolding departures timetable staying
     moves-left whole [] rest next n r e l = absurd (omega arith)
-    moves-left whole (x ∷ xs) rest next n r e l = e ∙ rw (due_by shift.due to h, n, r)
+    moves-left whole (x ∷ xs) rest next n r e l = e ∙ rw (le-leb shift.due to h, n, r)
 
     pub moves-line : (whole line longer waiting rest : List ℕ) (next : ℕ) → next ≡ get_or waiting 0 next → rest ≡ remove waiting 0 → longer ≡ line ++ on_line mode (shift ∷ []) → whole ≡ line ++ on_line mode (gone to (departures mode.character (Some shift) waiting)) → 0 < length waiting → whole ≡ longer ++ on_line mode (gone to (departures mode.character (Some (record { byte = next; due = shift.due + mode.character })) rest))
     moves-line whole line longer waiting rest next n r is e l = grind (arith, gone-next, bytes_on_line)
@@ -148,8 +142,7 @@ departures-later character to (Some shift) waiting =
 run-holding : (character to : ℕ) (shifts : List Shift) → IsTable character shifts
     → run_until character to (holding shifts).shift (holding shifts).waiting ≡ holding (staying to shifts)
 unfolding run_until staying holding
-run-holding character to [] t = refl
-run-holding character to (shift ∷ later) t = rw (departures-holding character (shift ∷ later) t)
+run-holding character to shifts t = grind (arith, departures-holding)
 
 -- the transmitter after two moments is that after the later one
 pub run-twice : (character a b : ℕ) (shift : Option Shift) (waiting : List ℕ) → a ≤ b
@@ -174,9 +167,7 @@ length-holding [] = omega arith
 length-holding (shift ∷ later) = simp length-map (omega arith)
 
 length-timetable : (character due : ℕ) (bytes : List ℕ) → length (timetable character due bytes) ≡ length bytes
-unfolding timetable
-length-timetable character due [] = refl
-length-timetable character due (byte ∷ bytes) = ap suc (length-timetable character (due + character) bytes)
+length-timetable character due bytes = sym (length-map (timetable character due bytes) byte_of) ∙ ap length (bytes_of-timetable character due bytes)
 
 pub fewer : (character to : ℕ) (shift : Option Shift) (waiting : List ℕ) → length (run_until character to shift waiting).waiting ≤ length waiting
 unfolding run_until departures
@@ -188,8 +179,7 @@ fewer character to (Some shift) waiting =
 -- the bytes that a transmitter holds, first out first
 pub pending-holding : (shifts : List Shift) → pending_of (holding shifts).shift (holding shifts).waiting ≡ bytes_of shifts
 unfolding holding
-pending-holding [] = refl
-pending-holding (shift ∷ later) = refl
+pending-holding shifts = grind arith
 
 pub in-order : (character to : ℕ) (shift : Option Shift) (waiting : List ℕ) → bytes_of (gone_by character to shift waiting) ++ pending_of (run_until character to shift waiting).shift (run_until character to shift waiting).waiting ≡ pending_of shift waiting
 unfolding run_until departures gone
@@ -205,12 +195,10 @@ in-order character to (Some shift) waiting =
 pending-loaded : (due : ℕ) (shift : Option Shift) (waiting : List ℕ)
     → pending_of (loaded due shift waiting).shift (loaded due shift waiting).waiting ≡ pending_of shift waiting
 unfolding loaded
-pending-loaded due None [] = refl
-pending-loaded due _ _ = refl
+pending-loaded due shift waiting = grind arith
 
 pending-append : (shift : Option Shift) (xs ys : List ℕ) → pending_of shift (xs ++ ys) ≡ pending_of shift xs ++ ys
-pending-append None xs ys = refl
-pending-append (Some shift) xs ys = refl
+pending-append shift xs ys = grind arith
 
 pub none_left : (bytes : List ℕ) → is_empty bytes ≡ true → bytes ≡ []
 none_left [] e = refl

@@ -71,8 +71,7 @@ module _ (now at character : ℕ) (looped : Bool) (early : at ≤ now) (quick : 
   pub taken-held : (level : ℕ) (on : Bool) (held : List ℕ) (receiver : ReceiverState) → receiver.held ≡ held → IsReceiver now level on receiver
       → IsReceiver now level on (taken_at (mode_at character on (nat_le 3 level) looped) at held receiver).1
   unfolding taken_at
-  taken-held level on [] receiver e s = s
-  taken-held level on (byte ∷ rest) receiver e s = search (arith, taken-timeout)
+  taken-held level on held receiver e s = grind (arith, taken-timeout)
 
 -- the receiver without its bytes, with FIFOs or not
 pub emptied-sound : (now level : ℕ) (on : Bool) (receiver : ReceiverState) → IsReceiver now level on (emptied receiver)
@@ -80,8 +79,7 @@ emptied-sound now level on receiver = search (arith, nat_tests)
 
 -- a later moment
 pub later-timeout : (now to : ℕ) (runs : Bool) (timeout : Option ℕ) → now ≤ to → IsTimeout now runs timeout → IsTimeout to runs timeout
-later-timeout now to runs None h t = t
-later-timeout now to runs (Some timeout) h t = search arith
+later-timeout now to runs timeout h t = grind arith
 
 -- a byte is written
 queued-short : (on : Bool) (byte : ℕ) (waiting : List ℕ) → IsShort on waiting → IsShort on (queued on byte waiting)
@@ -158,8 +156,7 @@ gone-are character to due (byte ∷ bytes) b = grind (arith, nat_tests, gone-are
 gone_by-are : (character now to : ℕ) (shift : Option Shift) (waiting : List ℕ) → IsShift now shift → AreBytes waiting
     → AreGone to (gone_by character to shift waiting)
 unfolding departures gone AreGone
-gone_by-are character now to None waiting s b = tt
-gone_by-are character now to (Some shift) waiting s b = gone-are character to shift.due (shift.byte ∷ waiting) (s.byte, b)
+gone_by-are character now to shift waiting s b = grind (arith, gone-are)
 
 arrived-sound : (character to level : ℕ) (on looped : Bool) (shifts : List Shift) (receiver : ReceiverState) → character ≤ LONGEST_CHARACTER
     → AreGone to shifts → IsReceiver to level on receiver → IsReceiver to level on (arrived (mode_at character on (nat_le 3 level) looped) shifts receiver)
@@ -190,12 +187,7 @@ loaded-busy due None waiting busy = cc
 loaded-busy due (Some shift) waiting busy = refl
 
 -- what holds if a byte only waits
-record Queues (divisor latch busy : Bool) : Type 0 where
-  divisor_off : divisor ≡ false
-  latch_off : latch ≡ false
-  is_busy : busy ≡ true
-
-parts : (divisor latch busy : Bool) → not (divisor || latch || not busy) ≡ true → Queues divisor latch busy
+parts : (divisor latch busy : Bool) → not (divisor || latch || not busy) ≡ true → (divisor ≡ false) × (latch ≡ false) × (busy ≡ true)
 parts divisor latch busy e = grind arith
 
 -- the port after the write
@@ -206,7 +198,7 @@ queue-written byte now port e =
     let q = parts (has port.lcr 7) port.thr_empty (is_some port.transmitter.shift) e in
     let waiting = queued (is_some port.fifos) byte port.transmitter.waiting in
     let filled : is_empty waiting ≡ false = queued-filled (is_some port.fifos) byte port.transmitter.waiting in
-    rw (q.divisor_off, loaded-busy _ port.transmitter.shift waiting q.is_busy, filled, q.latch_off)
+    rw (q.0, loaded-busy _ port.transmitter.shift waiting q.2, filled, q.1)
 
 -- the transmitter alone drives no line
 pub queue-line : (now : ℕ) (transmitter : TransmitterState) (port : Port) → line_of now (record port { transmitter = transmitter }) ≡ line_of now port

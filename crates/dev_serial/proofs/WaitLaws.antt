@@ -4,7 +4,7 @@ use Rattle.dev_serial.proofs.Facade.{ap, ◌∙◌, arith, Option, [], not, ◌&
 use Rattle.dev_serial.proofs.Facade.{TransmitterState, timetable, departures, gone, staying, holding, arrived, on_line, bytes_of, run_until, gone_by}
 use Rattle.dev_serial.proofs.Facade.{IsSentAfter, Mode, Shift, is_empty, advanced, leaving, has, character_time, Port, mode_of, received, AdvancesInParts}
 use Rattle.dev_serial.proofs.Facade.{WaitsUntilDue, LoopsAtMoment}
-use Rattle.dev_serial.proofs.SendingLaws.{bytes_of-timetable, looped_none, run-twice, gone_by-twice, fewer}
+use Rattle.dev_serial.proofs.SendingLaws.{bytes_of-timetable, looped_none, none-gone, run-twice, gone_by-twice, fewer}
 use Rattle.dev_serial.specs.Transmit.{byte_of}
 
 -- the bytes of two spans, one after the other
@@ -69,10 +69,6 @@ module _ (first second : ℕ) (port : Port) (h : first ≤ second) where
 pub advances_in_parts : AdvancesInParts
 advances_in_parts first second port h = in-parts first second port h
 
-waits : (to : ℕ) (shift : Shift) (character : ℕ) (waiting : List ℕ) → to < shift.due → gone_by character to (Some shift) waiting ≡ []
-unfolding departures timetable gone
-waits to shift character waiting h = rw (lt-leb shift.due to h)
-
 stays : (to : ℕ) (shift : Shift) (character : ℕ) (waiting : List ℕ) → to < shift.due
     → run_until character to (Some shift) waiting ≡ record { waiting = waiting; shift = Some shift }
 unfolding run_until departures timetable staying holding
@@ -95,7 +91,7 @@ nothing-leaves to port none still =
 
 pub waits_until_due : WaitsUntilDue
 waits_until_due to port shift e h =
-    nothing-leaves to port (rw e (waits to shift (character_time port.divisor port.lcr) port.transmitter.waiting h)) (grind (arith, stays))
+    nothing-leaves to port (rw e (none-gone (mode_of port) to shift h port.transmitter.waiting)) (grind (arith, stays))
 
 idle : (to : ℕ) (port : Port) → port.transmitter.shift ≡ None → advanced to port ≡ ([], port)
 unfolding departures gone run_until

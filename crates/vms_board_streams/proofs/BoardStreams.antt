@@ -1,9 +1,10 @@
 -- The streams of both families of boards: short, of bytes, and with the laws of a family.
+use Rattle.std.proofs.Common.{⊎_elim}
 use Rattle.vms_board_streams.proofs.FamilyLaws as family
-use Rattle.vms_board_streams.proofs.Facade.{Alike, Bool, Compatible, IsSound, NEWEST, NEWEST_CLOCK_SET, Set, StreamsAreBytes, StreamsAreShort, StreamsStand}
-use Rattle.vms_board_streams.proofs.Facade.{WellFormed, alike_stays, arith, by_number, clock, clock_formed, clock_holds, clock_machine, clock_set, clock_stands}
-use Rattle.vms_board_streams.proofs.Facade.{devices_long, false, first, first_mismatch, formed, images_come_back, isa, isa_stands, list_all, ltb-false}
-use Rattle.vms_board_streams.proofs.Facade.{ltb-true, machine_of, nat_lt, none_is, refl, saved_images, sets_are_compatible, shipped_compatible, shipped_holds}
+use Rattle.vms_board_streams.proofs.Facade.{cases_lt, Alike, Bool, Compatible, IsSound, NEWEST, NEWEST_CLOCK_SET, Set, StreamsAreBytes, StreamsAreShort}
+use Rattle.vms_board_streams.proofs.Facade.{StreamsStand, WellFormed, alike_stays, arith, by_number, clock, clock_formed, clock_holds, clock_machine, clock_set}
+use Rattle.vms_board_streams.proofs.Facade.{clock_stands, devices_long, first, first_mismatch, formed, images_come_back, isa, isa_stands, list_all, ltb-true}
+use Rattle.vms_board_streams.proofs.Facade.{machine_of, nat_lt, none_is, refl, saved_images, sets_are_compatible, shipped_compatible, shipped_holds}
 use Rattle.vms_board_streams.proofs.Facade.{shipped_set, shipped_sets, suc, true, zero, ℕ, ◌<◌, ◌≡◌, ◌≤◌}
 use Rattle.vms_board_streams.proofs.FamilyBytes.{IsMachineName, IsSmall, family_bytes, family_short}
 use Rattle.vms_board_streams.proofs.FamilyLaws.{Laws}
@@ -80,13 +81,9 @@ unfolding first_mismatch first
 newest_itself = refl
 
 pub compatible : (s : ℕ) → 1 ≤ s → s ≤ NEWEST → Compatible (shipped_set s) (shipped_set NEWEST)
-compatible s l h = at _ refl where
-  at : (b : Bool) → nat_lt s NEWEST ≡ b → Compatible (shipped_set s) (shipped_set NEWEST)
-  at true e = shipped_compatible s NEWEST l (ltb-true s NEWEST e) (omega arith)
-  at false e =
-      let least : NEWEST ≤ s = ltb-false s NEWEST e in
-      let same : s ≡ NEWEST = omega (arith, h, least) in
-      rw same newest_itself
+compatible s l h =
+    ⊎_elim (λ (lt : s < NEWEST). shipped_compatible s NEWEST l lt (omega arith))
+    (λ (ge : NEWEST ≤ s). let same : s ≡ NEWEST = omega (arith, h, ge) in rw same newest_itself) (cases_lt s NEWEST)
 
 isa_streams_stand : StreamsStand isa AlikeIsa IsSoundIsa
 isa_streams_stand = record {

@@ -2,7 +2,7 @@
 pub use Rattle.std.proofs.{lemmas.Option.get_or_from_slice_get, lemmas.Slice.Eq.bytes_eq-Decides}
 pub use Rattle.std.proofs.Common.{◌⊎◌, Bool, Err, IfSome, List, None, Ok, Option, Result, Some, [], ap, append-nil, arith, codes, false, get_or, inl, inr}
 pub use Rattle.std.proofs.Common.{is_some, length, nat_lt, refl, slice_set, subst, suc, sym, true, zero, ℕ, ℤ, ◌+◌, ◌-◌, ◌<◌, ◌||◌, ◌∙◌, ◌∷◌, ◌≡◌, ◌≤◌}
-pub use Rattle.std.proofs.lemmas.Bool.{and_parts, ltb-false, ltb-true}
+pub use Rattle.std.proofs.lemmas.Bool.{and_parts, cases_lt, ltb-true}
 pub use Rattle.std.specs.{List.AllByRecursion, List.list_all, List.slice_get, Str.bytes_eq}
 pub use Rattle.vms_kinds.specs.{Bytes.IsBytes, Codes.width, declared.Kind.Kind, declared.TheConstants.NEWEST_CLOCK_SET}
 pub use Rattle.vms_spec.proofs.WellFormedLaws.{Clean, device_parts, get_none, struct_clean, sub_clean}

@@ -52,8 +52,7 @@ index-bytes _ e = (omega arith, all_both Byte _ _ (decimal_good allows e) (omega
 -- ---- their entries
 
 listed-entries : (b : Bool) (e : Entry) → IsSpelled Byte e → AreSpelled Byte (listed_if b e)
-listed-entries true e p = (p, tt)
-listed-entries false e p = tt
+listed-entries b e p = grind arith
 
 cell-listed : (present : Bool) (path : List ℕ) (kind : Kind) (z : ℤ) → AllByRecursion Byte path → IsSpelled Byte (cell_entry present path kind z)
 cell-listed true path kind z p = record { path = p; type = kind_letters allows kind }
@@ -153,22 +152,21 @@ module _ {S : Type 0} (f : Family S) where
         let sections = small.sections set le in
         omega (arith, l, sections, n, t)
 
-    stream-short : (set : ℕ) (m : S) → IsSound m → MaySaveIn f m set → length (saved_stream f set m) < STREAM_ROOM
-    unfolding saved_stream
-    stream-short set m s may =
-        let images = images_saved f set m in
-        set-long set (f.machine (f.number m)) (saved_text f set m) images may.set_le_newest (small.machine set m may).short (small.text set images may.set_le_newest)
-
-    stream-bytes : (set : ℕ) (m : S) → IsSound m → MaySaveIn f m set → (i : ℕ) → get_or (saved_stream f set m) i 0 < 256
-    unfolding saved_stream
-    stream-bytes set m s may =
-        let well = small.well set may.set_le_newest in
-        let images = images_saved f set m in
-        bytes_at (saved_stream f set m)
-        (written_are_bytes (f.set set) well (Some (f.machine (f.number m))) images (Some (saved_text f set m)) (small.machine set m may).octets (text_is_bytes (f.set set) well images))
-
     pub family_short : StreamsAreShort f IsSound
-    family_short = record { short = stream-short }
+    unfolding saved_stream
+    family_short = record {
+      short = λ set m s may. let images = images_saved f set m in
+          set-long set (f.machine (f.number m)) (saved_text f set m) images may.set_le_newest (small.machine set m may).short
+          (small.text set images may.set_le_newest);
+    }
 
     pub family_bytes : StreamsAreBytes f IsSound
-    family_bytes = record { bytes = stream-bytes }
+    unfolding saved_stream
+    family_bytes = record {
+      bytes = λ set m s may.
+          let well = small.well set may.set_le_newest in
+          let images = images_saved f set m in
+          bytes_at (saved_stream f set m)
+          (written_are_bytes (f.set set) well (Some (f.machine (f.number m))) images (Some (saved_text f set m)) (small.machine set m may).octets
+          (text_is_bytes (f.set set) well images));
+    }

@@ -1,11 +1,11 @@
 -- The laws of the streams of any family of boards.
 use Rattle.vms_board_streams.proofs.Facade.{Alike, Answer, Back, BoardsGoOn, BytesAreOne, Err, Event, Family, Faulty, FitsHeads, HasRoomFor, IfSome, Image}
-use Rattle.vms_board_streams.proofs.Facade.{IsBytes, IsConfiguration, IsContinued, IsFaultAt, IsMisfitAt, IsSound, IsWholeStream, List, MaySaveIn, Misfit, None}
-use Rattle.vms_board_streams.proofs.Facade.{Ok, Option, Reason, Refused, Restore, Restores, Result, Set, Some, Stands, StreamComesBack, StreamsComeBack}
-use Rattle.vms_board_streams.proofs.Facade.{StreamsStand, Taken, Takes, TakesBoard, WellFormed, [], answers_by, answers_to, ap, append-nil, arith}
-use Rattle.vms_board_streams.proofs.Facade.{bytes_eq-Decides, either_holds, images_carried, images_saved, inl, inr, is_among, is_one_of, length, lists_in}
-use Rattle.vms_board_streams.proofs.Facade.{misfit_reason, misfit_section, never_both_holds, one_fault_holds, one_stream_holds, refl, saved_stream, saved_text}
-use Rattle.vms_board_streams.proofs.Facade.{stream_with, sym, trace_of, true, upgrade_stands, ℕ, ℤ, ◌-◌, ◌∷◌, ◌≡◌, ◌≤◌, ◌⊎◌}
+use Rattle.vms_board_streams.proofs.Facade.{IsBytes, IsConfiguration, IsContinued, IsFaultAt, IsSound, IsWholeStream, List, MaySaveIn, Misfit, Ok, Option}
+use Rattle.vms_board_streams.proofs.Facade.{Reason, Refused, Restore, Restores, Result, Set, Some, Stands, StreamComesBack, StreamsComeBack, StreamsStand}
+use Rattle.vms_board_streams.proofs.Facade.{Taken, Takes, TakesBoard, WellFormed, [], answers_by, answers_to, ap, append-nil, arith, bytes_eq-Decides}
+use Rattle.vms_board_streams.proofs.Facade.{either_holds, images_carried, images_saved, inl, inr, is_among, is_one_of, length, lists_in, misfit_reason}
+use Rattle.vms_board_streams.proofs.Facade.{misfit_section, never_both_holds, one_fault_holds, one_stream_holds, refl, saved_stream, saved_text, stream_with}
+use Rattle.vms_board_streams.proofs.Facade.{sym, trace_of, true, upgrade_stands, ℕ, ℤ, ◌-◌, ◌∷◌, ◌≡◌, ◌≤◌}
 
 -- ---- a restore of bytes has exactly one outcome
 
@@ -30,12 +30,6 @@ module _ {S : Type 0} (f : Family S) (well : WellFormed (f.set f.newest)) (heads
   bytes_come number bytes ok =
       answer-comes number bytes (either_holds (f.set f.newest) (f.machine number ∷ []) well heads bytes ok)
 
-  abbrev back : S → ℕ → Restore S
-  back m taken = Back m taken
-
-  abbrev refused : ℕ → Option ℕ → Reason → Restore S
-  refused place section reason = Refused place section reason
-
   module _ (number : ℕ) (bytes : List ℕ) where
     one-stream : (n k : ℕ) (images others : List Image) → TakesBoard f number bytes n images → TakesBoard f number bytes k others → (n ≡ k) × (images ≡ others)
     one-stream n k images others t u =
@@ -51,23 +45,19 @@ module _ {S : Type 0} (f : Family S) (well : WellFormed (f.set f.newest)) (heads
       no_fault n images place section reason t d =
           never_both_holds (f.set f.newest) (f.machine number ∷ []) well heads bytes ok n t.0 images place section reason d.0 t.1 d.1
 
-      one-refusal : (place other : ℕ) (section section' : Option ℕ) (reason reason' : Reason) → IsFaultAt f number bytes place section reason ⊎ IsMisfitAt f number bytes place section reason
-          → IsFaultAt f number bytes other section' reason' ⊎ IsMisfitAt f number bytes other section' reason' → refused place section reason ≡ refused other section' reason'
-      one-refusal place other section section' reason reason' (inl d) (inl g) =
-          let one = one_fault_holds (f.set f.newest) (f.machine number ∷ []) bytes ok place other section section' reason reason' d.0 g.0 d.1 g.1 in
-          cc
-      one-refusal place other section section' reason reason' (inl d) (inr g) = absurd (no_fault other _ place _ reason g.taken d)
-      one-refusal place other section section' reason reason' (inr d) (inl g) = absurd (no_fault place _ other _ _ d.taken g)
-      one-refusal place other section section' reason reason' (inr d) (inr g) =
-          cc (same-cells place other _ _ d.taken g.taken, (one-stream place other _ _ d.taken g.taken).0)
-
       pub one_restore : (a b : Restore S) → Restores f number bytes a → Restores f number bytes b → a ≡ b
       one_restore (Back m n) (Back m' k) r s = cc (same-cells n k r.0 s.0 r.1 s.1, (one-stream n k r.0 s.0 r.1 s.1).0)
       one_restore (Back m n) (Refused place section reason) r (inl d) = absurd (no_fault n r.0 place _ reason r.1 d)
       one_restore (Back m n) (Refused place section reason) r (inr d) = cc (same-cells n place r.0 _ r.1 d.taken)
       one_restore (Refused place section reason) (Back m n) (inl d) s = absurd (no_fault n s.0 place _ reason s.1 d)
       one_restore (Refused place section reason) (Back m n) (inr d) s = cc (same-cells n place s.0 _ s.1 d.taken)
-      one_restore (Refused place section reason) (Refused other section' reason') d g = one-refusal place other _ _ reason _ d g
+      one_restore (Refused place section reason) (Refused other section' reason') (inl d) (inl g) =
+          let one = one_fault_holds (f.set f.newest) (f.machine number ∷ []) bytes ok place other section section' reason reason' d.0 g.0 d.1 g.1 in
+          cc
+      one_restore (Refused place section reason) (Refused other section' reason') (inl d) (inr g) = absurd (no_fault other _ place _ reason g.taken d)
+      one_restore (Refused place section reason) (Refused other section' reason') (inr d) (inl g) = absurd (no_fault place _ other _ _ d.taken g)
+      one_restore (Refused place section reason) (Refused other section' reason') (inr d) (inr g) =
+          cc (same-cells place other _ _ d.taken g.taken, (one-stream place other _ _ d.taken g.taken).0)
 
   pub bytes_are_one : BytesAreOne f
   bytes_are_one = record { some = bytes_come; one = one_restore }
@@ -80,8 +70,7 @@ named-alone name = rw ((bytes_eq-Decides name name).1 refl)
 -- a stream is read under other names too, if they include its machine
 configured_under : (names others : List (List ℕ)) (machine : Option (List ℕ)) (bytes : List ℕ) → IfSome machine (λ name. is_one_of others name ≡ true)
     → IsConfiguration names machine bytes → IsConfiguration others machine bytes
-configured_under names others None bytes h c = c
-configured_under names others (Some name) bytes h c = (h, c.1, c.2)
+configured_under names others machine bytes h c = grind arith
 
 pub takes_under : (set : Set) (names others : List (List ℕ)) (input : List ℕ) (taken : ℕ) (machine : Option (List ℕ)) (images : List Image) → IfSome machine (λ name. is_one_of others name ≡ true)
     → Takes set names input taken machine images → Takes set others input taken machine images
@@ -136,16 +125,13 @@ module _ {S : Type 0} (f : Family S) (Alike : S → S → Type 0) {IsSound : S �
     set-least : 1 ≤ set
     set-least = let a = least in omega arith
 
-    newest-well : WellFormed (f.set f.newest)
-    newest-well = stands.well
-
     named : is_one_of (f.set set).machines (f.machine (f.number m)) ≡ true
     named = is_among (f.set set).machines (f.number m - 1) (f.machine (f.number m)) (stands.named (f.number m) set least may.level_le_set may.set_le_newest)
 
     whole : IsWholeStream (f.set f.newest) (f.set f.newest).machines stream (Some (f.machine (f.number m))) images-back text
     unfolding stream_with
     whole =
-        upgrade_stands (f.set set) (f.set f.newest) (st.well set may.set_le_newest) newest-well (st.compatible set set-least may.set_le_newest)
+        upgrade_stands (f.set set) (f.set f.newest) (st.well set may.set_le_newest) stands.well (st.compatible set set-least may.set_le_newest)
         (Some (f.machine (f.number m))) text (images_saved f set m)
         named short (stands.ready set m s may)
 
@@ -166,7 +152,7 @@ module _ {S : Type 0} (f : Family S) (Alike : S → S → Type 0) {IsSound : S �
 
     same-images : (images : List Image) (taken : ℕ) → TakesBoard f (f.number m) stream taken images → (images ≡ images-back) × (taken ≡ length stream)
     same-images images taken t =
-        let same = one_stream_holds (f.set f.newest) (f.machine (f.number m) ∷ []) newest-well stands.heads stream taken (length stream) t.0 (Some (f.machine (f.number m))) images images-back t.1 takes in
+        let same = one_stream_holds (f.set f.newest) (f.machine (f.number m) ∷ []) stands.well stands.heads stream taken (length stream) t.0 (Some (f.machine (f.number m))) images images-back t.1 takes in
         (same.states, same.lengths)
 
     same-restore : (images : List Image) (taken : ℕ) → TakesBoard f (f.number m) stream taken images → f.restored (f.number m) (lists_in images) ≡ Ok back-to
@@ -177,7 +163,7 @@ module _ {S : Type 0} (f : Family S) (Alike : S → S → Type 0) {IsSound : S �
 
     never-refused : IsBytes stream → (place : ℕ) (section : Option ℕ) (reason : Reason) → Restores f (f.number m) stream (Refused place section reason) → ⊥
     never-refused bytes place section reason (inl fault) =
-        never_both_holds (f.set f.newest) (f.machine (f.number m) ∷ []) newest-well stands.heads stream bytes (length stream) (Some (f.machine (f.number m))) images-back place section reason fault.0 takes fault.1
+        never_both_holds (f.set f.newest) (f.machine (f.number m) ∷ []) stands.well stands.heads stream bytes (length stream) (Some (f.machine (f.number m))) images-back place section reason fault.0 takes fault.1
     never-refused bytes place section reason (inr misfit) = cc (same-restore _ place misfit.taken)
 
   -- ---- the stream of a board, with its own description

@@ -59,14 +59,10 @@ looked_so i o course e looks same can risen = record {
 
 -- the shelf was used before
 risen_since : (i i' : Intake) (o o' : Outlet) (a s s' : Stock) (e : Option Ending) → Looks a s → Risen i i' o o' s s' e → Risen i i' o o' a s' e
-risen_since i i' o o' a s s' (Some ReadFault) p h = h
-risen_since i i' o o' a s s' (Some WriteFault) p h = h
-risen_since i i' o o' a s s' (Some ShelfFault) p h = omega (arith, p.later, h)
-risen_since i i' o o' a s s' e p h = tt
+risen_since i i' o o' a s s' e p h = grind arith
 
 pub asked : (b : Bool) → b ≡ true → b ≡ false → ⊥
-asked true is f = wrong f
-asked false is f = cc
+asked b is f = cc
 
 pub so_since : {i i' : Intake} {o o' : Outlet} {a s s' : Stock} {course : Course} (e : Option Ending) → course.asks ≡ true → Looks a s → EndsSo i i' o o' s s' course e → EndsSo i i' o o' a s' course e
 so_since {i} {i'} {o} {o'} {a} {s} {s'} {course} e asks p g = record {
@@ -109,14 +105,11 @@ comes_to_nothing o o' s s' parts keeps held = record { begun = 0; bytes = 0; tex
 
 -- what is as it was is quiet
 pub quiet_same : (o : Outlet) (e : Option Ending) → Quiet o o e
-quiet_same o None = tt
-quiet_same o (Some WriteFault) = tt
-quiet_same o e = Keeps-refl o.written
+quiet_same o e = grind arith
 
 -- nothing is taken of an input
 nothing_left : (left : Option (List ℕ)) → IfSome left (λ bytes. left ≡ Some (drop 0 bytes))
-nothing_left None = tt
-nothing_left (Some bytes) = refl
+nothing_left left = grind arith
 
 pub takes_nothing : (i : Intake) → i.given < 2 ^ 64 → TakesBytes i i 0
 takes_nothing i few = record { left = nothing_left i.left; given = omega (arith, few) }
@@ -164,8 +157,7 @@ module _ (i i' : Intake) (o o' n n' : Outlet) (s s' : Stock) where
   -- how far it got, if the line of a failure of the shelf was written
   at_fault : (status : ℕ) (x : Outcome) → ComesToFault o o' s s' x.parts → TellsShelfFault status (around i o n s) (around i' o' n' s')
       → ComesTo o o' s s' x.parts ⊎ (TellsShelfFault status (around i o n s) (around i' o' n' s') × FailsToStore o o' s s' x.parts)
-  at_fault status x (inl comes) told = inl comes
-  at_fault status x (inr fails) told = inr (told, fails)
+  at_fault status x h2 told = grind arith
 
   -- how the call ended, by the outcome and by the cause: it does the outcome, or it stops on the way
   pub outcome_so : (e : Option Ending) (status : ℕ) (x : Outcome) → EndsAs i i' o o' s s' e x → Caused i i' o o' s s' e → Tells n n' e status

@@ -1,9 +1,9 @@
 -- Words with numbers, and the sets that words name.
 use Rattle.std.proofs.{lemmas.Fmt.length-decimal-le, lemmas.Fmt.decimal_injective, lemmas.List.append_cancel_left, lemmas.Slice.Eq.bytes_eq-Decides}
 use Rattle.std.proofs.Common.{ℕ, ◌<◌, ◌≤◌, length, arith, ◌≡◌, zero, suc, ◌+◌, ◌-◌, ◌^◌, ◌++◌, Bool, true, false}
-use Rattle.std.proofs.Common.{if◌then◌else◌, List, Option, Some, None, Result, Ok, Err, ℤ, pos, negsuc, nat_lt, refl, sym, ap, ◌∙◌, Fits, w8}
+use Rattle.std.proofs.Common.{List, Option, Some, None, Result, Ok, Err, ℤ, pos, negsuc, refl, sym, ap, ◌∙◌, Fits, w8}
 use Rattle.std.proofs.Common.{nat_le, [], ◌∷◌, codes, subst}
-use Rattle.std.proofs.lemmas.Bool.{cond_both, ltb-true, lt-ltb, leb-true}
+use Rattle.std.proofs.lemmas.Bool.{cond_both, lt-ltb, leb-true, Decides.nat_tests}
 use Rattle.std.specs.{Fmt.decimal, Str.bytes_eq, List.slice_get, Option.option_and_then}
 use Rattle.vms_spec.specs.{Spelling.number_spelled, Good.IsFit, WellFormed.first_fault, WellFormed.SetFault, Sets.Desc, Sets.Sub, Sets.Device, Sets.Set}
 use Rattle.vms_words.proofs.Spells.{number_holds, spelled_holds}
@@ -13,7 +13,7 @@ use Rattle.vms_commands.specs.Fetching.{SetText, Number, Text, fetched_set, said
 use Rattle.vms_commands.specs.Steps.{Step, Untold, Gives, Ends, next as after}
 use Rattle.vms_commands.specs.declared.kinds.BoardKind.TheVariants.{Isa, Clock}
 use Rattle.vms_desc.proofs.Clean.{none_is, clock_heads, clock_formed, fit_number}
-use Rattle.vms_desc.specs.{Formed.clock_set}
+use Rattle.vms_desc.specs.Formed.{clock_set}
 use Rattle.serde_json.specs.{Data.Data, Data.Items, Data.no_items, Data.item, Find.get, Find.as_array, Find.as_number, Find.as_u64}
 use Rattle.vms_io.specs.Shelves.{Held}
 use Rattle.vms_json.specs.{Keys.fits, Names.Names, Names.Scope, Names.names_if}
@@ -21,8 +21,7 @@ use Rattle.vms_json.specs.Answers.{Answer, good, bad, under, next, changed, each
 use Rattle.vms_json.specs.Members.{judged, at as member_at, at_or, member_of, member_or, text_of, up_to, u32_of}
 use Rattle.vms_descfile.specs.{Descs.sub_of, Descs.whole_in, Descs.whole_of, Descs.device_in, Tests.test_of}
 use Rattle.vms_descfile.specs.Descs.{device_of, set_in as set_said, set_of, parts_of, Head, Whole, desc_needs, desc_allows, head_of, rest_of, struct_of, sub_in}
-use Rattle.vms_descfile.specs.Files.{Said, Parts, Syntax, Shape, IllFormed, judged_said, parts_said, value_said, value_in, file_said}
-use Rattle.vms_script.specs.declared.line.ScriptReason.TheVariants as reasons
+use Rattle.vms_descfile.specs.Files.{Said, Parts, judged_said, parts_said, value_said, value_in, file_said}
 
 -- ---- how long the parts of a line are
 
@@ -57,25 +56,18 @@ ok_number n = Ok n
 abbrev err_number : ScriptReason → Result ℕ ScriptReason
 err_number reason = Err reason
 
-abbrev if_small : ℕ → Bool → Result ℕ ScriptReason
-if_small n b = if b then Ok n else Err reasons.Range
-
 read_is : (text : List ℕ) (n : ℕ) → Ok n ≡ number_read (number_spelled text) → (n < 2 ^ 64) × (text ≡ decimal n)
 read_is text n e = by (number_spelled text) refl e where
   by : (o : Option ℤ) → number_spelled text ≡ o → Ok n ≡ number_read o → (n < 2 ^ 64) × (text ≡ decimal n)
   by None s r = cc
   by (Some (negsuc m)) s r = cc
-  by (Some (pos m)) s r = small (nat_lt m (2 ^ 64)) refl where
-    small : (b : Bool) → nat_lt m (2 ^ 64) ≡ b → (n < 2 ^ 64) × (text ≡ decimal n)
-    small true lt =
-        let is : ok_number n ≡ ok_number m = r ∙ ap (if_small m) lt in
-        let same : n ≡ m = cc in
-        let less = ltb-true m (2 ^ 64) lt in
-        (omega (arith, same, less), spelled_holds text (pos m) less s ∙ ap decimal (sym same))
-    small false lt = let is : ok_number n ≡ if_small m false = r ∙ ap (if_small m) lt in cc
+  by (Some (pos m)) s r =
+      let less : m < 2 ^ 64 = grind (arith, nat_tests) in
+      let same : n ≡ m = grind (arith, nat_tests) in
+      (omega (arith, same, less), spelled_holds text (pos m) less s ∙ ap decimal (sym same))
 
 decimal_read : (n : ℕ) → n < 2 ^ 64 → number_read (number_spelled (decimal n)) ≡ Ok n
-decimal_read n lt = ap number_read (number_holds (pos n) lt) ∙ ap (if_small n) (lt-ltb n (2 ^ 64) lt)
+decimal_read n lt = rw (number_holds (pos n) lt, lt-ltb n (2 ^ 64) lt)
 
 -- ---- the answers of the code
 
@@ -128,37 +120,30 @@ Each P xs = (i : ℕ) (x : _) → slice_get xs i ≡ Some x → P x
 module _ {A B : Type 0} (P : B → Type 0) where
   -- whatever the first answer says
   says_next : (x : Answer A) (f : A → Answer B) → ((a : A) → Says P (f a)) → Says P (next x f)
-  says_next (good a) f h = h a
-  says_next (bad path) f h = tt
+  says_next x f h = grind arith
 
   -- by what it says
   says_then : (Q : A → Type 0) (x : Answer A) (f : A → Answer B) → Says Q x → ((a : A) → Q a → Says P (f a)) → Says P (next x f)
-  says_then Q (good a) f q h = h a q
-  says_then Q (bad path) f q h = tt
+  says_then Q x f q h = grind arith
 
   says_changed : (Q : A → Type 0) (f : A → B) (x : Answer A) → Says Q x → ((a : A) → Q a → P (f a)) → Says P (changed f x)
-  says_changed Q f (good a) q h = h a q
-  says_changed Q f (bad path) q h = tt
+  says_changed Q f x q h = grind arith
 
 module _ {A : Type 0} (P : A → Type 0) where
   says_judged : (b : Bool) (x : Answer A) → Says P x → Says P (judged b x)
-  says_judged true x h = h
-  says_judged false x h = tt
+  says_judged b x h = grind arith
 
   says_under : (key : List ℕ) (x : Answer A) → Says P x → Says P (under key x)
-  says_under key (good a) h = h
-  says_under key (bad path) h = tt
+  says_under key x h = grind arith
 
   says_member : (says : Data → Answer A) (key : List ℕ) (o : Option Data) → ((e : Data) → Says P (says e)) → Says P (member_of says key o)
-  says_member says key None h = tt
-  says_member says key (Some e) h = says_under key (says e) (h e)
+  says_member says key o h = grind (arith, says_under)
 
   says_at : (says : Data → Answer A) (key : List ℕ) (d : Data) → ((e : Data) → Says P (says e)) → Says P (member_at says key d)
   says_at says key d h = says_member says key (get key d) h
 
   says_or : (default : A) (says : Data → Answer A) (key : List ℕ) (o : Option Data) → P default → ((e : Data) → Says P (says e)) → Says P (member_or default says key o)
-  says_or default says key None p h = p
-  says_or default says key (Some e) p h = says_under key (says e) (h e)
+  says_or default says key o p h = grind (arith, says_under)
 
   says_at_or : (default : A) (says : Data → Answer A) (key : List ℕ) (d : Data) → P default → ((e : Data) → Says P (says e)) → Says P (at_or default says key d)
   says_at_or default says key d p h = says_or default says key (get key d) p h
@@ -188,13 +173,9 @@ module _ {A : Type 0} (P : A → Type 0) where
 abbrev Small : ℕ → Type 0
 Small n = n ≤ 4294967295
 
-small_if : (n : ℕ) (b : Bool) → nat_le n 4294967295 ≡ b → Says Small (if b then good n else bad [])
-small_if n true e = leb-true n 4294967295 e
-small_if n false e = tt
-
 small_up : (o : Option ℕ) → Says Small (up_to 4294967295 o)
 small_up None = tt
-small_up (Some n) = small_if n (nat_le n 4294967295) refl
+small_up (Some n) = cond_both (nat_le n 4294967295) _ _ (Says Small) (leb-true n 4294967295) (λ e. tt)
 
 small_u32 : (d : Data) → Says Small (u32_of d)
 small_u32 d = small_up (option_and_then as_u64 (as_number d))
@@ -309,19 +290,14 @@ FitStep (Gives set) = IsFit set
 FitStep (Ends status line) = Unit {0}
 
 fit_said : (name : List ℕ) (said : Said) → FitSaid said → FitStep (said_set name said)
-fit_said name (Parts set) h = h
-fit_said name Syntax h = tt
-fit_said name (Shape path) h = tt
-fit_said name (IllFormed fault) h = tt
+fit_said name said h = grind arith
 
 pub fit_text : (text : SetText) → FitStep (set_in text)
 fit_text (Number (SetOf kind number)) = fit_kind kind number
 fit_text (Text name text) = fit_said name (file_said text) (file_fit text)
 
 fit_next : {A : Type 0} (s : Step A) (f : A → Step Set) → ((a : A) → FitStep (f a)) → FitStep (after s f)
-fit_next Untold f h = tt
-fit_next (Gives a) f h = h a
-fit_next (Ends status line) f h = tt
+fit_next s f h = grind arith
 
 pub fit_word : (held : Option Held) (word : SetWord) → FitStep (word_set held word)
 fit_word held word = fit_next (fetched_set held word) set_in fit_text

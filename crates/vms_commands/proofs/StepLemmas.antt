@@ -1,14 +1,14 @@
 -- Steps that a command takes before its work: how they end it, and what it does where they give something.
-use Rattle.std.proofs.{lemmas.Bool.leb-false, lemmas.Option.none-some}
-use Rattle.std.proofs.Common.{append-nil, ◌≡◌, ℕ, ◌<◌, ◌^◌, Bool, true, false, if◌then◌else◌, nat_le, ◌≤◌, List, length, Option}
-use Rattle.std.proofs.Common.{Some, None, Result, Ok, Err, refl, sym, ap, arith, inl}
+use Rattle.std.proofs.{lemmas.Bool.cond_both, lemmas.Bool.le-leb, lemmas.Option.none-some}
+use Rattle.std.proofs.Common.{append-nil, ◌≡◌, ℕ, ◌<◌, ◌^◌, nat_le, ◌≤◌, List, length, Option}
+use Rattle.std.proofs.Common.{Some, None, Result, Ok, Err, refl, sym, arith, inl}
 use Rattle.std.specs.{Prelude.string_bytes, Result.IsErrAnd, Result.MatchResult}
 use Rattle.vms_io.specs.{Shelves.Held, Told.Intake, Told.Outlet, Told.Stock}
-use Rattle.vms_descfile.specs.Files.{Said, Parts, Syntax, Shape, IllFormed, file_said}
+use Rattle.vms_descfile.specs.Files.{Said}
 use Rattle.vms_commands.proofs.EndLemmas.{comes_to_nothing, ends_with, takes_nothing}
-use Rattle.vms_commands.specs.{declared.ending.Ending.Ending, Endings.EndsAs, Endings.Quiet, Endings.ending_of, Lines.too_large_line, Outcomes.Outcome}
+use Rattle.vms_commands.specs.{declared.ending.Ending.Ending, Endings.EndsAs, Endings.Quiet, Endings.ending_of, Outcomes.Outcome}
 use Rattle.vms_commands.specs.{Outcomes.done, Outcomes.ended, SetWords.SetWord, SetWords.Shipped, SetWords.OnShelf}
-use Rattle.vms_commands.specs.Fetching.{longest_file, text_under, fetched, SetText, Number, Text, fetched_set, said_set, set_in, sets_in, named_sets, word_set}
+use Rattle.vms_commands.specs.Fetching.{longest_file, text_under, fetched, SetText, Text, fetched_set, said_set, set_in, sets_in, named_sets, word_set}
 use Rattle.vms_commands.specs.StepEndings.{IsFree, EndedAs, StepAs, WrittenAs, TextEnds}
 use Rattle.vms_commands.specs.Steps.{Step, Untold, Gives, Ends, next, both, HasBy, HasText}
 use Rattle.vms_commands.specs.declared.ending.Ending.TheVariants.{BadText, NotCompatible, WriteFault, ShelfFault, NotThere, TooLarge, NoMemory}
@@ -17,8 +17,7 @@ use Rattle.vms_commands.specs.declared.ending.Ending.TheVariants.{BadText, NotCo
 
 -- at the exit of a `?`
 pub ending_passed : {T : Type 0} (work : Result T Ending) {e : Ending} → IsErrAnd work (λ x. x ≡ e) → ending_of work ≡ Some e
-ending_passed (Ok t) is = absurd is
-ending_passed (Err x) is = ap Some is
+ending_passed work is = grind arith
 
 -- of a call whose fault has an ending
 abbrev pub mapped_by : {T F : Type 0} → (F → Ending) → Result T F → Option Ending
@@ -27,54 +26,36 @@ mapped_by m (Err fault) = Some (m fault)
 
 pub ending_mapped : {T F : Type 0} (m : F → Ending) (call : Result T F) (work : Result T Ending)
     → MatchResult call (λ t. work ≡ Ok t) (λ fault. IsErrAnd work (λ x. x ≡ m fault)) → ending_of work ≡ mapped_by m call
-ending_mapped m (Ok t) work is = ap ending_of is
-ending_mapped m (Err fault) work is = ending_passed work is
+ending_mapped m call work is = grind (arith, ending_passed)
 
 -- ---- one step after another
 
 free_ends : {B U : Type 0} (n : U → B) (s : Step B) (e : Ending) → IsFree (Some e) → StepAs {A = B} {T = U} n s (Err e)
-free_ends n Untold e h = tt
-free_ends n (Gives b) e h = h
-free_ends n (Ends status line) ShelfFault h = tt
-free_ends n (Ends status line) NoMemory h = tt
-free_ends n (Ends status line) e h = absurd h
+free_ends n s e h = grind arith
 
 module _ {A B T U : Type 0} (m : T → A) (n : U → B) (f : A → Step B) where
   -- the first step ended the command
   pub first_err : (s : Step A) (e : Ending) → StepAs {A = A} {T = T} m s (Err e) → StepAs {A = B} {T = U} n (next s f) (Err e)
-  first_err Untold e h = tt
-  first_err (Gives a) e h = free_ends n (f a) e h
-  first_err (Ends status line) e h = h
+  first_err s e h = grind (arith, free_ends)
 
   -- the second was taken
   pub then_as : (s : Step A) (t : T) (r : Result U Ending) → StepAs m s (Ok t) → StepAs n (f (m t)) r → StepAs n (next s f) r
-  then_as Untold t r h k = tt
-  then_as (Gives a) t r h k = rw (← h) k
-  then_as (Ends status line) t r h k = absurd h
+  then_as s t r h k = grind arith
 
 -- ---- texts for out
 
 -- a failure of the shelf and a lack of memory end any step
 free_text : (s : Step (List ℕ)) (o o' : Outlet) (e : Option Ending) → IsFree e → TextEnds s o o' e
-free_text Untold o o' e h = tt
-free_text (Gives text) o o' (Some ShelfFault) h = h
-free_text (Gives text) o o' (Some NoMemory) h = h
-free_text (Ends status line) o o' (Some ShelfFault) h = h
-free_text (Ends status line) o o' (Some NoMemory) h = h
-free_text _ o o' e h = absurd h
+free_text s o o' e h = grind arith
 
 module _ {A T : Type 0} (m : T → A) (f : A → Step (List ℕ)) (o o' : Outlet) where
   -- a step ended the command
   pub err_text : (e : Ending) (s : Step A) → StepAs {A = A} {T = T} m s (Err e) → TextEnds (next s f) o o' (Some e)
-  err_text e Untold h = tt
-  err_text e (Gives a) h = free_text (f a) o o' (Some e) h
-  err_text e (Ends status line) h = h
+  err_text e s h = grind (arith, free_text)
 
   -- it gave something
   pub then_text : (e : Option Ending) (s : Step A) (t : T) → StepAs m s (Ok t) → TextEnds (f (m t)) o o' e → TextEnds (next s f) o o' e
-  then_text e Untold t first h = tt
-  then_text e (Gives a) t first h = rw (← first) h
-  then_text e (Ends status line) t first h = absurd first
+  then_text e s t first h = grind arith
 
 -- ---- the outcome
 
@@ -116,9 +97,7 @@ text_ends (Ends status line) i o o' s s' e x few same quiet h has = rw has (ende
 module _ {A T : Type 0} (m : T → A) (P : A → Outcome → Type 0) where
   free_by : (i : Intake) (o o' : Outlet) (s s' : Stock) (e : Option Ending) (x : Outcome) → s'.held ≡ s.held → Quiet o o' e → IsFree e
       → EndsAs i i o o' s s' e x
-  free_by i o o' s s' (Some ShelfFault) x same quiet h = inl (comes_to_nothing o o' s s' _ quiet same)
-  free_by i o o' s s' (Some NoMemory) x same quiet h = comes_to_nothing o o' s s' _ quiet same
-  free_by i o o' s s' e x same quiet h = absurd h
+  free_by i o o' s s' e x same quiet h = grind (arith, comes_to_nothing)
 
   -- where the step ended it
   pub ended_by : (step : Step A) (i : Intake) (o o' : Outlet) (s s' : Stock) (e : Ending) (x : Outcome) → i.given < 2 ^ 64 → s'.held ≡ s.held → Quiet o o' (Some e)
@@ -129,9 +108,7 @@ module _ {A T : Type 0} (m : T → A) (P : A → Outcome → Type 0) where
 
   -- where the step gave something
   pub had_by : (step : Step A) (t : T) (x : Outcome) → StepAs m step (Ok t) → HasBy P step x → P (m t) x
-  had_by Untold t x h has = absurd has
-  had_by (Gives a) t x h has = rw h has
-  had_by (Ends status line) t x h has = absurd h
+  had_by step t x h has = grind arith
 
 -- ---- steps are known where the shelf is, and never end with status 0
 
@@ -141,38 +118,27 @@ IsSound held (Gives a) = Unit {0}
 IsSound held (Ends status line) = 0 < status
 
 pub sound_next : {A B : Type 0} (held : Option Held) (s : Step A) (f : A → Step B) → IsSound held s → ((a : A) → IsSound held (f a)) → IsSound held (next s f)
-sound_next held Untold f h each = h
-sound_next held (Gives a) f h each = each a
-sound_next held (Ends status line) f h each = h
+sound_next held s f h each = grind arith
 
 pub sound_both : {A : Type 0} (held : Option Held) (s r : Step A) → IsSound held s → IsSound held r → IsSound held (both s r)
 sound_both held s r h k = sound_next held s _ h (λ a. sound_next held r _ k (λ b. tt))
 
-sound_size : (held : Option Held) (name text : List ℕ) (b : Bool) → IsSound held (if b then Gives text else Ends 9 (too_large_line name))
-sound_size held name text true = tt
-sound_size held name text false = omega arith
-
 sound_under : (held : Option Held) (most : ℕ) (name : List ℕ) (under : Option (List ℕ)) → IsSound held (text_under most name under)
 sound_under held most name None = omega arith
-sound_under held most name (Some text) = sound_size held name text (nat_le (length text) most)
+sound_under held most name (Some text) = cond_both (nat_le (length text) most) _ _ (IsSound held) (λ e. tt) (λ e. omega arith)
 
 pub sound_fetch : (held : Option Held) (most : ℕ) (name : List ℕ) → IsSound held (fetched most held name)
-sound_fetch None most name = refl
-sound_fetch (Some map) most name = sound_under (Some map) most name (map name)
+sound_fetch held most name = grind (arith, sound_under)
 
 pub sound_word : (held : Option Held) (word : SetWord) → IsSound held (fetched_set held word)
 sound_word held (Shipped s) = tt
 sound_word held (OnShelf name) = sound_next held (fetched longest_file held name) (λ text. Gives (Text name text)) (sound_fetch held longest_file name) (λ text. tt)
 
 sound_said : (held : Option Held) (name : List ℕ) (said : Said) → IsSound held (said_set name said)
-sound_said held name (Parts set) = tt
-sound_said held name Syntax = omega arith
-sound_said held name (Shape path) = omega arith
-sound_said held name (IllFormed fault) = omega arith
+sound_said held name said = grind arith
 
 pub sound_set : (held : Option Held) (text : SetText) → IsSound held (set_in text)
-sound_set held (Number s) = tt
-sound_set held (Text name text) = sound_said held name (file_said text)
+sound_set held text = grind (arith, sound_said)
 
 pub sound_word_set : (held : Option Held) (word : SetWord) → IsSound held (word_set held word)
 sound_word_set held word = sound_next held (fetched_set held word) set_in (sound_word held word) (λ text. sound_set held text)
@@ -197,11 +163,6 @@ one_text held (Ends status line) sound = record { outcome = ended status line 0;
 
 -- ---- what is held under a name is fetched
 
-under_gives : (most : ℕ) (name text : List ℕ) (b : Bool) → nat_le (length text) most ≡ b → length text ≤ most
-    → (if b then Gives text else Ends 9 (too_large_line name)) ≡ Gives text
-under_gives most name text true e fits = refl
-under_gives most name text false e fits = absurd (omega (arith, leb-false (length text) most e, fits))
-
 pub fetched_gives : (most : ℕ) (map : Held) (name text : List ℕ) → map name ≡ Some text → length text ≤ most
     → fetched most (Some map) name ≡ Gives text
-fetched_gives most map name text e fits = rw e (under_gives most name text (nat_le (length text) most) refl fits)
+fetched_gives most map name text e fits = rw (e, le-leb (length text) most fits)

@@ -9,7 +9,7 @@ use Rattle.vms_session.proofs.Facade.{◌+◌, ◌<◌, ◌∙◌, ◌∷◌, �
 use Rattle.vms_session.proofs.SoundLaws.{comes, event_is, line_event}
 use Rattle.vms_script.specs.Lines.{Restores}
 use Rattle.vms_commands.specs.Outcomes.{ComesTo}
-use Rattle.std.proofs.Common.{add-one}
+use Rattle.std.proofs.Common.{add-one, length-drop}
 
 -- ---- events
 
@@ -75,9 +75,7 @@ module _ {S : Type 0} (f : Family S) where
 
   pub one_more : (events : List Event) (i : ℕ) (m m' m'' : S) → i < length events → m' ≡ after_events f (take i events) m
       → m'' ≡ (f.step (event_at events i) m').1 → m'' ≡ after_events f (take (i + 1) events) m
-  one_more events i m m' m'' lt before done =
-      let next : suc i ≡ i + 1 = omega arith in
-      rw (done, before, ← next) (sym (after_more events i m lt))
+  one_more events i m m' m'' lt before done = grind (arith, after_more)
 
   -- ---- the trace
 
@@ -98,49 +96,32 @@ module _ {S : Type 0} (f : Family S) where
 
 -- ---- parts of a session, one after the other
 
-module _ (part : Part) (rest : List Part) where
-  -- the part that comes next
-  pub text_next : (i : ℕ) (parts : List Part) → drop i parts ≡ part ∷ rest → text_of (take (suc i) parts) ≡ text_of (take i parts) ++ part.text
-  text_next zero (x ∷ parts) e = cc (append-nil x.text)
-  text_next (suc i) (x ∷ parts) e = rw (text_next i parts e) (sym (append_assoc x.text (text_of (take i parts)) part.text))
-  text_next zero [] e = cc
-  text_next (suc i) [] e = cc
+-- what is written and held with the part that comes next
+record NextPart (part : Part) (rest : List Part) (i : ℕ) (parts : List Part) : Type 0 where
+  text : text_of (take (suc i) parts) ≡ text_of (take i parts) ++ part.text
+  held : (held : Option Held) → held_after held (take (suc i) parts) ≡ part.held
+  rest_is : drop (suc i) parts ≡ rest
+  -- a number of its bytes
+  begun : (n : ℕ) → text_begun parts (suc i) n ≡ text_of (take i parts) ++ take n part.text
 
-  pub held_next : (i : ℕ) (held : Option Held) (parts : List Part) → drop i parts ≡ part ∷ rest → held_after held (take (suc i) parts) ≡ part.held
-  held_next zero held (x ∷ parts) e = cc
-  held_next (suc i) held (x ∷ parts) e = held_next i x.held parts e
-  held_next zero held [] e = cc
-  held_next (suc i) held [] e = cc
-
-  pub rest_next : (i : ℕ) (parts : List Part) → drop i parts ≡ part ∷ rest → drop (suc i) parts ≡ rest
-  rest_next (suc i) (x ∷ parts) e = rest_next i parts e
-  rest_next _ _ e = cc
-
-  -- a part of which a number of bytes is written
-  pub begun_next : (i n : ℕ) (parts : List Part) → drop i parts ≡ part ∷ rest → text_begun parts (suc i) n ≡ text_of (take i parts) ++ take n part.text
-  begun_next zero n (x ∷ parts) e = cc
-  begun_next (suc i) n (x ∷ parts) e = rw (begun_next i n parts e) (sym (append_assoc x.text (text_of (take i parts)) (take n part.text)))
-  begun_next zero n [] e = cc
-  begun_next (suc i) n [] e = cc
+next_part : (part : Part) (rest : List Part) (i : ℕ) (parts : List Part) → drop i parts ≡ part ∷ rest → NextPart part rest i parts
+next_part part rest zero (x ∷ parts) e = record { text = cc (append-nil x.text); held = λ held. cc; rest_is = cc; begun = λ n. cc }
+next_part part rest (suc i) (x ∷ parts) e =
+    let next = next_part part rest i parts e in
+    record {
+      text = rw (next.text) (sym (append_assoc x.text (text_of (take i parts)) part.text));
+      held = λ held. next.held x.held;
+      rest_is = next.rest_is;
+      begun = λ n. rw (next.begun n) (sym (append_assoc x.text (text_of (take i parts)) (take n part.text)));
+    }
+next_part part rest zero [] e = cc
+next_part part rest (suc i) [] e = cc
 
 -- a number of complete parts
 pub begun_whole : (i n : ℕ) (parts : List Part) → length (text_of parts) ≤ n → text_begun parts i n ≡ text_of (take i parts)
 begun_whole (suc zero) n (x ∷ parts) le = cc (take_all n x.text (omega (arith, length-append x.text (text_of parts))), append-nil x.text)
 begun_whole (suc (suc i)) n (x ∷ parts) le = rw (begun_whole (suc i) n parts (omega (arith, length-append x.text (text_of parts))))
 begun_whole _ n _ le = refl
-
--- nothing is left
-pub text_all : (i : ℕ) (parts : List Part) → drop i parts ≡ [] → text_of (take i parts) ≡ text_of parts
-text_all zero (x ∷ parts) e = cc
-text_all (suc i) (x ∷ parts) e = rw (text_all i parts e)
-text_all zero [] e = refl
-text_all (suc i) [] e = refl
-
-pub held_all : (i : ℕ) (held : Option Held) (parts : List Part) → drop i parts ≡ [] → held_after held (take i parts) ≡ held_after held parts
-held_all zero held (x ∷ parts) e = cc
-held_all (suc i) held (x ∷ parts) e = held_all i x.held parts e
-held_all zero held [] e = refl
-held_all (suc i) held [] e = refl
 
 -- ---- lines of a session, one after the other: lines
 
@@ -156,9 +137,7 @@ rose_since a b c le rose = omega arith
 cause_since : (out out' out'' : Outlet) (shelf shelf' shelf'' : Stock) (result : Result Unit PlayFault) → out.faults ≤ out'.faults
     → shelf.faults ≤ shelf'.faults
     → HasPlayCause out' out'' shelf' shelf'' result → HasPlayCause out out'' shelf shelf'' result
-cause_since out out' out'' shelf shelf' shelf'' (Err WriteFault) p q h = rose_since _ _ _ p h
-cause_since out out' out'' shelf shelf' shelf'' (Err ShelfFault) p q h = rose_since _ _ _ q h
-cause_since out out' out'' shelf shelf' shelf'' _ p q h = h
+cause_since out out' out'' shelf shelf' shelf'' result p q h = grind (arith, rose_since)
 
 -- what calls before it did
 pub goes_since : {out out' out'' : Outlet} {shelf shelf' shelf'' : Stock} {result : Result Unit PlayFault} → Serves out out' → Reaches shelf shelf'
@@ -198,8 +177,8 @@ module _ (i : ℕ) (line : ScriptLine) (left : List ScriptLine) (parts : List Pa
   abbrev between : Session
   between = course.rest.2
 
-  abbrev next : drop i parts ≡ part_of line text between ∷ course.rest.1
-  next = course.rest.5
+  next : NextPart (part_of line text between) course.rest.1 i parts
+  next = next_part _ _ i parts course.rest.5
 
   pub course_goes : Content line board board' out' out'' shelf' shelf'' (Ok tt) → InCourse (i + 1) left parts new board' out out'' shelf shelf''
   course_goes content =
@@ -207,11 +186,9 @@ module _ (i : ℕ) (line : ScriptLine) (left : List ScriptLine) (parts : List Pa
       rw add-one (record {
         holds = between.held;
         told = ends.1;
-        rest = rw ends.2 (rw (rest_next _ _ i parts next) course.rest.4);
-        text = rw (text_next _ _ i parts next)
-            (Appends-trans _ _ _ _ text course.text
-            (rw (append-nil text) at ends.0));
-        held = cc (held_next _ _ i _ parts next);
+        rest = rw ends.2 (rw (next.rest_is) course.rest.4);
+        text = rw (next.text) (Appends-trans _ _ _ _ text course.text (rw (append-nil text) at ends.0));
+        held = cc (next.held shelf.held);
       })
 
   -- all of the lines before this one has been written, where this one writes nothing
@@ -226,8 +203,8 @@ module _ (i : ℕ) (line : ScriptLine) (left : List ScriptLine) (parts : List Pa
       some n begun held = record {
         begun = suc i;
         bytes = n;
-        text = rw (begun_next _ _ i n parts next) (Appends-trans _ _ _ _ _ course.text begun);
-        held = cc (held_next _ _ i _ parts next);
+        text = rw (next.begun n) (Appends-trans _ _ _ _ _ course.text begun);
+        held = cc (next.held shelf.held);
       }
 
       by : (k : ℕ) → Appends out'.written out''.written (text_begun (part_of line text between ∷ []) k comes.bytes)
@@ -247,9 +224,8 @@ module _ (i : ℕ) (line : ScriptLine) (left : List ScriptLine) (parts : List Pa
       whole : Appends out'.written out''.written (text ++ []) → shelf''.held ≡ Some between.held → DoesSome out out'' shelf shelf'' parts
       whole all held = record {
         done = suc i;
-        text = rw (text_next part _ i parts next) (Appends-trans _ _ _ _ text course.text
-            (rw (append-nil text) at all));
-        held = cc (held_next part _ i _ parts next);
+        text = rw (next.text) (Appends-trans _ _ _ _ text course.text (rw (append-nil text) at all));
+        held = cc (next.held shelf.held);
       }
 
       by : (k : ℕ) → Appends out'.written out''.written (text_of (take k (part ∷ []))) → shelf''.held ≡ held_after shelf'.held (take k (part ∷ []))
@@ -273,7 +249,7 @@ module _ (i : ℕ) (line : ScriptLine) (left : List ScriptLine) (parts : List Pa
         done = i;
         text = behind none;
         rose = rose_since _ _ _ le fails.rose;
-        held = rw (ap stored_next next) (rw course.held at but);
+        held = rw (ap stored_next course.rest.5) (rw course.held at but);
       }
       by (suc zero) none but = absurd but
       by (suc (suc k)) none but = absurd but
@@ -287,8 +263,6 @@ module _ (i : ℕ) (line : ScriptLine) (left : List ScriptLine) (parts : List Pa
 
 pub course_ends : (i : ℕ) (parts : List Part) (new : Session) (board : State) (out out' : Outlet) (shelf shelf' : Stock)
     → InCourse i [] parts new board out out' shelf shelf' → LinesEnd parts new out out' shelf shelf' board (Ok tt)
-course_ends i parts new board out out' shelf shelf' course = (
-  rw (text_all i parts course.rest.0) at course.text,
-  course.held ∙ held_all i _ parts course.rest.0,
-  cc (course.rest.1),
-)
+course_ends i parts new board out out' shelf shelf' course =
+    let all : take i parts ≡ parts = take_all i parts (omega (arith, ap length course.rest.0, length-drop i parts)) in
+    (rw all at course.text, course.held ∙ ap (held_after shelf.held) all, cc (course.rest.1))

@@ -1,13 +1,13 @@
 -- What a line of a session does: one thing, which keeps the level and a sound board.
-use Rattle.vms_session.proofs.Facade.{AreBoardCells, AreLines, Back, Bool, BringsNone, Byte, ComesTo, Device, Does, EachOnce, Err, Event, GoesOnWithout}
-use Rattle.vms_session.proofs.Facade.{Happens, HasSection, Held, HoldsBytes, Image, IsBytes, IsEvent, IsLarge, IsLevel, IsLine, IsLoaded, IsMissing, IsNormal}
-use Rattle.vms_session.proofs.Facade.{IsOneEnd, IsRefused, IsSound, IsTooLarge, Leaves, LevelStays, LinesAreOne, LinesEnd, List, LoadsBytes, LoadsHeld, NEWEST}
-use Rattle.vms_session.proofs.Facade.{None, Ok, Option, Outlet, Part, PlayFault, Plays, PutsUnder, ReadsBytes, Reason, RefusalsLeave, Refused, Restore}
-use Rattle.vms_session.proofs.Facade.{Restores, Result, Saves, ScriptLine, SectionsSpell, Session, SessionsStaySound, Set, Some, State, Stock, TakesBoard, Wire}
-use Rattle.vms_session.proofs.Facade.{Write, WriteFault, WritesText, [], ap, append-nil, arith, bytes_eq, bytes_eq-Decides, cells_in, clock_goes_on, false, inl}
-use Rattle.vms_session.proofs.Facade.{inr, isa, isa_laws, length, longest_file, map, none_left, normal_may_be_restored, part_of, refl, refused_line}
-use Rattle.vms_session.proofs.Facade.{restored_is_sound, shipped_set, slice_get, slice_set, sound_stays_on, step, suc, sym, too_large_line, trace_line, true}
-use Rattle.vms_session.proofs.Facade.{zero, ℕ, ◌<◌, ◌∙◌, ◌∷◌, ◌≡◌, ◌≢◌, ◌≤◌, ◌⊎◌}
+use Rattle.vms_session.proofs.Facade.{AreBoardCells, AreLines, Back, Bool, BringsNone, ComesTo, Device, Does, EachOnce, Err, Event, GoesOnWithout, Happens}
+use Rattle.vms_session.proofs.Facade.{HasSection, Held, HoldsBytes, Image, IsBytes, IsEvent, IsLarge, IsLevel, IsLine, IsLoaded, IsMissing, IsNormal, IsOneEnd}
+use Rattle.vms_session.proofs.Facade.{IsRefused, IsSound, IsTooLarge, Leaves, LevelStays, LinesAreOne, LinesEnd, List, LoadsBytes, LoadsHeld, NEWEST, None, Ok}
+use Rattle.vms_session.proofs.Facade.{Option, Outlet, Part, PlayFault, Plays, PutsUnder, ReadsBytes, RefusalsLeave, Refused, Restore, Restores, Result, Saves}
+use Rattle.vms_session.proofs.Facade.{ScriptLine, SectionsSpell, Session, SessionsStaySound, Set, Some, State, Stock, TakesBoard, WriteFault, WritesText, []}
+use Rattle.vms_session.proofs.Facade.{ap, append-nil, arith, bytes_eq, bytes_eq-Decides, cells_in, clock_goes_on, false, inl, inr, isa, isa_laws, length}
+use Rattle.vms_session.proofs.Facade.{longest_file, map, none_left, normal_may_be_restored, part_of, refl, restored_is_sound, shipped_set, slice_get, slice_set}
+use Rattle.vms_session.proofs.Facade.{sound_stays_on, step, suc, sym, too_large_line, trace_line, true, zero, ℕ, ◌<◌, ◌∙◌, ◌∷◌, ◌≡◌}
+use Rattle.vms_session.proofs.Facade.{◌≢◌, ◌≤◌, ◌⊎◌}
 use Rattle.vms_script.specs.{Grammar.IsEvent as IsSpelled, Lines.Restores as Loads}
 
 -- ---- each device of a stream that is taken has a normal image
@@ -55,14 +55,10 @@ back_is_sound level bytes m taken l r = restored_is_sound.sound level (cells_in 
 -- ---- lines
 
 pub event_is : (event : Event) → IsSpelled event → IsEvent event
-event_is (Write port value) h = h.1
-event_is (Byte value) h = h
-event_is (Wire input up) h = h
-event_is _ h = tt
+event_is event h = grind arith
 
 pub line_event : (play : Option ℕ) (event : Event) → IsLine play (Happens event) → IsSpelled event
-line_event None event h = h
-line_event (Some level) event h = h
+line_event play event h = grind arith
 
 same-board : (old new : Session) → new.board ≡ old.board → IsSound old.board → IsSound new.board
 same-board old new e s = rw e s
@@ -195,23 +191,14 @@ line_ends line text mark new o o' s s' m _ e h held board = absurd h
 
 large-leaves : (bytes : List ℕ) (old : Session) (said : List ℕ) (new : Session) → longest_file < length bytes → LoadsBytes bytes old said new
     → Leaves too_large_line old said new
-large-leaves bytes old said new long (IsTooLarge far left) = left
-large-leaves bytes old said new long (IsLoaded restore few restores left) = absurd (omega arith)
-
-refused-leaves : (bytes : List ℕ) (place : ℕ) (section : Option ℕ) (reason : Reason) (old : Session) (said : List ℕ) (new : Session) → IsBytes bytes
-    → length bytes ≤ longest_file
-    → Restores isa old.board.level bytes (Refused place section reason) → LoadsBytes bytes old said new
-    → Leaves (refused_line (shipped_set NEWEST) place section reason) old said new
-refused-leaves bytes place section reason old said new ok few refused (IsTooLarge far left) = absurd (omega arith)
-refused-leaves bytes place section reason old said new ok few refused (IsLoaded restore some restores left) =
-    rw (isa_laws.one.one old.board.level bytes ok restore (Refused place section reason) restores refused) at left
+large-leaves bytes old said new long h5 = grind arith
 
 leaves-so : (name : List ℕ) (old : Session) (text said : List ℕ) (new : Session) → BringsNone name old text → Does (Loads name) old said new
     → Leaves text old said new
 leaves-so name old text said new (IsMissing none is) does = rw is (rw none at does)
 leaves-so name old text said new (IsLarge bytes there long is) does = rw is (large-leaves bytes old said new long (rw there at does))
 leaves-so name old text said new (IsRefused bytes place section reason there ok few refused is) does =
-    rw is (refused-leaves bytes place _ reason old said new ok few refused (rw there at does))
+    rw is (comes bytes old said new (Refused place section reason) ok few refused (rw there at does))
 
 later-so : (name : List ℕ) (lines : List ScriptLine) (old : Session) (text : List ℕ) (parts : List Part) (new : Session) → BringsNone name old text
     → Plays (Loads name ∷ lines) old parts new → GoesOnWithout (Loads name) lines old text parts new
