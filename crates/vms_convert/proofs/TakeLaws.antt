@@ -65,6 +65,10 @@ module _ (set : Set) (structs : AreSound set.structs) (d : Device) where
   came_same : (n m : List ℤ) (from : ℕ) (subs : List Sub) (came : List (Option ℕ)) (j : ℕ) → ((i : ℕ) (s : Sub) → slice_get subs i ≡ Some s → IsSound s.desc)
       → SameIn from (sub_place set from subs j) n m
       → came_slots set d m from (take j subs) (take j came) ≡ came_slots set d n from (take j subs) (take j came)
+  came_same n m from [] came zero sound s = refl
+  came_same n m from [] came (suc j) sound s = refl
+  came_same n m from (t ∷ subs) came zero sound s = refl
+  came_same n m from (t ∷ subs) [] (suc j) sound s = refl
   came_same n m from (t ∷ subs) (None ∷ came) (suc j) sound s =
       came_same n m (from + sub_size set t) subs came j (λ i u e. sound (suc i) u e) (record { same = λ c low lt. s.same c (omega arith) lt })
   came_same n m from (t ∷ subs) (Some v ∷ came) (suc j) sound s =
@@ -74,7 +78,6 @@ module _ (set : Set) (structs : AreSound set.structs) (d : Device) where
         its_same set t.desc v from structs (sound 0 t refl) n m (record { same = λ c low lt. s.same c low (omega arith) }),
         came_same n m next subs came j (λ i u e. sound (suc i) u e) (record { same = λ c low lt. s.same c (omega arith) lt }),
       )
-  came_same n m from _ _ _ sound s = refl
 
   pub first_same : IsSound d.desc → ((i : ℕ) (s : Sub) → slice_get d.subs i ≡ Some s → IsSound s.desc) → (n m : List ℤ) (came : List (Option ℕ)) (j : ℕ)
       → SameBelow (part_place set d j) n m → first_slots set d came j m ≡ first_slots set d came j n
