@@ -83,12 +83,9 @@ recast_long to (d ∷ devices) (n ∷ lists) l = ap suc (recast_long to devices 
 no_truth : (P : Type 0) → false ≡ true → P
 no_truth P e = cc
 
-few : (k : ℕ) → suc (suc (suc (suc (suc k)))) < length newest_set.devices → ⊥
-few k lt = omega arith
-
 pub port_is : (k : ℕ) → k < length newest_set.devices → is_port (device_at newest_set k) ≡ true → k ≡ 4
 port_is (suc (suc (suc (suc zero)))) lt e = refl
-port_is (suc (suc (suc (suc (suc k))))) lt e = absurd (few k lt)
+port_is (suc (suc (suc (suc (suc k))))) lt e = absurd (omega arith)
 port_is _ lt e = no_truth _ e
 
 pub port_cells : (images : List Image) → AreKept newest_set images → (k : ℕ) (image : Image) → k ≡ 4
