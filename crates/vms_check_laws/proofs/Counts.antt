@@ -1,15 +1,15 @@
 -- Numbers that count fit all capacities, and what well-formedness gives to the laws on pairs of
 -- sets.
 use Rattle.vms_check_laws.proofs.Facade.{absent_hold, bound, least_of, greatest, has_room, AllZip, ◌≤ℤ◌, ◌≡◌, inl, inr, ℕ, zero, suc, ◌+◌}
-use Rattle.vms_check_laws.proofs.Facade.{◌≤◌, true, List, ◌∷◌, ◌++◌, length, get_or, Some, refl, arith, ℤ, pos, negsuc, if◌then◌else◌}
+use Rattle.vms_check_laws.proofs.Facade.{◌≤◌, true, List, ◌∷◌, ◌++◌, length, get_or, Some, refl, arith, ℤ, pos, if◌then◌else◌}
 use Rattle.vms_check_laws.proofs.Facade.{AllByRecursion, slice_get, eq-eqb, ints, ◌<◌, [], min, Bool, false, Option, None, sym, nat_le, and_parts, eqb-true}
-use Rattle.vms_check_laws.proofs.Facade.{leb-true, Kind, U8, U16, U32, Item, Num, width, residue, Count, One, Counted, Field, Cell, times, counted, capacity_of}
+use Rattle.vms_check_laws.proofs.Facade.{leb-true, Kind, U8, U16, U32, Item, Num, width, residue, Count, Counted, Field, Cell, times, counted, capacity_of}
 use Rattle.vms_check_laws.proofs.Facade.{item_cells, field_cells, cells_from, place_of, no_field, kind_of, FitsCell, is_num, is_one, ItemBelow, FitsAt, Desc}
-use Rattle.vms_check_laws.proofs.Facade.{is_steady_in, no_desc, Struct, highest, Formula, presence, Entry, entry_of, present_from, position_from, same_place}
-use Rattle.vms_check_laws.proofs.Facade.{same_count, holds_as_much, defaults, and_from, slice_get-get_or, Equal, Unused, Own, Parent, Not, And, Or, Sub, Device}
-use Rattle.vms_check_laws.proofs.Facade.{Set, names_well, nobody, is_steady, is_earlier_in, ◌&&◌, test_names_well, count_names_well, is_counting}
-use Rattle.vms_check_laws.proofs.Facade.{defaults_well, counts_well, has_good_count, validation_rules, WellFormed, AllTrue, item_below, Clean, ranges, within}
-use Rattle.vms_check_laws.proofs.Facade.{struct_clean, device_parts, sub_clean}
+use Rattle.vms_check_laws.proofs.Facade.{is_steady_in, no_desc, highest, Formula, presence, Entry, entry_of, present_from, position_from, same_place}
+use Rattle.vms_check_laws.proofs.Facade.{same_count, holds_as_much, defaults, and_from, slice_get-get_or, Own, Parent, Not, And, Or, Sub, Device, Set}
+use Rattle.vms_check_laws.proofs.Facade.{names_well, nobody, is_steady, is_earlier_in, ◌&&◌, test_names_well, count_names_well, is_counting, defaults_well}
+use Rattle.vms_check_laws.proofs.Facade.{counts_well, has_good_count, validation_rules, WellFormed, AllTrue, item_below, Clean, within, struct_clean}
+use Rattle.vms_check_laws.proofs.Facade.{device_parts, sub_clean}
 use Rattle.vms_check_laws.proofs.Premises.{Met, NewGood, news, IsSingle, CountFits, OldFields, DefaultsGood, NamesEarlier, NewFields, RulesNamed, Sides}
 use Rattle.vms_check_laws.proofs.Premises.{Matched}
 use Rattle.vms_check_laws.proofs.Premises.{decoded, CountNamed, ItemDefault}

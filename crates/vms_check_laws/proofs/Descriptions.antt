@@ -4,12 +4,11 @@
 use Rattle.vms_check_laws.proofs.AlignedDescs.{Clashes, entries_align, entries_clash, State}
 use Rattle.vms_check_laws.proofs.Counts.{caps_follow, IsIndexed, DescGood, indexed}
 use Rattle.vms_check_laws.proofs.Facade.{no_parent, reduced, reduced_holds, same_reduced, truth, truth_of, either_of, ◌≡◌, inl, inr, ℕ, suc, ◌+◌}
-use Rattle.vms_check_laws.proofs.Facade.{◌<◌, Bool, true, List, ◌∷◌, ◌++◌, get_or, Option, None, refl, arith, ℤ, [], cells_in, Item, Num}
-use Rattle.vms_check_laws.proofs.Facade.{Struct, Formula, Field, Cell, counted, item_cells, field_cells, cells_from, Entry, defaults, carry_field, carry_from}
-use Rattle.vms_check_laws.proofs.Facade.{FitsAt, ItemBelow, FieldsBelow, desc_cells, is_steady_in, present, AllZip, sym, ◌∙◌, and_from, and_parts}
-use Rattle.vms_check_laws.proofs.Facade.{list_all, list_any, Desc, Rule, Meaning, slots_from, desc_slots, all_hold, Part, position_from, Comparer, compare_desc}
-use Rattle.vms_check_laws.proofs.Facade.{Carrier, carry_desc, Holds, Aligns, or_else_none, Spells, zeroed, Carries, Known, Reduced, compare_validations, here}
-use Rattle.vms_check_laws.proofs.Facade.{is_kept}
+use Rattle.vms_check_laws.proofs.Facade.{◌<◌, Bool, true, List, ◌∷◌, ◌++◌, get_or, Option, None, refl, arith, ℤ, [], cells_in, Item, Formula}
+use Rattle.vms_check_laws.proofs.Facade.{Field, Cell, counted, item_cells, field_cells, cells_from, Entry, defaults, carry_field, carry_from, FitsAt, ItemBelow}
+use Rattle.vms_check_laws.proofs.Facade.{FieldsBelow, desc_cells, is_steady_in, present, AllZip, sym, ◌∙◌, and_from, and_parts, list_all, list_any, Desc}
+use Rattle.vms_check_laws.proofs.Facade.{Rule, Meaning, slots_from, desc_slots, all_hold, Part, position_from, Comparer, compare_desc, Carrier, carry_desc}
+use Rattle.vms_check_laws.proofs.Facade.{Holds, Aligns, or_else_none, Spells, zeroed, Carries, Known, Reduced, compare_validations, here, is_kept}
 use Rattle.vms_check_laws.proofs.FieldsRead.{linked, agree_from, fields_settle, fields_carry, by_fields, field_sized, matched, covered_cells, there}
 use Rattle.vms_check_laws.proofs.PairLists.{settled_more}
 use Rattle.vms_check_laws.proofs.Premises.{olds, news, older, newer, decoded, OldFields, NewFields, DefaultsGood, ItemDefault, Sides}

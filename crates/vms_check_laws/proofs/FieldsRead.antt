@@ -1,16 +1,15 @@
--- Fields of both sides at one position: the newer set reads what the older one writes with the carried numbers, and what isn't in the
--- bytes is at its default.
+-- Fields of both sides at one position: they take the same bytes, the newer set reads what the older one writes with the carried numbers,
+-- which fit its cells, and what isn't in the bytes is at its default.
 use Rattle.vms_check_laws.proofs.Presence.{carries_nil, carries_append, carries_filler, aligns_nil, aligns_append, aligns_number, aligns_constant}
 use Rattle.vms_check_laws.proofs.Presence.{aligns_filler}
 use Rattle.vms_check_laws.proofs.Facade.{◌≡◌, inl, inr, ℕ, zero, suc, ◌+◌, ◌*◌, ◌≤◌, Bool, true, false, List, ◌∷◌, length, get_or}
-use Rattle.vms_check_laws.proofs.Facade.{Option, None, refl, sym, eq-eqb, ◌∙◌, arith, ℤ, pos, if◌then◌else◌, ◌++◌, Some, eqb-true, leb-true}
-use Rattle.vms_check_laws.proofs.Facade.{slice_get, ap, [], length-append, Kind, Item, Num, Equal, Unused, Struct, width, Count, One, Fixed, Counted, Formula}
-use Rattle.vms_check_laws.proofs.Facade.{Field, is_there, Slot, no_parent, times, counted, capacity_of, item_cells, field_cells, elements_of, item_slots, Entry}
-use Rattle.vms_check_laws.proofs.Facade.{same_rest, same_count, same_constant, holds_as_much, entry_of, present_from, defaults, carry_item, carry_items}
-use Rattle.vms_check_laws.proofs.Facade.{carry_field, Holds, FitsAt, Carries, size_same, elements_fit, ItemBelow, same_number_is, here, Aligns, FitsCell}
-use Rattle.vms_check_laws.proofs.Facade.{AllByRecursion, highest, ◌≤ℤ◌, presence, Cell, cells_from, slots_from, kind_of, is_steady_in, is_num, is_one}
-use Rattle.vms_check_laws.proofs.Facade.{same_item, position_from, same_place, carry_next, carry_from, entries_left, field_size, FieldsBelow, residue}
-use Rattle.vms_check_laws.proofs.Facade.{desc_cells, AllZip}
+use Rattle.vms_check_laws.proofs.Facade.{Option, None, refl, sym, eq-eqb, ◌∙◌, arith, ℤ, pos, if◌then◌else◌, ◌++◌, Some, eqb-true, slice_get}
+use Rattle.vms_check_laws.proofs.Facade.{ap, [], length-append, Kind, Item, Num, Equal, Unused, Struct, width, Count, Formula, Field, is_there, Slot, no_parent}
+use Rattle.vms_check_laws.proofs.Facade.{times, counted, capacity_of, item_cells, field_cells, elements_of, item_slots, Entry, same_rest, same_count}
+use Rattle.vms_check_laws.proofs.Facade.{same_constant, holds_as_much, entry_of, present_from, defaults, carry_item, carry_items, carry_field, Holds, FitsAt}
+use Rattle.vms_check_laws.proofs.Facade.{Carries, size_same, elements_fit, ItemBelow, same_number_is, here, Aligns, FitsCell, AllByRecursion, highest}
+use Rattle.vms_check_laws.proofs.Facade.{◌≤ℤ◌, presence, Cell, cells_from, slots_from, kind_of, is_steady_in, is_num, is_one, same_item, position_from}
+use Rattle.vms_check_laws.proofs.Facade.{same_place, carry_next, carry_from, entries_left, field_size, FieldsBelow, residue, desc_cells, AllZip}
 use Rattle.vms_check_laws.proofs.PairLists.{when_there, defaults_size, Settled, settled_defaults, settled_empty, settled_append, same_defaults, if_least}
 use Rattle.vms_check_laws.proofs.Premises.{olds, news, older, newer, kinds_same, slots_at, entries_slots, known_there, Pairs, decoded, CoveredBy, Matched}
 use Rattle.vms_check_laws.proofs.Premises.{Sides, CountFits, CountNamed, OldGood, NewGood, OldFields, NewFields, Reads, covered_slots, Met, PairGood, GoodCells}

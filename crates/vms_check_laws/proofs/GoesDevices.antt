@@ -1,11 +1,11 @@
 -- What is carried of a device, cell by cell.
 use Rattle.vms_check_laws.proofs.{Facade.device_partners, GoesFields.part_goes, GoesFields.below_of}
 use Rattle.vms_check_laws.proofs.Facade.{CarriedLaw, ◌≡◌, ◌⊎◌, inl, inr, ℕ, ◌+◌, ◌-◌, ◌<◌, Bool, true, false, List, length, get_or}
-use Rattle.vms_check_laws.proofs.Facade.{Option, Some, None, ℤ, pos, refl, sym, ◌∙◌, arith, flat_map, slice_get, slice_get_within, ap, zero, suc}
-use Rattle.vms_check_laws.proofs.Facade.{◌∷◌, ext_get_or, [], Sub, Device, Set, Cell, no_cell, desc_cells, device_cells, struct_cells, Image, has_cell}
-use Rattle.vms_check_laws.proofs.Facade.{image_slots, own_slots, own_cells, came_slots, sub_slots, sub_place, find_sub, WellFormed, none_in_both, its_in}
-use Rattle.vms_check_laws.proofs.Facade.{sub_size, sub_place_up, part_apart, defaults_at, defaults_long, device_parts, sub_clean, sub_found, carrying}
-use Rattle.vms_check_laws.proofs.Facade.{carried_sub, carried_device, IsCarried, IsAtVersions, part_partners, named_partners}
+use Rattle.vms_check_laws.proofs.Facade.{Option, Some, ℤ, pos, refl, sym, ◌∙◌, arith, flat_map, slice_get, slice_get_within, ap, zero, suc, ◌∷◌}
+use Rattle.vms_check_laws.proofs.Facade.{ext_get_or, [], Sub, Device, Set, Cell, no_cell, desc_cells, device_cells, struct_cells, Image, has_cell, image_slots}
+use Rattle.vms_check_laws.proofs.Facade.{own_slots, own_cells, came_slots, sub_slots, sub_place, find_sub, WellFormed, none_in_both, its_in, sub_size}
+use Rattle.vms_check_laws.proofs.Facade.{sub_place_up, part_apart, defaults_at, defaults_long, device_parts, sub_clean, sub_found, carrying, carried_sub}
+use Rattle.vms_check_laws.proofs.Facade.{carried_device, IsCarried, IsAtVersions, part_partners, named_partners}
 use Rattle.vms_check_laws.proofs.PairDevices.{Found, look_up, Comes, comes, has_part, one_part, device_paired, sized, rest_paired, in_one, sub_top, StandsIn}
 use Rattle.vms_check_laws.proofs.PairDevices.{all_long, at_place}
 use Rattle.vms_check_laws.proofs.PairDevices.{number_at, stands_in}

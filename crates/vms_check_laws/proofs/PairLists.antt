@@ -2,7 +2,7 @@
 use Rattle.vms_check_laws.proofs.Facade.{◌≡◌, ◌⊎◌, inl, inr, ℕ, zero, suc, ◌+◌, ◌-◌, ◌<◌, ◌≤◌, List, ◌∷◌, ◌++◌}
 use Rattle.vms_check_laws.proofs.Facade.{length, get_or, replicate, Option, Some, None, refl, sym, ◌∙◌, arith, slice_get, get_or_append_left}
 use Rattle.vms_check_laws.proofs.Facade.{get_or-append-add, length-replicate, cases_lt, ℤ, pos, true, length-append, length-map, Bool, if◌then◌else◌}
-use Rattle.vms_check_laws.proofs.Facade.{[], false, or-false, or_parts, false_from_ne_true, slice_get_within, Cell, no_cell, Kind, Item, Num, Slot, item_cells}
+use Rattle.vms_check_laws.proofs.Facade.{[], false, or-false, or_parts, false_from_ne_true, slice_get_within, Cell, no_cell, Kind, Item, Slot, item_cells}
 use Rattle.vms_check_laws.proofs.Facade.{has_cell, has_left, has_right, defaults, names_append, defaults_at, defaults_long, either_of}
 
 abbrev pub one_cell : Kind → List ℕ → ℤ → List Cell

@@ -3,12 +3,12 @@
 use Rattle.vms_check_laws.proofs.Facade.{◌≡◌, ◌⊎◌, inl, inr, ℕ, suc, ◌+◌, ◌<◌, ◌≤◌, Bool, true, false, ◌==◌, List, ◌∷◌}
 use Rattle.vms_check_laws.proofs.Facade.{◌++◌, length, Option, Some, None, refl, sym, ap, arith, if◌then◌else◌, eqb-true, eq-eqb, [], Formula, Field}
 use Rattle.vms_check_laws.proofs.Facade.{Cell, field_cells, Entry, entry_of, present_from, position_from, same_place, nat_le, ◌&&◌, and_parts, and_from}
-use Rattle.vms_check_laws.proofs.Facade.{zero, ◌*◌, get_or, ℤ, pos, length-append, length-replicate, truth, is_there, Reduced, Known, Open, reduced}
-use Rattle.vms_check_laws.proofs.Facade.{left_of, presence, truth_of, reduced_holds, Rel, Own, Not, And, Or, names_well, nobody, same_test, same_rest}
-use Rattle.vms_check_laws.proofs.Facade.{same_reduced, IfOpen, open_reduced, Kind, Item, Num, Equal, Unused, width, Count, One, Fixed, Number, Constant, times}
-use Rattle.vms_check_laws.proofs.Facade.{zeroed, is_steady, is_num, is_one, has_no_test, length-code, is_covered, Holds, Filler, ◌∙◌, append_assoc}
-use Rattle.vms_check_laws.proofs.Facade.{get_or_append_left, get_or-append-add, append-nil, slice_get, no_cell, Slot, Rule, FitsAt, Carries, rules_append}
-use Rattle.vms_check_laws.proofs.Facade.{spells_append, code, Spells, Aligns, rules_split, drop-append_seam, take-append_seam}
+use Rattle.vms_check_laws.proofs.Facade.{zero, ◌*◌, get_or, ℤ, pos, length-append, length-replicate, truth, is_there, Reduced, reduced, left_of, presence}
+use Rattle.vms_check_laws.proofs.Facade.{truth_of, reduced_holds, Rel, Own, Not, And, Or, names_well, nobody, same_test, same_rest, same_reduced, IfOpen}
+use Rattle.vms_check_laws.proofs.Facade.{open_reduced, Kind, Item, Unused, width, Count, Number, Constant, times, zeroed, is_steady, is_num, is_one}
+use Rattle.vms_check_laws.proofs.Facade.{has_no_test, length-code, is_covered, Holds, Filler, ◌∙◌, append_assoc, get_or_append_left, get_or-append-add}
+use Rattle.vms_check_laws.proofs.Facade.{append-nil, slice_get, no_cell, Slot, Rule, FitsAt, Carries, rules_append, spells_append, code, Spells, Aligns}
+use Rattle.vms_check_laws.proofs.Facade.{rules_split, drop-append_seam, take-append_seam}
 use Rattle.vms_check.specs.Comparing.{same_rel}
 use Rattle.vms_spec.specs.contracts.Rel.{the_type as rel_type}
 use denote.Enum.Bare.{same_true}

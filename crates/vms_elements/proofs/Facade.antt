@@ -1,6 +1,7 @@
 -- The names of other crates, and of this crate's `specs`, that the proofs use.
-pub use Rattle.std.proofs.{lemmas.Option.slice_get-get_or, lemmas.Bool.le-ltb, lemmas.Bool.lt-ltb, lemmas.Bool.ltb-false, lemmas.Bool.ltb-true}
-pub use Rattle.std.proofs.Common.{◌++◌, ◌+◌, ◌-◌, ◌<◌, ◌∙◌, ◌∷◌, ◌≡◌, ◌≤◌, ◌⊎◌, Bool, List, None, Option, Some, [], ap, append-nil, append_assoc, arith, codes}
+pub use Rattle.std.proofs.{lemmas.Option.slice_get-get_or, lemmas.Bool.lt-ltb, lemmas.Bool.ltb-false, lemmas.Bool.ltb-true}
+pub use Rattle.std.proofs.Common.{◌++◌, ◌+◌, ◌-◌, ◌<◌, ◌∙◌, ◌∷◌, ◌≡◌, ◌≤◌, ◌⊎◌, Bool, List, None, Option, Some}
+pub use Rattle.std.proofs.Common.{[], ap, append-nil, append_assoc, arith, codes}
 pub use Rattle.std.proofs.Common.{drop, false, get_or, if◌then◌else◌, inl, inr, length, map, nat_lt, negsuc, pos, refl, subst, suc, sym, take, true, zero}
 pub use Rattle.std.proofs.Common.{zero-add, ℕ, ℤ, ◌%◌, ◌/◌, ◌==◌, ◌&&◌, ◌*◌}
 pub use Rattle.std.proofs.lemmas.List.{get_or-append_right, get_or-map, get_or_append_left, get_or_past, length-map, map-append}

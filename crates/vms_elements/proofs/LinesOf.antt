@@ -1,14 +1,14 @@
 -- What the elements of a description are: slots of its bytes, and lines of its text.
 use Rattle.vms_elements.proofs.Facade.{◌≡◌, ℕ, zero, suc, ◌+◌, ◌-◌, ◌≤◌, List, [], ◌++◌, map, arith, Bool, true, false, ◌&&◌}
-use Rattle.vms_elements.proofs.Facade.{le-ltb, lt-ltb, Field, Element, Stand, behind, array_elements, index_text, ◌∷◌, length, get_or, ℤ, refl, sym, ap}
-use Rattle.vms_elements.proofs.Facade.{◌∙◌, two_more, if◌then◌else◌, Item, Struct, Desc, Set, Slot, Meaning, no_meaning, no_desc, first, times}
-use Rattle.vms_elements.proofs.Facade.{counted, capacity_of, elements_of, item_size, item_slots, slots_from, desc_slots, meaning, meanings, pick_append}
-use Rattle.vms_elements.proofs.Facade.{first_cells, elements_fit, first_long, Shape, no_shape, shape, cells_in, dotted, item_elements, stand_of, elements_from}
-use Rattle.vms_elements.proofs.Facade.{desc_elements, slots_of, elements_in, machine_lines, values_lines, is_number, append-nil, append_assoc, Option, Some}
-use Rattle.vms_elements.proofs.Facade.{None, codes, map-append, decimal, Num, Count, One, Sub, Device, Image, own_cells, desc_cells, struct_cells, Printer}
-use Rattle.vms_elements.proofs.Facade.{no_printer, printer, printers, item_lines, element_lines, array_lines, field_lines, desc_lines, values_text}
-use Rattle.vms_elements.proofs.Facade.{version_text, field_elements, text_of, printed, number_line, number_lines, subs_lines, device_lines, devices_lines}
-use Rattle.vms_elements.proofs.Facade.{Entry, OfNumber, number_entries, subs_entries, device_entries, devices_entries, entry_line, EntryLaw}
+use Rattle.vms_elements.proofs.Facade.{Field, Element, Stand, behind, array_elements, index_text, ◌∷◌, length, get_or, ℤ, refl, sym, ap, ◌∙◌}
+use Rattle.vms_elements.proofs.Facade.{two_more, if◌then◌else◌, Item, Struct, Desc, Set, Slot, Meaning, no_meaning, no_desc, first, times, counted}
+use Rattle.vms_elements.proofs.Facade.{capacity_of, elements_of, item_size, item_slots, slots_from, desc_slots, meaning, meanings, pick_append, first_cells}
+use Rattle.vms_elements.proofs.Facade.{elements_fit, first_long, Shape, no_shape, shape, cells_in, dotted, item_elements, stand_of, elements_from}
+use Rattle.vms_elements.proofs.Facade.{desc_elements, slots_of, elements_in, machine_lines, values_lines, is_number, append-nil, append_assoc, Option, codes}
+use Rattle.vms_elements.proofs.Facade.{map-append, decimal, Num, Count, One, Sub, Device, Image, own_cells, desc_cells, struct_cells, Printer, no_printer}
+use Rattle.vms_elements.proofs.Facade.{printer, printers, item_lines, element_lines, array_lines, field_lines, desc_lines, values_text, version_text}
+use Rattle.vms_elements.proofs.Facade.{field_elements, text_of, printed, number_line, number_lines, subs_lines, device_lines, devices_lines, Entry, OfNumber}
+use Rattle.vms_elements.proofs.Facade.{number_entries, subs_entries, device_entries, devices_entries, entry_line, EntryLaw}
 use Rattle.vms_elements.proofs.Members.{shapes_cells, both}
 use Rattle.vms_spec.specs.Values as texts
 
@@ -45,12 +45,10 @@ slots_behind step text c false (x ∷ xs) = slots_behind step text c false xs
 
 -- an element of a field that is there or not, before the count and past it, and those before it
 slots_here : (there : Bool) (step : ℕ × ℕ) (text : List ℕ) (xs : List Element) → slots_of (map (behind step text true (there && true)) xs) ≡ (if there then slots_of xs else [])
-slots_here true step text xs = slots_behind step text true true xs
-slots_here false step text xs = slots_behind step text true false xs
+slots_here there step text xs = grind (arith, slots_behind)
 
 slots_past : (there : Bool) (step : ℕ × ℕ) (text : List ℕ) (xs : List Element) → slots_of (map (behind step text false (there && false)) xs) ≡ []
-slots_past true step text xs = slots_behind step text false false xs
-slots_past false step text xs = slots_behind step text false false xs
+slots_past there step text xs = grind (arith, slots_behind)
 
 slots_all : (there : Bool) (slots : ℕ → List Slot) (step e m at : ℕ) → outs (λ e a. if there then slots a else []) step e m at ≡ (if there then times m slots at step else [])
 slots_all true slots step e zero at = refl
@@ -68,8 +66,7 @@ AreMeant ss ms = (j : ℕ) (n : List ℤ) (at : ℕ) → slots_of ((get_or ss j 
 
 module _ (ss : List Shape) (ms : List Meaning) (cells : cells_in ss ≡ map (λ m. m.cells) ms) (meant : AreMeant ss ms) where
   item_meant : (item : Item) (caps : List ℕ) (z : ℤ) (n : List ℤ) (at : ℕ) → slots_of (item_elements ss item caps z n at) ≡ item_slots ms item caps n at
-  item_meant (Struct j) caps z n at = grind (arith, slots_dotted)
-  item_meant _ caps z n at = refl
+  item_meant item caps z n at = grind (arith, slots_dotted)
 
   fields_meant : (fields : List Field) (v : ℕ) (own : ℕ → ℕ) (n : List ℤ) (i at : ℕ) (fs : List Field) → slots_of (elements_from ss fields v own n i at fs) ≡ slots_from ms fields v own n i at fs
   fields_meant fields v own n i at [] = refl
@@ -218,8 +215,7 @@ devices_text set (d ∷ devices) (image ∷ images) = text_append (device_lines 
 devices_text set _ _ = refl
 
 machine_text : (machine : Option (List ℕ)) → text_of (machine_lines machine) ≡ texts.machine_line machine
-machine_text None = refl
-machine_text (Some name) = refl
+machine_text machine = grind arith
 
 pub text_is : (set : Set) (machine : Option (List ℕ)) (images : List Image) → text_of (values_lines set machine images) ≡ values_text set machine images
 text_is set machine images = grind (arith, text_append, both, machine_text, devices_text)
@@ -246,5 +242,4 @@ devices_same set (d ∷ devices) (image ∷ images) = map-append entry_line (dev
 devices_same set _ _ = refl
 
 pub entry_law : EntryLaw
-entry_law set None images = devices_same set _ images
-entry_law set (Some name) images = rw (devices_same set _ images)
+entry_law set machine images = grind (arith, devices_same)

@@ -39,12 +39,7 @@ module _ (set : Set) where
 
   dotted_tells : (below : ℕ) (f : Field) (j place : ℕ) (d : Desc) → f.item ≡ Struct j → nat_lt j below ≡ true → slice_get set.structs j ≡ Some d
       → (x : Element) → Tells j d place x → TellsItem below f place (dotted x)
-  dotted_tells below f j place d is lt there x tells cell what = by_path x.path (tells cell what)
-    where
-      by_path : (p : List (ℕ × ℕ)) → (path_at set p j (Some d) place ≡ Some x.cell) × IsFieldOf cell (field_named set p (Some d))
-          → (item_at (into below p) p f.item place ≡ Some x.cell) × IsFieldOf cell (last_field (λ j. field_named set p (slice_get set.structs j)) p (Some f))
-      by_path [] (h, k) = absurd k
-      by_path (step ∷ p) (h, k) = (rw (is, lt, there) h, rw (is, there) k)
+  dotted_tells below f j place d is lt there x tells cell what = grind (arith, item_at)
 
   num_tells : (below : ℕ) (f : Field) (caps : List ℕ) (place : ℕ) (kind : Kind) → f.item ≡ Num kind
       → TellsItem below f place (single place (Number (record { kind = kind; capacities = caps; default = f.default })))
@@ -324,11 +319,7 @@ module _ (set : Set) where
       record { same_part = rw one refl; same_path = e.same_path }
 
   same_at : (o : Option Device) (part part' : Option ℕ) (path path' : List (ℕ × ℕ)) (c : ℕ) → cell_in set o part path ≡ Some c → cell_in set o part' path' ≡ Some c → ArePaths part part' path path'
-  same_at None part part' path path' c h k = cc
-  same_at (Some d) None None path path' c h k = record { same_part = refl; same_path = same_path set d.desc 0 path path' c h k }
-  same_at (Some d) None (Some j) path path' c h k = absurd (apart d.desc 0 _ d.subs j path path' c (omega arith) h k)
-  same_at (Some d) (Some j) None path path' c h k = absurd (apart d.desc 0 _ d.subs j path' path c (omega arith) k h)
-  same_at (Some d) (Some j) (Some j') path path' c h k = same_sub _ d.subs j j' path path' c h k
+  same_at o part part' path path' c h k = grind (arith, same_path, apart, same_sub)
 
   -- ---- each cell's path
 

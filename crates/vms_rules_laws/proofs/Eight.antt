@@ -1,5 +1,5 @@
 -- The eight rules hold exactly if the walk finds no fault.
-use Rattle.vms_rules_laws.proofs.{Tests.split, Facade.sub_clean, Facade.At, Facade.IsDesc, Facade.IsDevice, Facade.IsStruct}
+use Rattle.vms_rules_laws.proofs.{Facade.or_cases, Facade.sub_clean, Facade.At, Facade.IsDesc, Facade.IsDevice, Facade.IsStruct}
 use Rattle.vms_rules_laws.proofs.Facade.{IsSub, EightLaw, ◌≡◌, ℕ, zero, suc, ◌+◌, ◌<◌, ◌≤◌, Bool, true, false, not, nat_le, List, []}
 use Rattle.vms_rules_laws.proofs.Facade.{◌∷◌, length, get_or, take, Option, None, le_decides, set_clean, inl, inr, refl, arith, Decides, list_any}
 use Rattle.vms_rules_laws.proofs.Facade.{leb-true, le-leb, or_left, or_right, Decides-and, Decides-eqb, Decides-like, Decides-not, slice_get_within}
@@ -32,7 +32,7 @@ from_zero f xs h = grind (arith, none_answers)
 any_found : {X : Type 0} (p : X → Bool) (xs : List X) (i : ℕ) → list_any p (take i xs) ≡ true → (k : ℕ) × (x : X) × (k < i) × At xs k x × (p x ≡ true)
 any_found p xs zero e = cc
 any_found p [] (suc i) e = cc
-any_found p (x ∷ xs) (suc i) e = elim (split (p x) (list_any p (take i xs)) e) [
+any_found p (x ∷ xs) (suc i) e = elim (or_cases (p x) (list_any p (take i xs)) e) [
   | inl a ↦ (0, x, omega arith, refl, a)
   | inr b ↦ let r = any_found p xs i b in (suc r.0, r.1, omega arith, r.3, r.4)
 ]

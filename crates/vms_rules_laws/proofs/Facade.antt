@@ -3,7 +3,7 @@ pub use Rattle.std.proofs.{Math.Bool.or_assoc, Math.Nat.max-le, lemmas.Slice.Eq.
 pub use Rattle.std.proofs.Common.{Bool, List, None, Option, Some, [], ap, append_assoc, arith, drop, false, get_or, if◌then◌else◌, inl, inr, length}
 pub use Rattle.std.proofs.Common.{length-append, map, max, nat_le, nat_lt, not, pos, refl, subst, suc, sym, take, true, zero, ℕ, ℤ, ◌&&◌, ◌*◌, ◌++◌, ◌+◌, ◌<◌}
 pub use Rattle.std.proofs.Common.{◌==◌, ◌||◌, ◌∙◌, ◌∷◌, ◌≡◌, ◌≤ℤ◌, ◌≤◌, ◌⊎◌}
-pub use Rattle.std.proofs.lemmas.Bool.{and_from, and_parts, cases_Bool, eq-eqb, eqb-true, le-leb, leb-true, ltb-true, or_left, or_right}
+pub use Rattle.std.proofs.lemmas.Bool.{and_from, and_parts, cases_Bool, eq-eqb, eqb-true, le-leb, leb-true, ltb-true, or_cases, or_left, or_right}
 pub use Rattle.std.proofs.lemmas.Bool.Decides.{Decides-and, Decides-at, Decides-eqb, Decides-like, Decides-ltb, Decides-not, Decides-or}
 pub use Rattle.std.proofs.lemmas.List.{drop_at, get_or_past, take-append-drop, take_at}
 pub use Rattle.std.proofs.lemmas.Option.{get_or_from_slice_get, slice_get-get_or, slice_get_within}

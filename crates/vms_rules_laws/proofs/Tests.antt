@@ -1,16 +1,16 @@
 -- The levels, tests of lists and of formulas, and numbers of items that the walk computes.
 use Rattle.vms_rules_laws.proofs.Facade.{◌≡◌, ◌⊎◌, ℕ, zero, suc, ◌+◌, ◌<◌, ◌≤◌, max, nat_lt, true, false, List, [], ◌∷◌}
-use Rattle.vms_rules_laws.proofs.Facade.{length, get_or, length-append, inl, inr, refl, ap, arith, max-le, cases_Bool, ltb-true}
-use Rattle.vms_rules_laws.proofs.Facade.{get_or_past, get_or_from_slice_get, slice_get-get_or, slice_get_within, Item, Struct, first, no_desc, depth}
-use Rattle.vms_rules_laws.proofs.Facade.{nodes, Formula, AtLeast, Not, And, Or, Field, Desc, deepest, item_depth, struct_depths, first_at, first_long, At}
-use Rattle.vms_rules_laws.proofs.Facade.{IsWithinTest, Nests, UsesOn, parts_of, Bool, not, ◌||◌, take, map, Option, Some, le_decides, None, subst, Decides}
-use Rattle.vms_rules_laws.proofs.Facade.{list_all, slice_get, Decides-and, Decides-like, Decides-ltb, Decides-not, Decides-or, bytes_eq-Decides, Kind, Num}
-use Rattle.vms_rules_laws.proofs.Facade.{Count, One, Own, Parent, has_no_test, is_earlier_in, is_num, is_one, is_small_test, is_steady, is_steady_in}
-use Rattle.vms_rules_laws.proofs.Facade.{names_well, nobody, Cell, is_one_of, untested, IsEarlier, IsNew, IsSmall, IsSteady, NamesOnly, Nobody, ◌*◌}
-use Rattle.vms_rules_laws.proofs.Facade.{◌++◌, ℤ, sym, ◌∙◌, field_cells, Sub, Device, Set, capacity_of, desc_cells, struct_cells}
-use Rattle.vms_rules_laws.proofs.Facade.{all_hold, item_count, items_in, struct_items, subs_items, devices_items, Element}
-use Rattle.vms_rules_laws.proofs.Facade.{Shape, no_shape, shape, cells_in, dotted, behind, item_elements, Stand, array_elements, field_elements}
-use Rattle.vms_rules_laws.proofs.Facade.{elements_from, desc_elements, absent, elements_in, subs_elements, two_more, items_among, items_of}
+use Rattle.vms_rules_laws.proofs.Facade.{length, get_or, length-append, inl, inr, refl, ap, arith, max-le, cases_Bool, ltb-true, get_or_past}
+use Rattle.vms_rules_laws.proofs.Facade.{get_or_from_slice_get, slice_get-get_or, slice_get_within, Item, Struct, first, no_desc, depth, nodes, Formula}
+use Rattle.vms_rules_laws.proofs.Facade.{AtLeast, Not, And, Or, Field, Desc, deepest, item_depth, struct_depths, first_at, first_long, At, IsWithinTest, Nests}
+use Rattle.vms_rules_laws.proofs.Facade.{UsesOn, parts_of, Bool, not, take, map, Option, Some, le_decides, None, subst, Decides, list_all, slice_get}
+use Rattle.vms_rules_laws.proofs.Facade.{Decides-and, Decides-like, Decides-ltb, Decides-not, Decides-or, bytes_eq-Decides, Kind, Num, Count, One, Own, Parent}
+use Rattle.vms_rules_laws.proofs.Facade.{has_no_test, is_earlier_in, is_num, is_one, is_small_test, is_steady, is_steady_in, names_well, nobody, Cell}
+use Rattle.vms_rules_laws.proofs.Facade.{is_one_of, untested, IsEarlier, IsNew, IsSmall, IsSteady, NamesOnly, Nobody, ◌*◌, ◌++◌, ℤ, sym, ◌∙◌}
+use Rattle.vms_rules_laws.proofs.Facade.{field_cells, Sub, Device, Set, capacity_of, desc_cells, struct_cells, all_hold, item_count, items_in, struct_items}
+use Rattle.vms_rules_laws.proofs.Facade.{subs_items, devices_items, Element, Shape, no_shape, shape, cells_in, dotted, behind, item_elements, Stand}
+use Rattle.vms_rules_laws.proofs.Facade.{array_elements, field_elements, elements_from, desc_elements, absent, elements_in, subs_elements, two_more}
+use Rattle.vms_rules_laws.proofs.Facade.{items_among, items_of}
 
 -- ---- tests
 
@@ -112,10 +112,6 @@ module _ (ds : List Desc) where
   shallow_struct (suc n) i d e h = omega (arith, most-deep _ n _ (λ k f g. bounded-item n i d e (shallow_struct n) h k f g f.item refl), own-depth i d e)
 
 -- ---- the relations that the tests of lists and of formulas decide
-
-pub split : (b c : Bool) → (b || c) ≡ true → (b ≡ true) ⊎ (c ≡ true)
-split true c e = inl refl
-split false c e = inr e
 
 pub never : false ≡ true → ⊥
 never e = cc
