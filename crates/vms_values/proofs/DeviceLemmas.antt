@@ -1,15 +1,15 @@
 -- Devices that are read one after the other: their images, their subsections, and what is judged of them.
 use Rattle.std.proofs.Common.{ap₂}
 use Rattle.vms_values.proofs.Facade.{AtLeast, no_desc, length-take-le, ◌≡◌, ℕ, ◌+◌, ◌<◌, true, zero, suc, List, [], ◌∷◌, ◌++◌, Some}
-use Rattle.vms_values.proofs.Facade.{length, ap, sym, ◌∙◌, subst, arith, length-append, Option, None, Result, Ok, Err, refl, rules, Bool, false, map}
-use Rattle.vms_values.proofs.Facade.{take, drop, if◌then◌else◌, append_assoc, append-nil, slice_set, flat_map, slice_get, length-map, drop_more, drop_all}
-use Rattle.vms_values.proofs.Facade.{take_more, take_all, map-append, take_more_set, ForSome, Set, Device, Sub, Typed, state_of, default_at, IsOfDevice}
-use Rattle.vms_values.proofs.Facade.{IsImageOf, device_cells, desc_cells, struct_cells, device_at, is_well_formed, few_cells, sub_next, HasSpot, IsKept}
-use Rattle.vms_values.proofs.Facade.{place_of, IsAlike, with_came, said_read, sub_read, SubReached, SubsReached, first_line, BadLine, ReadDevice, ReadAll}
-use Rattle.vms_values.proofs.Facade.{ValuesRead, read_devices, ended, values_read, after_machine, machine_named, Standing, ReadSubs, readers}
-use Rattle.vms_values.proofs.Facade.{read_desc, read_subs, next_line, then_subs, section_line, is_line, with_device, read_device, or_bad, judge_device}
-use Rattle.vms_values.proofs.Facade.{judge_devices, Read, sub_said, also, read_sub, LineFault, StartsAt, NamesMachine, Start, machine_of, Image, own_cells}
-use Rattle.vms_values.proofs.Facade.{Reading, bad_of, found, device_read, start_of, DeviceRead, AllRead, or_bad_assoc, first_cell, sub_at, Taken, ReadsBy}
+use Rattle.vms_values.proofs.Facade.{length, ap, sym, ◌∙◌, subst, arith, length-append, Option, None, Result, Ok, Err, refl, rules, Bool, map, take, drop}
+use Rattle.vms_values.proofs.Facade.{if◌then◌else◌, append_assoc, append-nil, slice_set, flat_map, slice_get, length-map, drop_more, drop_all, take_more}
+use Rattle.vms_values.proofs.Facade.{take_all, map-append, take_more_set, ForSome, Set, Device, Sub, Typed, state_of, default_at, IsOfDevice, IsImageOf}
+use Rattle.vms_values.proofs.Facade.{device_cells, desc_cells, struct_cells, device_at, is_well_formed, few_cells, sub_next, HasSpot, IsKept, place_of, IsAlike}
+use Rattle.vms_values.proofs.Facade.{said_read, sub_read, SubReached, SubsReached, first_line, BadLine, ReadDevice, ReadAll, ValuesRead, read_devices, ended}
+use Rattle.vms_values.proofs.Facade.{values_read, after_machine, machine_named, Standing, ReadSubs, read_subs, section_line, is_line, with_device, read_device}
+use Rattle.vms_values.proofs.Facade.{or_bad, judge_device, judge_devices, sub_said, also, read_sub, LineFault, StartsAt, NamesMachine, Start, machine_of, Image}
+use Rattle.vms_values.proofs.Facade.{own_cells, Reading, bad_of, found, device_read, start_of, DeviceRead, AllRead, or_bad_assoc, first_cell, sub_at, Taken}
+use Rattle.vms_values.proofs.Facade.{ReadsBy}
 use Rattle.vms_values.specs.declared.fault.Values.{Values}
 use Rattle.vms_spec.specs.ValuesReading.{device_read as device_reads}
 use Rattle.vms_spec.specs.declared.Part.TheVariants as parts
@@ -102,24 +102,16 @@ abbrev after_device : (ℕ → List ℕ → Result ReadAll BadLine) → Result (
 after_device go (Ok (r, p)) = with_device r (go p.line p.rest)
 after_device go (Err b) = Err b
 
+by_result : (d : Device) (line : ℕ) (t : Bool) (x : Result ReadSubs BadLine) (go : ℕ → List ℕ → Result ReadAll BadLine)
+    → (if t then device_reads d line x go else Err (record { line = line; reason = reasons.Form }))
+    ≡ after_device go (if t then found d line x else Err (record { line = line; reason = reasons.Form }))
+by_result d line t x go = grind arith
+
 one_device : (set : Set) (d : Device) (p : Standing) (go : ℕ → List ℕ → Result ReadAll BadLine) → read_device set d p go ≡ after_device go (device_read set d p)
-one_device set d p go = by (is_line (section_line d) (first_line p.rest)) where
-  subs : Result ReadSubs BadLine
-  subs = then_subs (read_desc (readers set) d.desc d.desc.version [] true 0 (next_line p)) (read_subs set (own_cells set d) d.subs)
-
-  whole : (x : Result ReadSubs BadLine) → device_reads d p.line x go ≡ after_device go (found d p.line x)
-  whole (Ok r) = refl
-  whole (Err b) = refl
-
-  by : (t : Bool)
-      → (if t then device_reads d p.line (then_subs (read_desc (readers set) d.desc d.desc.version [] true 0 (next_line p)) (read_subs set (own_cells set d) d.subs)) go else Err (record { line = p.line; reason = reasons.Form }))
-      ≡ after_device go (if t then found d p.line (then_subs (read_desc (readers set) d.desc d.desc.version [] true 0 (next_line p)) (read_subs set (own_cells set d) d.subs)) else Err (record { line = p.line; reason = reasons.Form }))
-  by true = whole (then_subs (read_desc (readers set) d.desc d.desc.version [] true 0 (next_line p)) (read_subs set (own_cells set d) d.subs))
-  by false = refl
+one_device set d p go = by_result d p.line (is_line (section_line d) (first_line p.rest)) _ go
 
 or_none : (o : Option BadLine) → or_bad o None ≡ o
-or_none None = refl
-or_none (Some b) = refl
+or_none o = grind arith
 
 judge_more : (set : Set) (ds : List Device) (rs : List ReadDevice) (d : Device) (r : ReadDevice) → length ds ≡ length rs
     → judge_devices set (ds ++ d ∷ []) (rs ++ r ∷ []) ≡ or_bad (judge_devices set ds rs) (judge_device set d r)
@@ -160,8 +152,7 @@ module _ (set : Set) (i : ℕ) (lt : i < length set.devices) where
 
   given : (x : Result (ReadDevice × Standing) BadLine) (old new : Reading) (image : Image) → device_read set (device_at set i) (start_of set (device_at set i) old) ≡ x
       → DeviceRead set (device_at set i) x old new (Ok image) → Given old new image
-  given (Ok (r, p)) old new image e h = record { r = r; p = p; read = e; same = h.0; line = h.1; rest = h.2; judged = h.3 }
-  given (Err b) old new image e h = absurd h
+  given x old new image e h = grind arith
 
   refused : (x : Result (ReadDevice × Standing) BadLine) (start : Result ReadAll BadLine) (done : List ReadDevice) (go : ℕ → List ℕ → Result ReadAll BadLine) (begun old new : Reading) (e : LineFault)
       → with_devices done (after_device go x) ≡ start → DeviceRead set (device_at set i) x old new (Err e) → AllRead set start begun new (Err e)
@@ -221,11 +212,7 @@ after_sub line go (Ok (o, q)) = also o line (go q)
 after_sub line go (Err b) = Err b
 
 one_sub : (set : Set) (s : Sub) (at : ℕ) (p : Standing) (o : Option (Option ℕ)) (go : Standing → Result ReadSubs BadLine) → read_sub set s at p o go ≡ after_sub p.line go (said_read set s at p o)
-one_sub set s at p None go = refl
-one_sub set s at p (Some came) go = by (read_desc (readers set) s.desc s.desc.version [] true at (next_line p)) where
-  by : (r : Read) → also came p.line (then_subs r go) ≡ after_sub p.line go (with_came came r)
-  by (Ok q) = refl
-  by (Err b) = refl
+one_sub set s at p o go = grind arith
 
 next_sub : (set : Set) (i j : ℕ) (p : Standing) → j < length (device_at set i).subs
     → read_subs set (first_cell set (parts.Sub i j)) (drop j (device_at set i).subs) p
@@ -247,10 +234,7 @@ pub record Follows (start : Result ReadSubs BadLine) (n : ℕ) (came : List (Opt
   pub whole : with_subs (take n came) lines left ≡ start
 
 pub follows_none : (start : Result ReadSubs BadLine) (came : List (Option ℕ)) (lines : List ℕ) (left : Result ReadSubs BadLine) → lines ≡ [] → left ≡ start → Follows start 0 came lines left
-follows_none start came lines left e f = record { whole = rw e (by left ∙ f) } where
-  by : (r : Result ReadSubs BadLine) → with_subs [] [] r ≡ r
-  by (Ok r) = refl
-  by (Err b) = refl
+follows_none start came lines left e f = grind arith
 
 more_subs : (came : List (Option ℕ)) (lines : List ℕ) (o : Option ℕ) (line : ℕ) (r : Result ReadSubs BadLine) → with_subs came lines (also o line r) ≡ with_subs (came ++ o ∷ []) (lines ++ line ∷ []) r
 more_subs came lines o line (Err b) = refl
@@ -285,8 +269,7 @@ pub record Came (r : Result (Option ℕ × Standing) BadLine) (j : ℕ) (old new
   pub alike : IsAlike old.image new.image
 
 pub sub_came : (r : Result (Option ℕ × Standing) BadLine) (j : ℕ) (old new : Taken) → SubReached r j old new (Ok tt) → Came r j old new
-sub_came (Ok (o, q)) j old new h = record { o = o; q = q; read = refl; place = h.0; came = h.1; alike = h.2 }
-sub_came (Err b) j old new h = absurd h
+sub_came r j old new h = grind arith
 
 pub subs_end : (start : Result ReadSubs BadLine) (set : Set) (at n : ℕ) (subs : List Sub) (old new : Taken) (lines : List ℕ)
     → Follows start n new.image.came lines (read_subs set at subs (place_of new)) → subs ≡ [] → n ≡ length new.image.came → IsAlike old.image new.image → SubsReached start old new lines (Ok tt)
@@ -297,8 +280,7 @@ subs_end start set at n subs old new lines f none all same =
 
 pub subs_bad : (start : Result ReadSubs BadLine) (r : Result (Option ℕ × Standing) BadLine) (j : ℕ) (old new mid : Taken) (lines : List ℕ) (e : LineFault)
     → ((b : BadLine) → r ≡ Err b → start ≡ Err b) → SubReached r j mid new (Err e) → SubsReached start old new lines (Err e)
-subs_bad start (Err b) j old new mid lines (faults.Bad line reason) h f = rw (h b refl) f
-subs_bad start _ j old new mid lines _ h f = absurd f
+subs_bad start r j old new mid lines e h f = grind arith
 
 pub alike_more : (a b c : Typed) → IsAlike a b → IsAlike b c → IsAlike a c
 alike_more a b c h k = record { version = k.version ∙ h.version; subs = k.subs ∙ h.subs; cells = k.cells ∙ h.cells; kinds = k.kinds ∙ h.kinds }
@@ -310,5 +292,4 @@ pub of_alike : (set : Set) (i : ℕ) (a b : Typed) → IsOfDevice set i (state_o
 of_alike set i a b h k = record { is_device = h.is_device; cells = k.cells ∙ h.cells; subs = k.subs ∙ h.subs; few = rw k.cells h.few }
 
 pub subs_alike : (r : Result ReadSubs BadLine) (old new : Taken) (lines : List ℕ) → SubsReached r old new lines (Ok tt) → IsAlike old.image new.image
-subs_alike (Ok r) old new lines h = h.3
-subs_alike (Err b) old new lines h = absurd h
+subs_alike r old new lines h = grind arith

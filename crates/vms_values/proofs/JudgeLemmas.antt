@@ -4,14 +4,13 @@ use Rattle.vms_values.proofs.Facade.{if◌then◌else◌, Option, Some, None, �
 use Rattle.vms_values.proofs.Facade.{refl, sym, ap, ◌∙◌, arith, append_assoc, length-append, ◌==◌, flat_map, list_all, drop_more, drop_all, drop-map}
 use Rattle.vms_values.proofs.Facade.{map-append, drop-append_seam, eqb-true, and_parts, and-true, Set, Sub, Field, Desc, ValuesReason, sub_first, sub_next}
 use Rattle.vms_values.proofs.Facade.{Image, sub_place, own_cells, own_slots, own_cell_count, first_cell, own_numbers, device_at, sub_at, desc_at, Cell, Slot}
-use Rattle.vms_values.proofs.Facade.{no_desc, desc_cells, struct_cells, device_cells, Rule, Meaning, no_meaning, item_slots, item_size, times, field_slots}
-use Rattle.vms_values.proofs.Facade.{slots_from, desc_slots, field_cells, numbers_of, elements_of, counted, all_hold, no_parent, first, meaning, meanings}
-use Rattle.vms_values.proofs.Facade.{rules_are_true, BadLine, ReadDevice, are_defaults, or_bad, if_bad, sub_fails, is_said_well, judge_subs, judge_device}
-use Rattle.vms_values.proofs.Facade.{CellForm, form_of, desc_of, formula, steps_of, spot_slots, no_form, settle, steps_hold, sub_judged, sub_defaults, Item}
-use Rattle.vms_values.proofs.Facade.{Struct, is_there, cells_first, one_more, Test, PartAt, ◌*◌, ◌^◌, sum_by, Ok, Err, Result, sum_by-cons, ForSome}
-use Rattle.vms_values.proofs.Facade.{FitsHeads, Device, values_read, ValuesRead, Values, Bad, ReadAll, ended, judged, answer_of, Refused, Reads}
-use Rattle.vms_values.proofs.Facade.{state_of, is_well_formed, few_cells, few_devices, fit_of, few_subs, line_holds, read_holds, ReadsBy, MeansAs, LineFault}
-use Rattle.vms_values.proofs.Facade.{Reading, machine_of, bad_of, AllRead, ToldAs}
+use Rattle.vms_values.proofs.Facade.{no_desc, desc_cells, struct_cells, device_cells, Rule, Meaning, no_meaning, item_slots, times, field_slots, slots_from}
+use Rattle.vms_values.proofs.Facade.{desc_slots, field_cells, numbers_of, all_hold, first, meaning, meanings, rules_are_true, BadLine, ReadDevice, are_defaults}
+use Rattle.vms_values.proofs.Facade.{or_bad, if_bad, sub_fails, is_said_well, judge_subs, judge_device, CellForm, form_of, desc_of, formula, steps_of}
+use Rattle.vms_values.proofs.Facade.{spot_slots, no_form, settle, steps_hold, sub_judged, sub_defaults, Item, cells_first, one_more, Test, PartAt, ◌*◌}
+use Rattle.vms_values.proofs.Facade.{◌^◌, sum_by, Ok, Err, Result, sum_by-cons, ForSome, FitsHeads, Device, values_read, ValuesRead, Values, Bad, ReadAll}
+use Rattle.vms_values.proofs.Facade.{ended, judged, answer_of, Refused, Reads, state_of, is_well_formed, few_cells, few_devices, fit_of, few_subs, line_holds}
+use Rattle.vms_values.proofs.Facade.{read_holds, ReadsBy, MeansAs, LineFault, Reading, machine_of, bad_of, AllRead, ToldAs}
 use Rattle.vms_values.specs.{declared.fault.Values.Values as Given, declared.judge.BadLine.BadLine as Found}
 use Rattle.vms_parts.specs.declared.types.Desc.{Desc as Described}
 use Rattle.vms_values_laws.specs.Laws.{device_lines}
@@ -73,15 +72,16 @@ with_reason line None next = next
 with_reason line (Some reason) next = Some (record { line = line; reason = reason })
 
 module _ (set : Set) (i : ℕ) (image : Image) (lines : List ℕ) (j line : ℕ) (lt : j < length (device_at set i).subs) (lc : j < length image.came) (ll : j < length lines) (is : line ≡ get_or lines j 0) where
-  judged_next : judged_from set i image lines j ≡ with_reason line (sub_judged set i j image) (judged_from set i image lines (j + 1))
-  judged_next =
+  pub judged_next : (o : Option ValuesReason) → sub_judged set i j image ≡ o
+      → judged_from set i image lines j ≡ with_reason line o (judged_from set i image lines (j + 1))
+  judged_next o e =
       let d = device_at set i in
       let at = first_cell set (parts.Sub i j) in
       let s = sub_at d j in
       let o = get_or image.came j None in
       let one : suc j ≡ j + 1 = omega arith in
       let none : Sub = record { desc = no_desc; needed = AtLeast 0 } in
-      rw (drop_more d.subs j none lt, drop_more image.came j None lc, drop_more lines j 0 ll, ← is, sub_next set (own_cells set d) d.subs j none lt, one)
+      rw (← e, drop_more d.subs j none lt, drop_more image.came j None lc, drop_more lines j 0 ll, ← is, sub_next set (own_cells set d) d.subs j none lt, one)
       (by (sub_fails set s o image.numbers at) (is_said_well set d image j s o at)
       (judge_subs set d image (j + 1) (at + length (desc_cells (struct_cells set) s.desc)) (drop (j + 1) d.subs) (drop (j + 1) image.came) (drop (j + 1) lines)))
     where
@@ -90,13 +90,6 @@ module _ (set : Set) (i : ℕ) (image : Image) (lines : List ℕ) (j line : ℕ)
       by true well next = refl
       by false true next = refl
       by false false next = refl
-
-  pub judged_go : sub_judged set i j image ≡ None → judged_from set i image lines (j + 1) ≡ judged_from set i image lines j
-  judged_go e = rw (judged_next, e)
-
-pub judged_stop : (set : Set) (i : ℕ) (image : Image) (lines : List ℕ) (j line : ℕ) (reason : ValuesReason) → j < length (device_at set i).subs → j < length image.came → j < length lines → line ≡ get_or lines j 0
-    → sub_judged set i j image ≡ Some reason → judged_from set i image lines j ≡ Some (record { line = line; reason = reason })
-judged_stop set i image lines j line reason lt lc ll is e = rw (judged_next set i image lines j line lt lc ll is, e)
 
 pub judged_end : (set : Set) (i : ℕ) (image : Image) (lines : List ℕ) (j : ℕ) → length (device_at set i).subs ≡ j → judged_from set i image lines j ≡ None
 judged_end set i image lines j e = rw (drop_all j (device_at set i).subs (omega arith))
@@ -123,17 +116,10 @@ times_true part h (suc n) at step = true_append (part at) (times n part (at + st
 
 module _ (ms : List Meaning) (all : AllTrue ms) where
   item_true : (item : Item) (caps : List ℕ) (n : List ℤ) (at : ℕ) → rules_are_true (item_slots ms item caps n at) ≡ true
-  item_true (Struct j) caps n at = all j n at
-  item_true _ caps n at = refl
+  item_true item caps n at = grind arith
 
   field_true : (fields : List Field) (v : ℕ) (own : ℕ → ℕ) (n : List ℤ) (i at : ℕ) (f : Field) → rules_are_true (field_slots ms fields v own n i at f) ≡ true
-  field_true fields v own n i at f = by (is_there f.test f.since v own no_parent) where
-    part : ℕ → List Slot
-    part = item_slots ms f.item (counted i fields) n
-
-    by : (b : Bool) → rules_are_true (if b then times (elements_of f.count own) part at (item_size (map (λ m. m.cells) ms) f.item) else []) ≡ true
-    by true = times_true part (λ at. item_true f.item (counted i fields) n at) (elements_of f.count own) at (item_size (map (λ m. m.cells) ms) f.item)
-    by false = refl
+  field_true fields v own n i at f = grind (arith, times_true, item_true)
 
   fields_true : (fields : List Field) (v : ℕ) (own : ℕ → ℕ) (n : List ℤ) (i at : ℕ) (fs : List Field) → rules_are_true (slots_from ms fields v own n i at fs) ≡ true
   fields_true fields v own n i at [] = refl
@@ -214,35 +200,21 @@ whole set m all old new images h none first =
 
 pub text_read : (set : Set) (m : Option (List ℕ)) (r : Result ReadAll BadLine) (old new : Reading) (v : Given) → AllRead set r old new (Ok (map state_of v.images.items)) → new.lines.rest.now ≡ [] → old.judged ≡ None
     → new.judged ≡ None → machine_of set v.machine ≡ m → ForSome v.machine (λ k. k < length set.machines) → ReadsBy set (ended set m r) (Ok v)
-text_read set m (Err b) old new v h none first fine is known = absurd h
-text_read set m (Ok all) old new v h none first fine is known =
-    rw (whole set m all old new (map state_of v.images.items) h none first, fine) (sym h.0, is, known)
+text_read set m r old new v h none first fine is known = grind arith
 
 pub text_judged : (set : Set) (m : Option (List ℕ)) (r : Result ReadAll BadLine) (old new : Reading) (images : List Image) (b : Found) → AllRead set r old new (Ok images) → new.lines.rest.now ≡ [] → old.judged ≡ None
     → new.judged ≡ Some b → ReadsBy set (ended set m r) (Err (faults.Bad b.line b.reason))
-text_judged set m (Err x) old new images b h none first found = absurd h
-text_judged set m (Ok all) old new images b h none first found =
-    rw (whole set m all old new images h none first, found) (refl, refl)
+text_judged set m r old new images b h none first found = grind arith
 
 pub text_longer : (set : Set) (m : Option (List ℕ)) (r : Result ReadAll BadLine) (old new : Reading) (images : List Image) → AllRead set r old new (Ok images) → (new.lines.rest.now ≡ [] → ⊥)
     → ReadsBy set (ended set m r) (Err (faults.Bad new.lines.line reasons.Form))
-text_longer set m (Err b) old new images h some = absurd h
-text_longer set m (Ok all) old new images h some = by all.rest h.2 where
-  by : (rest : List ℕ) → rest ≡ new.lines.rest.now → ReadsBy set (judged set m all rest) (Err (faults.Bad new.lines.line reasons.Form))
-  by [] e = absurd (some (sym e))
-  by (b ∷ rest) e = (sym h.1, refl)
-
-in_any : (set : Set) (x : ValuesRead) → ReadsBy set x (Err faults.NoMemory)
-in_any set _ = tt
+text_longer set m r old new images h some = grind arith
 
 pub text_refused : (set : Set) (m : Option (List ℕ)) (r : Result ReadAll BadLine) (old new : Reading) (e : LineFault) → AllRead set r old new (Err e) → ReadsBy set (ended set m r) (Err e)
 text_refused set m (Ok all) old new (faults.Bad line reason) h = absurd h
 text_refused set m (Err b) old new (faults.Bad line reason) h = h
-text_refused set m r old new faults.NoMemory h = in_any set (ended set m r)
+text_refused set m r old new faults.NoMemory h = grind arith
 
 pub text_told : (set : Set) (m : Option (List ℕ)) (r : Result ReadAll BadLine) (old new : Reading) (v : Given) (result : Result Given LineFault) → AllRead set r old new (Ok (map state_of v.images.items)) → new.lines.rest.now ≡ []
     → old.judged ≡ None → machine_of set v.machine ≡ m → ForSome v.machine (λ k. k < length set.machines) → ToldAs new.judged v result → ReadsBy set (ended set m r) result
-text_told set m r old new v result h none first is known t = by new.judged refl t where
-  by : (o : Option Found) → new.judged ≡ o → ToldAs o v result → ReadsBy set (ended set m r) result
-  by None e t = rw t (text_read set m r old new v h none first e is known)
-  by (Some b) e t = rw t (text_judged set m r old new (map state_of v.images.items) b h none first e)
+text_told set m r old new v result h none first is known t = grind (arith, text_judged)

@@ -17,8 +17,7 @@ use Rattle.vms_elements.specs.Elements.{cells_in}
 use Rattle.vms_spec.specs.declared.Part.TheVariants as parts
 
 pub positive : (n size c : ℕ) → c < n * size → 0 < size
-positive n zero c lt = let none : n * 0 ≡ 0 = grind arith in absurd (omega arith)
-positive n (suc size) c lt = omega arith
+positive n size c lt = grind arith
 
 fewer : (q n size r left : ℕ) → q * size + r ≡ left → left < n * size → q < n
 fewer q n size r left e lt = lt_of_mul-lt-mul_right size (omega arith)
@@ -26,8 +25,7 @@ fewer q n size r left e lt = lt_of_mul-lt-mul_right size (omega arith)
 module _ (set : Set) where
   -- the table of a part is one of the first tables
   usable_is : (part : Part) → HasPart set part → usable set part ≡ first shape set.structs (reach set part)
-  usable_is parts.Set h = absurd h
-  usable_is _ h = refl
+  usable_is part h = grind arith
 
   walked_in : (part : Part) → HasPart set part → AreWalked (usable set part)
   walked_in part h = rw (usable_is part h) (are_walked set.structs (reach set part))
@@ -159,9 +157,7 @@ module _ (set : Set) where
 
   -- only a structure has cells with a path of their own
   pub nothing_after : (item : Item) (cell : ℕ) → ((j : ℕ) → item ≡ Struct j → ⊥) → get_or (item_names set item) cell [] ≡ []
-  nothing_after (Struct j) cell other = absurd (other j refl)
-  nothing_after (Num kind) zero other = refl
-  nothing_after _ cell other = refl
+  nothing_after item cell other = grind arith
 
 -- ---- Names from cells: a device's own fields, and its subsections one after the other.
 
@@ -279,8 +275,7 @@ same_kinds : (kinds : List Kind) (at : ℕ) (xs ys : List Cell) → kinds_in xs 
 same_kinds kinds at xs ys e s = record { more = s.more; is = rw (s.is, e) }
 
 bare : (cs : List (List Cell)) (item : Item) (caps : List ℕ) (z : ℤ) → kinds_in (item_cells cs item caps z) ≡ kinds_in (item_cells cs item [] (pos 0))
-bare cs (Num kind) caps z = refl
-bare cs _ caps z = refl
+bare cs item caps z = grind arith
 
 elements_kinds : (cs : List (List Cell)) (item : Item) (caps : List ℕ) (z : ℤ) (kinds : List Kind) (n at a step : ℕ)
     → AreKinds kinds at (times n (λ _. item_cells cs item caps z) a step) → ElementKinds cs item kinds at n

@@ -1,7 +1,7 @@
 -- The lines of structures, arrays, parts, subsections and devices.
 use Rattle.vms_values.proofs.Facade.{◌≡◌, ℕ, zero, suc, ◌+◌, ◌<◌, List, [], ◌∷◌, ◌++◌, length, get_or, map, ℤ, pos, refl, ap}
-use Rattle.vms_values.proofs.Facade.{◌∙◌, arith, true, codes, ◌-◌, ◌*◌, ◌≤◌, drop, sym, Option, None, append_assoc, decimal}
-use Rattle.vms_values.proofs.Facade.{drop_all, drop_more, Item, Struct, Count, One, Field, Desc, Set, Device, Sub, Cell, no_desc, first, item_size, desc_cells}
+use Rattle.vms_values.proofs.Facade.{◌∙◌, arith, true, codes, ◌-◌, ◌*◌, ◌≤◌, drop, sym, Option, None, append_assoc, decimal, drop_all}
+use Rattle.vms_values.proofs.Facade.{drop_more, Item, Struct, Count, One, Field, Desc, Set, Device, Sub, Cell, no_desc, first, item_size, desc_cells}
 use Rattle.vms_values.proofs.Facade.{field_cells, numbers_of, elements_of, struct_cells, capacity_of, Printer, no_printer, printer, printers, item_lines}
 use Rattle.vms_values.proofs.Facade.{element_lines, array_lines, field_lines, desc_lines, line_end, version_text, sub_lines, device_lines, ItemBelow}
 use Rattle.vms_values.proofs.Facade.{FieldsBelow, all_below, item_cells_same, field_cells_same, own_same, row_same, first_cells, first_same, first_at}
@@ -9,12 +9,12 @@ use Rattle.vms_values.proofs.Facade.{is_well_formed, struct_clean, reach, MOST_I
 use Rattle.vms_values.proofs.Facade.{place_first, desc_of, field_of, field_at, own_numbers, first_cell, desc_at, sub_at, found_field, here_fields, sub_next}
 use Rattle.vms_values.proofs.Facade.{sub_inside, own_inside_device, few_cells, PartAt, HasSpot, size_in, table, cells_in, item_rank, part_rank, reach_whole}
 use Rattle.vms_values.proofs.Facade.{uses_more, rank_below, next_field, cells_table, start_after, cell_of, fields_at, IsRun, run_lines, IsOf, section_text}
-use Rattle.vms_values.proofs.Facade.{whole_sub, Image, own_cells, sub_place, device_at, take-take, Result, Ok, Err, length-drop, take, length-take, Bor, is_ok}
-use Rattle.vms_values.proofs.Facade.{ltb-true, joined, Outlet, Wrote, devices_lines, AreOf, below, below_part, Stays}
-use Rattle.vms_values.proofs.Facade.{take-append-le, Part, HasPart, few_structs, field_clean, LONGEST_PATH, PART_ROOM}
+use Rattle.vms_values.proofs.Facade.{whole_sub, Image, own_cells, sub_place, device_at, take-take, Result, Err, length-drop, take, length-take, Bor, is_ok}
+use Rattle.vms_values.proofs.Facade.{joined, Outlet, Wrote, devices_lines, AreOf, below, below_part, Stays, err_from_is_err_and, take-append-le, Part, HasPart}
+use Rattle.vms_values.proofs.Facade.{few_structs, field_clean, LONGEST_PATH, PART_ROOM}
 use Rattle.vms_spec.specs.Sets.{AtLeast}
 use Rattle.vms_parts.specs.{declared.types.Desc.Desc as CodeDesc, declared.types.Field.Field as CodeField}
-use Rattle.std.proofs.Common.{take_all}
+use Rattle.std.proofs.Common.{take_all, IsErrAnd}
 use Rattle.vms_spec.specs.declared.Part.TheVariants as parts
 
 abbrev pub cells_of : List Printer → List (List Cell)
@@ -65,14 +65,14 @@ struct_lines set well j lt path n at =
 
 -- ---- The rest of the elements of an array and of the fields of a part.
 
--- the next of the elements that are left
-pub elements_left : (ps : List Printer) (item : Item) (path : List ℕ) (n : List ℤ) (at step i count : ℕ) → i < count
-    → element_lines ps item path n at step i (count - i)
-    ≡ item_lines ps item (path ++ codes "[" ++ decimal i ++ codes "]") n at ++ element_lines ps item path n (at + step) step (i + 1) (count - (i + 1))
-elements_left ps item path n at step i count lt =
+-- the next of the elements that are left, by its path and its width
+pub elements_left : (ps : List Printer) (item : Item) (path named : List ℕ) (n : List ℤ) (at step width i count : ℕ) → i < count
+    → named ≡ path ++ codes "[" ++ decimal i ++ codes "]" → width ≡ step → element_lines ps item path n at step i (count - i)
+    ≡ item_lines ps item named n at ++ element_lines ps item path n (at + width) step (i + 1) (count - (i + 1))
+elements_left ps item path named n at step width i count lt is same =
     let e : count - i ≡ suc (count - (i + 1)) = omega arith in
     let one : suc i ≡ i + 1 = omega arith in
-    rw (e, one)
+    rw (e, one, is, same)
 
 pub no_elements : (ps : List Printer) (item : Item) (path : List ℕ) (n : List ℤ) (at step i left : ℕ) → left ≡ 0 → element_lines ps item path n at step i left ≡ []
 no_elements ps item path n at step i left e = rw e
@@ -80,8 +80,7 @@ no_elements ps item path n at step i left e = rw e
 -- the lines of a field, by how many of its elements are counted
 pub run_is : (ps : List Printer) (f : Field) (c : Count) (own : ℕ → ℕ) (count : ℕ) (path : List ℕ) (n : List ℤ) (at : ℕ) → count ≡ elements_of c own
     → array_lines ps f.item c own (path ++ f.name) n at ≡ run_lines ps f c count path n at
-run_is ps f One own count path n at e = refl
-run_is ps f _ own count path n at e = rw (sym e)
+run_is ps f c own count path n at e = grind arith
 
 module _ (set : Set) where
   pub printed_cells : cells_of (printers set) ≡ struct_cells set
@@ -92,10 +91,7 @@ module _ (set : Set) where
 
   pub array_run : (f : Field) (count : ℕ) (path : List ℕ) (n : List ℤ) (at : ℕ) → (f.count ≡ One → ⊥)
       → element_lines (printers set) f.item (path ++ f.name) n at (size_in set f.item) 0 count ≡ run_lines (printers set) f f.count count path n at
-  array_run f count path n at other = by_count f.count other where
-    by_count : (c : Count) → (c ≡ One → ⊥) → element_lines (printers set) f.item (path ++ f.name) n at (size_in set f.item) 0 count ≡ run_lines (printers set) f c count path n at
-    by_count One other = absurd (other refl)
-    by_count _ other = rw (printed_size f.item)
+  array_run f count path n at other = grind (arith, printed_size)
 
   -- the lines of a part's fields from field k on
   abbrev pub fields_left : PartAt → List ℕ → List ℤ → ℕ → List ℕ
@@ -214,11 +210,13 @@ joined_at pieces i d lt = rw (drop_more pieces i d lt)
 
 -- ---- The parts of a printed text.
 
+-- what `?` returns
+pub err_is : {T E : Type 0} (r : Result T E) (e : E) → IsErrAnd r (λ y. y ≡ e) → r ≡ Err e
+err_is r e is = let p = err_from_is_err_and r is in rw (p.1, p.2)
+
 -- a call whose fault was passed on as another
 pub wrote_mapped : {T E F : Type 0} (a b : Outlet) (text : List ℕ) (r : Result T E) (mapped : Result T F) → is_ok mapped ≡ is_ok r → Wrote a b text r → Wrote a b text mapped
-wrote_mapped a b text (Ok x) (Err f) e w = cc
-wrote_mapped a b text (Err e) (Ok y) v w = cc
-wrote_mapped a b text _ _ _ w = w
+wrote_mapped a b text r mapped e w = grind arith
 
 pub device_left : (set : Set) (k : ℕ) → k < length set.devices → drop k set.devices ≡ device_at set k ∷ drop (k + 1) set.devices
 device_left set k lt = drop_more set.devices k (record { instance = 0; desc = no_desc; subs = [] }) lt
@@ -268,12 +266,10 @@ stays_element line digits new e =
 
 -- what may still come after the items of a part's fields
 pub below_uses : (r : ℕ) (item : Item) → uses_below r item ≡ true → below item ≤ PART_ROOM * r
-below_uses r (Struct j) e = let lt : j < r = ltb-true j r e in omega arith
-below_uses r _ e = omega arith
+below_uses r item e = grind arith
 
 pub below_reach : (set : Set) (part : Part) → HasPart set part → below_part set part ≡ PART_ROOM * (reach set part + 1)
-below_reach set parts.Set h = refl
-below_reach set _ h = refl
+below_reach set part h = grind arith
 
 -- a field of a part
 pub field_short : (set : Set) → is_well_formed set ≡ true → (part : Part) → HasPart set part → (k : ℕ) → k < length (desc_at set part).fields

@@ -1,12 +1,12 @@
 -- A text that is read line by line: fronts, numbers as they are spelled, and the line of a cell.
-use Rattle.vms_values.proofs.Facade.{le-ltb, lt-ltb, ◌≡◌, ℕ, Bool, true, false, ◌&&◌, ◌==◌, List, [], ◌∷◌, ◌++◌, length, drop, refl}
-use Rattle.vms_values.proofs.Facade.{sym, ap, ◌∙◌, ◌+◌, Option, and-false, Some, None, Ok, Err, arith, drop-drop, length-append, MatchOption}
-use Rattle.vms_values.proofs.Facade.{◌-◌, ◌*◌, ◌^◌, ◌<◌, ◌≤◌, not, ◌||◌, nat_le, nat_lt, zero, suc, take, get_or, if◌then◌else◌}
-use Rattle.vms_values.proofs.Facade.{length-drop, ℤ, pos, slice_set, Result, codes, bytes_eq, and_assoc, and-true, ltb-true, ltb-false, leb-true, and_parts}
-use Rattle.vms_values.proofs.Facade.{Bor, list_all, pow-suc, drop_more, drop_all, take_all, take-append-drop, option_and_then, begins_with, is_digit}
-use Rattle.vms_values.proofs.Facade.{are_digits, natural_from, number_spelled, BadLine, Standing, Read, bad, put_line, put_number, LineFault, Strips}
-use Rattle.vms_values.proofs.Facade.{with_digit, natural_spelled, read_from, held, IsBad, Reaches, natural_up, Kind, InRange, ranges, ValuesReason, same_number}
-use Rattle.vms_values.proofs.Facade.{exceeds, in_range, IsFirstLine, NextLine, number_judged}
+use Rattle.std.proofs.lemmas.Bool.Decides.{nat_tests}
+use Rattle.vms_values.proofs.Facade.{lt-ltb, ◌≡◌, ℕ, Bool, true, false, ◌&&◌, ◌==◌, List, [], ◌∷◌, ◌++◌, length, drop, refl, sym, ap}
+use Rattle.vms_values.proofs.Facade.{◌∙◌, ◌+◌, Option, Some, None, Ok, Err, arith, drop-drop, length-append, MatchOption, ◌-◌, ◌*◌, ◌^◌}
+use Rattle.vms_values.proofs.Facade.{◌<◌, ◌≤◌, not, ◌||◌, nat_le, nat_lt, zero, suc, take, get_or, if◌then◌else◌, length-drop, ℤ, pos}
+use Rattle.vms_values.proofs.Facade.{slice_set, Result, codes, bytes_eq, and_assoc, and-true, Bor, list_all, pow-suc, drop_more, drop_all, take_all}
+use Rattle.vms_values.proofs.Facade.{take-append-drop, option_and_then, begins_with, is_digit, natural_from, number_spelled, BadLine, Standing, Read, bad}
+use Rattle.vms_values.proofs.Facade.{put_line, put_number, LineFault, Strips, with_digit, natural_spelled, read_from, held, IsBad, Reaches, natural_up, Kind}
+use Rattle.vms_values.proofs.Facade.{InRange, ranges, ValuesReason, IsFirstLine, NextLine, number_judged}
 use Rattle.vms_values.specs.declared.fault.LineFault.TheVariants as faults
 use Rattle.vms_spec.specs.declared.ValuesReason.TheVariants as reasons
 
@@ -22,14 +22,10 @@ begins-append [] (x ∷ front) more = refl
 begins-append (y ∷ line) (x ∷ front) more =
     rw (begins-append line front more, and_assoc (y == x) (begins_with front line) (begins_with more (drop (length front) line)))
 
-pub joined_on : (rest more piece left after : List ℕ) (whole : Bool) → bytes_eq rest left ≡ whole → left ≡ piece ++ after → begins_with piece rest ≡ true
-    → more ≡ drop (length piece) rest → bytes_eq more after ≡ whole
-joined_on rest more piece left after whole inv split begins is =
-    rw is (ap (λ t. t && bytes_eq (drop (length piece) rest) after) (sym begins) ∙ sym (equal-append rest piece after) ∙ rw (← split) inv)
-
-pub joined_off : (rest piece left after : List ℕ) (whole : Bool) → bytes_eq rest left ≡ whole → left ≡ piece ++ after → begins_with piece rest ≡ false → false ≡ whole
-joined_off rest piece left after whole inv split begins =
-    ap (λ t. t && bytes_eq (drop (length piece) rest) after) (sym begins) ∙ sym (equal-append rest piece after) ∙ rw (← split) inv
+-- a text that begins with the next piece, or doesn't
+pub joined_next : (rest more piece left after : List ℕ) (begins : Bool) → left ≡ piece ++ after → begins_with piece rest ≡ begins
+    → more ≡ drop (length piece) rest → bytes_eq rest left ≡ (begins && bytes_eq more after)
+joined_next rest more piece left after begins split e is = rw (split, equal-append rest piece after, e, is)
 
 -- ---- A text that is read line by line.
 
@@ -45,16 +41,13 @@ strips_not a b line p = rw (begins-append line a b, p)
 
 pub strip_is : (front line : List ℕ) (result : Option (Bor (List ℕ)))
     → MatchOption result (begins_with front line ≡ false) (λ x. (begins_with front line ≡ true) × (x.now ≡ drop (length front) line) × (length x.now + length front ≡ length line)) → Strips front line result
-strip_is front line None h = h
-strip_is front line (Some r) h = (h.0, h.1)
+strip_is front line result h = grind arith
 
 pub reached : (r : Read) (now : Standing) → Reaches r now (Ok tt) → r ≡ Ok now
-reached (Ok p) now e = rw e
-reached (Err b) now e = absurd e
+reached r now e = grind arith
 
 pub stopped : (part whole : Read) (now later : Standing) (e : LineFault) → ((b : BadLine) → part ≡ Err b → whole ≡ Err b) → Reaches part now (Err e) → Reaches whole later (Err e)
-stopped (Ok p) whole now later e h r = absurd r
-stopped (Err b) whole now later e h r = rw (h b refl) r
+stopped part whole now later e h r = grind arith
 
 pub is_bad : (e : LineFault) (b : BadLine) → e ≡ faults.Bad b.line b.reason → IsBad b e
 is_bad e b s = rw s (refl, refl)
@@ -67,18 +60,9 @@ some_of _ e f = cc
 abbrev bounded : Bool → ℕ → Option ℕ
 bounded good n = if good && nat_lt n (2 ^ 64) then Some n else None
 
--- one more digit, if those after it are read so
-read_more : (n b m : ℕ) (bs : List ℕ) → m ≡ n * 10 + (b - 48) → (d s : Bool) → is_digit b ≡ d → nat_lt m (2 ^ 64) ≡ s
-    → (m < 2 ^ 64 → read_from m bs ≡ bounded (list_all is_digit bs) (natural_from m bs))
-    → option_and_then (λ k. read_from k bs) (if is_digit b && nat_lt m (2 ^ 64) then Some m else None) ≡ bounded (is_digit b && list_all is_digit bs) (natural_from m bs)
-read_more n b m bs is false s e f later = rw e refl
-read_more n b m bs is true true e f later = rw (e, f) (later (ltb-true m (2 ^ 64) f))
-read_more n b m bs is true false e f later =
-    rw (e, f, (le-ltb (natural_from m bs) (2 ^ 64) (omega (arith, ltb-false m (2 ^ 64) f, natural_up m bs))), and-false (list_all is_digit bs)) refl
-
 pub read_is : (n : ℕ) (bs : List ℕ) → n < 2 ^ 64 → read_from n bs ≡ bounded (list_all is_digit bs) (natural_from n bs)
 read_is n [] lt = sym (rw (lt-ltb n (2 ^ 64) lt))
-read_is n (b ∷ bs) lt = read_more n b (n * 10 + (b - 48)) bs refl (is_digit b) (nat_lt (n * 10 + (b - 48)) (2 ^ 64)) refl refl (read_is (n * 10 + (b - 48)) bs)
+read_is n (b ∷ bs) lt = grind (arith, nat_tests, natural_up, read_is (n * 10 + (b - 48)) bs)
 
 -- a digit, and no zero before others
 abbrev pub unpadded : List ℕ → Bool
@@ -88,11 +72,10 @@ pub read_natural : (text : List ℕ) → unpadded text ≡ true → read_from 0 
 read_natural text e =
     rw (e, and-true (list_all is_digit text)) (read_is 0 text (omega arith))
 
-pub digit_stops : (value i d : ℕ) (text : List ℕ) → i < length text → with_digit value (get_or text i d) ≡ None → read_from value (drop i text) ≡ None
-digit_stops value i d text lt e = rw (drop_more text i d lt, e)
-
-pub digit_goes : (value i d m : ℕ) (text : List ℕ) → i < length text → with_digit value (get_or text i d) ≡ Some m → read_from m (drop (i + 1) text) ≡ read_from value (drop i text)
-digit_goes value i d m text lt e = rw (drop_more text i d lt, e)
+-- the next digit, and those after it
+pub digit_next : (value i d : ℕ) (text : List ℕ) (o : Option ℕ) → i < length text → with_digit value (get_or text i d) ≡ o
+    → read_from value (drop i text) ≡ option_and_then (λ m. read_from m (drop (i + 1) text)) o
+digit_next value i d text o lt e = rw (drop_more text i d lt, e)
 
 pub digits_end : (value i : ℕ) (text : List ℕ) → length text ≤ i → Some value ≡ read_from value (drop i text)
 digits_end value i text le = rw (drop_all i text le)
@@ -125,12 +108,7 @@ few_fit i n lt le =
     omega (arith, rw all at (ten_up i (18 - i)))
 
 digit_up : (n b m : ℕ) → with_digit n b ≡ Some m → m ≤ n * 10 + 9
-digit_up n b m e = by (is_digit b) (nat_lt (n * 10 + (b - 48)) (2 ^ 64)) refl e where
-  by : (d s : Bool) → is_digit b ≡ d → (if d && s then Some (n * 10 + (b - 48)) else None) ≡ Some m → m ≤ n * 10 + 9
-  by true true h e =
-      let is : n * 10 + (b - 48) ≡ m = cc in
-      omega (arith, leb-true b 57 (and_parts (nat_le 48 b) (nat_le b 57) h).1)
-  by _ _ h e = cc
+digit_up n b m e = grind arith
 
 pub few_next : (i n d m : ℕ) (text : List ℕ) → n < 10 ^ i → with_digit n (get_or text i d) ≡ Some m → m < 10 ^ (i + 1)
 few_next i n d m text lt e =
@@ -138,10 +116,7 @@ few_next i n d m text lt e =
     omega (arith, ap (λ k. 10 ^ k) one ∙ pow-suc 10 i, digit_up n (get_or text i d) m e)
 
 pub spelled_is : (text : List ℕ) (value : ℕ) → Some value ≡ natural_spelled text → number_spelled text ≡ Some (pos value)
-spelled_is text value e = by (natural_from 0 text) _ (are_digits text) (nat_lt (natural_from 0 text) (2 ^ 64)) e where
-  by : (n : ℕ) (other : Option ℤ) (a b : Bool) → Some value ≡ (if a && b then Some n else None) → (if a then Some (pos n) else other) ≡ Some (pos value)
-  by n other true true e = let same : value ≡ n = cc in rw (sym same)
-  by n other _ _ e = cc
+spelled_is text value e = grind arith
 
 -- ---- The line of a cell that may count arrays and may not be there.
 
@@ -151,18 +126,8 @@ taken_number cell p rest (Ok z) = Ok (record { numbers = slice_set p.numbers cel
 taken_number cell p rest (Err reason) = bad p reason
 
 -- a number that was judged well is in its kind's range
-judged_is : (z y : ℤ) (a c : Bool) → Ok z ≡ (if a then Err reasons.Count else if c then Ok y else Err reasons.Absent) → z ≡ y
-judged_is z y true c e = cc
-judged_is z y false true e = cc
-judged_is z y false false e = cc
-
-judged_held : (kind : Kind) (caps : List ℕ) (default : ℤ) (present : Bool) (y z : ℤ) (b : Bool) → in_range kind y ≡ b → Ok z ≡ number_judged caps default present (if b then Some y else None) → InRange kind z
-judged_held kind caps default present y z false q e = cc
-judged_held kind caps default present y z true q e = rw (judged_is z y (exceeds caps y) (present || same_number y default) e) (ranges kind y q)
-
 pub number_held : (kind : Kind) (caps : List ℕ) (default : ℤ) (present : Bool) (s : Option ℤ) (z : ℤ) → Ok z ≡ number_judged caps default present (held kind s) → InRange kind z
-number_held kind caps default present None z e = cc
-number_held kind caps default present (Some y) z e = judged_held kind caps default present y z (in_range kind y) refl e
+number_held kind caps default present s z e = grind (arith, ranges)
 
 module _ (path : List ℕ) (kind : Kind) (caps : List ℕ) (cell : ℕ) (default : ℤ) (present : Bool) (p : Standing) where
   abbrev front : List ℕ
@@ -174,23 +139,8 @@ module _ (path : List ℕ) (kind : Kind) (caps : List ℕ) (cell : ℕ) (default
   abbrev puts : List ℕ → Option ℤ → Read
   puts rest s = put_number (record { cell = cell; kind = kind; capacities = caps; default = default; present = present }) p rest s
 
-  by_range : (rest : List ℕ) (z : ℤ) (a b c : Bool) → (if not a then bad p reasons.Number else if b then bad p reasons.Count else if not c then bad p reasons.Absent
-      else Ok (record { numbers = slice_set p.numbers cell z; line = suc p.line; rest = rest }))
-      ≡ taken_number cell p rest (if a then (if b then Err reasons.Count else if c then Ok z else Err reasons.Absent) else Err reasons.Number)
-  by_range rest z false b c = refl
-  by_range rest z true true c = refl
-  by_range rest z true false true = refl
-  by_range rest z true false false = refl
-
-  held_judged : (z : ℤ) (a : Bool) → (if a then (if exceeds caps z then Err reasons.Count else if present || same_number z default then Ok z else Err reasons.Absent) else Err reasons.Number)
-      ≡ number_judged caps default present (if a then Some z else None)
-  held_judged z true = refl
-  held_judged z false = refl
-
   put_judged : (rest : List ℕ) (s : Option ℤ) → puts rest s ≡ taken_number cell p rest (number_judged caps default present (held kind s))
-  put_judged rest None = refl
-  put_judged rest (Some z) =
-      rw (← held_judged z (in_range kind z)) (by_range rest z (in_range kind z) (exceeds caps z) (present || same_number z default))
+  put_judged rest s = grind arith
 
   begun : (text rest : List ℕ) (b : Bool) → begins_with front text ≡ b → reads (Some (text, rest)) ≡ (if b then puts rest (number_spelled (drop (length front) text)) else bad p reasons.Form)
   begun text rest b e = rw e

@@ -1,12 +1,11 @@
 -- What is read of structures, arrays and parts.
 use Rattle.vms_values.proofs.Facade.{refl, ◌∙◌, ◌≡◌, ℕ, zero, suc, ◌+◌, ◌<◌, Bool, true, ◌&&◌, List, [], ◌∷◌, ◌++◌, length}
-use Rattle.vms_values.proofs.Facade.{get_or, Ok, Err, pos, arith, codes, ◌-◌, ◌*◌, drop, Option, Some, None, ℤ, sym, decimal, CellLine}
-use Rattle.vms_values.proofs.Facade.{exceeds_least, Typed, IsKept, run_read, Item, Num, Struct, Count, One, Field, Desc, Set, is_there, no_desc, no_parent}
-use Rattle.vms_values.proofs.Facade.{first, item_size, field_cells, numbers_of, elements_of, counted, no_field, struct_cells, capacity_of, Reader, Standing}
-use Rattle.vms_values.proofs.Facade.{Read, ◌>>=◌, no_reader, reader, readers, cells_of, read_item, read_elements, read_array, read_field, read_fields}
-use Rattle.vms_values.proofs.Facade.{read_desc, BadLine, put_line, put_number, ItemBelow, FieldsBelow, all_below, item_cells_same, field_cells_same, own_same}
-use Rattle.vms_values.proofs.Facade.{row_same, first_same, readers_cells, first_at, is_well_formed, struct_clean, first_line, number_spelled, field_size}
-use Rattle.vms_values.proofs.Facade.{least_of, size_in, capacities_of, cells_table, fields_at}
+use Rattle.vms_values.proofs.Facade.{get_or, pos, arith, codes, ◌-◌, ◌*◌, drop, Option, sym, decimal, CellLine, exceeds_least, Typed, IsKept, run_read}
+use Rattle.vms_values.proofs.Facade.{Item, Num, Struct, Count, One, Field, Desc, Set, is_there, no_desc, no_parent, first, item_size, field_cells, numbers_of}
+use Rattle.vms_values.proofs.Facade.{elements_of, counted, no_field, struct_cells, capacity_of, Reader, Standing, Read, ◌>>=◌, no_reader, reader, readers}
+use Rattle.vms_values.proofs.Facade.{cells_of, read_item, read_elements, read_array, read_field, read_fields, read_desc, put_line, ItemBelow, FieldsBelow}
+use Rattle.vms_values.proofs.Facade.{all_below, item_cells_same, field_cells_same, own_same, row_same, first_same, readers_cells, first_at, is_well_formed}
+use Rattle.vms_values.proofs.Facade.{struct_clean, first_line, field_size, least_of, size_in, capacities_of, cells_table, fields_at}
 
 pub kept_none : (a : Typed) → IsKept a a
 kept_none a = record { version = refl; came = refl; long = refl; kinds = refl }
@@ -18,10 +17,7 @@ kept_more a b c h k = record { version = k.version ∙ h.version; came = k.came 
 
 -- a reading goes on in the same way after the same reading
 pub then_same : (r s : Read) (f g : Standing → Read) → r ≡ s → ((p : Standing) → f p ≡ g p) → (r >>= f) ≡ (s >>= g)
-then_same r s f g e h = rw e (by s) where
-  by : (s : Read) → (s >>= f) ≡ (s >>= g)
-  by (Ok p) = h p
-  by (Err b) = refl
+then_same r s f g e h = grind arith
 
 -- two tables have the same structures of numbers below j
 module _ (j : ℕ) (rs Rs : List Reader) (agree : (i : ℕ) → i < j → get_or rs i no_reader ≡ get_or Rs i no_reader) where
@@ -40,16 +36,12 @@ module _ (j : ℕ) (rs Rs : List Reader) (agree : (i : ℕ) → i < j → get_or
       then_same _ _ (λ q. read_elements rs f caps path present (at + step) step (suc i) m q) (λ q. read_elements Rs f caps path present (at + step) step (suc i) m q)
       (item_same f caps (path ++ codes "[" ++ decimal i ++ codes "]") present at f.item p e) (λ q. elements_same f caps path present (at + step) step (suc i) m q e)
 
-  many_same : (f : Field) (caps path : List ℕ) (present : Bool) (at m : ℕ) (p : Standing) → ItemBelow j f.item
-      → read_elements rs f caps path present at (item_size (cells_of rs) f.item) 0 m p ≡ read_elements Rs f caps path present at (item_size (cells_of Rs) f.item) 0 m p
-  many_same f caps path present at m p e =
-      rw (item_cells_same j (cells_of rs) (cells_of Rs) cells f.item [] (pos 0) e)
-      (elements_same f caps path present at (item_size (cells_of Rs) f.item) 0 m p e)
-
   array_same : (f : Field) (caps path : List ℕ) (present : Bool) (at : ℕ) (c : Count) (own : ℕ → ℕ) (p : Standing) → ItemBelow j f.item
       → read_array rs f caps path present at c own p ≡ read_array Rs f caps path present at c own p
   array_same f caps path present at One own p e = item_same f caps path present at f.item p e
-  array_same f caps path present at c own p e = many_same f caps path present at (elements_of c own) p e
+  array_same f caps path present at c own p e =
+      rw (item_cells_same j (cells_of rs) (cells_of Rs) cells f.item [] (pos 0) e)
+      (elements_same f caps path present at (item_size (cells_of Rs) f.item) 0 (elements_of c own) p e)
 
   field_same : (d : Desc) (v : ℕ) (path : List ℕ) (present : Bool) (base i at : ℕ) (f : Field) (p : Standing) → FieldsBelow j d.fields → ItemBelow j f.item
       → read_field rs d v path present base i at f p ≡ read_field Rs d v path present base i at f p
@@ -79,12 +71,7 @@ struct_reads set well j lt f caps path present at p =
 -- ---- The elements of an array and the fields of a part that remain to be read.
 
 put_least : (path : List ℕ) (cell : ℕ) (spot : CellLine) (p : Standing) (o : Option (List ℕ × List ℕ)) → put_line path (record spot { capacities = capacities_of (least_of spot.capacities) }) p o ≡ put_line path spot p o
-put_least path cell spot p None = refl
-put_least path cell spot p (Some (line, rest)) = rw (by (number_spelled (drop (length (path ++ codes " = ")) line)))
-  where
-    by : (s : Option ℤ) → put_number (record spot { capacities = capacities_of (least_of spot.capacities) }) p rest s ≡ put_number spot p rest s
-    by None = refl
-    by (Some z) = rw (exceeds_least spot.capacities z)
+put_least path cell spot p o = grind (arith, exceeds_least)
 
 item_least : (rs : List Reader) (f : Field) (caps path : List ℕ) (present : Bool) (at : ℕ) (item : Item) (p : Standing)
     → read_item rs f (capacities_of (least_of caps)) path present at item p ≡ read_item rs f caps path present at item p
@@ -99,23 +86,15 @@ elements_least rs f caps path present at step i (suc n) p =
     then_same _ _ (λ q. read_elements rs f (capacities_of (least_of caps)) path present (at + step) step (suc i) n q) (λ q. read_elements rs f caps path present (at + step) step (suc i) n q)
     (item_least rs f caps (path ++ codes "[" ++ decimal i ++ codes "]") present at f.item p) (λ q. elements_least rs f caps path present (at + step) step (suc i) n q)
 
-module _ (rs : List Reader) (f : Field) (caps path : List ℕ) (present : Bool) (step : ℕ) where
-  elements_left : (at i count : ℕ) (p : Standing) → i < count → read_elements rs f caps path present at step i (count - i) p
-      ≡ (read_item rs f caps (path ++ codes "[" ++ decimal i ++ codes "]") present at f.item p >>= λ q. read_elements rs f caps path present (at + step) step (i + 1) (count - (i + 1)) q)
-  elements_left at i count p lt =
-      let e : count - i ≡ suc (count - (i + 1)) = omega arith in
-      let one : suc i ≡ i + 1 = omega arith in
-      rw (e, one)
-
-  pub elements_go : (at i count : ℕ) (p q : Standing) → i < count → read_item rs f caps (path ++ codes "[" ++ decimal i ++ codes "]") present at f.item p ≡ Ok q
-      → read_elements rs f caps path present (at + step) step (i + 1) (count - (i + 1)) q ≡ read_elements rs f caps path present at step i (count - i) p
-  elements_go at i count p q lt e =
-      rw (elements_left at i count p lt, e)
-
-  pub elements_stop : (at i count : ℕ) (p : Standing) (b : BadLine) → i < count → read_item rs f caps (path ++ codes "[" ++ decimal i ++ codes "]") present at f.item p ≡ Err b
-      → read_elements rs f caps path present at step i (count - i) p ≡ Err b
-  elements_stop at i count p b lt e =
-      rw (elements_left at i count p lt, e)
+-- the next of the elements that are left, and those after it
+pub elements_left : (rs : List Reader) (f : Field) (caps path : List ℕ) (present : Bool) (step at i count : ℕ) (p : Standing) (r : Read) → i < count
+    → read_item rs f caps (path ++ codes "[" ++ decimal i ++ codes "]") present at f.item p ≡ r
+    → read_elements rs f caps path present at step i (count - i) p
+    ≡ (r >>= λ q. read_elements rs f caps path present (at + step) step (i + 1) (count - (i + 1)) q)
+elements_left rs f caps path present step at i count p r lt here =
+    let e : count - i ≡ suc (count - (i + 1)) = omega arith in
+    let one : suc i ≡ i + 1 = omega arith in
+    rw (e, one, here)
 
 run_is : (rs : List Reader) (f : Field) (c : Count) (own : ℕ → ℕ) (count : ℕ) (caps path : List ℕ) (present : Bool) (at : ℕ) (p : Standing) → count ≡ elements_of c own
     → read_array rs f caps (path ++ f.name) present at c own p ≡ run_read rs f c (capacities_of (least_of caps)) path present at count p
@@ -132,10 +111,7 @@ module _ (set : Set) where
 
   pub array_read : (f : Field) (count : ℕ) (caps path : List ℕ) (present : Bool) (at : ℕ) (p : Standing) → (f.count ≡ One → ⊥)
       → read_elements (readers set) f caps (path ++ f.name) present at (size_in set f.item) 0 count p ≡ run_read (readers set) f f.count caps path present at count p
-  array_read f count caps path present at p other = by_count f.count other where
-    by_count : (c : Count) → (c ≡ One → ⊥) → read_elements (readers set) f caps (path ++ f.name) present at (size_in set f.item) 0 count p ≡ run_read (readers set) f c caps path present at count p
-    by_count One other = absurd (other refl)
-    by_count _ other = rw (read_size f.item)
+  array_read f count caps path present at p other = grind (arith, read_size)
 
   -- field k of a description, by the numbers so far: how many of its elements are read, and the most that its number counts
   pub record IsNext (d : Desc) (v : ℕ) (present : Bool) (base k count : ℕ) (most : Option ℕ) (now : Bool) (f : Field) (p : Standing) : Type 0 where
@@ -145,31 +121,17 @@ module _ (set : Set) where
     pub least : most ≡ least_of (counted k d.fields)
     pub is : now ≡ (present && is_there (get_or d.fields k no_field).test (get_or d.fields k no_field).since v (numbers_of (struct_cells set) d p.numbers base) no_parent)
 
-  next_read : (d : Desc) (v : ℕ) (path : List ℕ) (present : Bool) (base k cell count : ℕ) (most : Option ℕ) (now : Bool) (f : Field) (p : Standing) → IsNext d v present base k count most now f p
+  -- what is read of it, and then of the fields after it
+  pub fields_left : {d : Desc} {v : ℕ} {present : Bool} {base k count : ℕ} {most : Option ℕ} {now : Bool} {f : Field} {p : Standing}
+      (path : List ℕ) (cell next : ℕ) (r : Read) → IsNext d v present base k count most now f p → cell + capacity_of f.count * size_in set f.item ≡ next
+      → run_read (readers set) f f.count (capacities_of most) path now cell count p ≡ r
       → read_fields (readers set) d v path present base k cell (drop k d.fields) p
-      ≡ (run_read (readers set) f f.count (capacities_of most) path now cell count p
-      >>= λ q. read_fields (readers set) d v path present base (k + 1) (cell + capacity_of f.count * size_in set f.item) (drop (k + 1) d.fields) q)
-  next_read d v path present base k cell count most now f p n =
+      ≡ (r >>= λ q. read_fields (readers set) d v path present base (k + 1) next (drop (k + 1) d.fields) q)
+  fields_left {d} {v} {present} {base} {k} {count} {most} {now} {f} {p} path cell next r n after e =
       let rs = readers set in
       let g = get_or d.fields k no_field in
       let own = numbers_of (struct_cells set) d p.numbers base in
       let one : suc k ≡ k + 1 = omega arith in
-      let rest = λ (i w : ℕ) (q : Standing). read_fields rs d v path present base i (cell + w) (drop (k + 1) d.fields) q in
       let here : read_field rs d v path present base k cell g p ≡ run_read rs g g.count (capacities_of most) path now cell count p =
       rw (read_cells, ← n.is, run_is rs g g.count own count (counted k d.fields) path now cell p n.counts, n.least) in
-      rw (fields_at d.fields k n.inside, here, field_size (cells_of rs) d.fields k g, read_size g.item, one, n.found)
-
-  pub fields_go : (d : Desc) (v : ℕ) (path : List ℕ) (present : Bool) (base k cell count : ℕ) (most : Option ℕ) (now : Bool) (f : Field)
-      (p q : Standing) (next : ℕ)
-      → IsNext d v present base k count most now f p → cell + capacity_of f.count * size_in set f.item ≡ next
-      → run_read (readers set) f f.count (capacities_of most) path now cell count p ≡ Ok q
-      → read_fields (readers set) d v path present base (k + 1) next (drop (k + 1) d.fields) q
-      ≡ read_fields (readers set) d v path present base k cell (drop k d.fields) p
-  fields_go d v path present base k cell count most now f p q next n after e =
-      rw (next_read d v path present base k cell count most now f p n, e, after)
-
-  pub fields_stop : (d : Desc) (v : ℕ) (path : List ℕ) (present : Bool) (base k cell count : ℕ) (most : Option ℕ) (now : Bool) (f : Field) (p : Standing) (b : BadLine)
-      → IsNext d v present base k count most now f p → run_read (readers set) f f.count (capacities_of most) path now cell count p ≡ Err b
-      → read_fields (readers set) d v path present base k cell (drop k d.fields) p ≡ Err b
-  fields_stop d v path present base k cell count most now f p b n e =
-      rw (next_read d v path present base k cell count most now f p n, e)
+      rw (← after, ← e, fields_at d.fields k n.inside, here, field_size (cells_of rs) d.fields k g, read_size g.item, one, n.found)

@@ -1,15 +1,15 @@
 -- A text that was accepted is the one of its machine and images.
 use Rattle.vms_values_laws.proofs.{BadLines.fine_text, BadLines.NoneBad, Meeting.named_is, Meeting.Ends, ReadyParts.device_ready, Rights.AreGood}
 use Rattle.vms_values_laws.proofs.{AllCome.images_of, AllCome.short_are, Facade.DefaultsFit, Facade.device_cells}
-use Rattle.vms_values_laws.proofs.Facade.{all_both, all_from, all_parts, ◌≡◌, ℕ, suc, ◌+◌, Bool, true, false, ◌==◌, List, [], ◌∷◌}
-use Rattle.vms_values_laws.proofs.Facade.{◌++◌, length, get_or, map, Option, Some, None, ℤ, pos, append_cancel_left, refl, sym, ap, ◌∙◌, arith}
-use Rattle.vms_values_laws.proofs.Facade.{codes, zero, ◌≤◌, AllByRecursion, slice_get, leb-true, ext_get_or, Sub, Device, Set, desc_cells, struct_cells}
-use Rattle.vms_values_laws.proofs.Facade.{Image, own_cells, version_text, Element, elements_in, printed, sub_line, Entry, OfSub, OfNumber, number_entries}
-use Rattle.vms_values_laws.proofs.Facade.{subs_entries, devices_entries, entry_line, device_entries, entries, part_reason, is_of_cell, has_line, IsShaped}
-use Rattle.vms_values_laws.proofs.Facade.{AreShaped, AreUnsaid, AllUnsaid, IsAtVersion, AreAtVersions, IsMachineOf, AreFine, Says, Demand, ForSection}
-use Rattle.vms_values_laws.proofs.Facade.{ForNumber, demand_of, Taken, lines_of, Follows, Along, ValuesReason, first_line, IsReady, AreReady, BadLine}
-use Rattle.vms_values_laws.proofs.Facade.{ValuesRead, Values, Bad, machine_named, or_bad, WellFormed, IsGood, device_parts, sub_clean}
-use Rattle.vms_values_laws.proofs.SecondPass.{AreShort, of_numbers, number_same, as_bad, parts_from}
+use Rattle.vms_values_laws.proofs.Facade.{all_both, all_from, all_parts, ◌≡◌, ℕ, suc, ◌+◌, Bool, true, false, List, [], ◌∷◌, ◌++◌, length}
+use Rattle.vms_values_laws.proofs.Facade.{get_or, map, Option, Some, None, ℤ, pos, append_cancel_left, refl, sym, ap, ◌∙◌, arith, codes, zero}
+use Rattle.vms_values_laws.proofs.Facade.{◌≤◌, AllByRecursion, slice_get, leb-true, ext_get_or, Sub, Device, Set, desc_cells, struct_cells, Image}
+use Rattle.vms_values_laws.proofs.Facade.{own_cells, version_text, Element, elements_in, printed, sub_line, Entry, OfSub, OfNumber, number_entries}
+use Rattle.vms_values_laws.proofs.Facade.{subs_entries, devices_entries, entry_line, device_entries, entries, is_of_cell, has_line, IsShaped, AreShaped}
+use Rattle.vms_values_laws.proofs.Facade.{AreUnsaid, AllUnsaid, IsAtVersion, AreAtVersions, IsMachineOf, AreFine, Says, Demand, ForSection, demand_of, Taken}
+use Rattle.vms_values_laws.proofs.Facade.{lines_of, Follows, Along, first_line, IsReady, AreReady, BadLine, ValuesRead, Values, Bad, machine_named, WellFormed}
+use Rattle.vms_values_laws.proofs.Facade.{IsGood, device_parts, sub_clean}
+use Rattle.vms_values_laws.proofs.SecondPass.{AreShort, of_numbers, number_same, parts_from}
 
 -- ---- Two states with the same lines, and with defaults where there is no line, are the same.
 
@@ -79,10 +79,6 @@ module _ (set : Set) (d : Device) (image : Image) where
 
   whole_own : AreAtVersions d.subs image.came → AreOwn image.numbers (inside_of set d image)
   whole_own h = all_both _ _ _ (numbers_own _) (subs_own 0 _ d.subs _ h)
-
-abbrev of_demand : ℕ → Demand → Bool
-of_demand c (ForNumber x) = x.cell == c
-of_demand c _ = false
 
 module _ (n m : List ℤ) (short : AreShort n) (short' : AreShort m) where
   one_number : (e f : Entry) (c : ℕ) → IsOwn n e → IsOwn m f → demand_of e ≡ demand_of f → entry_line e ≡ entry_line f → is_of_cell c e ≡ true
@@ -191,11 +187,7 @@ none_answers set text v n = cc
 -- no part is bad
 pub none_good : (set : Set) (line : ℕ) (es : List Entry) → parts_from set line es ≡ None → AreGood set es
 none_good set line [] h = tt
-none_good set line (e ∷ es) h = go _ refl h (λ g. none_good set (suc line) es g) where
-  go : (o : Option ValuesReason) → part_reason set e ≡ o → or_bad (as_bad line o) (parts_from set (suc line) es) ≡ None
-      → (parts_from set (suc line) es ≡ None → AreGood set es) → (part_reason set e ≡ None) × AreGood set es
-  go None is h more = (is, more h)
-  go (Some reason) is h more = cc
+none_good set line (e ∷ es) h = grind (arith, none_good set (suc line) es)
 
 module _ (set : Set) (well : WellFormed set) (good : IsGood set) where
   -- what is known of each device of the set

@@ -1,16 +1,16 @@
 -- The second pass over a text judges the entries of sections and subsections, in order.
 use Rattle.vms_values_laws.proofs.{Facade.Meets, Facade.AreBelow, Facade.has_line, SaidLaws.lines_said, SaidLaws.AreShortSaid, Walk.wrapped, Walk.part_comes}
 use Rattle.vms_values_laws.proofs.Facade.{◌≡◌, ℕ, suc, ◌+◌, ◌≤◌, Bool, true, false, not, ◌&&◌, List, ◌∷◌, ◌++◌, length, map}
-use Rattle.vms_values_laws.proofs.Facade.{drop, Option, Some, None, ℤ, pos, refl, sym, ap, ◌∙◌, arith, if◌then◌else◌, ◌||◌, [], drop-cons}
+use Rattle.vms_values_laws.proofs.Facade.{drop, Option, Some, None, ℤ, pos, refl, sym, ap, ◌∙◌, arith, if◌then◌else◌, [], drop-cons}
 use Rattle.vms_values_laws.proofs.Facade.{length-append, flat_map, ValuesReason, or_else, Desc, Sub, Device, Set, desc_cells, struct_cells, device_cells}
 use Rattle.vms_values_laws.proofs.Facade.{desc_slots, meanings, Image, own_cells, rules_are_true, is_needed, BadLine, ReadDevice, or_bad, if_bad, are_defaults}
-use Rattle.vms_values_laws.proofs.Facade.{sub_fails, is_said_well, judge_subs, judge_device, judge_devices, Number, Rule, Element, What, is_number, cells_with}
-use Rattle.vms_values_laws.proofs.Facade.{cells_of, slots_of, numbers_in, CountsUp, elements_in, slot_of, printed, Entry, OfSub, OfNumber, subs_entries}
-use Rattle.vms_values_laws.proofs.Facade.{device_entries, devices_entries, if_not, rules_hold, has_default, have_defaults, sub_holds, came_well, part_reason}
-use Rattle.vms_values_laws.proofs.Facade.{rule_holds, AreShaped, walks, elements_slots, ◌<◌, same_Some, append_cancel_left, map-id, get_or, Ok, Err}
-use Rattle.vms_values_laws.proofs.Facade.{append-nil, codes, length-map, signed_decimal, ⊎_elim, cases_lt, get_or-eq_default, wanted_reason, number_entries}
-use Rattle.vms_values_laws.proofs.Facade.{demand_of, reason_for, Taken, Follows, Along, Moved, ForNumber, Begins, first_line, number_spelled, Standing, Read}
-use Rattle.vms_values_laws.proofs.Facade.{readers, read_desc, IsSound, AreSound, IsShort, number_holds, shapes, desc_elements, Said, Agrees}
+use Rattle.vms_values_laws.proofs.Facade.{sub_fails, is_said_well, judge_subs, judge_device, judge_devices, Number, Element, What, is_number, cells_with}
+use Rattle.vms_values_laws.proofs.Facade.{cells_of, slots_of, numbers_in, CountsUp, elements_in, printed, Entry, OfSub, OfNumber, subs_entries, device_entries}
+use Rattle.vms_values_laws.proofs.Facade.{devices_entries, if_not, rules_hold, has_default, have_defaults, sub_holds, came_well, part_reason, AreShaped, walks}
+use Rattle.vms_values_laws.proofs.Facade.{elements_slots, ◌<◌, same_Some, append_cancel_left, map-id, get_or, Ok, Err, append-nil, codes, length-map}
+use Rattle.vms_values_laws.proofs.Facade.{signed_decimal, ⊎_elim, cases_lt, get_or-eq_default, wanted_reason, number_entries, demand_of, reason_for, Taken}
+use Rattle.vms_values_laws.proofs.Facade.{Follows, Along, Moved, ForNumber, Begins, first_line, number_spelled, Standing, Read, readers, read_desc, IsSound}
+use Rattle.vms_values_laws.proofs.Facade.{AreSound, IsShort, number_holds, shapes, desc_elements, Said, Agrees}
 use Rattle.vms_values_laws.proofs.SaidLaws.{all_taken, moved_none, ComesTo, At, meets_all, taken_of, Told, told_none, has_said, said_both, lines_both}
 use Rattle.vms_spec.specs.declared.ValuesReason.TheVariants as reasons
 use Rattle.vms_spec.specs.ValuesReading as reading
@@ -50,12 +50,7 @@ parts_both set line (e ∷ es) fs = grind (arith, or_bad_assoc, parts_both set (
 
 pub rules_same : (xs : List Element) → rules_hold xs ≡ rules_are_true (slots_of xs)
 rules_same [] = refl
-rules_same (x ∷ xs) = by_what x.what x.present (rules_same xs) where
-  by_what : (w : What) (present : Bool) → rules_hold xs ≡ rules_are_true (slots_of xs) → ((not present || rule_holds w) && rules_hold xs)
-      ≡ rules_are_true (if present then slot_of x.cell w ∷ slots_of xs else slots_of xs)
-  by_what (Rule false) true h = refl
-  by_what _ true h = h
-  by_what _ false h = h
+rules_same (x ∷ xs) = grind (arith, rules_same xs)
 
 pub defaults_same : (n : List ℤ) (at : ℕ) (xs : List Element) → CountsUp at (numbers_in xs) → at + length (cells_of xs) ≤ length n
     → have_defaults n xs ≡ are_defaults (cells_of xs) (drop at n)

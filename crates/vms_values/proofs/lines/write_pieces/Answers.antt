@@ -1,5 +1,5 @@
-use Rattle.vms_values.proofs.Facade.{◌+◌, drop, err_from_is_err_and, leaves_rest, leaves_stop, joined}
-use Rattle.vms_values.proofs.Printers.{joined_at}
+use Rattle.vms_values.proofs.Facade.{◌+◌, drop, leaves_rest, leaves_stop, joined}
+use Rattle.vms_values.proofs.Printers.{joined_at, err_is}
 use Rattle.vms_values.proofs.lines.write_pieces.Goals as goal
 
 pub loop-piece-preserved : goal.loop-piece-preserved
@@ -8,5 +8,4 @@ loop-piece-preserved g c =
 
 pub returns-in_err-write_all_of : goal.returns-in_err-write_all_of
 returns-in_err-write_all_of g c =
-    let p = err_from_is_err_and c.from_residual.result c.from_residual.ensures.1 in
-    rw p.1 (leaves_stop (joined (drop (c.loop-piece.piece-index + 1) c.args.pieces.now)) (joined_at c.args.pieces.now c.loop-piece.piece-index _ c.loop-piece-test.true) c.loop-piece.invariant c.in_err-write_all_of.ensures)
+    rw (err_is _ _ c.from_residual.ensures.1) (leaves_stop (joined (drop (c.loop-piece.piece-index + 1) c.args.pieces.now)) (joined_at c.args.pieces.now c.loop-piece.piece-index _ c.loop-piece-test.true) c.loop-piece.invariant c.in_err-write_all_of.ensures)

@@ -1,5 +1,5 @@
 use Rattle.vms_values.proofs.Facade.{sym, ◌∙◌, arith}
-use Rattle.vms_values.proofs.ReadLemmas.{digit_stops, digit_goes, digits_end, few_fit, few_next}
+use Rattle.vms_values.proofs.ReadLemmas.{digit_next, digits_end, few_fit, few_next}
 use Rattle.vms_values.proofs.numbers.read_few.Goals as goal
 
 pub next_of_few-requires : goal.next_of_few-requires
@@ -8,14 +8,14 @@ next_of_few-requires c = few_fit c.loop-digit.digit-index c.loop-digit.value c.l
 pub returns-in_err-value : goal.returns-in_err-value
 returns-in_err-value c =
     rw c.from_residual.ensures
-    (sym (digit_stops c.loop-digit.value c.loop-digit.digit-index _ c.args.digits.now c.loop-digit-test.true (sym c.next_of_few.ensures ∙ c.in_err-value.was)) ∙ c.loop-digit.invariant.0)
+    (sym (digit_next c.loop-digit.value c.loop-digit.digit-index _ c.args.digits.now _ c.loop-digit-test.true (sym c.next_of_few.ensures ∙ c.in_err-value.was)) ∙ c.loop-digit.invariant.0)
 
 pub loop-digit-preserved : goal.loop-digit-preserved
 loop-digit-preserved c =
     let i = c.loop-digit.digit-index in
     let value = c.loop-digit.value in
     let goes = sym c.next_of_few.ensures ∙ c.in_ok-value.was in
-    (digit_goes value i _ c.in_ok-value.value c.args.digits.now c.loop-digit-test.true goes ∙ c.loop-digit.invariant.0, few_next i value _ c.in_ok-value.value c.args.digits.now c.loop-digit.invariant.1 goes)
+    (sym (digit_next value i _ c.args.digits.now _ c.loop-digit-test.true goes) ∙ c.loop-digit.invariant.0, few_next i value _ c.in_ok-value.value c.args.digits.now c.loop-digit.invariant.1 goes)
 
 pub returns : goal.returns
 returns c = digits_end c.loop-digit.value c.loop-digit.digit-index c.args.digits.now c.loop-digit-test.false ∙ c.loop-digit.invariant.0

@@ -1,5 +1,5 @@
 use Rattle.vms_values.proofs.Facade.{◌≡◌, ℕ, ◌-◌, true, List, length, take, drop, None, sym, ap, ◌∙◌, arith, option_and_then, read_from}
-use Rattle.vms_values.proofs.ReadLemmas.{unpadded, read_natural, read_rest, digit_stops, digits_end}
+use Rattle.vms_values.proofs.ReadLemmas.{unpadded, read_natural, read_rest, digit_next, digits_end}
 use Rattle.vms_values.proofs.numbers.read_natural.Goals as goal
 
 -- the digits after the first few
@@ -23,7 +23,7 @@ pub returns-in_err-value-2 : goal.returns-in_err-value-2
 returns-in_err-value-2 c =
     let text = c.args.digits.now in
     rw c.from_residual-in_err-value-2.ensures
-    (sym (digit_stops c.loop-digit.value c.loop-digit.digit-index _ (rest_of c.min-few.result text) c.loop-digit-test.true (sym c.next_value.ensures ∙ c.in_err-value-2.was))
+    (sym (digit_next c.loop-digit.value c.loop-digit.digit-index _ (rest_of c.min-few.result text) _ c.loop-digit-test.true (sym c.next_value.ensures ∙ c.in_err-value-2.was))
     ∙ c.loop-digit.invariant ∙ read_natural text (sym c.is_unpadded.ensures ∙ c.if-not-is_unpadded.false))
 
 pub returns : goal.returns

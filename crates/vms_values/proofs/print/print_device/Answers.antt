@@ -1,8 +1,8 @@
 use Rattle.vms_spec.specs.declared.Part.TheVariants as parts
-use Rattle.vms_values.proofs.Facade.{◌≡◌, ◌<◌, [], length, drop, ap, arith, ◌∙◌, err_from_is_err_and, puts_as, puts_both, stops_as, stops_front, stops_behind}
+use Rattle.vms_values.proofs.Facade.{◌≡◌, ◌<◌, [], length, drop, ap, arith, ◌∙◌, puts_as, puts_both, stops_as, stops_front, stops_behind}
 use Rattle.vms_values.proofs.Facade.{own_cells, printers, desc_lines, sub_lines, described, device_at, device_of, first_cell, state_of, section_text}
 use Rattle.vms_values.proofs.Facade.{leaves_all, leaves_none, leaves_rest, leaves_stop}
-use Rattle.vms_values.proofs.Printers.{own_spot, device_is, first_sub, no_subs, subs_left}
+use Rattle.vms_values.proofs.Printers.{own_spot, device_is, first_sub, no_subs, subs_left, err_is}
 use Rattle.vms_values.proofs.print.print_device.{Given.Over, Goals.After-device, Goals.In-loop-sub}
 use Rattle.vms_values.proofs.print.print_device.Goals as goal
 
@@ -18,8 +18,7 @@ returns-in_err-print_section g c =
     let d = device_at set c.args.device in
     let own = desc_lines (printers set) d.desc [] image.numbers 0 in
     let subs = sub_lines set image.numbers (own_cells set d) d.subs image.came in
-    let p = err_from_is_err_and c.from_residual.result c.from_residual.ensures.1 in
-    rw p.1 (stops_as (device_is set d image) (stops_front subs (stops_front own (stops_as (line_is g (goal.at.returns-in_err-print_section g c).After-device) c.in_err-print_section.ensures))))
+    rw (err_is _ _ c.from_residual.ensures.1) (stops_as (device_is set d image) (stops_front subs (stops_front own (stops_as (line_is g (goal.at.returns-in_err-print_section g c).After-device) c.in_err-print_section.ensures))))
 
 pub print_lines-requires : goal.print_lines-requires
 print_lines-requires g c =
@@ -32,8 +31,7 @@ returns-in_err-print_lines g c =
     let image = state_of c.args.shown.image.now in
     let d = device_at set c.args.device in
     let subs = sub_lines set image.numbers (own_cells set d) d.subs image.came in
-    let p = err_from_is_err_and c.from_residual-in_err-print_lines.result c.from_residual-in_err-print_lines.ensures.1 in
-    rw p.1 (stops_as (device_is set d image) (stops_front subs (stops_behind (puts_as (line_is g (goal.at.returns-in_err-print_lines g c).After-device) c.in_ok-print_section.ensures) c.in_err-print_lines.ensures)))
+    rw (err_is _ _ c.from_residual-in_err-print_lines.ensures.1) (stops_as (device_is set d image) (stops_front subs (stops_behind (puts_as (line_is g (goal.at.returns-in_err-print_lines g c).After-device) c.in_ok-print_section.ensures) c.in_err-print_lines.ensures)))
 
 pub loop-sub-init : goal.loop-sub-init
 loop-sub-init g c =
@@ -51,9 +49,8 @@ returns-in_err-print_sub g c =
     let image = state_of c.args.shown.image.now in
     let at = goal.at.returns-in_err-print_sub g c in
     let i = inside g at.In-loop-sub in
-    let p = err_from_is_err_and c.from_residual-in_err-print_sub.result c.from_residual-in_err-print_sub.ensures.1 in
     let front = puts_both (puts_as (line_is g at.After-device) c.in_ok-print_section.ensures) c.in_ok-print_lines.ensures in
-    rw p.1 (stops_as (device_is set (device_at set c.args.device) image) (stops_behind front
+    rw (err_is _ _ c.from_residual-in_err-print_sub.ensures.1) (stops_as (device_is set (device_at set c.args.device) image) (stops_behind front
     (leaves_stop _ (subs_left set c.args.device image.numbers image.came c.loop-sub.sub i.0 i.1) c.loop-sub.invariant c.in_err-print_sub.ensures)))
 
 pub loop-sub-preserved : goal.loop-sub-preserved

@@ -1,7 +1,7 @@
 use Rattle.vms_values.proofs.{print.print_devices.Given.Over, print.print_devices.Goals.After-print_device-arg-1}
-use Rattle.vms_values.proofs.Facade.{◌≡◌, ◌+◌, ◌<◌, ◌++◌, length, drop, sym, ap, ◌∙◌, arith, map, err_from_is_err_and, length-map, device_lines, devices_lines}
+use Rattle.vms_values.proofs.Facade.{◌≡◌, ◌+◌, ◌<◌, ◌++◌, length, drop, sym, ap, ◌∙◌, arith, map, length-map, device_lines, devices_lines}
 use Rattle.vms_values.proofs.Facade.{device_of, described, device_at, state_of, states_long, state_at, IsOf, AreOf, leaves_rest, leaves_stop}
-use Rattle.vms_values.proofs.Printers.{device_left, images_at, of_next, of_room, devices_next}
+use Rattle.vms_values.proofs.Printers.{device_left, images_at, of_next, of_room, devices_next, err_is}
 use Rattle.vms_values.proofs.print.print_devices.Goals as goal
 
 pub bounds-images-device : goal.bounds-images-device
@@ -34,8 +34,7 @@ print_device-requires g c =
 
 pub returns-in_err-print_device : goal.returns-in_err-print_device
 returns-in_err-print_device g c =
-    let p = err_from_is_err_and c.from_residual.result c.from_residual.ensures.1 in
-    rw p.1 (leaves_stop _ (here g (goal.at.returns-in_err-print_device g c).After-print_device-arg-1).1 c.loop-device.invariant.owes c.in_err-print_device.ensures)
+    rw (err_is _ _ c.from_residual.ensures.1) (leaves_stop _ (here g (goal.at.returns-in_err-print_device g c).After-print_device-arg-1).1 c.loop-device.invariant.owes c.in_err-print_device.ensures)
 
 pub loop-device-preserved : goal.loop-device-preserved
 loop-device-preserved g c =

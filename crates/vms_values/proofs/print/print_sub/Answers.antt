@@ -1,7 +1,7 @@
-use Rattle.vms_values.proofs.Facade.{◌≡◌, [], None, get_or, ap, ◌∙◌, err_from_is_err_and, puts_as, stops_as, stops_front, wrote_as, wrote_behind, Desc}
+use Rattle.vms_values.proofs.Facade.{◌≡◌, [], None, get_or, ap, ◌∙◌, puts_as, stops_as, stops_front, wrote_as, wrote_behind, Desc}
 use Rattle.vms_values.proofs.Facade.{printers, desc_lines, first_cell, described, device_at, sub_at, state_of, sub_text}
 use Rattle.vms_spec.specs.declared.Part.TheVariants as parts
-use Rattle.vms_values.proofs.Printers.{sub_spot}
+use Rattle.vms_values.proofs.Printers.{sub_spot, err_is}
 use Rattle.vms_values.proofs.print.print_sub.Goals as goal
 
 pub returns-in_err-print_sub_line : goal.returns-in_err-print_sub_line
@@ -11,8 +11,7 @@ returns-in_err-print_sub_line g c =
     let image = state_of c.args.shown.image.now in
     let line : sub_text c.as_bytes.result.now c.came.result ≡ sub_text s.desc.name (get_or image.came c.args.sub None) =
     rw (c.as_bytes.ensures ∙ ap (λ (d : Desc). d.name) c.desc-desc.ensures, c.came.ensures) in
-    let p = err_from_is_err_and c.from_residual.result c.from_residual.ensures.1 in
-    rw p.1 (stops_front (desc_lines (printers set) s.desc [] image.numbers (first_cell set (parts.Sub c.args.device c.args.sub))) (stops_as line c.in_err-print_sub_line.ensures))
+    rw (err_is _ _ c.from_residual.ensures.1) (stops_front (desc_lines (printers set) s.desc [] image.numbers (first_cell set (parts.Sub c.args.device c.args.sub))) (stops_as line c.in_err-print_sub_line.ensures))
 
 pub print_lines-requires : goal.print_lines-requires
 print_lines-requires g c =

@@ -1,8 +1,9 @@
 use Rattle.vms_values.proofs.{Facade.LONGEST_PATH, Printers.stays_is, Printers.stays_then, Printers.stays_element, Printers.cut_is, Printers.field_short}
-use Rattle.vms_values.proofs.Facade.{INDEX_ROOM, PART_ROOM, rules, arith, ◌≡◌, ◌+◌, ◌*◌, ◌-◌, ◌<◌, ◌≤◌, ◌++◌, ℕ, length, length-append, codes, sym, ap, ◌∙◌}
-use Rattle.vms_values.proofs.Facade.{err_from_is_err_and, ltb-true, decimal, printers, element_lines, item_lines, field_of, described, desc_at, size_in}
-use Rattle.vms_values.proofs.Facade.{size_code, start_code, struct_size, room_at, run_lines, below, wrote_as, leaves_all, leaves_rest, leaves_stop, leaves_none}
-use Rattle.vms_values.proofs.Printers.{struct_lines, FoundRun, array_run, elements_left, no_elements, fields_left, fields_whole, no_fields, found_run, stays}
+use Rattle.vms_values.proofs.Facade.{INDEX_ROOM, PART_ROOM, rules, arith, ◌≡◌, ◌+◌, ◌*◌, ◌-◌, ◌<◌, ◌≤◌, ◌++◌, ℕ, length}
+use Rattle.vms_values.proofs.Facade.{length-append, codes, refl, sym, ap, ◌∙◌, ltb-true, decimal, printers, element_lines, field_of, described, desc_at}
+use Rattle.vms_values.proofs.Facade.{size_in, size_code, start_code, struct_size, room_at, run_lines, below, wrote_as, leaves_all, leaves_rest, leaves_stop}
+use Rattle.vms_values.proofs.Facade.{leaves_none}
+use Rattle.vms_values.proofs.Printers.{struct_lines, FoundRun, array_run, elements_left, no_elements, fields_left, fields_whole, no_fields, found_run, stays, err_is}
 use Rattle.vms_values.proofs.shown.+print.Given.{Over}
 use Rattle.vms_values.proofs.shown.+print.Goals.{print_elements-After-print_item-arg-in-loop-index-1, print_part-After-print_field-arg-in-loop-field-1}
 use Rattle.vms_values.proofs.shown.+print.Goals as goal
@@ -37,11 +38,9 @@ print_elements-returns-in_err-print_item g t c =
     let n = c.args.shown.image.now.numbers in
     let i = c.loop-index.index in
     let path = (element g t (goal.at.print_elements-returns-in_err-print_item g t c).After-print_item-arg-in-loop-index-1).0 in
-    let rest = element_lines ps item c.args.line.now n (c.loop-index.cell + size_in set item) (size_in set item) (i + 1) (c.args.run.count - (i + 1)) in
     record {
-      written = rw (err_from_is_err_and c.from_residual.result c.from_residual.ensures.1).1 (leaves_stop _
-          (elements_left ps item c.args.line.now n c.loop-index.cell (size_in set item) i c.args.run.count c.loop-index-test.true
-          ∙ ap (λ l. item_lines ps item l n c.loop-index.cell ++ rest) (sym path))
+      written = rw (err_is _ _ c.from_residual.ensures.1) (leaves_stop _
+          (elements_left ps item c.args.line.now _ n c.loop-index.cell (size_in set item) _ i c.args.run.count c.loop-index-test.true path refl)
           c.loop-index.invariant.owes c.in_err-print_item.ensures.written);
       line = stays_then _ _ _ (stays_element c.args.line.now (decimal i) c.push_index.new.self path) c.in_err-print_item.ensures.line;
     }
@@ -64,13 +63,10 @@ print_elements-loop-index-preserved g t c =
     let n = c.args.shown.image.now.numbers in
     let size : c.item_cells-size.result ≡ size_in set item = size_code set item c.item_cells-size.result c.item_cells-size.ensures c.requires.small in
     let one : (i + 1) * size_in set item ≡ i * size_in set item + size_in set item = grind arith in
-    let rest = λ (s : ℕ). element_lines ps item path n (cell + s) (size_in set item) (i + 1) (c.args.run.count - (i + 1)) in
     let named = (element g t (goal.at.print_elements-loop-index-preserved g t c).After-print_item-arg-in-loop-index-1).0 in
     record {
       owes = leaves_rest _
-          (elements_left ps item path n cell (size_in set item) i c.args.run.count c.loop-index-test.true
-          ∙ ap (λ s. item_lines ps item (path ++ codes "[" ++ decimal i ++ codes "]") n cell ++ rest s) (sym size)
-          ∙ ap (λ l. item_lines ps item l n cell ++ rest c.item_cells-size.result) (sym named))
+          (elements_left ps item path _ n cell (size_in set item) _ i c.args.run.count c.loop-index-test.true named size)
           c.loop-index.invariant.owes c.in_ok-print_item.ensures.written;
       line = stays_then _ _ _ (stays_element path (decimal i) c.push_index.new.self named) c.in_ok-print_item.ensures.line;
       here = omega arith;
@@ -198,9 +194,8 @@ lines g t c =
 pub print_part-returns-in_err-print_field : goal.print_part-returns-in_err-print_field
 print_part-returns-in_err-print_field g t c =
     let at = (goal.at.print_part-returns-in_err-print_field g t c).After-print_field-arg-in-loop-field-1 in
-    let p = err_from_is_err_and c.from_residual.result c.from_residual.ensures.1 in
     record {
-      written = rw p.1 (leaves_stop _ (lines g t at) c.loop-field.invariant.owes c.in_err-print_field.ensures.written);
+      written = rw (err_is _ _ c.from_residual.ensures.1) (leaves_stop _ (lines g t at) c.loop-field.invariant.owes c.in_err-print_field.ensures.written);
       line = stays_then _ _ _ (rw ((turn g t at).kept) (stays c.args.line.now)) c.in_err-print_field.ensures.line;
     }
 

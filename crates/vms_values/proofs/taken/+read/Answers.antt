@@ -1,12 +1,12 @@
-use Rattle.vms_values.proofs.Facade.{rules, ◌≡◌, ℕ, ◌+◌, ◌*◌, ◌<◌, ◌≤◌, ◌++◌, List, length, length-append, get_or, drop, codes, sym, ap, ◌∙◌, arith, ltb-true}
-use Rattle.vms_values.proofs.Facade.{err_from_is_err_and, decimal, Item, elements_fit, Field, Desc, no_desc, cells_from, capacity_of, place_first, readers}
+use Rattle.vms_values.proofs.Facade.{rules, ◌≡◌, ℕ, ◌+◌, ◌*◌, ◌<◌, ◌≤◌, ◌++◌, List, length, length-append, get_or, drop, codes, sym, ap, ◌∙◌, arith, ltb-true, Err, Ok}
+use Rattle.vms_values.proofs.Facade.{decimal, Item, elements_fit, Field, Desc, no_desc, cells_from, capacity_of, place_first, readers}
 use Rattle.vms_values.proofs.Facade.{read_item, read_elements, read_fields, read_desc, field_of, field_at, own_numbers, described, desc_at, HasSpot, size_in}
 use Rattle.vms_values.proofs.Facade.{table, cell_of, cells_in, capacities_of, size_code, start_after, start_code, struct_size, room_at, fields_at, below}
 use Rattle.vms_values.proofs.Facade.{AreKinds, element_cells, place_of, LONGEST_PATH, INDEX_ROOM, PART_ROOM}
 use Rattle.vms_spec.specs.declared.Part.TheVariants as parts
-use Rattle.vms_values.proofs.Printers.{stays, stays_is, stays_then, stays_element, cut_is, field_short, FoundRun, found_run}
+use Rattle.vms_values.proofs.Printers.{stays, stays_is, stays_then, stays_element, cut_is, field_short, FoundRun, found_run, err_is}
 use Rattle.vms_values.proofs.Naming.{FieldKinds, field_kinds, number_kind, struct_kinds}
-use Rattle.vms_values.proofs.Takes.{kept_none, kept_more, struct_reads, elements_go, elements_stop, array_read, IsNext, fields_go, fields_stop}
+use Rattle.vms_values.proofs.Takes.{kept_none, kept_more, struct_reads, elements_left, array_read, IsNext, fields_left}
 use Rattle.vms_values.proofs.ReadLemmas.{reached, stopped}
 use Rattle.vms_values.proofs.taken.+read.Goals.{read_elements-After-read_item-arg-in-loop-index-1, read_under-After-read_field-arg-in-loop-field-1}
 use Rattle.vms_values.proofs.taken.+read.Goals as goal
@@ -21,12 +21,12 @@ pub read_elements-returns-in_err-read_item : goal.read_elements-returns-in_err-r
 read_elements-returns-in_err-read_item t c =
     let set = described c.args.set.now in
     let f = field_of c.args.run.field.now in
-    let p = err_from_is_err_and c.from_residual.result c.from_residual.ensures.1 in
     let path = (element t (goal.at.read_elements-returns-in_err-read_item t c).After-read_item-arg-in-loop-index-1).0 in
     record {
-      read = rw (p.1, p.2) (stopped _ _ _ _ _
-          (λ b same. sym c.loop-index.invariant.reads ∙ elements_stop (readers set) f (capacities_of c.args.run.most) c.args.path.now c.args.run.present (size_in set f.item)
-          c.loop-index.first c.loop-index.index c.args.run.count (place_of c.loop-index.taken) b c.loop-index-test.true (rw (sym path) (same)))
+      read = rw (err_is _ _ c.from_residual.ensures.1) (stopped _ _ _ _ _
+          (λ b same. sym c.loop-index.invariant.reads ∙ elements_left (readers set) f (capacities_of c.args.run.most) c.args.path.now c.args.run.present
+          (size_in set f.item) c.loop-index.first c.loop-index.index c.args.run.count (place_of c.loop-index.taken) (Err b)
+          c.loop-index-test.true (rw (sym path) (same)))
           c.in_err-read_item.ensures.read);
       kept = kept_more _ _ _ c.loop-index.invariant.kept c.in_err-read_item.ensures.kept;
       path = stays_then _ _ _ (stays_element c.args.path.now (decimal c.loop-index.index) c.push_index.new.self path) c.in_err-read_item.ensures.path;
@@ -51,9 +51,10 @@ read_elements-loop-index-preserved t c =
     let named = (element t (goal.at.read_elements-loop-index-preserved t c).After-read_item-arg-in-loop-index-1).0 in
     let path = c.args.path.now in
     record {
-      reads = rw size (elements_go (readers set) f caps path c.args.run.present (size_in set f.item) c.loop-index.first i c.args.run.count (place_of c.loop-index.taken) _ c.loop-index-test.true
+      reads = rw size (sym (elements_left (readers set) f caps path c.args.run.present (size_in set f.item) c.loop-index.first i c.args.run.count
+          (place_of c.loop-index.taken) (Ok (place_of c.read_item.new.taken)) c.loop-index-test.true
           (ap (λ (l : List ℕ). read_item (readers set) f caps l c.args.run.present c.loop-index.first f.item (place_of c.loop-index.taken)) (sym named)
-          ∙ reached _ _ c.in_ok-read_item.ensures.read) ∙ c.loop-index.invariant.reads);
+          ∙ reached _ _ c.in_ok-read_item.ensures.read)) ∙ c.loop-index.invariant.reads);
       here = omega arith;
       kept = kept_more _ _ _ c.loop-index.invariant.kept c.in_ok-read_item.ensures.kept;
       path = stays_then _ _ _ (stays_element path (decimal i) c.push_index.new.self named) c.in_ok-read_item.ensures.path;
@@ -248,12 +249,9 @@ read_under-returns-in_err-read_field t c =
     let set = described c.args.set.now in
     let spot = c.args.spot in
     let s = turn t (goal.at.read_under-returns-in_err-read_field t c).After-read_field-arg-in-loop-field-1 in
-    let p = err_from_is_err_and c.from_residual.result c.from_residual.ensures.1 in
     record {
-      read = rw (p.1, p.2) (stopped _ _ _ _ _
-          (λ b same. sym s.reads ∙ fields_stop set (desc_at set spot.part) spot.version c.args.path.now c.args.present spot.base c.loop-field.field
-          c.field_start.result c.elements.result c.most.result c.is_present.result (field_of c.index-as_slice-field.result)
-          (place_of c.loop-field.taken) b s.comes same)
+      read = rw (err_is _ _ c.from_residual.ensures.1) (stopped _ _ _ _ _
+          (λ b same. sym s.reads ∙ fields_left set c.args.path.now c.field_start.result _ (Err b) s.comes s.after same)
           (rw s.front at c.in_err-read_field.ensures.read));
       kept = kept_more _ _ _ c.loop-field.invariant.kept c.in_err-read_field.ensures.kept;
       path = stays_then _ _ _ (rw s.front (stays c.args.path.now)) c.in_err-read_field.ensures.path;
@@ -269,9 +267,8 @@ read_under-loop-field-preserved t c =
     let s = turn t (goal.at.read_under-loop-field-preserved t c).After-read_field-arg-in-loop-field-1 in
     let kept = c.in_ok-read_field.ensures.kept in
     record {
-      reads = fields_go set d spot.version c.args.path.now c.args.present spot.base k c.field_start.result c.elements.result c.most.result
-          c.is_present.result (field_of c.index-as_slice-field.result) (place_of c.loop-field.taken) _ _ s.comes s.after
-          (reached _ _ (rw s.front at c.in_ok-read_field.ensures.read)) ∙ s.reads;
+      reads = sym (fields_left set c.args.path.now c.field_start.result _ (Ok (place_of c.read_field.new.taken)) s.comes s.after
+          (reached _ _ (rw s.front at c.in_ok-read_field.ensures.read))) ∙ s.reads;
       kinds = rw kept.kinds (rw s.after at s.kinds.later);
       kept = kept_more _ _ _ c.loop-field.invariant.kept kept;
       path = stays_then _ _ _ (rw s.front (stays c.args.path.now)) c.in_ok-read_field.ensures.path;
