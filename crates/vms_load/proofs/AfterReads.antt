@@ -14,7 +14,6 @@ use Rattle.vms_spec.specs.Units.{Head as HeadUnit}
 use Rattle.vms_stream.specs.{SoFar.Tail as StreamTail, SoFar.Bare as IsBare, State.image_at as open_image}
 use Rattle.vms_image.specs.Typed.{state_of as untyped}
 use Rattle.vms_load.specs.declared.fault.LoadFault.TheVariants as faults
-use Rattle.vms_spec.specs.declared.Reason.TheVariants as reasons
 use Rattle.vms_frames.specs.declared.units.After.TheVariants as afters
 use Rattle.vms_frames.specs.declared.units.Tail.TheVariants as tails
 use Rattle.vms_frames.specs.declared.fault.FrameFault.TheVariants as frames
