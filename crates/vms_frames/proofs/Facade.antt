@@ -12,7 +12,7 @@ pub use Rattle.vms_kinds.specs.{Codes.IsBadBool, Codes.value_of, Codes.width, de
 pub use Rattle.vms_spec.specs.{Lookup.bytes_at, Lookup.is_bad_bool, Lookup.number_at, Streams.longest_text, Streams.magic, declared.Reason.Reason}
 pub use Rattle.vms_spec.specs.Units.{Description, End, Foot, Long, Magic, Number, Piece, Start, Version}
 pub use Rattle.vms_spec.specs.declared.TheConstants.{LONGEST_NAME, LONGEST_TEXT}
-pub use Rattle.vms_bodies.proofs.{BodyOnly.if_false, Heads.bad_same, Heads.raw_same}
+pub use Rattle.vms_bodies.proofs.{BodyOnly.if_false, Heads.bad_same, Heads.raw_same, Places.if_both}
 pub use Rattle.vms_stream.proofs.{Calls.foot_row}
 pub use Rattle.vms_stream.specs.{SoFar.Footed, SoFar.Known, SoFar.Unknown, Table.alone, Table.first_row, Taking.nothing_known}
 pub use Rattle.vms_stream.specs.Dues.{AMagic, AVersion, AfterEnd, AfterFields, Due, Field, is_foot, raw}

@@ -16,6 +16,7 @@ use Rattle.vms_stream.specs.Dues.{Between as IsBetween}
 use Rattle.vms_spec.specs.declared.Reason.TheVariants as reasons
 use Rattle.vms_kinds.specs.declared.Kind.TheVariants as kinds
 use Rattle.vms_stream.specs.SoFar as tails
+use Rattle.vms_frames.proofs.Facade.{if_both}
 
 -- what `?` returns
 pub err_is : {T E : Type 0} (r : Result T E) (e : E) → IsErrAnd r (λ y. y ≡ e) → r ≡ Err e
@@ -184,13 +185,13 @@ module _ (d : Due) (k : Known) (mark longest : ℕ) (piece : List ℕ → Piece)
   abbrev pub text_seen : List ℕ → Seen
   text_seen all = seen_in d k (text_at mark longest piece all (number_at 4 1 all))
 
-  few_bytes : (all : List ℕ) (n : ℕ) (b : Bool) → length all < 5
-      → seen_in d k (if b then needs 5 all (Long mark n) else needs (5 + n) all (piece (bytes_at n 5 all))) ≡ Short
-  few_bytes all n true few = cut_short d k 5 all (Long mark n) few
-  few_bytes all n false few = cut_short d k (5 + n) all (piece (bytes_at n 5 all)) (omega arith)
-
   pub text_begins : (unit rest : List ℕ) → length unit + length rest < 5 → text_seen (unit ++ rest) ≡ Short
-  text_begins unit rest few = let n = number_at 4 1 (unit ++ rest) in few_bytes (unit ++ rest) n (nat_lt longest n) (omega (arith, length-append unit rest))
+  text_begins unit rest few =
+      let all = unit ++ rest in
+      let n = number_at 4 1 all in
+      let less : length all < 5 = omega (arith, length-append unit rest) in
+      if_both (λ f. seen_in d k f ≡ Short) (nat_lt longest n) (needs 5 all (Long mark n)) (needs (5 + n) all (piece (bytes_at n 5 all)))
+      (cut_short d k 5 all (Long mark n) less) (cut_short d k (5 + n) all (piece (bytes_at n 5 all)) (omega arith))
 
   pub text_cut : (unit rest : List ℕ) → 5 ≤ length unit → number_at 4 1 unit ≤ longest → length unit + length rest < 5 + number_at 4 1 unit
       → text_seen (unit ++ rest) ≡ Short

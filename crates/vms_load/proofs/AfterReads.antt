@@ -1,20 +1,19 @@
 -- A section, as the judge reads it: its head, and what comes after the fields of a part.
 use Rattle.vms_load.proofs.Facade.{no_desc, ◌≡◌, ℕ, ◌+◌, ◌<◌, List, length, map, drop, slice_set, Option, Some, None, Bool, true, false, Result}
 use Rattle.vms_load.proofs.Facade.{Ok, Err, refl, sym, ap, ◌∙◌, subst, zero, suc, ◌-◌, [], ◌∷◌, get_or, IfSome, arith, map-set, drop_all}
-use Rattle.vms_load.proofs.Facade.{slice_get-get_or, slice_get, Set, Device, Sub, Image, Piece, SubHead, Foot, part_slots, Goes, reading_after, find_device}
-use Rattle.vms_load.proofs.Facade.{find_sub, reading_on, set_twice, at_set, judge, ask, judge_seen, State, Free, Inside, after, by_state, or_none, slots_at}
-use Rattle.vms_load.proofs.Facade.{due_by, known_at, Head, Stand, Tail, Refusal, Typed, Unfit, opened_at, section_opened, opened_unless, reason_against_sub}
-use Rattle.vms_load.proofs.Facade.{sub_opened, Onward, Reads, ReadsOn, ReadsBehind, behind, Settles, concerning, state_in, in_fields, after_part, bytes_of}
-use Rattle.vms_load.proofs.Facade.{subs_due, spot_in, all_passed, after_fields, image_at, state_of, LoadFault, Section, Staged, AfterFields, begins_next}
-use Rattle.vms_load.proofs.Facade.{rules_hold, Good, seen, judged_holds, next_holds, seen_holds, device_at, sub_at, AnswersBehind, in_section, tail_of}
-use Rattle.vms_load.proofs.Facade.{FrameFault, Open, LONGEST_SUB_HEAD}
+use Rattle.vms_load.proofs.Facade.{slice_get-get_or, slice_get, Set, Device, Sub, Image, Piece, SubHead, Foot, Goes, reading_after, find_device, find_sub}
+use Rattle.vms_load.proofs.Facade.{reading_on, set_twice, at_set, judge, ask, judge_seen, State, Free, Inside, after, by_state, or_none, slots_at, due_by}
+use Rattle.vms_load.proofs.Facade.{known_at, Head, Stand, Tail, Refusal, Typed, Unfit, opened_at, section_opened, opened_unless, reason_against_sub, sub_opened}
+use Rattle.vms_load.proofs.Facade.{Onward, Reads, ReadsOn, ReadsBehind, behind, Settles, concerning, state_in, in_fields, after_part, bytes_of, subs_due}
+use Rattle.vms_load.proofs.Facade.{spot_in, all_passed, after_fields, image_at, state_of, LoadFault, Section, Staged, AfterFields, begins_next, rules_hold}
+use Rattle.vms_load.proofs.Facade.{Good, seen, judged_holds, next_holds, seen_holds, device_at, sub_at, AnswersBehind, in_section, tail_of, FrameFault, Open}
+use Rattle.vms_load.proofs.Facade.{LONGEST_SUB_HEAD}
 use Rattle.vms_load.proofs.HeadLemmas.{device_is, known_sub, sub_below, sub_is, verdict, section_judged, sub_judged}
 use Rattle.vms_load.proofs.ReadLemmas.{IsLong, refused_here, unit_fails, unit_settled, unit_of}
 use Rattle.vms_spec.specs.Units.{Head as HeadUnit}
 use Rattle.vms_stream.specs.{SoFar.Tail as StreamTail, SoFar.Bare as IsBare, State.image_at as open_image}
 use Rattle.vms_image.specs.Typed.{state_of as untyped}
 use Rattle.vms_load.specs.declared.fault.LoadFault.TheVariants as faults
-use Rattle.vms_spec.specs.declared.Reason.TheVariants as reasons
 use Rattle.vms_frames.specs.declared.units.After.TheVariants as afters
 use Rattle.vms_frames.specs.declared.units.Tail.TheVariants as tails
 use Rattle.vms_frames.specs.declared.fault.FrameFault.TheVariants as frames
@@ -115,9 +114,7 @@ module _ (set : Set) (names : List (List ℕ)) (state : State) (section : Sectio
 
   -- no slot is left
   none_left : slots_at set inner (Inside section.device section.id part done) ≡ []
-  none_left =
-      let all = part_slots set (Some (device_at set section.device)) image part in
-      rw (there, image_is) (drop_all (length all) all (omega arith))
+  none_left = grind (arith, device_at, there, image_is, drop_all)
 
   due_is : due_by set inner (Inside section.device section.id part done) ≡ AfterFields section.device t
   due_is = rw none_left

@@ -1,10 +1,10 @@
 -- Readings of the fields of a part that go on: numbers, constants and rules.
 use Rattle.vms_load.proofs.Facade.{false_from_ne_true, ◌≡◌, ℕ, ◌+◌, List, [], length, take, drop, slice_set, Option, Some, Result, Ok, Err, OnOk}
-use Rattle.vms_load.proofs.Facade.{ℤ, refl, sym, ap, ◌∙◌, subst, arith, Bool, true, false, not, ◌&&◌, nat_lt, ◌<◌, ◌^◌, IfErr, drop_all}
-use Rattle.vms_load.proofs.Facade.{Kind, width, value_of, Reason, same_number, exceeds, is_truth, is_above, Slot, Rule, Taken, Progress, take_slot, Piece, raw}
-use Rattle.vms_load.proofs.Facade.{Seen, Good, Bad, Short, seen, nothing_known, put, taken_by, IsUnit, by_tests, tested, slot_seen, AnswersSeen, Fails}
-use Rattle.vms_load.proofs.Facade.{ReadsNumber, ReadsFiller, FrameFault, TakesAs, ReadsCapped, ReadsConstant, TakesOn, progress, same_number_is, Intake}
-use Rattle.vms_load.proofs.Facade.{takes_none, reads_as, reads_last, ReadsAs, OnErr, Told, Fills, keeps_same, ◌∷◌}
+use Rattle.vms_load.proofs.Facade.{ℤ, refl, sym, ap, ◌∙◌, arith, Bool, true, false, not, ◌&&◌, nat_lt, ◌<◌, ◌^◌, IfErr, drop_all, Kind}
+use Rattle.vms_load.proofs.Facade.{width, value_of, Reason, same_number, exceeds, is_truth, is_above, Slot, Rule, Taken, Progress, take_slot, Piece, raw, Seen}
+use Rattle.vms_load.proofs.Facade.{Good, Bad, Short, seen, nothing_known, put, taken_by, IsUnit, by_tests, tested, slot_seen, AnswersSeen, Fails, ReadsNumber}
+use Rattle.vms_load.proofs.Facade.{ReadsFiller, FrameFault, TakesAs, ReadsCapped, ReadsConstant, TakesOn, progress, same_number_is, Intake, takes_none}
+use Rattle.vms_load.proofs.Facade.{reads_as, reads_last, ReadsAs, OnErr, Told, Fills, keeps_same, ◌∷◌}
 use Rattle.vms_load.proofs.RunReads.{step_fills}
 use Rattle.vms_spec.specs.Layout.{Number as NumberSlot, Constant as ConstantSlot, Filler as FillerSlot}
 use Rattle.vms_spec.specs.Units.{Number, Constant, Filler}
@@ -71,9 +71,7 @@ module _ (kind : Kind) (at : ℕ) (new : Option (List ℕ)) (rest : List ℕ) {f
   own_ok v h e = grind (arith, read_good, number_same, to_good)
 
   own_fails : (v : ℤ) → ReadsNumber kind at (Some rest) new (Ok v) → own v ≡ true → (at ≡ at) × Fails found rest new why
-  own_fails v h e =
-      let t = read_good v h in
-      (refl, rw (is ∙ to_bad _ _ _ _ (width kind) why t.cut t.bad (ap own (number_same kind (z kind rest) v t.same) ∙ e)) (refl, h.1))
+  own_fails v h e = grind (arith, read_good, to_bad, number_same)
 
   own_err : {X : Type 0} (unit : X → Piece) (long : X → ℕ) (fault : FrameFault) → ReadsNumber kind at (Some rest) new (Err fault)
       → AnswersSeen unit long found at rest new (Err fault)
@@ -151,9 +149,7 @@ module _ {a b : Intake} (kind : Kind) (at : ℕ) (caps : List ℕ) where
       (λ rest left h. own_fails kind at (Some left) rest (exceeds caps) (Number 0 kind) _ (number_by kind rest 0 caps) v h large) p))
 
   pub reads_no_number : (e : FrameFault) → Plain a b kind at (Err e) → Capped a b kind at caps (Err e)
-  reads_no_number e p =
-      reads_as (λ n l. l)
-      (λ rest left h. own_err kind at (Some left) rest (exceeds caps) (Number 0 kind) _ (number_by kind rest 0 caps) (Number 0 kind) (λ _. width kind) e h) p
+  reads_no_number e p = grind (arith, reads_as, own_err, number_by)
 
 abbrev differs : ℤ → ℤ → Bool
 differs y v = not (same_number v y)
@@ -179,10 +175,7 @@ pub reads_rule : (a : Intake) (holds : Bool) (numbers : List ℤ) (at : ℕ) (re
     → IfErr result (λ fault. (holds ≡ false) × (fault ≡ faults.Refused at reasons.Invalid)) → TakesOn a a 0 at at (λ rest. take_slot (Rule holds) (progress numbers at rest)) numbers result
 reads_rule a holds numbers at (Ok x) counted ok err =
     rw ok (record { bytes = []; takes = takes_none a counted; long = (omega arith, omega arith); says = λ more f. (refl, refl, refl); cause = tt })
-reads_rule a holds numbers at (Err e) counted ok err =
-    subst (λ b. TakesOn a a 0 at at (λ rest. take_slot (Rule b) (progress numbers at rest)) numbers (Err e)) (sym err.0)
-    (subst (λ f. TakesOn a a 0 at at (λ rest. take_slot (Rule false) (progress numbers at rest)) numbers (Err f)) (sym err.1)
-    (record { bytes = []; takes = takes_none a counted; long = (omega arith, tt); says = λ more f. (refl, refl, refl); cause = tt }))
+reads_rule a holds numbers at (Err e) counted ok err = search (arith, takes_none)
 
 -- The end of a part leaves the image and the source as they are.
 module _ (a : Told) {found holds : Bool} (is : found ≡ holds) (r : Result (Unit {0}) FrameFault) (counted : a.source.given < 2 ^ 64) (ok : OnOk r (found ≡ true))

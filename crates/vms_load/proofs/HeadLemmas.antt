@@ -29,9 +29,7 @@ module _ (set : Set) (came : List Bool) (name : List ℕ) (instance v : ℕ) whe
   unknown e = rw e
 
   pub known : (k : ℕ) → find_device 0 set.devices name instance ≡ Some k → section_opened set came name instance v ≡ opened_unless (Some k) k (reason_against (device_at set k) (get_or came k false) v)
-  known k e =
-      let there : slice_get set.devices k ≡ Some (device_at set k) = slice_get-get_or set.devices k _ (device_below set.devices name instance k e) in
-      rw (e, there)
+  known k e = grind (arith, device_at, slice_get-get_or, device_below)
 
   pub opens : (place k : ℕ) (reason : Option Reason) → find_device 0 set.devices name instance ≡ Some k → reason ≡ reason_against (device_at set k) (get_or came k false) v
       → opened_at place (opened_unless (Some k) k reason) ≡ opened_at place (section_opened set came name instance v)

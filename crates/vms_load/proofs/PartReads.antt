@@ -10,7 +10,6 @@ use Rattle.vms_load.proofs.Facade.{judge, reading_on, body_read, after_read, Sta
 use Rattle.vms_load.proofs.Facade.{concerning, IsIn, IsOpen, part_desc, part_base, state_in, in_fields, after_fields, Section}
 use Rattle.vms_spec.specs.Taking.{Refusal}
 use Rattle.vms_stream.proofs.Bodies.{Reads as ReadsBody}
-use Rattle.vms_spec.specs.declared.Reason.TheVariants as reasons
 use Rattle.vms_frames.specs.declared.fault.FrameFault.TheVariants as faults
 
 -- a step takes what its slot takes: the least of the capacities that a number counts decides

@@ -8,7 +8,6 @@ use Rattle.vms_load.proofs.Facade.{reach, LoadFault, reading_on, one_unit, Intak
 use Rattle.vms_load.proofs.Facade.{IsSpent, GoesOn, GoesSoFar, GoesBehind, Moves}
 use Rattle.vms_io.specs.Reading.{Reads as Takes}
 use Rattle.vms_frames.specs.Reads.{fault_course as frame_course}
-use Rattle.vms_spec.specs.declared.Reason.TheVariants as reasons
 use Rattle.vms_frames.specs.declared.fault.FrameFault.TheVariants as frames
 use Rattle.vms_load.specs.declared.fault.LoadFault.TheVariants as faults
 

@@ -1,9 +1,9 @@
 -- Steps that are taken or refused, and runs of numbers of one kind.
 use Rattle.vms_load.proofs.Facade.{◌≡◌, ℕ, List, [], ◌∷◌, Option, Some, Result, Ok, Err, OnErr, OnOk, ℤ, ap, arith, zero, suc, ◌+◌, ◌*◌}
 use Rattle.vms_load.proofs.Facade.{◌<◌, ◌≤◌, ◌++◌, length, take, drop, slice_set, None, refl, ◌∙◌, length-append, length-drop, false}
-use Rattle.vms_load.proofs.Facade.{◌/◌, sym, subst, le-ltb, lt-ltb, take-append-le, drop-append-le, drop_all, length-take-le, take-append-drop, take-take}
-use Rattle.vms_load.proofs.Facade.{IsAtEnd, div-le_of_le-mul, div-lt_iff_lt-mul, lt-div-mul-add, div-mul-le_self, Typed, Taken, ◌>>=◌, take_slot, Progress}
-use Rattle.vms_load.proofs.Facade.{refuse, on, reads_as, nothing_follows, FrameFault, WalkStep, TakesAs, TakesOn, progress, slot_of, take_steps, last_numbers}
+use Rattle.vms_load.proofs.Facade.{◌/◌, sym, subst, take-append-le, drop-append-le, drop_all, length-take-le, take-append-drop, take-take, IsAtEnd}
+use Rattle.vms_load.proofs.Facade.{div-le_of_le-mul, div-lt_iff_lt-mul, lt-div-mul-add, div-mul-le_self, Typed, Taken, ◌>>=◌, take_slot, Progress, refuse}
+use Rattle.vms_load.proofs.Facade.{on, reads_as, nothing_follows, FrameFault, WalkStep, TakesAs, TakesOn, progress, slot_of, take_steps, last_numbers}
 use Rattle.vms_load.proofs.Facade.{numbers_then, step_long, Told, from, Fills, IsFilled, steps_long, take_append, last_taken, told, Kind, width, value_of}
 use Rattle.vms_load.proofs.Facade.{is_bad_bool, values_of, put_from, run_of, keeps_same, keeps_more, keeps_put, run_split, Intake, Breaks, width_positive}
 use Rattle.vms_walk.specs.{Inside.Keeps, declared.step.WalkStep.TheVariants.Number}
@@ -51,9 +51,7 @@ values_long kind (suc count) bytes = rw (values_long kind count (drop (width kin
 
 pub run_long : (kind : Kind) (first count : ℕ) → steps_long (run_of first count kind) ≡ count * width kind
 run_long kind first zero = omega arith
-run_long kind first (suc count) =
-    let more : suc count * width kind ≡ width kind + count * width kind = grind arith in
-    omega (arith, run_long kind (first + 1) count)
+run_long kind first (suc count) = grind (arith, run_long kind (first + 1) count)
 
 -- the first few cells get numbers
 pub run_keeps : (kind : Kind) (count first : ℕ) (numbers zs : List ℤ) → length zs ≤ count → Keeps (run_of first count kind) numbers (put_from numbers first zs)
@@ -71,15 +69,11 @@ module _ (kind : Kind) (any : kind ≡ Bool → ⊥) where
 
   number_whole : (cell place : ℕ) (numbers : List ℤ) (rest : List ℕ) → width kind ≤ length rest
       → take_slot (slot_of (Number cell kind None)) (progress numbers place rest) ≡ Ok (progress (slice_set numbers cell (value_of kind (take (width kind) rest))) (place + width kind) (drop (width kind) rest))
-  number_whole cell place numbers rest le =
-      let done = on w (slice_set numbers cell (value_of kind (take w rest))) (progress numbers place rest) in
-      rw (le-ltb (length rest) w le, any_good kind (take w rest) any)
+  number_whole cell place numbers rest le = grind (arith, any_good)
 
   number_cut : (cell place : ℕ) (numbers : List ℤ) (rest : List ℕ) → length rest < width kind
       → take_slot (slot_of (Number cell kind None)) (progress numbers place rest) ≡ refuse (progress numbers place rest) reasons.Truncated (length rest)
-  number_cut cell place numbers rest lt =
-      let done = on w (slice_set numbers cell (value_of kind (take w rest))) (progress numbers place rest) in
-      rw (lt-ltb (length rest) w lt)
+  number_cut cell place numbers rest lt = grind (arith)
 
   -- ---- all of them
 

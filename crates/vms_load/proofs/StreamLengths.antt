@@ -110,10 +110,7 @@ item_small bytes items s item h = grind (arith, width_small)
 
 times_small : (n b i : ℕ) → b ≤ MOST_UNUSED * i → n * b ≤ MOST_UNUSED * (n * i)
 times_small zero b i h = omega arith
-times_small (suc n) b i h =
-    let e : suc n * b ≡ b + n * b = grind arith in
-    let f : suc n * i ≡ i + n * i = grind arith in
-    omega (arith, times_small n b i h)
+times_small (suc n) b i h = grind (arith, times_small n b i h)
 
 fields_small : (bytes items : List ℕ) → Small bytes items → (fs : List Field) → AreSmall fs → fields_bytes bytes fs ≤ MOST_UNUSED * items_in items fs
 fields_small bytes items s [] h = omega arith
@@ -206,9 +203,7 @@ module _ (ms : List Meaning) (bytes : List ℕ) (bounds : Bounds ms bytes) where
 
   items_bound : (item : Item) (caps : List ℕ) (n : List ℤ) (k at step : ℕ) → long (times k (item_slots ms item caps n) at step) ≤ k * item_bytes bytes item
   items_bound item caps n zero at step = omega arith
-  items_bound item caps n (suc k) at step =
-      let one : suc k * item_bytes bytes item ≡ item_bytes bytes item + k * item_bytes bytes item = grind arith in
-      omega (arith, joined (item_slots ms item caps n at) (times k (item_slots ms item caps n) (at + step) step), item_bound item caps n at, items_bound item caps n k (at + step) step)
+  items_bound item caps n (suc k) at step = grind (arith, joined, times, item_bound, items_bound item caps n k (at + step) step)
 
   field_bound : (fields : List Field) (v : ℕ) (own : ℕ → ℕ) (n : List ℤ) (i at : ℕ) (f : Field) → long (field_slots ms fields v own n i at f) ≤ field_bytes bytes f
   field_bound fields v own n i at f =
@@ -229,9 +224,7 @@ module _ (ms : List Meaning) (bytes : List ℕ) (bounds : Bounds ms bytes) where
       omega (arith, joined (field_slots ms fields v own n i at f) (slots_from ms fields v own n (suc i) next fs), field_bound fields v own n i at f, fields_bound fields v own n (suc i) next fs)
 
   desc_bound : (d : Desc) (v : ℕ) (n : List ℤ) (at : ℕ) → long (desc_slots ms d v n at) ≤ desc_bytes bytes d
-  desc_bound d v n at =
-      let own = numbers_of (cells_in ms) d n at in
-      omega (arith, joined (slots_from ms d.fields v own n 0 at d.fields) (Rule (all_hold d.validate v own) ∷ []), fields_bound d.fields v own n 0 at d.fields)
+  desc_bound d v n at = grind (arith, numbers_of, joined, all_hold, fields_bound)
 
 structs_bound : (ds : List Desc) (k : ℕ) → Bounds (meanings ds k) (struct_bytes ds k)
 unfolding first

@@ -1,12 +1,12 @@
 -- A whole stream, as the judge reads it: the units before, between and after its sections.
 use Rattle.vms_load.proofs.{PartReads.concerns, AfterReads.head_unit, AfterReads.head_long, AfterReads.section_long}
 use Rattle.vms_load.proofs.Facade.{LoadFault, Staged, ◌≡◌, ℕ, ◌+◌, ◌-◌, ◌≤◌, true, false, List, length, take, drop, Option, Some, None}
-use Rattle.vms_load.proofs.Facade.{Result, Ok, Err, IfSome, OnOk, refl, sym, ap, ◌∙◌, subst, arith, [], ◌∷◌, drop-drop, Set, Reason, number_at}
-use Rattle.vms_load.proofs.Facade.{bytes_at, Piece, Magic, Version, Verdict, Goes, Reading, reading_after, Accepted, Refused, reading_on, AMagic, AVersion}
-use Rattle.vms_load.proofs.Facade.{AfterEnd, alone, needs, text_at, trailer_at, judge, reading, ask, judge_seen, Seen, Good, seen, seen_by, seen_in, State}
-use Rattle.vms_load.proofs.Facade.{Spot, Before, Headed, Free, by_state, Ended, at_start, nothing_known, judged_holds, Head, Stand, ahead, due_of, unit_of_step}
-use Rattle.vms_load.proofs.Facade.{ReadsBetween, AnswersSeen, AnswersAfter, AnswersHead, Fails, AnswersEnd, ReadsEnd, Between, First, Step, FrameFault, Onward}
-use Rattle.vms_load.proofs.Facade.{Reads, ReadsOn, LeadsOn, ReadsBehind, IsBehind, Settles, concerning, state_of, spot_of, is_first, is_configured, ReadsAll}
+use Rattle.vms_load.proofs.Facade.{Result, Ok, Err, IfSome, OnOk, refl, sym, ap, ◌∙◌, arith, [], ◌∷◌, drop-drop, Set, Reason, number_at, bytes_at}
+use Rattle.vms_load.proofs.Facade.{Piece, Magic, Version, Verdict, Goes, Reading, reading_after, Accepted, Refused, reading_on, AMagic, AVersion, AfterEnd}
+use Rattle.vms_load.proofs.Facade.{alone, needs, text_at, trailer_at, judge, reading, ask, judge_seen, Seen, Good, seen, seen_by, seen_in, State, Spot, Before}
+use Rattle.vms_load.proofs.Facade.{Headed, Free, by_state, Ended, at_start, nothing_known, judged_holds, Head, Stand, ahead, due_of, unit_of_step, ReadsBetween}
+use Rattle.vms_load.proofs.Facade.{AnswersSeen, AnswersAfter, AnswersHead, Fails, AnswersEnd, ReadsEnd, Between, First, Step, FrameFault, Onward, Reads}
+use Rattle.vms_load.proofs.Facade.{ReadsOn, LeadsOn, ReadsBehind, IsBehind, Settles, concerning, state_of, spot_of, is_first, is_configured, ReadsAll}
 use Rattle.vms_load.proofs.ReadLemmas.{unit_fault, unit_settled, unit_behind, reads_on, unit_of, still_behind, unit_fails}
 use Rattle.vms_stream.specs.{Dues.Between as IsBetween, State.Over}
 use Rattle.vms_frames.specs.Calls.{step_long}
@@ -165,9 +165,7 @@ module _ (set : Set) (names : List (List ℕ)) where
   pub refused_before : {X : Type 0} (staged : Staged) (state : State) (old left : Option (List ℕ)) (next : X → Onward) (from to : Stand) (e : LoadFault) → state ≡ at_start set → from.at ≡ 0 → from.held ≡ None
       → ReadsOn (goes state) next from to old left (Err e) → IfSome old (λ input. ReadsAll set (whole input) staged input left (Err e))
   refused_before staged state None left next from to e is zero held h = tt
-  refused_before {X} staged state (Some input) left next from to e is zero held h =
-      let h' = subst (λ o. Reads {X = X} (goes state from.at (ahead from.held input)) next from.at to (ahead o input) left (Err e)) held h in
-      all_refused (whole input) staged input left next from.at to e zero (subst (λ x. Reads {X = X} x next from.at to input left (Err e)) (begins state from input is zero held) h')
+  refused_before {X} staged state (Some input) left next from to e is zero held h = grind (arith, all_refused, begins)
 
   module _ (staged : Staged) where
     abbrev ended : State
@@ -231,9 +229,7 @@ module _ (set : Set) (names : List (List ℕ)) where
 
     closed_at : (place end : ℕ) (input rest : List ℕ) (left : Option (List ℕ)) (result : Result (Unit {0}) FrameFault) → rest ≡ drop place input → AnswersEnd rest (seen AfterEnd nothing_known rest) place end left result
         → ReadsAll set (goes ended place rest) staged input left (closes_at end result)
-    closed_at place end input [] left (Ok x) there h =
-        let same : place ≡ place + 0 = omega arith in
-        accepts place 0 end input [] left ended (goes ended place []) (end_is place ∙ ap (λ k. Some (Accepted k ended)) same) refl refl (h.0 ∙ same) h.1 there
+    closed_at place end input [] left (Ok x) there h = grind (arith, accepts, end_is)
     closed_at place end input [] left (Err (frames.Refused at reason)) there h = absurd h
     closed_at place end input [] left (Err frames.ReadFault) there h = all_fault (goes ended place []) staged input left
     closed_at place end input (b ∷ more) left result there h =

@@ -1,14 +1,12 @@
 -- What a cursor's call sees, and what the judge says; a unit between sections after the fields.
 use Rattle.vms_stream.proofs.{Finding.next_at, Steps.Line, Steps.mark_never, Steps.start_never}
-use Rattle.vms_stream.proofs.Facade.{JudgedLaw, NextLaw, SeenLaw, ◌≡◌, if_both, if_so, ℕ, ◌+◌, List, ◌∷◌, length, get_or, Option, Some, None}
-use Rattle.vms_stream.proofs.Facade.{refl, ap, ◌∙◌, Bool, true, false, not, nat_lt, ◌==◌, ◌&&◌, if◌then◌else◌, [], ◌||◌, zero, suc}
-use Rattle.vms_stream.proofs.Facade.{◌++◌, take, both_ways, not-true, or-not_self, LONGEST_NAME, Reason, Set, Image, number_at, bytes_at, Verdict, Faulty}
-use Rattle.vms_stream.proofs.Facade.{Over, Piece, Configuration, Long, Head, End, Start, Mark, Number, Constant, Filler, Foot, if_true, Tail, Unknown, Footed}
-use Rattle.vms_stream.proofs.Facade.{Bare, Known, Due, Between, AfterFields, begins_next, rules_hold, AMagic, Field, is_foot, is_next, due_field, Found, Whole}
-use Rattle.vms_stream.proofs.Facade.{Cut, needs, between_at, unit_at, sub_at, behind_at, cut_in, first_of, is_between, wants_foot, Row, first_row, alone}
-use Rattle.vms_stream.proofs.Facade.{asking, other_constant, large_count, bad_foot, judge, judge_found, by_row, owes, State, Free, Inside, due_by, known_at}
-use Rattle.vms_stream.proofs.Facade.{slots_at, after, by_state, Spot, Before, Headed, Ended, open_at, width, Slot, Bad, seen_in, seen_by, judge_seen, ask}
-use Rattle.vms_stream.proofs.Facade.{begins_section}
+use Rattle.vms_stream.proofs.Facade.{arith, JudgedLaw, NextLaw, SeenLaw, ◌≡◌, if_both, if_so, ℕ, ◌+◌, List, ◌∷◌, length, Option, Some, None}
+use Rattle.vms_stream.proofs.Facade.{refl, ap, Bool, true, false, nat_lt, ◌==◌, if◌then◌else◌, [], zero, suc, ◌++◌, Reason, Set, Image, bytes_at}
+use Rattle.vms_stream.proofs.Facade.{Verdict, Faulty, Over, Piece, Start, Mark, Number, Constant, if_true, Tail, Unknown, Footed, Bare, Known, Due, Between}
+use Rattle.vms_stream.proofs.Facade.{AfterFields, begins_next, rules_hold, AMagic, Field, is_foot, is_next, due_field, Found, Whole, Cut, needs, between_at}
+use Rattle.vms_stream.proofs.Facade.{unit_at, sub_at, behind_at, cut_in, first_of, is_between, wants_foot, Row, first_row, alone, asking, other_constant}
+use Rattle.vms_stream.proofs.Facade.{large_count, bad_foot, judge, judge_found, by_row, owes, State, Free, Inside, due_by, known_at, slots_at, after, by_state}
+use Rattle.vms_stream.proofs.Facade.{Spot, Before, Headed, Ended, open_at, Slot, Bad, seen_in, seen_by, judge_seen, ask, begins_section}
 use Rattle.vms_stream.specs.State.{Over as IsOver}
 use Rattle.std.proofs.Math.Bool.{and-false}
 use Rattle.vms_spec.specs.Layout.{Number as NumberSlot, Constant as ConstantSlot, Filler as FillerSlot, Rule as RuleSlot}
@@ -16,9 +14,7 @@ use Rattle.vms_spec.specs.declared.Reason.TheVariants as reasons
 
 -- what begins there is between sections, and no footer
 next_between : (k : ℕ) (t : Tail) (rest : List ℕ) → begins_next t rest ≡ true → (is_between (AfterFields k t) ≡ true) × (wants_foot (AfterFields k t) ≡ false)
-next_between k Footed [] e = cc
-next_between k Footed (c ∷ rest) e = absurd (both_ways _ (not-true _ e) (or-not_self (c == 0x05)))
-next_between k _ rest e = (refl, refl)
+next_between k t rest e = grind (arith)
 
 -- an invalid unit is so in any state
 some_row : (set : Set) (names : List (List ℕ)) (s u : State) (m : ℕ) (row : Line) → (row ≡ None → ⊥)
@@ -57,34 +53,17 @@ module _ (set : Set) (names : List (List ℕ)) (machine : Option (List ℕ)) (im
 
     between_outer : (b : ℕ) → ((m : ℕ) → IsOuter (Whole (Mark b) m)) → IsOuter (between_at false b rest)
     unfolding between_at
-    between_outer b mark =
-        let size = number_at 4 1 rest in
-        let name = get_or rest 5 0 in
-        if_both IsOuter (b == 0x00) _ _ (needs_outer 1 End refl)
-        (if_both IsOuter (b == 0x01) _ _ (needs_outer (6 + name) _ (start_outer (6 + name) size (bytes_at name 6 rest)))
-        (if_both IsOuter (b == 0x04) _ _ (needs_outer (14 + name) (Head _ _ _ _) refl)
-        (if_both IsOuter (b == 0x07 && false) _ _ (if_both IsOuter (nat_lt LONGEST_NAME size) _ _ (needs_outer 5 (Long 0x07 size) refl)
-        (needs_outer (5 + size) (Configuration (bytes_at size 5 rest)) refl)) (needs_outer 1 (Mark b) (mark 1)))))
+    between_outer b mark = grind (arith, if_both, needs_outer, start_outer, bytes_at)
 
     unit_is : unit_at (AfterFields k t) rest ≡ unit_at (Between false false) rest
-    unit_is = by rest e
-      where
-        by : (rest : List ℕ) → begins_next t rest ≡ true → unit_at (AfterFields k t) rest ≡ unit_at (Between false false) rest
-        by [] e = cc
-        by (b ∷ more) e = next_at t b (b ∷ more) e
+    unit_is = grind (arith, next_at)
 
     mark_outer : (b m : ℕ) → IsOuter (Whole (Mark b) m)
-    mark_outer b m =
-        let f = next_between k t rest e in
-        rw (f.0, f.1) (some_row set names _ _ m _ (mark_never set names (Between false false) (known_at set outer) b refl))
+    mark_outer b m = grind (arith, next_between, some_row, mark_never, known_at)
 
     pub next_judged : due_by set inner (Inside k id part n) ≡ AfterFields k t → rules_hold (slots_at set inner (Inside k id part n)) ≡ true
         → judge (by_state set names) inner rest ≡ judge (by_state set names) outer rest
-    next_judged due held =
-        if_true _
-        _ _ held
-        ∙ same (unit_at (due_by set inner (Inside k id part n)) rest) ∙ ap (λ d. verdict d (unit_at d rest)) due ∙ ap (verdict (AfterFields k t)) unit_is
-        ∙ between_outer _ (mark_outer (get_or rest 0 0))
+    next_judged due held = grind (arith, if_true, same, due_by, unit_is, between_outer, mark_outer)
 
 -- a row of this section, or none
 abbrev Of : Option ℕ → Line → Type 0
@@ -136,12 +115,7 @@ module _ (k : Known) where
   two_rows _ _ p q = refl
 
   in_field : (j : ℕ) (slot : Slot) (rest : List ℕ) → OfOpen (Field j slot) (unit_at (Field j slot) rest)
-  in_field j (NumberSlot c kind caps) rest =
-      whole (Field j (NumberSlot c kind caps)) rest (width kind) (Number c kind _) (two_rows _ _ reasons.BadBool reasons.CountTooLarge)
-  in_field j (ConstantSlot kind y) rest =
-      whole (Field j (ConstantSlot kind y)) rest (width kind) (Constant kind _) (two_rows _ _ reasons.BadBool reasons.NotEqual)
-  in_field j (FillerSlot m) rest = whole (Field j (FillerSlot m)) rest m (Filler (take m rest)) tt
-  in_field j (RuleSlot b) rest = tt
+  in_field j slot rest = grind (arith, whole, two_rows)
 
   mark_of : (j : ℕ) (t : Tail) (b : ℕ) → is_foot t b ≡ true → (b == 0x7e) ≡ false → Of k.section (first_row (alone (AfterFields j t) k (Mark b)))
   mark_of j Footed b h g = rw (foot_row j k b) refl
@@ -149,21 +123,11 @@ module _ (k : Known) where
 
   behind_of : (j : ℕ) (t : Tail) (b : ℕ) (rest : List ℕ) → is_next t b ≡ false → OfOpen (AfterFields j t) (behind_at t b rest)
   unfolding behind_at
-  behind_of j t b rest h =
-      let d = AfterFields j t in
-      if_so (OfOpen d) (b == 0x05) (sub_at rest _) _ (λ _. whole d rest _ _ tt)
-      (λ e. if_so (OfOpen d) (is_foot t b) (if b == 0x7e then needs 5 rest (Foot (number_at 4 1 rest)) else needs 1 rest (Mark b)) (between_at false b rest)
-      (λ f. if_so (OfOpen d) (b == 0x7e) (needs 5 rest (Foot (number_at 4 1 rest))) (needs 1 rest (Mark b))
-      (λ _. whole d rest 5 (Foot (number_at 4 1 rest)) (two_rows _ false reasons.BadFooter reasons.BadFooter))
-      (λ g. whole d rest 1 _ (mark_of j t b f g)))
-      (λ f. let wrong : not (false || false) ≡ false = rw (e, f) at h in cc))
+  behind_of j t b rest h = grind (arith, if_so, sub_at, whole, two_rows, mark_of)
 
   after_of : (j : ℕ) (t : Tail) (rest : List ℕ) → begins_next t rest ≡ false → OfOpen (AfterFields j t) (unit_at (AfterFields j t) rest)
   unfolding behind_at between_at
-  after_of j Unknown [] h = tt
-  after_of j Footed [] h = tt
-  after_of j Bare [] h = tt
-  after_of j t (b ∷ more) h = behind_of j t b (b ∷ more) h
+  after_of j t rest h = grind (arith, behind_of)
 
   -- and a cut one belongs to it
   record Concerned (d : Due) (rest : List ℕ) : Type 0 where
@@ -171,11 +135,7 @@ module _ (k : Known) where
     cut : cut_in d rest k.section ≡ k.section
 
   outside : (d : Due) (rest : List ℕ) → k.section ≡ None → ((o : Option ℕ) → cut_in d rest o ≡ o) → Concerned d rest
-  outside d rest n c = record { bad = by (unit_at d rest); cut = c k.section }
-    where
-      by : (f : Found) → OfOpen d f
-      by (Whole x m) = of_first k.section (alone d k x) (rw n search)
-      by Cut = tt
+  outside d rest n c = search (arith, of_first, alone)
 
   inside : (t : Tail) (j : ℕ) (slots : List Slot) (rest : List ℕ) → begins_section (due_field t (Some j) slots) rest ≡ false
       → Concerned (due_field t (Some j) slots) rest
@@ -216,10 +176,7 @@ module _ (set : Set) (names : List (List ℕ)) (s : State) (rest : List ℕ) whe
   by_found Cut h c o = rw (o, c)
 
 pub judged_holds : JudgedLaw
-judged_holds set names s rest held o b =
-    let c = concerned_at set s s.spot rest refl b in
-    if_true (rules_hold (slots_at set s s.spot)) (judge_found (by_state set names) s rest (unit_at (due_by set s s.spot) rest)) _ held
-    ∙ by_found set names s rest (unit_at (due_by set s s.spot) rest) c.bad c.cut o
+judged_holds set names s rest held o b = grind (arith, concerned_at, if_true, rules_hold, by_state, due_by, by_found)
 
 pub next_holds : NextLaw
 next_holds set names machine images came k id part n tail rest due held e = next_judged set names machine images came k id part n tail rest e due held
@@ -258,9 +215,7 @@ module _ (t : Tail) (j : ℕ) (l m : Known) (id_is : l.id ≡ m.id) where
   large_same x = refl
 
   foot_same : (x : Piece) → bad_foot (AfterFields j t) l x ≡ bad_foot (AfterFields 0 t) m x
-  foot_same (Foot its) = rw id_is
-  foot_same (Mark b) = (tail_same t).1
-  foot_same x = refl
+  foot_same x = grind (arith, tail_same)
 
   rows_alike : (x : Piece) → Alike (alone (AfterFields j t) l x) (alone (AfterFields 0 t) m x)
   rows_alike x = rw ((tail_same t).0, other_same x, large_same x, foot_same x) search

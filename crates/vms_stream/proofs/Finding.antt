@@ -119,11 +119,7 @@ Stays rest (Whole x n) = (0 < n) × (n ≤ length rest)
 Stays rest Cut = Unit {0}
 
 some_bytes : (n : ℕ) (rest : List ℕ) (x : Piece) → 0 < n → Stays rest (needs n rest x)
-some_bytes n rest x h = by (nat_lt (length rest) n) refl
-  where
-    by : (b : Bool) → nat_lt (length rest) n ≡ b → Stays rest (if b then Cut else Whole x n)
-    by true e = tt
-    by false e = (h, ltb-false (length rest) n e)
+some_bytes n rest x h = grind (arith)
 
 -- a unit that is no field's
 abbrev pub IsFramed : Piece → Type 0
@@ -140,11 +136,7 @@ module _ (P : Found → Type 0) (rest : List ℕ) (each : (n : ℕ) (x : Piece) 
 
   between_each : (first : Bool) (m : ℕ) → P (between_at first m rest)
   unfolding between_at
-  between_each first m =
-      if_both P (m == 0x00) _ _ (each 1 End (omega arith) tt)
-      (if_both P (m == 0x01) _ _ (each (6 + get_or rest 5 0) (Start _ _) (omega arith) tt)
-      (if_both P (m == 0x04) _ _ (each (14 + get_or rest 5 0) (Head _ _ _ _) (omega arith) tt)
-      (if_both P (m == 0x07 && first) _ _ (text_each 0x07 LONGEST_NAME Configuration (number_at 4 1 rest) tt) (each 1 (Mark m) (omega arith) tt))))
+  between_each first m = grind (arith, if_both, text_each)
 
   pub behind_each : (tail : Tail) (m : ℕ) → P (behind_at tail m rest)
   unfolding behind_at

@@ -7,9 +7,9 @@ use Rattle.vms_stream.proofs.Facade.{Fault, Owes, cut_in, Advances, reading_on, 
 use Rattle.vms_stream.proofs.Facade.{judge_found, by_row, owes, reading, by_units, Mirrored, Refuses, Ends, Accepts, IsThere, slice_set, slice_get, length-set}
 use Rattle.vms_stream.proofs.Facade.{length-map, slice_get_within, at_option, Image, default_image, Magic, Version, Configuration, Head, Number, Constant}
 use Rattle.vms_stream.proofs.Facade.{Filler, SubHead, Foot, End, put_version, id_of, device_named, come, part, image, fresh, slots, sub_named, at_set, found_is}
-use Rattle.vms_stream.proofs.Facade.{Field, AfterFields, AtHead, AtEnd, AtNumber, AtConstant, AtSubHead, AtFoot, AtOther, AtNext, due_field, rules_hold}
-use Rattle.vms_stream.proofs.Facade.{first_of, Spot, Before, Headed, Free, Inside, Ended, State, at_start, or_none, open_at, onward, inside, slots_at}
-use Rattle.vms_stream.proofs.Facade.{next_spot, due_by, known_at, after, by_state, Known, beyond, images, known, machine, passed, put_image, tail}
+use Rattle.vms_stream.proofs.Facade.{Field, AfterFields, due_field, rules_hold, first_of, Spot, Before, Headed, Free, Inside, Ended, State, at_start, or_none}
+use Rattle.vms_stream.proofs.Facade.{open_at, onward, inside, slots_at, next_spot, due_by, known_at, after, by_state, Known, beyond, images, known, machine}
+use Rattle.vms_stream.proofs.Facade.{passed, put_image, tail}
 use Rattle.vms_stream.proofs.Finding.{only, Shows, shows, IsSolid, advances, due_solid, field_solid}
 use Rattle.vms_stream.specs.Faults.{Cut as IsCut}
 use Rattle.vms_spec.specs.declared.Reason.TheVariants as reasons
@@ -107,11 +107,7 @@ module _ {S : Type 0} (set : Set) (names : List (List ℕ)) (g : Grammar S) (sol
     told section reason _ ok (Wrong x _ _ held w taken) = by_reason x w.more _ held w.may w.there taken
 
     over_is : IsBytes rest → holds set u ≡ true → owes (due set u) rest ≡ false → judge g s rest ≡ Over s
-    over_is ok held o = by (unit_at (due set u) rest) refl (shows _ rest ok)
-      where
-        by : (f : Found) → unit_at (due set u) rest ≡ f → Shows (due set u) rest f → judge g s rest ≡ Over s
-        by (Whole x n) e w = let h = owes_true (due set u) rest (rw w.there (may_owe (due set u) x (drop n rest) w.may)) in cc
-        by Cut e w = verdict Cut held e ∙ rw (m.due_is u s r, o)
+    over_is ok held o = grind (arith, due, shows, owes_true, may_owe, verdict)
 
   -- ---- whole readings
 
@@ -305,14 +301,12 @@ module _ (set : Set) where
       }
 
   reads : (u : List Piece) → Reads u
-  reads [] = record { section = refl; due_is = refl; held = refl; known_is = λ i. absurd i; to_part = λ j. refl; next = refl; put = λ step. refl }
-  reads (Magic bytes ∷ u) =
-      record { section = refl; due_is = refl; held = refl; known_is = λ i. absurd i; to_part = λ j. refl; next = refl; put = λ step. refl }
-  reads (Version v ∷ u) = record { section = refl; due_is = refl; held = refl; known_is = λ i. absurd i; to_part = λ j. refl; next = refl; put = λ step. refl }
-  reads (Configuration name ∷ u) =
-      record { section = refl; due_is = refl; held = refl; known_is = λ i. absurd i; to_part = λ j. refl; next = refl; put = λ step. refl }
-  reads (Foot id ∷ u) = record { section = refl; due_is = refl; held = refl; known_is = λ i. absurd i; to_part = λ j. refl; next = refl; put = λ step. refl }
-  reads (End ∷ u) = record { section = refl; due_is = refl; held = refl; known_is = λ i. absurd i; to_part = λ j. refl; next = refl; put = λ step. refl }
+  reads [] = search arith
+  reads (Magic bytes ∷ u) = search arith
+  reads (Version v ∷ u) = search arith
+  reads (Configuration name ∷ u) = search arith
+  reads (Foot id ∷ u) = search arith
+  reads (End ∷ u) = search arith
   reads (x ∷ u) = reads_part _ _ refl refl refl
 
   -- ---- the rows
@@ -320,15 +314,7 @@ module _ (set : Set) where
   -- the rows for a unit between sections need only which devices came
   rows_so : (names : List (List ℕ)) (d : Due) (x : Piece) → May d x → (k l : Known) → k.came ≡ l.came → (IsInside d → k ≡ l)
       → first_of set names d k x ≡ first_of set names d l x
-  rows_so names _ _ (AtHead first directly id name instance v p q r) k l c f = rw c
-  rows_so names _ _ (AtEnd first directly) k l c f = rw c
-  rows_so names _ _ (AtNumber j cell kind capacities z r) k l c f = rw (f tt)
-  rows_so names _ _ (AtConstant j kind z y r) k l c f = rw (f tt)
-  rows_so names _ _ (AtSubHead j t name v e) k l c f = rw (f tt)
-  rows_so names _ _ (AtFoot j t id g e) k l c f = rw (f tt)
-  rows_so names _ _ (AtOther j t b g e) k l c f = rw (f tt)
-  rows_so names _ x (AtNext j t _ g may) k l c f = rw (f tt)
-  rows_so names _ _ m k l c f = refl
+  rows_so names d x m k l c f = grind (arith)
 
   -- ---- after a unit
 

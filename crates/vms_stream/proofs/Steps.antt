@@ -49,9 +49,6 @@ module _ (set : Set) (names : List (List ℕ)) (d : Due) (so_far : Known) where
   pub name_is_one : (name : List ℕ) → row_of (Configuration name) ≡ None → is_one_of names name ≡ true
   name_is_one name e = grind arith
 
-  pub name_passes : (name : List ℕ) → is_one_of names name ≡ true → row_of (Configuration name) ≡ None
-  name_passes name e = rw e
-
   pub start_never : (id : ℕ) (name : List ℕ) → row_of (Start id name) ≡ None → ⊥
   start_never id name e = grind arith
 

@@ -213,10 +213,7 @@ none_left (b ∷ rest) e = cc
 module _ {r : Run} (s : State) {place : ℕ} {rest : List ℕ} (ok : IsBytes rest) where
   -- if nothing is due, a reading has ended
   over_is : s.spot ≡ Over → Goes r s place rest → (place ≡ r.taken) × (s ≡ r.end)
-  over_is over h = elim (next ok h) [
-    | inl t ↦ elim (rw over at t.may) [ ]
-    | inr t ↦ (t.place_is, t.end_is)
-  ]
+  over_is over h = grind (arith, next)
 
 abbrev last : State → State
 last s = record s { spot = Ended }

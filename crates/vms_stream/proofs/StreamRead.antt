@@ -8,12 +8,12 @@ use Rattle.vms_stream.proofs.Facade.{slice_get_within, add-zero, Device, Set, Im
 use Rattle.vms_stream.proofs.Facade.{sub_head, ComesOnce, SubsSpell, EachOnce, be32, magic, stream_head, configuration, end_mark, IsTrailer, part_slots, Head}
 use Rattle.vms_stream.proofs.Facade.{SubHead, Foot, End, Magic, Version, Configuration, Description, Progress, Reading, Accepted, reading_on, IsGood, at_set}
 use Rattle.vms_stream.proofs.Facade.{none_of, version_at, Beside, beside_first, beside_next, beside_end, part_place, so_far, so_at_last, own_taken, part_taken}
-use Rattle.vms_stream.proofs.Facade.{sub_so, none_missing, came_at, same_lists, agrees, falses, defaults_of, never_true, Tail, Unknown, Footed, Bare, Between}
+use Rattle.vms_stream.proofs.Facade.{sub_so, none_missing, came_at, same_lists, agrees, falses, defaults_of, never_true, Tail, Unknown, Footed, Bare}
 use Rattle.vms_stream.proofs.Facade.{AfterFields, fits_four, is_foot, is_next, May, AtHead, AtEnd, AtSubHead, AtFoot, AtNext, AtMagic, AtVersion}
 use Rattle.vms_stream.proofs.Facade.{AtConfiguration, AtDescription, judge, reading, State, Free, Ended, known_at, after, by_state, Headed, between}
-use Rattle.vms_stream.proofs.Inside.{Agrees, tail_of, closing, Section, stands, over, knows, known_is, due_is, held_is, subs_are, sub_after}
-use Rattle.vms_stream.proofs.Steps.{g, unit_on, opened, settled, head_after, head_passes, sub_passes, foot_passes, end_passes, name_passes}
-use Rattle.vms_stream.specs.{State.Over}
+use Rattle.vms_stream.proofs.Inside.{Agrees, closing, Section, stands, over, knows, known_is, due_is, held_is, subs_are, sub_after}
+use Rattle.vms_stream.proofs.Steps.{g, unit_on, opened, settled, head_after, head_passes, sub_passes, foot_passes, end_passes}
+use Rattle.vms_stream.specs.State.{Over}
 use Rattle.vms_bodies.proofs.BodyOnly.{image_at}
 
 -- a section may begin, and the end mark may come
@@ -192,9 +192,6 @@ section_here : (set : Set) (k : ℕ) (images : List Image) (footed : Bool) (fron
 section_here set k images footed front (Some d) (Some image) e f h = record { device = d; image = image; there = e; found = f; id = h.0; is = h.1 }
 section_here set k images footed front _ _ e f h = absurd h
 
-agrees_same : (footed : Bool) → Agrees (tail_of footed) footed
-agrees_same footed = grind arith
-
 module _ (set : Set) (names : List (List ℕ)) (good : IsGood set) where
   -- a section of a device, and what follows it
   pub section_on : (k : ℕ) (d : Device) (image : Image) → slice_get set.devices k ≡ Some d → (s to : State) → settled set s ≡ to → IsFree set names s
@@ -245,7 +242,7 @@ module _ (set : Set) (names : List (List ℕ)) (good : IsGood set) where
       let h = section_here set k images footed front (slice_get set.devices k) (slice_get images k) refl refl spell.2 in
       let room : k < length set.devices = slice_get_within set.devices k h.device h.there in
       let r = section_on k h.device h.image h.there s to e free (omega arith) once.0 footed fits place h.id front (later ++ (0x00 ∷ after)) h.is in
-      let q = sections_read footed images one_each order r.state (came_to to k h.image footed) r.is r.free (agrees_same footed)
+      let q = sections_read footed images one_each order r.state (came_to to k h.image footed) r.is r.free (grind arith)
       (length-set to.came k true ∙ came) (length-set to.images k h.image ∙ long)
       (λ j e. agrees images to.images to.came k j h.image (omega arith) h.found (agree j) e (j == k) refl) once.1 (place + length front) later after spell.3 in
       record {
@@ -318,8 +315,7 @@ module _ (set : Set) (names : List (List ℕ)) where
     named_read (Some name) st =
         let s = from None Unknown true false in
         let c = st.configured in
-        rw c.2 (before (unit_on set names s (Configuration name) 8 (st.sections ++ (0x00 ∷ (st.tail ++ rest))) refl (AtConfiguration false name c.1)
-        (name_passes set names (Between true false) (known_at set s) name c.0))
+        rw c.2 (before (unit_on set names s (Configuration name) 8 (st.sections ++ (0x00 ∷ (st.tail ++ rest))) refl (AtConfiguration false name c.1) (rw c.0))
         (rest_read st Footed false true (named_fits name _ st.bare) _))
 
 -- what is taken is accepted

@@ -4,9 +4,9 @@ use Rattle.vms_stream.proofs.Facade.{length, length-append, take, set_clean, dro
 use Rattle.vms_stream.proofs.Facade.{list_all, byte_at, bytes_high_first, replicate, bytes_eq, and_parts, ltb-true, leb-true, take-append-drop}
 use Rattle.vms_stream.proofs.Facade.{bytes_eq-Decides, Desc, Sub, Device, Set, code, Kind, IsBytes, is_name, is_name_byte, is_sub_name, Image, zeroed}
 use Rattle.vms_stream.proofs.Facade.{own_cells, own_slots, sub_slots, Slot, Rule, desc_cells, struct_cells, be32, optional, configuration, section_head}
-use Rattle.vms_stream.proofs.Facade.{sub_head, foot, trailer, end_mark, stream_head, is_one_of, written, written_section, written_sections, written_subs}
-use Rattle.vms_stream.proofs.Facade.{WellFormed, every_one, name_byte_low, device_parts, sub_clean, map, false, sym, append_assoc, append-nil, set-append_seam}
-use Rattle.vms_stream.proofs.Facade.{drop-append_seam, sub_place, AreVersionsOf, sub_front, drop_next, zeroed_spells, sub_first}
+use Rattle.vms_stream.proofs.Facade.{sub_head, foot, trailer, is_one_of, written, written_section, written_sections, written_subs, WellFormed, every_one}
+use Rattle.vms_stream.proofs.Facade.{name_byte_low, device_parts, sub_clean, map, false, sym, append_assoc, append-nil, set-append_seam, drop-append_seam}
+use Rattle.vms_stream.proofs.Facade.{sub_place, AreVersionsOf, sub_front, drop_next, zeroed_spells, sub_first}
 use Rattle.vms_spec.specs.Layout.{Number, Constant, Filler}
 use Rattle.vms_spec.specs.Streams
 use Rattle.vms_stream.specs.Streams as units
@@ -102,13 +102,7 @@ zeroed-bytes numbers (Rule b ∷ slots) = zeroed-bytes numbers slots
 -- ---- sections
 
 pub head_bytes : (id instance version : ℕ) (name : List ℕ) → AreBytes name → length name < 256 → AreBytes (section_head id name instance version)
-head_bytes id instance version name p short =
-    let named : AreBytes (length name ∷ name) = (short, p) in (
-      omega arith,
-      bytes_append (be32 id ++ (length name ∷ name) ++ be32 instance) (be32 version)
-          (bytes_append (be32 id ++ (length name ∷ name)) (be32 instance)
-          (bytes_append (be32 id) (length name ∷ name) (be32_bytes id) named) (be32_bytes instance)) (be32_bytes version),
-    )
+head_bytes id instance version name p short = grind (arith, bytes_append, be32_bytes)
 
 pub foot_bytes : (id : ℕ) → AreBytes (foot id)
 foot_bytes id = (omega arith, be32_bytes id)
@@ -152,14 +146,7 @@ module _ (set : Set) where
 
   written-bytes : (machine : Option (List ℕ)) (images : List Image) (text : Option (List ℕ)) → AreNamed set.devices → IfSome machine AreBytes
       → IfSome text AreBytes → AreBytes (written set machine images text)
-  written-bytes machine images text named p q =
-      let sections : List ℕ = written_sections set 0 set.devices images in
-      bytes_append (stream_head ++ optional configuration machine ++ sections ++ end_mark) (optional trailer text)
-      (bytes_append (stream_head ++ optional configuration machine ++ sections) end_mark
-      (bytes_append (stream_head ++ optional configuration machine) sections
-      (bytes_append stream_head (optional configuration machine) (spelled stream_head refl) (config-bytes machine p))
-      (sections-bytes 0 set.devices images named))
-      (omega arith, tt)) (text-bytes text q)
+  written-bytes machine images text named p q = grind (arith, bytes_append, optional, spelled, config-bytes, sections-bytes, text-bytes)
 
 -- ---- well-formed sets
 

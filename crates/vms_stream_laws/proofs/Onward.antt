@@ -1,17 +1,17 @@
 -- Units with which a stream can go on. Units without a fault go on to an end, if every validation
 -- holds.
 use Rattle.vms_stream_laws.proofs.Facade.{BeginningLaw, Begins, HoldsBefore, ◌≡◌, ℕ, zero, suc, ◌+◌, ◌<◌, Bool, true, false, ◌&&◌, List, []}
-use Rattle.vms_stream_laws.proofs.Facade.{◌∷◌, length, drop, slice_set, ℤ, pos, negsuc, Some, None, refl, ◌∙◌, arith, slice_get, le-ltb}
-use Rattle.vms_stream_laws.proofs.Facade.{ltb-false, InRange, Kind, U8, Slot, raw, exceeds, is_above, is_truth, Set, slots, AllCame, Number, Constant, is_below}
-use Rattle.vms_stream_laws.proofs.Facade.{not_above, same_number_itself, AreConstants, AfterFields, due_field, Known, Tail, skipped, first_of, ◌≤◌}
-use Rattle.vms_stream_laws.proofs.Facade.{◌++◌, append_assoc, length-drop, length-set, Option, sym, ap, replicate, leb-true, length-map, length-replicate}
+use Rattle.vms_stream_laws.proofs.Facade.{◌∷◌, length, drop, slice_set, ℤ, pos, Some, None, refl, ◌∙◌, arith, slice_get, le-ltb, InRange, Kind}
+use Rattle.vms_stream_laws.proofs.Facade.{U8, Slot, raw, exceeds, is_above, is_truth, Set, slots, AllCame, Number, Constant, is_below, not_above}
+use Rattle.vms_stream_laws.proofs.Facade.{same_number_itself, AreConstants, AfterFields, due_field, Known, Tail, skipped, first_of, ◌≤◌, ◌++◌}
+use Rattle.vms_stream_laws.proofs.Facade.{append_assoc, length-drop, length-set, Option, sym, ap, replicate, leb-true, length-map, length-replicate}
 use Rattle.vms_stream_laws.proofs.Facade.{slice_get_within, IsBytes, bytes_both, IsGood, FitsHeads, Image, own_cells, sub_place, at_option, Device, Sub, come}
 use Rattle.vms_stream_laws.proofs.Facade.{device, device_named, id_of, image, mark_come, opened, part, part_slots, slots_of_sub, magic, Piece, Magic, Version}
 use Rattle.vms_stream_laws.proofs.Facade.{Configuration, Head, Filler, Foot, End, spell, spelled, WellFormed, device_parts, well_good, none_missing}
 use Rattle.vms_stream_laws.proofs.Facade.{own_constants, part_constants, Due, AVersion, Between, May, AtMagic, AtVersion, AtHead, AtEnd, AtNumber, AtConstant}
-use Rattle.vms_stream_laws.proofs.Facade.{AtFiller, AtFoot, AtNext, due, fits_four, holds, is_foot, Front, owes, Unknown, Footed, Bare, known, passed, tail}
-use Rattle.vms_stream_laws.proofs.Facade.{reason_of, end_passes, foot_passes, head_passes, AreBytes, be32_bytes, bytes_at, code_bytes, foot_bytes, head_bytes}
-use Rattle.vms_stream_laws.proofs.Facade.{parts_named, zeros_bytes, RefusedLaw, unruled, subst, append-nil, take-append_seam, bytes_first, Ends, units_hold}
+use Rattle.vms_stream_laws.proofs.Facade.{AtFiller, AtFoot, AtNext, due, fits_four, holds, is_foot, Front, owes, Bare, known, passed, tail, reason_of}
+use Rattle.vms_stream_laws.proofs.Facade.{end_passes, foot_passes, head_passes, AreBytes, be32_bytes, bytes_at, code_bytes, foot_bytes, head_bytes, parts_named}
+use Rattle.vms_stream_laws.proofs.Facade.{zeros_bytes, RefusedLaw, unruled, subst, append-nil, take-append_seam, bytes_first, Ends, units_hold}
 use Rattle.vms_stream_laws.proofs.Parts.{every_holds as all_hold, from_bare, to_bare}
 use Rattle.vms_stream_laws.proofs.WellFormed.{bounded, still_fits, still_well}
 use Rattle.vms_kinds.specs.declared.Kind.TheVariants.{Bool as Truth}
@@ -27,9 +27,7 @@ zero_in U8 = (omega arith, omega arith)
 zero_in _ = (omega arith, omega arith)
 
 pub raw_in : (kind : Kind) (z : ℤ) → InRange kind z → InRange (raw kind) z
-raw_in Truth (pos n) r = (r.0, not_above (pos n) 255 (le-ltb 255 n (omega (arith, ltb-false 1 n (is_below (pos n) 1 r.1)))))
-raw_in Truth (negsuc n) r = (r.0, not_above (negsuc n) 255 refl)
-raw_in kind z r = r
+raw_in kind z r = search (arith, not_above, is_below)
 
 -- a truth value that is in range is 0 or 1
 fits_truth : (kind : Kind) (z : ℤ) → InRange kind z → (is_truth kind && is_above z 1) ≡ false
@@ -253,9 +251,7 @@ module _ (set : Set) (names : List (List ℕ)) (well : WellFormed set) (heads : 
 
   -- after the fields of a section comes its footer, or, if sections have none, what may come between sections
   close_on : (u : List Piece) (k : ℕ) (t : Tail) → Fine u → due set u ≡ AfterFields k t → Open (come set u) → Goes u
-  close_on u k Unknown front is next = foot_on u k Unknown refl front is next
-  close_on u k Footed front is next = foot_on u k Footed refl front is next
-  close_on u k Bare front is next = next u front (opens_bare u k is) refl
+  close_on u k t front is next = grind (arith, foot_on, opens_bare)
 
   -- a section of a device that has not come
   section_on : (u : List Piece) (k : ℕ) (d : Device) → slice_get set.devices k ≡ Some d → slice_get (come set u) k ≡ Some false → Fine u → Opens u → Open (slice_set (come set u) k true) → Goes u

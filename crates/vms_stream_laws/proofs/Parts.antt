@@ -1,14 +1,14 @@
 -- The slots of a set without its validations, and what the units so far say of it.
-use Rattle.vms_stream_laws.proofs.Facade.{◌≡◌, ℕ, zero, suc, Bool, List, [], ◌∷◌, map, Option, Some, None, refl, list_any, slice_get, option_map}
-use Rattle.vms_stream_laws.proofs.Facade.{slice_get-map, at_option, first_answer, position, or_else_none, both_none, test_some, unruled_device, unruled_sub}
-use Rattle.vms_stream_laws.proofs.Facade.{map-map, ◌+◌, true, false, if◌then◌else◌, length, get_or, drop, ℤ, sym, ap, ◌∙◌, flat_map, drop-map}
-use Rattle.vms_stream_laws.proofs.Facade.{length-map, map-append, fun_ext, Item, Struct, Image, default_image, own_cells, sub_place, Cell, Slot, Rule, Meaning}
-use Rattle.vms_stream_laws.proofs.Facade.{no_meaning, no_desc, all_hold, counted, desc_cells, desc_slots, device_cells, field_cells, field_slots, first}
-use Rattle.vms_stream_laws.proofs.Facade.{item_slots, meaning, meanings, no_parent, numbers_of, slots_from, struct_cells, times, Desc, Device, Field, Set, Sub}
-use Rattle.vms_stream_laws.proofs.Facade.{fresh, part_slots, slots_of_sub, subs_of, is_there, Tail, Footed, beyond, skipped, due_field, rules_hold, unruled}
-use Rattle.vms_stream_laws.proofs.Facade.{unruled_desc, first_of, nat_lt, ◌++◌, bytes_eq, come, device, device_named, image, mark_come, opened, part, slots}
+use Rattle.vms_stream_laws.proofs.Facade.{arith, ◌≡◌, ℕ, zero, suc, Bool, List, [], ◌∷◌, map, Option, Some, None, refl, list_any, slice_get}
+use Rattle.vms_stream_laws.proofs.Facade.{option_map, slice_get-map, at_option, first_answer, position, or_else_none, both_none, test_some, unruled_device}
+use Rattle.vms_stream_laws.proofs.Facade.{unruled_sub, map-map, ◌+◌, true, false, if◌then◌else◌, length, get_or, drop, ℤ, sym, ap, ◌∙◌}
+use Rattle.vms_stream_laws.proofs.Facade.{flat_map, drop-map, length-map, map-append, fun_ext, Item, Struct, Image, default_image, own_cells, sub_place, Cell}
+use Rattle.vms_stream_laws.proofs.Facade.{Slot, Rule, Meaning, no_meaning, no_desc, all_hold, counted, desc_cells, desc_slots, device_cells, field_cells}
+use Rattle.vms_stream_laws.proofs.Facade.{field_slots, first, item_slots, meaning, meanings, no_parent, numbers_of, slots_from, struct_cells, times, Desc}
+use Rattle.vms_stream_laws.proofs.Facade.{Device, Field, Set, Sub, fresh, part_slots, slots_of_sub, subs_of, is_there, Tail, Footed, beyond, skipped, due_field}
+use Rattle.vms_stream_laws.proofs.Facade.{rules_hold, unruled, unruled_desc, bytes_eq, come, device, device_named, image, mark_come, opened, part, slots}
 use Rattle.vms_stream_laws.proofs.Facade.{sub_named, Piece, Head, Number, Constant, Filler, SubHead, End, due, holds, Front, Known, behind, known, passed, tail}
-use Rattle.vms_stream_laws.proofs.Facade.{alone, asking, first_row, reason_of, HoldsBefore}
+use Rattle.vms_stream_laws.proofs.Facade.{asking, reason_of, HoldsBefore}
 use Rattle.vms_spec.specs.Layout as slots
 
 -- ---- lists whose elements are put to others: what is found in them is what was found before
@@ -181,9 +181,7 @@ module _ (set : Set) where
   fresh_same (Some d) v = ap (λ (i : Image). record i { version = v }) (default_same d)
 
   place_same : (at : ℕ) (subs : List Sub) (j : ℕ) → sub_place (unruled set) at (map unruled_sub subs) j ≡ sub_place set at subs j
-  place_same at (s ∷ subs) (suc j) =
-      ap (λ cs. sub_place (unruled set) (at + length (desc_cells cs s.desc)) (map unruled_sub subs) j) cells_same
-      ∙ place_same (at + length (desc_cells (struct_cells set) s.desc)) subs j
+  place_same at (s ∷ subs) (suc j) = grind (arith, cells_same, place_same (at + length (desc_cells (struct_cells set) s.desc)) subs j)
   place_same at _ _ = refl
 
   sub_held : (d : Device) (i : Image) (j : ℕ) (o : Option Sub) (c : Option (Option ℕ))
@@ -286,24 +284,8 @@ module _ (set : Set) where
   known_same u = rw (come_same u, opened_same u, image_same u) refl
 
   asking_same : (names : List (List ℕ)) (k : Known) (x : Piece) → asking bare names k x ≡ asking set names k x
-  asking_same names k (Head id name instance v) =
-      let o = device_named set name instance in
-      rw (
-        named_same name instance,
-        at_same o,
-        test_map unruled_device (λ (d : Device). nat_lt d.desc.version v) (at_option set.devices o),
-        test_map unruled_device (λ (d : Device). nat_lt v d.desc.minimum) (at_option set.devices o),
-      ) refl
-  asking_same names k (SubHead name v) =
-      let subs = subs_of (at_option set.devices k.section) in
-      let s = at_option subs (position (λ (s : Sub). bytes_eq s.desc.name name) 0 subs) in
-      rw (
-        ap subs_of (at_same k.section) ∙ subs_held set (at_option set.devices k.section),
-        position_map unruled_sub (λ s. bytes_eq s.desc.name name) 0 subs,
-        at_map unruled_sub subs,
-        test_map unruled_sub (λ (s : Sub). nat_lt s.desc.version v) s,
-        test_map unruled_sub (λ (s : Sub). nat_lt v s.desc.minimum) s,
-      ) refl
+  asking_same names k (Head id name instance v) = grind (arith, named_same, at_same, test_map)
+  asking_same names k (SubHead name v) = grind (arith, at_same, subs_held, position_map, at_map, test_map)
   asking_same names k x = refl
 
   pub reason_same : (names : List (List ℕ)) (u : List Piece) (x : Piece) → reason_of bare names u x ≡ reason_of set names u x

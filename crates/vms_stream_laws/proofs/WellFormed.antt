@@ -5,11 +5,11 @@ use Rattle.vms_stream_laws.proofs.Facade.{◌∷◌, length, length-append, get_
 use Rattle.vms_stream_laws.proofs.Facade.{mul-le-mul_right, Item, Struct, Image, own_cells, sub_place, Slot, Meaning, no_meaning, no_desc, capacity_of, counted}
 use Rattle.vms_stream_laws.proofs.Facade.{desc_slots, elements_of, field_cells, field_slots, first, item_size, item_slots, meaning, meanings, no_parent}
 use Rattle.vms_stream_laws.proofs.Facade.{numbers_of, slots_from, times, Desc, Device, Field, Set, Sub, part_slots, both_none, ◌^◌, ◌<◌, Bool, true}
-use Rattle.vms_stream_laws.proofs.Facade.{false, not, ◌&&◌, nat_le, map, take, refl, ap, ◌∙◌, subst, and_from, and_parts, length-map, map-map}
-use Rattle.vms_stream_laws.proofs.Facade.{take-map, Part, FitsHeads, first_answer, or_else, is_small_test, WellFormed, deepest, desc_fault, device_fault}
-use Rattle.vms_stream_laws.proofs.Facade.{device_rules, devices_items, failing, fields_fault, first_fault, has_few, here, is_same_device, items_in, set_rules}
-use Rattle.vms_stream_laws.proofs.Facade.{size_rules, struct_depths, struct_fault, struct_items, struct_rules, sub_fault, sub_rules, subs_items}
-use Rattle.vms_stream_laws.proofs.Facade.{validations_fault, AllTrue, all_true, or_else_none, unruled, unruled_desc, unruled_device, unruled_sub}
+use Rattle.vms_stream_laws.proofs.Facade.{false, not, ◌&&◌, nat_le, map, take, refl, ap, ◌∙◌, subst, and_from, length-map, map-map, take-map, Part}
+use Rattle.vms_stream_laws.proofs.Facade.{FitsHeads, first_answer, WellFormed, deepest, desc_fault, device_fault, device_rules, devices_items, failing}
+use Rattle.vms_stream_laws.proofs.Facade.{first_fault, has_few, here, is_same_device, items_in, set_rules, size_rules, struct_depths, struct_fault}
+use Rattle.vms_stream_laws.proofs.Facade.{struct_items, sub_fault, subs_items, AllTrue, all_true, or_else_none, unruled, unruled_desc, unruled_device}
+use Rattle.vms_stream_laws.proofs.Facade.{unruled_sub}
 use Rattle.vms_stream_laws.proofs.Parts.{cells_in, any_map, came_from, none_after, first_unruled}
 use Rattle.vms_spec.specs.declared.Part.TheVariants as parts
 
@@ -114,11 +114,7 @@ few_still d b e = grind (arith, and_from)
 -- a description whose own rules still hold
 desc_still : (k : ℕ) (d : Desc) (part : Part) (rules rules' : List Bool) → (AllTrue rules → AllTrue rules') → desc_fault k d part rules ≡ None
     → desc_fault k (unruled_desc d) part rules' ≡ None
-desc_still k d part rules rules' h e =
-    let a = or_else_none (failing 1 rules (here part)) (or_else (fields_fault k d part) (validations_fault d part)) e in
-    both_none (failing 1 rules' (here part)) (or_else (fields_fault k (unruled_desc d) part) None)
-    (none_failing 1 rules' part (h (all_true 1 rules (here part) a.0)))
-    (both_none (fields_fault k (unruled_desc d) part) None (or_else_none (fields_fault k d part) (validations_fault d part) a.1).0 refl)
+desc_still k d part rules rules' h e = grind (arith, or_else_none, failing, here, both_none, none_failing, all_true)
 
 -- ---- structures
 
@@ -173,15 +169,7 @@ module _ (set : Set) where
 
   pub still_well : WellFormed set → WellFormed (unruled set)
   unfolding first_fault
-  still_well well =
-      let last = failing 1 (size_rules set) (here parts.Set) in
-      let devices = or_else (first_answer (device_fault set) 0 set.devices) last in
-      let a = or_else_none (failing 1 (set_rules set) (here parts.Set)) (or_else (first_answer (struct_fault set.structs) 0 set.structs) devices) well in
-      let b = or_else_none (first_answer (struct_fault set.structs) 0 set.structs) devices a.1 in
-      let c = or_else_none (first_answer (device_fault set) 0 set.devices) last b.1 in
-      both_none _ _ (rw set_rules_same (a.0))
-      (both_none _ _ (none_after unruled_desc (struct_fault set.structs) _ (struct_still set.structs) 0 set.structs b.0)
-      (both_none _ _ (none_after unruled_device (device_fault set) _ device_still 0 set.devices c.0) (rw size_rules_same (c.1))))
+  still_well well = grind (arith, failing, here, or_else_none, both_none, set_rules_same, none_after, struct_still, device_still, size_rules_same)
 
   pub still_fits : FitsHeads set → FitsHeads (unruled set)
   still_fits heads = record {

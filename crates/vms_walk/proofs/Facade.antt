@@ -1,5 +1,5 @@
 -- The names of other crates, and of this crate's `specs`, that the proofs use.
-pub use Rattle.vms_bodies.proofs.Places.{if_there, cells_first, IsAbove, field_above, item_above, items_above, meanings_above, SameBelow, elements_same}
+pub use Rattle.vms_bodies.proofs.Places.{if_both, if_there, cells_first, IsAbove, field_above, item_above, items_above, meanings_above, SameBelow, elements_same}
 pub use Rattle.vms_bodies.proofs.Places.{own_same, place_next, same_less, there_same}
 pub use Rattle.vms_bodies.proofs.SettledLaws.{MeanSettled, SameIn, field_settled, item_settled, meanings_settled}
 pub use Rattle.std.proofs.{Math.Bool.or-false, Math.Bool.or_assoc, Math.ListN.get_or-map, lemmas.Option.slice_get-get_or, Common.◌≤◌}

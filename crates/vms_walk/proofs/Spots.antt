@@ -1,15 +1,15 @@
 -- The spots of a walk, in ascending order; and runs of numbers of one kind.
 use Rattle.vms_walk.proofs.Facade.{◌≡◌, ℕ, ◌+◌, ◌*◌, ◌<◌, ◌≤◌, List, ◌++◌, length, get_or, drop, ℤ, refl, sym, ap, ◌∙◌}
-use Rattle.vms_walk.proofs.Facade.{arith, Bool, true, Option, Item, Struct, MOST_ITEMS, Set, Field, is_there, uses_below, least_of}
-use Rattle.vms_walk.proofs.Facade.{no_desc, no_parent, item_slots, item_size, slots_from, desc_slots, desc_cells, struct_cells, elements_of, capacity_of}
-use Rattle.vms_walk.proofs.Facade.{counted, times, FieldsBelow, all_below, struct_slots, struct_cells_at, room_for_less, one_fits, cells_first, in_u32}
-use Rattle.vms_walk.proofs.Facade.{field_at, own_numbers, is_well_formed, desc_at, reach, field_clean, struct_clean, PartAt, table, cells_in, HasSpot}
-use Rattle.vms_walk.proofs.Facade.{spot_numbers, spot_slots, slots_at, present_of, size_in, elements_slots, steps_of, item_rank, part_rank, reach_whole}
-use Rattle.vms_walk.proofs.Facade.{uses_more, rank_below, place_of, place_after, place_within, field_start, cell_of, all_hold, holds_at, zero, suc, ◌-◌, []}
-use Rattle.vms_walk.proofs.Facade.{◌∷◌, None, append_assoc, append-nil, Kind, Num, WalkStep, Number, run_of, capacities_of, length-append}
-use Rattle.vms_walk.proofs.Facade.{if_there, false, ne_eqb, get_or-map, Desc, has_cell, Slot, Meaning, no_meaning, field_slots, cells_from, field_cells}
-use Rattle.vms_walk.proofs.Facade.{numbers_of, first, meanings, field_size, elements_fit, one_more, meaning, Rule, min, Some, pos, negsuc, nat_lt, ◌||◌}
-use Rattle.vms_walk.proofs.Facade.{ltb-true, ltb-false, lt-ltb, or-false, or_assoc, exceeds, is_above, same_tests, lesser, least_from, Ok, Does}
+use Rattle.vms_walk.proofs.Facade.{arith, Bool, true, Option, Item, Struct, MOST_ITEMS, Set, Field, is_there, uses_below, least_of, no_desc, no_parent}
+use Rattle.vms_walk.proofs.Facade.{item_slots, item_size, slots_from, desc_slots, desc_cells, struct_cells, elements_of, capacity_of, counted, times}
+use Rattle.vms_walk.proofs.Facade.{FieldsBelow, all_below, struct_slots, struct_cells_at, room_for_less, one_fits, cells_first, in_u32, field_at, own_numbers}
+use Rattle.vms_walk.proofs.Facade.{is_well_formed, desc_at, reach, field_clean, struct_clean, PartAt, table, cells_in, HasSpot, spot_numbers, spot_slots}
+use Rattle.vms_walk.proofs.Facade.{slots_at, present_of, size_in, elements_slots, steps_of, item_rank, part_rank, reach_whole, uses_more, rank_below, place_of}
+use Rattle.vms_walk.proofs.Facade.{place_after, place_within, field_start, cell_of, all_hold, holds_at, zero, suc, ◌-◌, [], ◌∷◌, None, append_assoc}
+use Rattle.vms_walk.proofs.Facade.{append-nil, Kind, Num, WalkStep, Number, run_of, capacities_of, length-append, if_there, false, ne_eqb, get_or-map, Desc}
+use Rattle.vms_walk.proofs.Facade.{has_cell, Slot, Meaning, no_meaning, field_slots, cells_from, field_cells, numbers_of, first, meanings, field_size}
+use Rattle.vms_walk.proofs.Facade.{elements_fit, one_more, meaning, Rule, min, Some, pos, negsuc, nat_lt, ◌||◌, or-false, or_assoc, exceeds, is_above}
+use Rattle.vms_walk.proofs.Facade.{same_tests, lesser, least_from, Ok, Does}
 use Rattle.vms_walk.proofs.Walking.{slots_next, fields_at, present_slots, present_fits, steps_bare, times_split, Among}
 use Rattle.vms_spec.specs.declared.Part.TheVariants as parts
 use Rattle.vms_spec.specs.Layout as slots
@@ -250,11 +250,6 @@ join from mid end [] ys h k = lower from mid end ys h k
 join from mid end (slots.Number c kind caps ∷ xs) ys h k = (h.0, join (c + 1) mid end xs ys h.1 k)
 join from mid end (_ ∷ xs) ys h k = join from mid end xs ys h k
 
-wider : (from mid end : ℕ) (xs : List Slot) → mid ≤ end → Ascends from mid xs → Ascends from end xs
-wider from mid end [] le h = omega arith
-wider from mid end (slots.Number c kind caps ∷ xs) le h = (h.0, wider (c + 1) mid end xs le h.1)
-wider from mid end (_ ∷ xs) le h = wider from mid end xs le h
-
 -- ---- parts of a description
 
 pub record MeansAscends (m : Meaning) : Type 0 where
@@ -290,7 +285,7 @@ module _ (ms : List Meaning) (known : MeanAscends ms) where
         let room = room_for_less count (capacity_of f.count) size at end (elements_fit f.count own) (omega arith) in
         let slots = times count (item_slots ms f.item (counted i fields) n) at size in
         rw field_size (if_there (Ascends at end) (omega arith) (is_there f.test f.since v own no_parent) slots
-        (wider at (at + count * size) end slots (omega arith) (items_ascend f.item (counted i fields) n count at)))
+        (rw append-nil at (join at (at + count * size) end slots [] (items_ascend f.item (counted i fields) n count at) (omega arith))))
 
     fields_ascend : (i at : ℕ) (fs : List Field) → Ascends at (at + length (cells_from (cells_in ms) fields i fs)) (slots_from ms fields v own n i at fs)
     fields_ascend i at [] = omega arith
@@ -319,22 +314,7 @@ meanings_ascend ds (suc k) =
 -- ---- a number that counts arrays is within all capacities if it is within the least of them: the least of capacities
 
 above_lesser : (k m n : ℕ) → nat_lt (min k m) n ≡ (nat_lt k n || nat_lt m n)
-above_lesser k m n = same_tests (nat_lt (min k m) n) (nat_lt k n || nat_lt m n) (λ e. forth e (nat_lt k n) refl) (λ e. back (nat_lt k n) refl e)
-  where
-    forth : nat_lt (min k m) n ≡ true → (b : Bool) → nat_lt k n ≡ b → (b || nat_lt m n) ≡ true
-    forth e true f = refl
-    forth e false f =
-        let least : min k m < n = ltb-true (min k m) n e in
-        let up : n ≤ k = ltb-false k n f in
-        lt-ltb m n (omega arith)
-
-    back : (b : Bool) → nat_lt k n ≡ b → (b || nat_lt m n) ≡ true → nat_lt (min k m) n ≡ true
-    back true f e =
-        let lt : k < n = ltb-true k n f in
-        lt-ltb (min k m) n (omega arith)
-    back false f e =
-        let lt : m < n = ltb-true m n e in
-        lt-ltb (min k m) n (omega arith)
+above_lesser k m n = grind (arith, same_tests)
 
 exceeds_lesser : (o : Option ℕ) (m : ℕ) (z : ℤ) → exceeds (capacities_of (lesser o m)) z ≡ (exceeds (capacities_of o) z || is_above z m)
 exceeds_lesser None m z = or-false (is_above z m)

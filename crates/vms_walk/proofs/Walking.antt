@@ -1,18 +1,19 @@
 -- The slots of a walk: taken apart at one of them, what steps keep of the numbers, and on which
 -- cells slots depend.
 use Rattle.vms_walk.proofs.Facade.{◌≡◌, ℕ, zero, suc, ◌+◌, ◌*◌, ◌<◌, List, [], ◌∷◌, ◌++◌, length, get_or, take, ℤ, sym, ap}
-use Rattle.vms_walk.proofs.Facade.{◌∙◌, arith, append_assoc, append-nil, ◌≤◌, drop, refl, Bool, true, false, if◌then◌else◌, Option, Some}
-use Rattle.vms_walk.proofs.Facade.{None, drop_more, Field, Slot, Meaning, times, field_slots, slots_from, field_cells, place_of, no_field, item_slots}
-use Rattle.vms_walk.proofs.Facade.{item_size, elements_of, capacity_of, counted, no_parent, cells_in, steps_of, present_of, capacities_of, Item, Num, is_there}
-use Rattle.vms_walk.proofs.Facade.{field_size, elements_fit, room_for_less, least_of, WalkStep, IsErrAnd, Result, Ok, Err, Does, IsWalk, subst, length-set}
-use Rattle.vms_walk.proofs.Facade.{slice_set, pos, ◌==◌, ◌||◌, get_or-set_other, eq-eqb, or_parts, Kind, Number, has_step, Keeps, table}
-use Rattle.vms_walk.proofs.Facade.{slice_get-get_or, Part, Desc, Set, has_cell, numbers_of, IsSound, IsSoundField, AreSoundFields, IsEarlier, IsGood, SameBelow}
-use Rattle.vms_walk.proofs.Facade.{same_less, place_next, own_same, there_same, elements_same, IsAbove, SameIn, MeanSettled, item_settled, field_settled}
-use Rattle.vms_walk.proofs.Facade.{meanings_settled, device_at, HasPart, desc_at, sub_at}
+use Rattle.vms_walk.proofs.Facade.{◌∙◌, arith, append_assoc, append-nil, ◌≤◌, drop, refl, false, Option, Some, None, drop_more, Field, Slot}
+use Rattle.vms_walk.proofs.Facade.{Meaning, times, field_slots, slots_from, field_cells, place_of, no_field, item_slots, item_size, elements_of, capacity_of}
+use Rattle.vms_walk.proofs.Facade.{counted, no_parent, cells_in, steps_of, present_of, capacities_of, Item, Num, is_there, field_size, elements_fit}
+use Rattle.vms_walk.proofs.Facade.{room_for_less, least_of, WalkStep, IsErrAnd, Result, Ok, Err, Does, IsWalk, length-set, slice_set, pos, ◌==◌, ◌||◌}
+use Rattle.vms_walk.proofs.Facade.{get_or-set_other, eq-eqb, or_parts, Kind, Number, has_step, Keeps, table, slice_get-get_or, Part, Desc, Set, has_cell}
+use Rattle.vms_walk.proofs.Facade.{numbers_of, IsSound, IsSoundField, AreSoundFields, IsGood, SameBelow, same_less, place_next, own_same, there_same}
+use Rattle.vms_walk.proofs.Facade.{elements_same, IsAbove, SameIn, MeanSettled, item_settled, field_settled, meanings_settled, device_at, HasPart, desc_at}
+use Rattle.vms_walk.proofs.Facade.{sub_at, if_both}
 use Rattle.vms_walk.specs.Inside.{is_for}
 use Rattle.std.proofs.lemmas.List.Folds.{list_any-append}
 use Rattle.vms_spec.specs.Layout as slots
 use Rattle.vms_spec.specs.declared.Part.TheVariants as parts
+use Rattle.std.proofs.lemmas.Result.{err_from_is_err_and}
 
 -- ---- elements
 
@@ -99,27 +100,16 @@ steps_bare ms n _ caps k at step = refl
 pub slots_next : (ms : List Meaning) (fields : List Field) (v : ℕ) (own : ℕ → ℕ) (n : List ℤ) (i at size : ℕ) (f : Field) (left more : List Field)
     → left ≡ f ∷ more → size ≡ capacity_of f.count * item_size (cells_in ms) f.item
     → slots_from ms fields v own n i at left ≡ field_slots ms fields v own n i at f ++ slots_from ms fields v own n (i + 1) (at + size) more
-slots_next ms fields v own n i at size f left more e s =
-    let step : length (field_cells (cells_in ms) fields i f) ≡ size = field_size (cells_in ms) fields i f ∙ sym s in
-    let one : suc i ≡ i + 1 = omega arith in
-    rw (e, step, one)
+slots_next ms fields v own n i at size f left more e s = grind (arith, field_size)
 
 -- the elements that are there, or none
 pub present_slots : (ms : List Meaning) (fields : List Field) (v : ℕ) (own : ℕ → ℕ) (n : List ℤ) (i at : ℕ) (f : Field)
     → field_slots ms fields v own n i at f ≡ times (present_of f v own) (item_slots ms f.item (counted i fields) n) at (item_size (cells_in ms) f.item)
-present_slots ms fields v own n i at f = by_test (is_there f.test f.since v own no_parent)
-  where
-    by_test : (b : Bool) → (if b then times (elements_of f.count own) (item_slots ms f.item (counted i fields) n) at (item_size (cells_in ms) f.item) else [])
-        ≡ times (if b then elements_of f.count own else 0) (item_slots ms f.item (counted i fields) n) at (item_size (cells_in ms) f.item)
-    by_test true = refl
-    by_test false = refl
+present_slots ms fields v own n i at f = grind (arith, times, counted)
 
 pub present_fits : (f : Field) (v : ℕ) (own : ℕ → ℕ) → present_of f v own ≤ capacity_of f.count
-present_fits f v own = by_test (is_there f.test f.since v own no_parent)
-  where
-    by_test : (b : Bool) → (if b then elements_of f.count own else 0) ≤ capacity_of f.count
-    by_test true = elements_fit f.count own
-    by_test false = omega arith
+present_fits f v own =
+    if_both (λ n. n ≤ capacity_of f.count) (is_there f.test f.since v own no_parent) (elements_of f.count own) 0 (elements_fit f.count own) (omega arith)
 
 -- the rest of the fields, at a field
 pub fields_at : (all : List Field) (i : ℕ) → i < length all → drop i all ≡ get_or all i no_field ∷ drop (i + 1) all
@@ -148,23 +138,15 @@ keeps_more xs ys n m k p q = record {
 
 -- the first few steps
 pub keeps_front : (xs ys : List WalkStep) (n m : List ℤ) → Keeps xs n m → Keeps (xs ++ ys) n m
-keeps_front xs ys n m p = record {
-  long = p.long;
-  same = λ c e. let none = or_parts (has_step xs c) (has_step ys c) (sym (has_append xs ys c) ∙ e) in p.same c none.0;
-}
+keeps_front xs ys n m p = keeps_more xs ys n m m p (keeps_same ys m m refl)
 
 -- a number is put
 pub keeps_put : (cell : ℕ) (kind : Kind) (most : Option ℕ) (n : List ℤ) (z : ℤ) → Keeps (Number cell kind most ∷ []) n (slice_set n cell z)
 keeps_put cell kind most n z = record {
   long = length-set n cell z;
-  same = λ c e. get_or-set_other n cell c z (pos 0) (λ f. by_false c f e);
+  same = λ c e.
+      get_or-set_other n cell c z (pos 0) (λ f. let t = eq-eqb cell c (sym f) in let u = or_parts (cell == c) false e in cc (u.0));
 }
-  where
-    by_false : (c : ℕ) → c ≡ cell → ((cell == c) || false) ≡ false → ⊥
-    by_false c f e =
-        let t : ((cell == cell) || false) ≡ false = rw f at e in
-        let u = ap (λ b. b || false) (eq-eqb cell cell refl) in
-        cc
 
 -- ---- the slots up to a place depend only on the cells below it: what steps keep
 
@@ -185,11 +167,6 @@ keeps_first cell xs ys zs n m e above k = record {
 }
 
 -- ---- What is done at steps, piece by piece.
-
--- the error that `?` returns
-as_err : {T E : Type 0} (P : Result T E → Type 0) (r : Result T E) (e : E) → IsErrAnd r (λ x. x ≡ e) → P (Err e) → P r
-as_err P (Ok x) e h p = absurd h
-as_err P (Err x) e h p = subst (λ y. P (Err y)) (sym h) p
 
 -- Wherever the walker is among these steps, each remaining one may come.
 abbrev pub MayStep : {S F : Type 0} → Does S F → (S → List ℤ) → (S → WalkStep → Type 0) → (List ℤ → List WalkStep) → S → Type 0
@@ -213,8 +190,8 @@ module _ {S F : Type 0} {N : S → List ℤ} {does : Does S F} (laws : IsWalk N 
   pub stopped_at : (c : S) (f : F) (r : Result (Unit {0}) F) → IsErrAnd r (λ x. x ≡ f) → does (here (N c)) b (Err f) c → does (whole (N c)) a r c
   stopped_at c f r e h =
       let parts = at.split (N c) in
-      as_err (λ q. does (whole (N c)) a q c) r f e
-      (rw parts.1 (laws.more (front (N c)) (here (N c) ++ parts.0) a b c (Err f) (reached c (Err f) h) (laws.before (here (N c)) parts.0 b c f h)))
+      let p = err_from_is_err_and r e in
+      rw (p.1, p.2) (rw parts.1 (laws.more (front (N c)) (here (N c) ++ parts.0) a b c (Err f) (reached c (Err f) h) (laws.before (here (N c)) parts.0 b c f h)))
 
   pub may_come : (lets : S → WalkStep → Type 0) → MayStep does N lets whole a → MayStep does N lets here b
   may_come lets all ys ws zs x d h e =
@@ -290,13 +267,7 @@ module _ (ms : List Meaning) (settled : MeanSettled ms) (d : Desc) (sound : IsSo
   pub present_local : (i : ℕ) (n m : List ℤ) → i < length d.fields → SameBelow (place_of (cells_in ms) d.fields 0 base d.fields i) n m
       → present_of (get_or d.fields i no_field) v (numbers_of (cells_in ms) d m base) ≡ present_of (get_or d.fields i no_field) v
       (numbers_of (cells_in ms) d n base)
-  present_local i n m lt s =
-      let f = get_or d.fields i no_field in
-      let own = numbers_of (cells_in ms) d n base in
-      let now = numbers_of (cells_in ms) d m base in
-      let x = sound_at d.fields 0 d.fields i i (omega arith) sound.fields lt in
-      let same : (j : ℕ) → IsEarlier d.fields i j → now j ≡ own j = λ j y. own_same (cells_in ms) d base i (place i) j n m refl s y in
-      rw (there_same d.fields i v f.since own now same f.test x.test, elements_same d.fields i own now same f.count x.count)
+  present_local i n m lt s = grind (arith, numbers_of, sound_at, own_same, there_same, elements_same)
 
 -- ---- sound parts
 

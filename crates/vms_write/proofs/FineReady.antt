@@ -1,22 +1,21 @@
 -- When the slots of a part are fine, and that what the judging walk finds fine is ready.
-use Rattle.std.proofs.{Math.Bool.or-false, lemmas.Bool.false_from_ne_true, lemmas.Bool.cases_Bool, lemmas.Bool.cases_eq, Math.ListN.get_or-map}
+use Rattle.std.proofs.{Math.Bool.or-false, lemmas.Bool.cases_Bool, lemmas.Bool.cases_eq, Math.ListN.get_or-map}
 use Rattle.std.proofs.lemmas.Bool.Decides.{Decides-and, Decides-eqb, Decides-like}
-use Rattle.std.specs.{Bool.Decides}
-use Rattle.vms_bodies.proofs.SettledLaws.{named_inside}
-use Rattle.vms_write.proofs.Facade.{◌≡◌, ℕ, zero, suc, ◌+◌, ◌<◌, ◌≤◌, List, [], ◌∷◌, ◌++◌, length, length-append, get_or}
-use Rattle.vms_write.proofs.Facade.{replicate, ℤ, pos, refl, sym, ap, ◌∙◌, subst, arith, Bool, true, false, ◌&&◌, ◌||◌, ◌-◌, Option, Some}
-use Rattle.vms_write.proofs.Facade.{None, length-replicate, ne_eqb, eq-eqb, and-true, and_assoc, same_number, in_range, counts_well, int_le, Desc, Set, Cell}
-use Rattle.vms_write.proofs.Facade.{no_cell, Slot, Number, Rule, Meaning, desc_slots, desc_cells, has_cell, AreCells, IsAbove, MeanCells, desc_are, cells_first}
-use Rattle.vms_write.proofs.Facade.{names_append, and_swap, both_below, CellForm, no_form, are_fit, settle, is_fine, is_within, cells_in, steps_of, table}
-use Rattle.vms_write.proofs.Facade.{spot_slots, stands_behind, Kind, own_cell_count, lesser, least_from, least_of, desc_at, PartAt, Ascends, below_from}
-use Rattle.vms_write.proofs.Facade.{from_end, desc_ascends, meanings_ascend, is_number_fine, behind, are_steps_fine, subs_fine, ⊎_elim, OnTrue_from}
-use Rattle.vms_write.proofs.Facade.{OnFalse_from, get_or_from_slice_get, slice_get_within, map, not, ◌==◌, OnTrue, OnFalse, flat_map, slice_get, leb-true}
-use Rattle.vms_write.proofs.Facade.{slice_get-get_or, Device, Sub, AtLeast, no_desc, Constant, meanings, struct_cells, device_cells, Image, own_cells}
-use Rattle.vms_write.proofs.Facade.{own_slots, sub_slots, came_slots, image_slots, AreVersionsOf, RulesHold, is_needed, IsReady, come_as_needed, IsGood}
-use Rattle.vms_write.proofs.Facade.{above_none, above_append, above_less, desc_above, meanings_above, meanings_are, constants_append, own_constants}
-use Rattle.vms_write.proofs.Facade.{part_constants, image_are, named_fits, parts_together, same_number_is, ranged, counted_well, is_same, needed_are}
-use Rattle.vms_write.proofs.Facade.{are_needed, AreConstants, fit_slots, FitSlots, ranges, within, or_second, form_of, device_at, is_well_formed, sub_at}
-use Rattle.vms_write.proofs.Facade.{device_clean, sub_clean, sub_size}
+use Rattle.std.specs.Bool.{Decides}
+use Rattle.vms_bodies.proofs.{PartLaws.sub_place_up, SettledLaws.its_above}
+use Rattle.vms_write.proofs.Facade.{◌≡◌, ℕ, zero, suc, ◌+◌, ◌<◌, ◌≤◌, List, [], ◌∷◌, ◌++◌, length, length-append, get_or, ℤ}
+use Rattle.vms_write.proofs.Facade.{pos, refl, sym, ap, ◌∙◌, subst, arith, Bool, true, false, ◌&&◌, ◌||◌, ◌-◌, Option, Some, None, ne_eqb}
+use Rattle.vms_write.proofs.Facade.{eq-eqb, and-true, and_assoc, same_number, in_range, counts_well, int_le, Desc, Set, Cell, no_cell, Slot, Number, Rule}
+use Rattle.vms_write.proofs.Facade.{desc_slots, desc_cells, has_cell, IsAbove, cells_first, names_append, and_swap, both_below, CellForm, no_form, are_fit}
+use Rattle.vms_write.proofs.Facade.{settle, is_fine, is_within, steps_of, table, spot_slots, Kind, own_cell_count, lesser, least_from, least_of, desc_at}
+use Rattle.vms_write.proofs.Facade.{PartAt, Ascends, below_from, from_end, desc_ascends, meanings_ascend, is_number_fine, behind, are_steps_fine, subs_fine}
+use Rattle.vms_write.proofs.Facade.{⊎_elim, OnTrue_from, OnFalse_from, get_or_from_slice_get, slice_get_within, map, not, ◌==◌, OnTrue, OnFalse, flat_map}
+use Rattle.vms_write.proofs.Facade.{slice_get, leb-true, slice_get-get_or, Device, Sub, AtLeast, no_desc, Constant, meanings, struct_cells, device_cells, Image}
+use Rattle.vms_write.proofs.Facade.{own_cells, own_slots, sub_slots, came_slots, image_slots, AreVersionsOf, RulesHold, is_needed, IsReady, come_as_needed}
+use Rattle.vms_write.proofs.Facade.{IsGood, above_none, above_append, above_less, desc_above, meanings_above, constants_append, own_constants, part_constants}
+use Rattle.vms_write.proofs.Facade.{image_are, named_fits, parts_together, same_number_is, ranged, counted_well, is_same, needed_are, are_needed, AreConstants}
+use Rattle.vms_write.proofs.Facade.{fit_slots, FitSlots, ranges, within, or_second, form_of, device_at, is_well_formed, sub_at, device_clean, sub_clean}
+use Rattle.vms_write.proofs.Facade.{sub_size, sub_place}
 use Rattle.vms_spec.specs.Streams.{ComeAsNeeded}
 
 -- ---- parts
@@ -50,24 +49,7 @@ pub record IsBelow (end : ℕ) (slots : List Slot) : Type 0 where
 
 pub fine_parts : (forms : List CellForm) (n : List ℤ) (xs ys : List Slot) (at a b : ℕ) → IsBelow (at + a) xs → IsAbove (at + a) ys
     → is_fine forms n (xs ++ ys) at (a + b) ≡ (is_fine forms n xs at a && is_fine forms n ys (at + a) b)
-fine_parts forms n xs ys at a b below above =
-    let front : SameCells at (at + a) (xs ++ ys) xs = record { same = λ c low lt. rw (names_append, above.below c lt) (or-false (has_cell xs c)) } in
-    let back : SameCells (at + a) ((at + a) + b) (xs ++ ys) ys = record { same = λ c low lt. rw (names_append, below.above c low) refl } in
-    rw (fit_append n xs ys, settle_plus (xs ++ ys) forms n at a b)
-    (rw (settle_same (xs ++ ys) xs forms n at a front, settle_same (xs ++ ys) ys forms n (at + a) b back)
-    (and_swap (are_fit n xs) (are_fit n ys) (settle xs forms n at a) (settle ys forms n (at + a) b)))
-
--- ---- where parts end
-
-are_below : (all : List Cell) (slots : List Slot) → AreCells all slots → IsBelow (length all) slots
-are_below all slots h = record { above = λ c le. false_from_ne_true _ (λ e. omega (arith, named_inside all slots c h e)) }
-
-pub desc_below : (ms : List Meaning) → MeanCells ms → (n : List ℤ) (d : Desc) (v at : ℕ) → IsBelow (at + length (desc_cells (cells_in ms) d)) (desc_slots ms d v n at)
-desc_below ms known n d v at =
-    let cells = desc_cells (cells_in ms) d in
-    let all = replicate at no_cell ++ cells in
-    let long : length all ≡ at + length cells = omega (arith, length-append (replicate at no_cell) cells, length-replicate at no_cell) in
-    rw long at (are_below all (desc_slots ms d v n at) (desc_are ms known d v at n all (stands_behind at cells)))
+fine_parts forms n xs ys at a b below above = search (arith, names_append, or-false, fit_append, settle_plus, settle_same, and_swap, are_fit)
 
 -- ---- The steps of a part are fine, and the cells after them at their defaults, exactly if its slots are fine.
 
@@ -184,20 +166,14 @@ subs_long set (s ∷ subs) = rw (length-append, subs_long set subs)
 cells_long : (set : Set) (d : Device) → own_cells set d + subs_size set d.subs ≡ length (device_cells set d)
 cells_long set d = rw (length-append, subs_long set d.subs)
 
-sub_above : (set : Set) (s : Sub) (v : ℕ) (n : List ℤ) (at : ℕ) → IsAbove at (sub_slots set s v n at)
-sub_above set s v n at = desc_above (meanings set.structs (length set.structs)) (meanings_above set.structs (length set.structs)) s.desc v n at
-
-part_below : (set : Set) (d : Desc) (v : ℕ) (n : List ℤ) (at : ℕ) → IsBelow (at + length (desc_cells (struct_cells set) d)) (desc_slots (meanings set.structs (length set.structs)) d v n at)
-part_below set d v n at =
-    subst (λ cs. IsBelow (at + length (desc_cells cs d)) (desc_slots (meanings set.structs (length set.structs)) d v n at)) (cells_first set.structs (length set.structs))
-    (desc_below (meanings set.structs (length set.structs)) (meanings_are set.structs (length set.structs)) n d v at)
+part_below : (set : Set) (d : Desc) (v : ℕ) (n : List ℤ) (at : ℕ)
+    → IsBelow (at + length (desc_cells (struct_cells set) d)) (desc_slots (meanings set.structs (length set.structs)) d v n at)
+part_below set d v n at = record { above = λ c le. its_above set d v at n c le }
 
 came_above : (set : Set) (d : Device) (n : List ℤ) (at : ℕ) (subs : List Sub) (came : List (Option ℕ)) → IsAbove at (came_slots set d n at subs came)
-came_above set d n at (s ∷ subs) (None ∷ came) = above_less at (at + sub_size set s) _ (omega arith) (came_above set d n (at + sub_size set s) subs came)
-came_above set d n at (s ∷ subs) (Some v ∷ came) =
-    above_append at (sub_slots set s v n at) (came_slots set d n (at + sub_size set s) subs came) (sub_above set s v n at)
-    (above_less at (at + sub_size set s) _ (omega arith) (came_above set d n (at + sub_size set s) subs came))
-came_above set d n at _ _ = above_none at
+came_above set d n at subs came =
+    parts_together set d n (IsAbove at) (above_none at) (above_append at) at subs came (λ j s v e f.
+    above_less at _ _ (sub_place_up set at subs j) (desc_above (meanings set.structs _) (meanings_above set.structs _) s.desc v n (sub_place set at subs j)))
 
 -- the subsections are fine and came as needed
 came_fine : (set : Set) (d : Device) (forms : List CellForm) (image : Image) (j at : ℕ) (subs : List Sub) (came : List (Option ℕ)) → length came ≡ length subs

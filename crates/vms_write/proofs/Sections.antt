@@ -6,10 +6,10 @@ use Rattle.vms_write.proofs.Facade.{Set, is_name, first_fault, is_well_formed, d
 use Rattle.vms_write.proofs.Facade.{form_of, Held, defaults_at, no_form, formed_of, formed, forms_of, cases_lt, ⊎_elim, Some, get_or-map, slice_get-get_or}
 use Rattle.vms_write.proofs.Facade.{slice_get_within, get_or_from_slice_get, slice_get, U8, MOST_ITEMS, Device, Slot, Number, Constant, no_cell, no_desc, Image}
 use Rattle.vms_write.proofs.Facade.{own_cells, own_slots, sub_place, sub_slots, IsReady, AreReady, AreCells, FitsHeads, own_constants, part_constants, sub_are}
-use Rattle.vms_write.proofs.Facade.{fit_slots, own_are, FitSlots, versions_long, kinds_at, few_cells, good_of, CanWrite, Typed, IsImageOf, AreImagesOf, Rule}
-use Rattle.vms_write.proofs.Facade.{◌++◌, take, Option, None, ◌&&◌, drop_more, desc_cells, struct_cells, zeroed, steps_of, WalkStep, CanSteps, CanStep}
-use Rattle.vms_write.proofs.Facade.{bytes_of, codes_of, run_of, Sub, AtLeast, written_subs, written_section, written_sections, first_cell, sub_next, CellForm}
-use Rattle.vms_write.proofs.Facade.{sub_fine, subs_fine, written_sub}
+use Rattle.vms_write.proofs.Facade.{own_are, versions_long, kinds_at, few_cells, good_of, CanWrite, Typed, IsImageOf, AreImagesOf, Rule, ◌++◌, take, Option}
+use Rattle.vms_write.proofs.Facade.{None, ◌&&◌, drop_more, desc_cells, struct_cells, zeroed, steps_of, WalkStep, CanSteps, CanStep, bytes_of, codes_of}
+use Rattle.vms_write.proofs.Facade.{run_of, Sub, AtLeast, written_subs, written_section, written_sections, first_cell, sub_next, CellForm, sub_fine, subs_fine}
+use Rattle.vms_write.proofs.Facade.{written_sub, AreConstants}
 use Rattle.std.proofs.Common.{Result, IsErrAnd}
 use Rattle.vms_io.specs.{Told.Outlet, Writing.Stops, Writing.Wrote}
 use Rattle.vms_spec.proofs.WellFormedLaws.{name_short, set_clean}
@@ -60,11 +60,12 @@ default_in (kind ∷ kinds) (z ∷ numbers) (suc k) lt = let r = default_in kind
 
 -- ---- what ready images have, one after the other
 
-can_write : (cells : List Cell) (m : List ℤ) (slots : List Slot) → AreCells cells slots → FitSlots m slots → CanWrite (map (λ c. c.kind) cells) slots
-can_write cells m [] are f = tt
-can_write cells m (Number a kind caps ∷ slots) are f = (get_or-map (λ c. c.kind) cells a no_cell U8 are.0.within ∙ are.0.kind, can_write cells m slots are.1 f.2)
-can_write cells m (Constant kind z ∷ slots) are f = (f.0, can_write cells m slots are f.1)
-can_write cells m (_ ∷ slots) are f = (tt, can_write cells m slots are f)
+can_write : (cells : List Cell) (slots : List Slot) → AreCells cells slots → AreConstants slots → CanWrite (map (λ c. c.kind) cells) slots
+can_write cells [] are k = tt
+can_write cells (Number a kind caps ∷ slots) are k =
+    (get_or-map (λ c. c.kind) cells a no_cell U8 are.0.within ∙ are.0.kind, can_write cells slots are.1 k)
+can_write cells (Constant kind z ∷ slots) are k = (k.0, can_write cells slots are k.1)
+can_write cells (_ ∷ slots) are k = (tt, can_write cells slots are k)
 
 -- device i of a set has an image whose bytes can be written
 pub record IsWritable (set : Set) (i : ℕ) (image : Image) : Type 0 where
@@ -86,14 +87,10 @@ ready_writable set well heads i image lt r =
       few = omega (arith, few_cells set well i);
       cells = normal.cells.long;
       came = versions_long d.subs image.came normal.subs;
-      own = let are = own_are set d image.version m in
-          can_write (device_cells set d) m (own_slots set d image.version m) are (fit_slots (device_cells set d) m (own_slots set d image.version m) normal.cells are (own_constants set good i d here image.version 0 m));
+      own = can_write (device_cells set d) _ (own_are set d image.version m) (own_constants set good i d here image.version 0 m);
       subs = λ j v lj.
-          let s = sub_at d j in
-          let from = sub_place set (own_cells set d) d.subs j in
           let there = slice_get-get_or d.subs j _ lj in
-          let are = sub_are set d j s v m there in
-          can_write (device_cells set d) m (sub_slots set s v m from) are (fit_slots (device_cells set d) m (sub_slots set s v m from) normal.cells are (part_constants set good i j d s here there v from m));
+          can_write (device_cells set d) _ (sub_are set d j (sub_at d j) v m there) (part_constants set good i j d (sub_at d j) here there v _ m);
     }
 
 -- ---- Images that are ready, one after the other.
