@@ -1,44 +1,31 @@
 -- The events and the sum of `drill`.
+use Rattle.std.proofs.lemmas.Bool.{cond_both}
 use Rattle.vms_board_commands.proofs.Facade.{◌≡◌, [], ◌∷◌, map, true, false, refl, Read, Write, Byte, Wait, Wire, Ack, next_number, event_by}
 use Rattle.vms_board_commands.proofs.Facade.{event_of, events_after, is_save_due, set_of, ℕ, List, length, Option, sym, ap, ◌∙◌, MaySaveUnder, restored}
 use Rattle.vms_board_commands.proofs.Facade.{IsSound, State, back_of, came_back, saved_is_carried, isa, Back, Restores, saved_stream, isa_laws, Reason, suc}
 use Rattle.vms_board_commands.proofs.Facade.{◌+◌, ◌-◌, ◌/◌, ◌≤◌, eqb-true, arith, step, Answer, Event, BETWEEN_SAVES, Counts, counted}
 use Rattle.vms_board_commands.proofs.Facade.{saves_of, after_save, Drill, bytes_after, taken_after, drill_on, drilled_on, with_drill_event, zero, ◌<◌}
 use Rattle.vms_board_commands.proofs.Facade.{◌%◌, IsTrue, get_or, mod-add-mod, IsEvent, AreEvents, names, names_wire, is_wire, wires, EventsAreGood}
-use Rattle.vms_board_commands.proofs.Facade.{IsAsUnsaved, SavesLeaveCounts, Bool, if◌then◌else◌, NEWEST, IsLevel, alike_stays, likeness, clock_goes_on}
-use Rattle.vms_board_commands.proofs.Facade.{restored_is_sound, saved_comes_back, sound_stays_on, saved, carried, Alike, power_on, observe, after_all, after_by}
-use Rattle.vms_board_commands.proofs.Facade.{answers_by, Progress, counted_all, with_event, drilled, NumbersAre, ◌*◌, streams_are_short, STREAM_ROOM}
-use Rattle.vms_board_commands.proofs.Facade.{drill_begun, ProgressIsSame, SizesAreSmall}
+use Rattle.vms_board_commands.proofs.Facade.{IsAsUnsaved, SavesLeaveCounts, NEWEST, IsLevel, alike_stays, likeness, clock_goes_on, restored_is_sound}
+use Rattle.vms_board_commands.proofs.Facade.{saved_comes_back, sound_stays_on, saved, carried, Alike, power_on, observe, after_all, after_by, answers_by}
+use Rattle.vms_board_commands.proofs.Facade.{Progress, counted_all, with_event, drilled, NumbersAre, ◌*◌, streams_are_short, STREAM_ROOM, drill_begun}
+use Rattle.vms_board_commands.proofs.Facade.{ProgressIsSame, SizesAreSmall}
 use Rattle.vms_board.specs.Restoring.{Refused}
 
--- ---- worked drills: the events that seeds give
+-- ---- worked drills: the events that seeds give, and the sets of saves
 
-acknowledges_first_of_seed_0 : events_after 0 1 ≡ Ack ∷ []
-unfolding next_number event_by event_of
-acknowledges_first_of_seed_0 = refl
+record Worked : Type 0 where
+  acknowledges_first_of_seed_0 : events_after 0 1 ≡ Ack ∷ []
+  gives_each_kind_of_event : events_after 7 12 ≡ Byte 0x17 ∷ Wire 6 true ∷ Write 0xa1 0x4c ∷ Write 0x3fe 0xe4 ∷ Write 0x42 0x3a ∷ Wire 14 false ∷ Read 0x43 ∷ Read 0x42 ∷ Ack ∷ Wait 15700000 ∷ Wire 15 false ∷ Ack ∷ []
+  goes_on_from_the_greatest_seed : events_after 18446744073709551615 5 ≡ Read 0x3f8 ∷ Wire 6 true ∷ Write 0x3f9 0xd5 ∷ Wait 0 ∷ Read 0x3fc ∷ []
+  saves_after_a_thousand : (is_save_due 999 ≡ false) × (is_save_due 1000 ≡ true)
+  -- the level's set, the newest, and the level's again; only the newest if it is the level's
+  turns_by_saves : map (set_of 3) (0 ∷ 1 ∷ 2 ∷ []) ≡ 3 ∷ 4 ∷ 3 ∷ []
+  keeps_to_the_newest : set_of 4 7 ≡ 4
 
-gives_each_kind_of_event : events_after 7 12 ≡ Byte 0x17 ∷ Wire 6 true ∷ Write 0xa1 0x4c ∷ Write 0x3fe 0xe4 ∷ Write 0x42 0x3a ∷ Wire 14 false ∷ Read 0x43 ∷ Read 0x42 ∷ Ack ∷ Wait 15700000 ∷ Wire 15 false ∷ Ack ∷ []
-unfolding next_number event_by event_of
-gives_each_kind_of_event = refl
-
-goes_on_from_the_greatest_seed : events_after 18446744073709551615 5 ≡ Read 0x3f8 ∷ Wire 6 true ∷ Write 0x3f9 0xd5 ∷ Wait 0 ∷ Read 0x3fc ∷ []
-unfolding next_number event_by event_of
-goes_on_from_the_greatest_seed = refl
-
--- ---- saves
-
-saves_after_a_thousand : (is_save_due 999 ≡ false) × (is_save_due 1000 ≡ true)
-unfolding is_save_due
-saves_after_a_thousand = (refl, refl)
-
--- the level's set, the newest, and the level's again; only the newest if it is the level's
-turns_by_saves : map (set_of 3) (0 ∷ 1 ∷ 2 ∷ []) ≡ 3 ∷ 4 ∷ 3 ∷ []
-unfolding set_of
-turns_by_saves = refl
-
-keeps_to_the_newest : set_of 4 7 ≡ 4
-unfolding set_of
-keeps_to_the_newest = refl
+worked : Worked
+unfolding next_number event_by event_of is_save_due set_of
+worked = search
 
 -- ---- a board goes on as the one that its own stream restores
 
@@ -152,13 +139,11 @@ came-left set m s may =
       level = restored_is_sound.level m.level (carried set (saved set m)) back.back back.restored;
     })
 
-due-left : (due : Bool) (set : ℕ) (m : State) → IsSound m → MaySaveUnder m.level set → Left m (if due then came_back set m else m)
-due-left true set m s may = came-left set m s may
-due-left false set m s may = record { alike = likeness.itself m; sound = s; level = refl }
-
 pub save-left : (events : ℕ) (m : State) → IsSound m → Left m (after_save events m)
 unfolding after_save
-save-left events m s = due-left _ _ m s (save_may _ _ s.devices.level.last)
+save-left events m s =
+    cond_both (is_save_due events) _ _ (Left m) (λ e. came-left _ m s (save_may _ _ s.devices.level.last))
+    (λ e. record { alike = likeness.itself m; sound = s; level = refl })
 
 -- a drill in progress, and a board like its own that goes on without saves
 record GoesAs (count : ℕ) (progress : Progress) (m : State) : Type 0 where
@@ -215,12 +200,11 @@ progress_is_same = record {
 
 -- ---- sizes
 
-due-small : (due : Bool) (bytes long : ℕ) → long < STREAM_ROOM → (if due then bytes + long else bytes) ≤ bytes + STREAM_ROOM
-due-small due bytes long l = grind arith
-
 after-small : (events : ℕ) (m : State) (bytes : ℕ) → IsSound m → bytes_after events m bytes ≤ bytes + STREAM_ROOM
 unfolding bytes_after
-after-small events m bytes s = due-small _ bytes _ (streams_are_short.short _ m s (save_may m.level (saves_of events - 1) s.devices.level.last))
+after-small events m bytes s =
+    let few = streams_are_short.short _ m s (save_may m.level (saves_of events - 1) s.devices.level.last) in
+    grind arith
 
 small : (count : ℕ) (drill : Drill) → IsSound drill.progress.board → (drilled_on count drill).bytes ≤ drill.bytes + STREAM_ROOM * count
 small zero drill s = omega arith

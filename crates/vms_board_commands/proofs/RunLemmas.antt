@@ -7,11 +7,11 @@ use Rattle.vms_board_commands.proofs.Facade.{is_among, of_shelf, text_course, Se
 use Rattle.vms_board_commands.proofs.Facade.{ShelfFault, NotThere, TooLarge, NoMemory, drill_course, play_course, save_course, stream_course, ending_by}
 use Rattle.vms_board_commands.proofs.Facade.{◌+◌, ◌≤◌, length, drop, drop_at, IfSome, sym, ap, ◌∙◌, arith, length-append, length-drop, Consumes}
 use Rattle.vms_board_commands.proofs.Facade.{IsSomeAnd, same_Some, reads_as, reads_told, Last, Reads, Takes, IsBytes, Image, Set, Fault, Refusal, LoadReads}
-use Rattle.vms_board_commands.proofs.Facade.{fault_within, text_written, EndsAs, EndsWith, Outcome, TakesBytes, done, ended, StepAs, Step, Untold, Gives, Ends}
-use Rattle.vms_board_commands.proofs.Facade.{WouldLose, IsGiven, Seen, SeenAs, Sees, WithGiven, ◌<◌, ◌^◌, subst, Keeps-refl, Held, TextEnds, next}
-use Rattle.vms_board_commands.proofs.Facade.{comes_to_nothing, ended_by, quiet_same, so_since, text_ends, then_text}
+use Rattle.vms_board_commands.proofs.Facade.{fault_within, text_written, EndsAs, EndsWith, Outcome, TakesBytes, done, ended, StepAs, Step, WouldLose, IsGiven}
+use Rattle.vms_board_commands.proofs.Facade.{Seen, SeenAs, Sees, WithGiven, ◌<◌, ◌^◌, subst, Keeps-refl, Held, TextEnds, next, comes_to_nothing}
+use Rattle.vms_board_commands.proofs.Facade.{ended_by, quiet_same, so_since, text_ends, then_text}
 use Rattle.vms_board_commands.specs.{Save.ending_by as save_ending, Runs.Runs, Runs.RunsBehind, Runs.Task, Runs.moment, Runs.unread_task}
-use Rattle.vms_commands.proofs.{EndLemmas.same_keeps}
+use Rattle.vms_commands.proofs.EndLemmas.{same_keeps}
 use Rattle.vms_commands.specs.{Endings.Quiet, Steps.HasBy, Steps.HasText}
 use Rattle.vms_board.specs.declared.save.SaveFault.TheVariants as saves
 use Rattle.vms_session.specs.declared.line.PlayFault.TheVariants as plays
@@ -20,8 +20,7 @@ use Rattle.vms_load.specs.declared.fault.LoadFault.TheVariants as loads
 -- ---- lists of statuses
 
 or_here : (b c d : Bool) → b || c ≡ true → (c ≡ true → d ≡ true) → b || d ≡ true
-or_here true c d e f = refl
-or_here false c d e f = f e
+or_here b c d e f = grind arith
 
 -- a status is in a joined list if it is in its first part
 pub among_left : (xs ys : List ℕ) (k : ℕ) → is_among xs k ≡ true → is_among (xs ++ ys) k ≡ true
@@ -163,18 +162,11 @@ reads_all Says r so = record {
 -- ---- steps before
 
 pub given_so : {A T : Type 0} (m : T → A) (step : Step A) (t : T) → StepAs m step (Ok t) → IsGiven step (m t)
-given_so m Untold t h = tt
-given_so m (Gives a) t h = h
-given_so m (Ends status line) t h = absurd h
+given_so m step t h = grind arith
 
 -- nothing is seen of what wasn't fetched
 pub set_other : (asks : Bool) (s s' : Stock) (e : Option Ending) → SetCause asks s s' e → is_among (0 ∷ 1 ∷ 6 ∷ 11 ∷ []) (status_of e) ≡ false
-set_other asks s s' (Some (BadText line)) c = refl
-set_other asks s s' (Some ShelfFault) c = refl
-set_other asks s s' (Some (NotThere line)) c = refl
-set_other asks s s' (Some (TooLarge line)) c = refl
-set_other asks s s' (Some NoMemory) c = refl
-set_other asks s s' e c = absurd c
+set_other asks s s' e c = grind arith
 
 ended-as : {i i' : Intake} (P : List ℕ → Outcome → Type 0) (status : ℕ) (line : List ℕ) (taken : ℕ) → Sees P i i' (ended status line taken) → EndsWith status line i i' (ended status line taken)
 ended-as P status line taken sees = record { status_is = refl; parts = refl; note = refl; taken = takes_bytes taken sees.takes sees.long }
@@ -257,8 +249,7 @@ lacks_runs m P step {t} {asks} {i} {o} {s} {s'} {e} may few looks same cause had
 -- what two steps give is what the second gives, by the first
 by_first : {A : Type 0} (held : Option Held) (f : A → Step (List ℕ)) (step : Step A) (x : Outcome) → HasText held (next step f) x
     → HasBy (λ a y. HasText held (f a) y) step x
-by_first held f Untold x has = has
-by_first held f _ x has = has
+by_first held f step x has = grind arith
 
 pub lacks_text : {A T : Type 0} (m : T → A) (f : A → Step (List ℕ)) (step : Step A) {Has : Option Held → Outcome → Type 0} {course : Course} {asks : Bool}
     {i : Intake} {o : Outlet} {s s' : Stock} {e : Ending}

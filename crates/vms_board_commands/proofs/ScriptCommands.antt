@@ -1,17 +1,17 @@
 -- The commands that play a script: `save`, `play` and `load`.
-use Rattle.vms_board_commands.proofs.Facade.{Appends, AreEvents, AreLines, ArrayVec, Asks, Back, BadText, Bool, ComesTo, DoesSome, DoneAs, Ending, Ends, EndsAs}
-use Rattle.vms_board_commands.proofs.Facade.{Err, Event, FailsToStore, Family, Faulty, FetchCause, FitsHeads, Gives, Global, HadCause, Held, HoldsAll, IfOk}
-use Rattle.vms_board_commands.proofs.Facade.{Intake, IsBytes, IsErrAnd, IsFaultAt, IsLevel, IsMisfitAt, IsRefused, IsSomeAnd, Line, LinesEnd, List, LoadGives}
-use Rattle.vms_board_commands.proofs.Facade.{Loads, Looks, NoMemory, None, NotThere, Ok, Option, Outcome, Outlet, Part, PlayFault, Plays, PlaysAll, ReadCause}
-use Rattle.vms_board_commands.proofs.Facade.{ReadFault, Reading, ReadsLines, Reason, Refusal, Restore, RestoreReads, Restores, Result, SaveFault, Saves}
-use Rattle.vms_board_commands.proofs.Facade.{ScriptFault, ScriptLine, Seen, Session, SetCause, ShelfFault, Some, Standing, State, Step, StepAs, Stock, TextEnds}
-use Rattle.vms_board_commands.proofs.Facade.{TooLarge, Traces, Unfit, Untold, Vec, WellFormed, WriteFault, WritesAs, [], after_events, answers_to, ap}
-use Rattle.vms_board_commands.proofs.Facade.{are_events, arith, begun_whole, bytes_come, done, ended, ending_by, event_lines, events_back, events_of}
-use Rattle.vms_board_commands.proofs.Facade.{fault_within, fetched_gives, held_after, inl, inr, length, length-append, lines_view, longest_script, mapped_by}
-use Rattle.vms_board_commands.proofs.Facade.{most_given, next, no_fault, one_fault_holds, one_restore, power_on, power_on-sound, reads_as, reads_exactly, refl}
-use Rattle.vms_board_commands.proofs.Facade.{refused_line, rose_since, said_lines, saved_after, saved_stream, script_read, scripted, session_of}
-use Rattle.vms_board_commands.proofs.Facade.{sessions_are_one, sessions_end, sound_fetch, sound_next, stops_prefix, subst, sym, take, takes_nothing, text_of}
-use Rattle.vms_board_commands.proofs.Facade.{trace_from, trace_of, true, ℕ, ◌+◌, ◌<◌, ◌^◌, ◌∙◌, ◌∷◌, ◌≡◌, ◌≤◌}
+use Rattle.vms_board_commands.proofs.Facade.{Appends, AreEvents, AreLines, ArrayVec, Asks, Back, Bool, ComesTo, DoesSome, DoneAs, Ending, Ends, EndsAs, Err}
+use Rattle.vms_board_commands.proofs.Facade.{Event, FailsToStore, Family, Faulty, FetchCause, FitsHeads, Gives, Global, HadCause, Held, HoldsAll, IfOk, Intake}
+use Rattle.vms_board_commands.proofs.Facade.{IsBytes, IsErrAnd, IsLevel, IsRefused, IsSomeAnd, Line, LinesEnd, List, LoadGives, Loads, Looks, NoMemory, None}
+use Rattle.vms_board_commands.proofs.Facade.{Ok, Option, Outcome, Outlet, Part, PlayFault, Plays, PlaysAll, ReadCause, ReadFault, Reading, ReadsLines, Refusal}
+use Rattle.vms_board_commands.proofs.Facade.{Restore, RestoreReads, Restores, Result, SaveFault, Saves, ScriptFault, ScriptLine, Seen, Session, SetCause}
+use Rattle.vms_board_commands.proofs.Facade.{ShelfFault, Some, Standing, State, Step, StepAs, Stock, TextEnds, Traces, Unfit, Untold, Vec, WellFormed}
+use Rattle.vms_board_commands.proofs.Facade.{WriteFault, WritesAs, [], after_events, answers_to, ap, are_events, arith, begun_whole, bytes_come, done, ended}
+use Rattle.vms_board_commands.proofs.Facade.{ending_by, event_lines, events_back, events_of, fault_within, fetched_gives, held_after, inl, inr, length}
+use Rattle.vms_board_commands.proofs.Facade.{length-append, lines_view, longest_script, mapped_by, most_given, next, no_fault, one_fault_holds, one_restore}
+use Rattle.vms_board_commands.proofs.Facade.{power_on, power_on-sound, reads_as, reads_exactly, refl, refused_line, rose_since, said_lines, saved_after}
+use Rattle.vms_board_commands.proofs.Facade.{saved_stream, script_read, scripted, session_of, sessions_are_one, sessions_end, sound_fetch, sound_next}
+use Rattle.vms_board_commands.proofs.Facade.{stops_prefix, subst, sym, take, takes_nothing, text_of, trace_from, trace_of, true, ℕ, ◌+◌, ◌<◌, ◌^◌}
+use Rattle.vms_board_commands.proofs.Facade.{◌∙◌, ◌∷◌, ◌≡◌, ◌≤◌}
 use Rattle.vms_board_commands.proofs.RunLemmas.{TakesSo, reads_all, seen_refused, seen_written}
 use Rattle.vms_board_commands.specs.Save.{ending_by as save_ending}
 use Rattle.vms_commands.proofs.StepLemmas.{IsSound}
@@ -41,16 +41,10 @@ module _ {T : Type 0} (lines : T → List ScriptLine) where
 
 -- a text that isn't fetched or isn't read isn't available
 pub unfetched : (T : Type 0) (asks : Bool) (s s' : Stock) (e : Ending) → asks ≡ true → FetchCause {T = T} s s' (Err e) → SetCause asks s s' (Some e)
-unfetched T asks s s' ShelfFault is c = (is, c)
-unfetched T asks s s' (NotThere line) is c = is
-unfetched T asks s s' (TooLarge line) is c = is
-unfetched T asks s s' NoMemory is c = tt
-unfetched T asks s s' e is c = absurd c
+unfetched T asks s s' e is c = grind arith
 
 pub unread : (T : Type 0) (asks : Bool) (s s' : Stock) (e : Ending) → ReadCause {T = T} asks (Err e) → SetCause asks s s' (Some e)
-unread T asks s s' (BadText line) c = c
-unread T asks s s' NoMemory c = tt
-unread T asks s s' e c = absurd c
+unread T asks s s' e c = grind arith
 
 -- the lines of a text that was fetched, or the end if it wasn't
 pub read_asks : {T : Type 0} {s s' : Stock} (r : Result T Ending) → Looks s s' → ReadCause true r → Asks (HadCause true) s s' r
@@ -77,8 +71,7 @@ had_events text read (Err e) h same = tt
 -- ---- the step that gives a script. It is known if the shelf is, never ends with the status 0, and gives lines that may be in a script.
 
 sound_said : (held : Option Held) (r : Reading) → IsSound held (said_lines r)
-sound_said held (Ok lines) = tt
-sound_said held (Err fault) = omega arith
+sound_said held r = grind arith
 
 pub sound_script : (play : Option ℕ) (held : Option Held) (name : List ℕ) → IsSound held (scripted play held name)
 sound_script play held name = sound_next held _ (λ text. said_lines (script_read play text)) (sound_fetch held _ name) (λ text. sound_said held _)
@@ -98,8 +91,7 @@ said-script play text (Ok lines) e = (reads_exactly.only play text lines e).0
 said-script play text (Err fault) e = tt
 
 step-lines : (play : Option ℕ) (s : Step (List ℕ)) → AreStepLines play (next s (λ text. said_lines (script_read play text)))
-step-lines play (Gives text) = said-script play text _ refl
-step-lines play _ = tt
+step-lines play s = grind (arith, said-script)
 
 pub scripted_lines : (play : Option ℕ) (held : Option Held) (name : List ℕ) → AreStepLines play (scripted play held name)
 scripted_lines play held name = step-lines play _
@@ -205,18 +197,6 @@ module _ (level : ℕ) (lines : List ScriptLine) (held : Held) (is : IsLevel lev
 
 -- ---- the outcome of `load`, from the results of a restore and of a trace
 
-module _ {S : Type 0} (kind : Family S) (well : WellFormed (kind.set kind.newest)) (heads : FitsHeads (kind.set kind.newest)) (level : ℕ) (lines : List ScriptLine) where
-  abbrev trace-from : S → List ℕ
-  trace-from m = trace_of (answers_to kind (events_of lines) m)
-
-  pub done_is : (bytes : List ℕ) (held : Option Held) (m : S) (taken : ℕ) (x : Outcome) → IsBytes bytes → Restores kind level bytes (Back m taken)
-      → Loads kind level lines bytes held x → x ≡ done (trace-from m) held taken
-  done_is bytes held m taken x ok r (Traces board long s) = let same = one_restore kind well heads level bytes ok (Back board long) (Back m taken) s r in cc
-  done_is bytes held m taken x ok r (Faulty place section reason size f) =
-      let same = one_restore kind well heads level bytes ok (Refused place section reason) (Back m taken) (inl (size, f)) r in cc
-  done_is bytes held m taken x ok r (Unfit place section reason f) =
-      let same = one_restore kind well heads level bytes ok (Refused place section reason) (Back m taken) (inr f) r in cc
-
 -- the trace of events is that of their lines
 pub written_events : {S : Type 0} (kind : Family S) (events : List Event) (m : S) (o o' : Outlet) (e : Option Ending) → WritesAs (trace_from kind events m) o o' e → WritesAs (trace_from kind (events_of (event_lines events)) m) o o' e
 written_events kind events m o o' e w = rw (events_back events) w
@@ -263,13 +243,10 @@ module _ {S : Type 0} (kind : Family S) (level : ℕ) (lines : List ScriptLine) 
 
 pub gives_some : {A T S : Type 0} (kind : Family S) (view : T → A) (step : Step A) (t : T) (i i' : Intake) → StepAs view step (Ok t)
     → i'.given ≤ i.given + most_given (kind.set kind.newest) → LoadGives kind step i i'
-gives_some kind view (Ends status line) t i i' h within = absurd h
-gives_some kind view _ t i i' h within = within
+gives_some kind view step t i i' h within = grind arith
 
 pub gives_none : {A S : Type 0} (kind : Family S) (step : Step A) (i : Intake) → LoadGives kind step i i
-gives_none kind Untold i = omega arith
-gives_none kind (Gives a) i = omega arith
-gives_none kind (Ends status line) i = refl
+gives_none kind step i = grind arith
 
 -- the outcome for the board with this number, if the input is known
 abbrev pub loads_under : {S : Type 0} → Family S → ℕ → Option (List ℕ) → Option Held → List ScriptLine → Outcome → Type 0
@@ -282,52 +259,42 @@ pub record OneLoad {S : Type 0} (kind : Family S) (level : ℕ) (lines : List Sc
   pub is : Loads kind level lines bytes held outcome
   pub only : (other : Outcome) → Loads kind level lines bytes held other → other ≡ outcome
 
-module _ {S : Type 0} (kind : Family S) (well : WellFormed (kind.set kind.newest)) (heads : FitsHeads (kind.set kind.newest)) (level : ℕ) (lines : List ScriptLine) (bytes : List ℕ) (held : Option Held) (ok : IsBytes bytes) where
-  -- an invalid input
-  faulty-is : (place : ℕ) (section : Option ℕ) (reason : Reason) (f : IsFaultAt kind level bytes place section reason) (x : Outcome) → Loads kind level lines bytes held x
-      → x ≡ ended 1 (refused_line (kind.set kind.newest) place section reason) (place + f.0)
-  faulty-is place section reason f x (Traces board long s) =
-      let same = one_restore kind well heads level bytes ok (Refused place section reason) (Back board long) (inl f) s in cc
-  faulty-is place section reason f x (Faulty other section' reason' size g) =
-      let one = one_fault_holds (kind.set kind.newest) (kind.machine level ∷ []) bytes ok other place section' section reason' reason size f.0 g f.1 in
-      cc (one.places, one.sections, one.reasons, one.sizes)
-  faulty-is place section reason f x (Unfit other section' reason' g) =
-      absurd (no_fault kind well heads level bytes ok other g.images place section reason g.taken f)
+module _ {S : Type 0} (kind : Family S) (well : WellFormed (kind.set kind.newest)) (heads : FitsHeads (kind.set kind.newest)) (level : ℕ)
+    (lines : List ScriptLine) (bytes : List ℕ) (held : Option Held) (ok : IsBytes bytes) where
+  -- the outcome by what the bytes restore
+  abbrev said : (r : Restore S) → Restores kind level bytes r → Outcome
+  said (Back m taken) r = done (trace_of (answers_to kind (events_of lines) m)) held taken
+  said (Refused place section reason) (inl f) = ended 1 (refused_line (kind.set kind.newest) place section reason) (place + f.0)
+  said (Refused place section reason) (inr f) = ended 1 (refused_line (kind.set kind.newest) place section reason) place
 
-  -- a stream whose state no board has
-  unfit-is : (place : ℕ) (section : Option ℕ) (reason : Reason) (f : IsMisfitAt kind level bytes place section reason) (x : Outcome) → Loads kind level lines bytes held x
-      → x ≡ ended 1 (refused_line (kind.set kind.newest) place section reason) place
-  unfit-is place section reason f x (Traces board long s) =
-      let same = one_restore kind well heads level bytes ok (Refused place section reason) (Back board long) (inr f) s in cc
-  unfit-is place section reason f x (Faulty other section' reason' size g) =
-      absurd (no_fault kind well heads level bytes ok place f.images other section' reason' f.taken (size, g))
-  unfit-is place section reason f x (Unfit other section' reason' g) =
-      let same = one_restore kind well heads level bytes ok (Refused other section' reason') (Refused place section reason) (inr g) (inr f) in cc
+  is_said : (r : Restore S) (p : Restores kind level bytes r) → Loads kind level lines bytes held (said r p)
+  is_said (Back m taken) p = Traces m taken p
+  is_said (Refused place section reason) (inl f) = Faulty place section reason f.0 f.1
+  is_said (Refused place section reason) (inr f) = Unfit place section reason f
 
-  by : (r : Restore S) → Restores kind level bytes r → OneLoad kind level lines bytes held
-  by (Back m taken) r = record {
-    outcome = done (trace_of (answers_to kind (events_of lines) m)) held taken;
-    is = Traces m taken r;
-    only = λ other l. done_is kind well heads level lines bytes held m taken other ok r l;
-  }
-  by (Refused place section reason) (inl f) = record {
-    outcome = ended 1 (refused_line (kind.set kind.newest) place section reason) (place + f.0);
-    is = Faulty place section reason f.0 f.1;
-    only = faulty-is place _ reason f;
-  }
-  by (Refused place section reason) (inr f) = record {
-    outcome = ended 1 (refused_line (kind.set kind.newest) place section reason) place;
-    is = Unfit place section reason f;
-    only = unfit-is place _ reason f;
-  }
+  said_of : (x : Outcome) → Loads kind level lines bytes held x → (r : Restore S) × (p : Restores kind level bytes r) × (x ≡ said r p)
+  said_of _ (Traces board long p) = (Back board long, p, refl)
+  said_of _ (Faulty place section reason size f) = (Refused place section reason, inl (size, f), refl)
+  said_of _ (Unfit place section reason f) = (Refused place section reason, inr f, refl)
+
+  one_said : (r : Restore S) (p q : Restores kind level bytes r) → said r q ≡ said r p
+  one_said (Back m taken) p q = refl
+  one_said (Refused place section reason) (inl f) (inl g) =
+      let one = one_fault_holds (kind.set kind.newest) (kind.machine level ∷ []) bytes ok place place section section reason reason f.0 g.0 f.1 g.1 in
+      rw (one.sizes)
+  one_said (Refused place section reason) (inl f) (inr g) = absurd (no_fault kind well heads level bytes ok place g.images place section reason g.taken f)
+  one_said (Refused place section reason) (inr f) (inl g) = absurd (no_fault kind well heads level bytes ok place f.images place section reason f.taken g)
+  one_said (Refused place section reason) (inr f) (inr g) = refl
+
+  pub loads_same : (x y : Outcome) → Loads kind level lines bytes held x → Loads kind level lines bytes held y → y ≡ x
+  loads_same x y p q =
+      let a = said_of x p in
+      let b = said_of y q in
+      let same : a.0 ≡ b.0 = one_restore kind well heads level bytes ok a.0 b.0 a.1 b.1 in
+      b.2 ∙ subst (λ (r : Restore S). (p : Restores kind level bytes r) → said b.0 b.1 ≡ said r p) (sym same) (λ p. one_said b.0 p b.1) a.1 ∙ sym a.2
 
   pub loads_one : OneLoad kind level lines bytes held
-  loads_one = let some = bytes_come kind well heads level bytes ok in by some.0 some.1
-
--- so two are the same
-pub loads_same : {S : Type 0} (kind : Family S) → WellFormed (kind.set kind.newest) → FitsHeads (kind.set kind.newest) → (level : ℕ) (lines : List ScriptLine)
-    (bytes : List ℕ) (held : Option Held) (x y : Outcome)
-    → IsBytes bytes → Loads kind level lines bytes held x → Loads kind level lines bytes held y → y ≡ x
-loads_same kind well heads level lines bytes held x y ok p q =
-    let one = loads_one kind well heads level lines bytes held ok in
-    cc (one.only y q, one.only x p)
+  loads_one =
+      let some = bytes_come kind well heads level bytes ok in
+      let is = is_said some.0 some.1 in
+      record { outcome = said some.0 some.1; is = is; only = λ other l. loads_same _ other is l }

@@ -16,7 +16,7 @@ returns-in-Ok g c =
     let reads = c.in-Ok.ensures.reads in
     let written = written_events f c.args.events.now c.restore.new.self.state out out' e c.go_on.ensures in
     record {
-      runs = seen_runs (Loads f number lines) (loads_same f stands.well stands.heads number lines) (λ held bytes x p. p) (g.met.I.Source.octets c.args.input.now)
+      runs = seen_runs (Loads f number lines) (λ bytes held x y ok p q. loads_same f stands.well stands.heads number lines bytes held ok x y p q) (λ held bytes x p. p) (g.met.I.Source.octets c.args.input.now)
           (λ shelf shelf' held. trace_seen f number lines c.restore.new.self e held reads written)
           (λ shelf asks. traced_so shelf (draws_took reads.takes) _ out out' e c.go_on.ensures);
       given = within f number c.restore.new.self (Ok tt) reads;
@@ -33,7 +33,7 @@ returns-in-Err-Refused g c =
     let reads = rw c.in-Err-Refused.field-0-is at c.in-Err-Refused.ensures.reads in
     let said = c.refused_line.ensures ∙ ap (λ s. refused_line s r.at r.section r.reason) c.set.ensures in
     record {
-      runs = seen_runs (Loads f number lines) (loads_same f stands.well stands.heads number lines) (λ held bytes x p. p) (g.met.I.Source.octets c.args.input.now)
+      runs = seen_runs (Loads f number lines) (λ bytes held x y ok p q. loads_same f stands.well stands.heads number lines bytes held ok x y p q) (λ held bytes x p. p) (g.met.I.Source.octets c.args.input.now)
           (λ shelf shelf' held. refusal_seen f number lines c.restore.new.self r line reads said)
           (λ shelf asks. refused_so shelf (draws_took reads.takes) (outlet g.O.Sink c.args.out.now) line);
       given = within f number c.restore.new.self (Err c.in-Err-Refused.field-0) c.in-Err-Refused.ensures.reads;
