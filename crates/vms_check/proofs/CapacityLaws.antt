@@ -1,9 +1,8 @@
 -- What is left of a test says the same, and the least capacity that a number counts.
-use Rattle.vms_check.proofs.Facade.{◌≡◌, ℕ, Bool, true, false, refl, sym, ◌∙◌, ◌||◌, and-true, and-false, or-true, or-false, and_parts}
-use Rattle.vms_check.proofs.Facade.{Formula, AtLeast, Below, Cell, Not, And, Or, truth, Reduced, Known, Open, not_reduced, and_reduced, or_reduced, reduced}
-use Rattle.vms_check.proofs.Facade.{truth_of, Rel, Own, Parent, names_well, nobody, ◌≤◌, List, ◌∷◌, min, Some, None, arith, [], Item, Counted}
-use Rattle.vms_check.proofs.Facade.{counted, Field, least_from, zero, suc, AllByRecursion, slice_get, all_right, eq-eqb, least_of, absent_hold, bound, greatest}
-use Rattle.vms_check.proofs.Facade.{has_room}
+use Rattle.vms_check.proofs.Facade.{◌≡◌, ℕ, Bool, true, refl, sym, ◌∙◌, ◌||◌, and-true, and-false, or-true, or-false, and_parts, Formula}
+use Rattle.vms_check.proofs.Facade.{AtLeast, Below, Cell, Not, And, Or, truth, Reduced, Known, Open, not_reduced, and_reduced, or_reduced, reduced, truth_of}
+use Rattle.vms_check.proofs.Facade.{Rel, Own, Parent, names_well, nobody, ◌≤◌, List, ◌∷◌, min, Some, None, arith, [], Item, Counted, counted, Field}
+use Rattle.vms_check.proofs.Facade.{least_from, zero, suc, AllByRecursion, slice_get, all_right, eq-eqb, least_of, absent_hold, bound, greatest, has_room}
 use Rattle.vms_check.proofs.PairLaws.{at_every, room_needed}
 use Rattle.std.proofs.Common.{not, ◌&&◌}
 use Rattle.vms_check.specs.Comparing as comparing

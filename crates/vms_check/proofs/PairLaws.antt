@@ -3,7 +3,7 @@ use Rattle.vms_check.proofs.Facade.{◌≡◌, ℕ, suc, ◌+◌, List, ◌∷�
 use Rattle.vms_check.proofs.Facade.{Place, first_answer, both_none, failing_pair, in_new, each, ◌≤◌, ◌&&◌, ◌==◌, if◌then◌else◌, and_parts}
 use Rattle.vms_check.proofs.Facade.{AllByRecursion, and_from, cases_Bool, eq-eqb, eqb-true, inl, inr, nat_tests, leb-true, le-leb, Formula, Field, Desc}
 use Rattle.vms_check.proofs.Facade.{is_nothing, same_rest, same_reduced, Comparer, Entry, absent_hold, bound, has_room, holds_as_much, is_absent, is_covered}
-use Rattle.vms_check.proofs.Facade.{pair_rules, uncovered_rules, Reduced, Known, Open, left_of, presence, tree_of, field_reduced, Struct, Count, Counted, Part}
+use Rattle.vms_check.proofs.Facade.{pair_rules, uncovered_rules, Reduced, Known, left_of, presence, tree_of, field_reduced, Struct, Count, Counted, Part}
 use Rattle.vms_check.proofs.Facade.{counted, AreAlike, ArePaired, in_old, IsFirst, Present, Side, zero, ◌<◌, ◌++◌, length, get_or, take, map, replicate}
 use Rattle.vms_check.proofs.Facade.{sym, ap, ◌∙◌, drop, add-one, not, ne_eqb, slice_get-get_or, slice_get-map, slice_get_past, length-map, map-append}
 use Rattle.vms_check.proofs.Facade.{take-map, take_more, drop_more, no_field, field_of, get_map_at, entry_of, position_from, fields_from, count_present}

@@ -4,17 +4,15 @@ use Rattle.vms_check.proofs.CapacityLaws.{IfOpen, IsByParts, all_least, counted_
 use Rattle.vms_check.proofs.Facade.{◌≡◌, ℕ, zero, suc, ◌≤◌, List, ◌∷◌, ◌++◌, Bool, true, false, Some, refl, sym, ap, ◌∙◌, arith}
 use Rattle.vms_check.proofs.Facade.{[], Option, None, inr, ◌+◌, ◌<◌, length, get_or, ◌==◌, ◌&&◌, nat_lt, slice_get, eq-eqb, and_parts, le-leb}
 use Rattle.vms_check.proofs.Facade.{leb-true, and_from, eqb-true, or_left, or_right, slice_get-get_or, bytes_eq, bytes_eq-Decides, any_passes_from_place, Item}
-use Rattle.vms_check.proofs.Facade.{Count, One, Fixed, Counted, counted, no_desc, Field, Formula, Cell, Desc, Sub, Device, Set, bound, holds_as_much, is_absent}
+use Rattle.vms_check.proofs.Facade.{Count, Counted, counted, no_desc, Field, Formula, Cell, Desc, Sub, Device, Set, bound, holds_as_much, is_absent}
 use Rattle.vms_check.proofs.Facade.{same_constant, same_count, same_item, same_place, same_reduced, same_rest, same_test, Compatible, Entry, entry_of, is_found}
-use Rattle.vms_check.proofs.Facade.{Num, Equal, Unused, Struct, Own, has_no_test, is_num, is_one, is_steady, is_steady_in, names_well, nobody, count_names_well}
-use Rattle.vms_check.proofs.Facade.{is_counting, is_earlier_in, test_names_well, same_number_itself, untested, Clean, struct_clean, device_parts, sub_clean}
-use Rattle.vms_check.proofs.Facade.{device_found, sub_found, Reduced, Known, Open, left_of, presence, reduced, field_reduced, position_in, fields_from, Rel}
-use Rattle.vms_check.proofs.Facade.{find_device, is_version_of, is_one_of, WellFormed, struct_rules, device_rules, sub_rules, ArePaired, DescsFit, DevicesFit}
-use Rattle.vms_check.proofs.Facade.{IsSubFor, fields_at, AllByRecursion}
+use Rattle.vms_check.proofs.Facade.{Own, has_no_test, is_num, is_one, is_steady, is_steady_in, names_well, nobody, count_names_well, is_counting, is_earlier_in}
+use Rattle.vms_check.proofs.Facade.{test_names_well, untested, Clean, struct_clean, device_parts, sub_clean, device_found, sub_found, Reduced, left_of}
+use Rattle.vms_check.proofs.Facade.{presence, reduced, field_reduced, position_in, fields_from, Rel, find_device, is_version_of, is_one_of, WellFormed}
+use Rattle.vms_check.proofs.Facade.{struct_rules, device_rules, sub_rules, ArePaired, DescsFit, DevicesFit, IsSubFor, fields_at, AllByRecursion}
 use Rattle.vms_check.specs.Comparing.{least_of}
 use Rattle.std.specs.Prelude.{nat_le}
 use denote.Enum.Bare.{true_same}
-use Rattle.vms_kinds.specs.contracts.Kind.{the_type as kind_type}
 use Rattle.vms_spec.specs.contracts.Rel.{the_type as rel_type}
 
 -- ---- What a number can be is at most each capacity that it counts.

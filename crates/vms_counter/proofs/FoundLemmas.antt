@@ -31,9 +31,7 @@ put_are set images k image are lt is = record {
   ];
 }
 
--- ---- The result of trying the candidates in turn.
-
--- ---- the machine
+-- ---- The result of trying the candidates in turn: the machine.
 
 pub named : (machines : List (List ℕ)) (machine : Option ℕ) → IfSome (at_option machines machine) (λ m. is_one_of machines m ≡ true)
 named machines machine = by (at_option machines machine) refl

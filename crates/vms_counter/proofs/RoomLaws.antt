@@ -72,8 +72,6 @@ read_bytes set given told bytes items n has same is of_structs of_devices = has 
 
 -- ---- no stream of a well-formed set fills the room that is made for it
 
--- ---- No stream of a set fills the room that is made for it.
-
 -- a name that is short enough for one byte of length
 abbrev pub IsShort : sets.Desc → Type 0
 IsShort d = length d.name ≤ LONGEST_NAME
