@@ -1,27 +1,23 @@
 -- What is read of a description is exactly what it says.
-use Rattle.vms_analyze.proofs.Facade.{map-map, ◌≡◌, ℕ, Bool, true, ◌&&◌, ◌||◌, ◌==◌, nat_le, if◌then◌else◌, List, [], Option, Some}
-use Rattle.vms_analyze.proofs.Facade.{None, ℤ, codes, refl, inl, ap, ◌∙◌, ◌∷◌, map, IfSome, Ordering, Equal, subst, ◌+◌, drop, bytes_eq}
+use Rattle.vms_analyze.proofs.Facade.{arith, map-map, ◌≡◌, ℕ, Bool, true, ◌&&◌, ◌||◌, ◌==◌, nat_le, if◌then◌else◌, List, [], Option}
+use Rattle.vms_analyze.proofs.Facade.{Some, None, ℤ, codes, refl, inl, ap, ◌∙◌, ◌∷◌, map, IfSome, Ordering, Equal, subst, ◌+◌, drop, bytes_eq}
 use Rattle.vms_analyze.proofs.Facade.{is_utf8, and_parts, eqb-true, and_from, eq-eqb, bytes_eq-Decides, list_all, nat_cmp, match_ordering, slice_cmp, Data}
 use Rattle.vms_analyze.proofs.Facade.{number, string, object, no_members, member, array, Items, Members, of_integer, get, get_member, as_array, fits, Kind}
 use Rattle.vms_analyze.proofs.Facade.{width, MOST_UNUSED, LONGEST_NAME, in_range, kind_word, kind_named, word_named, tells_kind, natural, entry_tree, list_tree}
 use Rattle.vms_analyze.proofs.Facade.{LONGEST_PATH, Told, Sent, Kept, Fixed, Skipped, inr, told_entry, is_path, is_good, ToldSub, told_sub, ToldDevice}
-use Rattle.vms_analyze.proofs.Facade.{told_device, told_tree, fits_four, is_kept, is_good_sub, is_good_device, IsSorted, AreSorted, HoldSorted, only, text_at}
-use Rattle.vms_analyze.proofs.Facade.{path_at, natural_at, whole_at, sent_keys, kept_keys, unprinted, sent_as, sent_in, kept_as, kept_in, element_in, next}
-use Rattle.vms_analyze.proofs.Facade.{four_at, flag_at, list_at, each, sub_keys, sub_in, subs_in, device_keys, device_in, devices_in, items_of, read, value_in}
-use Rattle.vms_analyze.proofs.Facade.{is_width, Tells, ◌⊎◌, false}
+use Rattle.vms_analyze.proofs.Facade.{told_device, told_tree, fits_four, is_kept, is_good_sub, is_good_device, IsSorted, AreSorted, HoldSorted, only, path_at}
+use Rattle.vms_analyze.proofs.Facade.{sent_keys, kept_keys, unprinted, sent_as, sent_in, kept_as, kept_in, element_in, next, list_at, each, sub_keys, sub_in}
+use Rattle.vms_analyze.proofs.Facade.{device_keys, device_in, devices_in, items_of, read, value_in, is_width, Tells, ◌⊎◌, false}
 use Rattle.vms_analyze.proofs.MembersRead.{is_picked, after, first_then, only_is, only_so, text_is, path_is, natural_is, whole_is, whole_back, Says, under}
 use Rattle.vms_analyze.proofs.MembersRead.{IsPathAt, four_is, flag_is, list_is, each_says, each_back, read_sorted}
 use Rattle.vms_analyze.proofs.Shapes.{sub_parts, sub_from, device_parts, device_from}
-use Rattle.vms_analyze.specs.Read.{elements_in}
 
 -- what a choice gives is given by one of its sides
 if_gives : {A : Type 0} (b : Bool) (x y : Option A) (a : A) → (if b then x else y) ≡ Some a → ((b ≡ true) × (x ≡ Some a)) ⊎ ((b ≡ false) × (y ≡ Some a))
-if_gives true x y a e = inl (refl, e)
-if_gives false x y a e = inr (refl, e)
+if_gives b x y a e = grind arith
 
 when_gives : {A : Type 0} (b : Bool) (x : Option A) (a : A) → (if b then x else None) ≡ Some a → (b ≡ true) × (x ≡ Some a)
-when_gives true x a e = (refl, e)
-when_gives false x a e = cc
+when_gives b x a e = grind arith
 
 -- ---- What is read of an element is the element whose entry the value is, and of each good element's entry that element is read.
 
@@ -74,16 +70,13 @@ sent_is path size word (Some kind) t f e =
 
 sent_says : (d : Data) → IsSorted d → fits sent_keys [] d ≡ true → (t : Told) → sent_in d ≡ Some t → Says element_tree is_good d t
 sent_says d sorted h t e =
-    let a = after (path_at LONGEST_PATH (codes "name") d) _ t e in
-    let b = after (natural_at (codes "size") d) _ t a.then in
-    let c = after (text_at (codes "type") d) _ t b.then in
-    let path = path_is LONGEST_PATH (codes "name") d a.value a.first in
+    let a = after _ (path_is LONGEST_PATH (codes "name") d) _ t e in
+    let b = after _ (natural_is (codes "size") d) _ t a.then in
+    let c = after _ (text_is (get (codes "type") d)) _ t b.then in
     let s = sent_is a.value b.value c.value (kind_named c.value) t refl c.then in
     record {
-      tree_is =
-          is_picked sent_keys ((refl, (refl, tt)), ((refl, tt), (tt, tt))) d sorted h
-          ∙ rw (path.is, natural_is (codes "size") d b.value b.first, text_is (get (codes "type") d) c.value c.first) s.tree;
-      good_is = s.good path.good;
+      tree_is = is_picked sent_keys ((refl, (refl, tt)), ((refl, tt), (tt, tt))) d sorted h ∙ rw (a.is.is, b.is, c.is) s.tree;
+      good_is = s.good a.is.good;
     }
 
 -- ---- what doesn't
@@ -101,21 +94,16 @@ kept_is path size word value (Some kind) t f e =
 
 kept_says : (d : Data) → IsSorted d → fits kept_keys [] d ≡ true → (t : Told) → kept_in d ≡ Some t → Says element_tree is_good d t
 kept_says d sorted h t e =
-    let a = after (path_at LONGEST_PATH (codes "name") d) _ t e in
-    let b = after (natural_at (codes "size") d) _ t a.then in
-    let c = after (text_at (codes "type") d) _ t b.then in
-    let v = after (whole_at (codes "value") d) _ t c.then in
-    let path = path_is LONGEST_PATH (codes "name") d a.value a.first in
+    let a = after _ (path_is LONGEST_PATH (codes "name") d) _ t e in
+    let b = after _ (natural_is (codes "size") d) _ t a.then in
+    let c = after _ (text_is (get (codes "type") d)) _ t b.then in
+    let v = after _ (whole_is (codes "value") d) _ t c.then in
     let s = kept_is a.value b.value c.value v.value (kind_named c.value) t refl v.then in
     record {
       tree_is =
-          is_picked kept_keys ((refl, (refl, (refl, tt))), ((refl, (refl, tt)), ((refl, tt), (tt, tt)))) d sorted h ∙ rw (
-            path.is,
-            natural_is (codes "size") d b.value b.first,
-            text_is (get (codes "type") d) c.value c.first,
-            whole_is (codes "value") d v.value v.first,
-          ) s.tree;
-      good_is = s.good path.good;
+          is_picked kept_keys ((refl, (refl, (refl, tt))), ((refl, (refl, tt)), ((refl, tt), (tt, tt)))) d sorted h
+          ∙ rw (a.is.is, b.is, c.is, v.is) s.tree;
+      good_is = s.good a.is.good;
     }
 
 pub element_says : (d : Data) → IsSorted d → (t : Told) → element_in d ≡ Some t → Says element_tree is_good d t
@@ -173,9 +161,9 @@ module _ {A : Type 0} (tree : A → Data) (good : A → Bool) (says : Data → O
   list_says : ((d : Data) → IsSorted d → (a : A) → says d ≡ Some a → Says tree good d a) → (key : List ℕ) (d : Data) → IsSorted d → (list : List A)
       → next (list_at key d) (each says) ≡ Some list → ListAt tree good key d list
   list_says one key d sorted list e =
-      let a = after (list_at key d) (each says) list e in
-      let s = each_says tree good says one a.value (list_sorted key d a.value sorted a.first) list a.then in
-      record { is = rw (list_is (get key d) a.value a.first, s.trees_are); fine = s.good_are }
+      let a = after {P = λ (ds : Items). list_at key d ≡ Some ds} _ (λ ds at. at) (each says) list e in
+      let s = each_says tree good says one a.value (list_sorted key d a.value sorted a.is) list a.then in
+      record { is = rw (list_is (get key d) a.value a.is, s.trees_are); fine = s.good_are }
 
 entries_back : (ts : List Told) → list_all is_good ts ≡ true → each element_in (items_of (map entry_tree (map told_entry ts))) ≡ Some ts
 entries_back ts h = rw (map-map entry_tree told_entry ts) (each_back element_tree is_good element_in element_back ts h)
@@ -195,23 +183,21 @@ by_keys : {A : Type 0} (tree : A → Data) (good : A → Bool) (keys : List (Lis
     → (fits keys [] d ≡ true → (name : List ℕ) → IsPathAt LONGEST_NAME (codes "name") d name → rest name ≡ Some a → Says tree good d a) → Says tree good d a
 by_keys tree good keys rest d a e says =
     let k = when_gives (fits keys [] d) _ a e in
-    let n = after (path_at LONGEST_NAME (codes "name") d) rest a k.1 in
-    says k.0 n.value (path_is LONGEST_NAME (codes "name") d n.value n.first) n.then
+    let n = after _ (path_is LONGEST_NAME (codes "name") d) rest a k.1 in
+    says k.0 n.value n.is n.then
 
 pub sub_says : (d : Data) → IsSorted d → (s : ToldSub) → sub_in d ≡ Some s → Says told_sub is_good_sub d s
 sub_says d sorted s e = by_keys told_sub is_good_sub sub_keys _ d s e (λ h name named rest.
-    let b = after (flag_at (codes "sent") d) _ s rest in
-    let c = after (four_at (codes "version") d) _ s b.then in
-    let l = after (elements_in d) _ s c.then in
+    let b = after _ (flag_is (get (codes "sent") d)) _ s rest in
+    let c = after _ (four_is (codes "version") d) _ s b.then in
+    let l = after _ (list_says element_tree is_good element_in element_says (codes "fields") d sorted) _ s c.then in
     let o = only_is (b.value || list_all is_kept l.value) (a_sub name b.value c.value l.value) s l.then in
-    let version = four_is (codes "version") d c.value c.first in
-    let elements = list_says element_tree is_good element_in element_says (codes "fields") d sorted l.value l.first in
     record {
       tree_is =
           is_picked sub_keys ((refl, (refl, (refl, tt))), ((refl, (refl, tt)), ((refl, tt), (tt, tt)))) d sorted h
-          ∙ rw (entries_are d l.value elements.is, named.is, flag_is (get (codes "sent") d) b.value b.first, version.is) (ap told_sub o.same);
+          ∙ rw (b.is, named.is, c.is.is, entries_are d l.value l.is.is) (ap told_sub o.same);
       good_is =
-          cc (sub_from (a_sub name b.value c.value l.value) (record { name = named.good; version = version.good; elements = elements.fine; kept = o.so }));
+          cc (sub_from (a_sub name b.value c.value l.value) (record { name = named.good; version = c.is.good; elements = l.is.fine; kept = o.so }));
     })
 
 pub sub_back : (s : ToldSub) → is_good_sub s ≡ true → sub_in (told_sub s) ≡ Some s
@@ -228,22 +214,18 @@ a_device name instance version elements subs = record { name = name; instance = 
 
 pub device_says : (d : Data) → IsSorted d → (t : ToldDevice) → device_in d ≡ Some t → Says told_device is_good_device d t
 device_says d sorted t e = by_keys told_device is_good_device device_keys _ d t e (λ h name named rest.
-    let b = after (four_at (codes "instance_id") d) _ t rest in
-    let c = after (four_at (codes "version") d) _ t b.then in
-    let l = after (elements_in d) _ t c.then in
-    let m = after (subs_in d) _ t l.then in
+    let b = after _ (four_is (codes "instance_id") d) _ t rest in
+    let c = after _ (four_is (codes "version") d) _ t b.then in
+    let l = after _ (list_says element_tree is_good element_in element_says (codes "fields") d sorted) _ t c.then in
+    let m = after _ (list_says told_sub is_good_sub sub_in sub_says (codes "subsections") d sorted) _ t l.then in
     let same : a_device name b.value c.value l.value m.value ≡ t = Rattle.std.proofs.lemmas.Option.same_Some _ _ m.then in
-    let instance = four_is (codes "instance_id") d b.value b.first in
-    let version = four_is (codes "version") d c.value c.first in
-    let elements = list_says element_tree is_good element_in element_says (codes "fields") d sorted l.value l.first in
-    let subs = list_says told_sub is_good_sub sub_in sub_says (codes "subsections") d sorted m.value m.first in
     record {
       tree_is =
           is_picked device_keys ((refl, (refl, (refl, (refl, tt)))), ((refl, (refl, (refl, tt))), ((refl, (refl, tt)), ((refl, tt), (tt, tt))))) d sorted h
-          ∙ rw (entries_are d l.value elements.is, instance.is, named.is, subs.is, version.is) (ap told_device same);
+          ∙ rw (entries_are d l.value l.is.is, b.is.is, named.is, m.is.is, c.is.is) (ap told_device same);
       good_is =
           cc (device_from (a_device name b.value c.value l.value m.value)
-          (record { name = named.good; instance = instance.good; version = version.good; elements = elements.fine; subs = subs.fine }));
+          (record { name = named.good; instance = b.is.good; version = c.is.good; elements = l.is.fine; subs = m.is.fine }));
     })
 
 pub device_back : (t : ToldDevice) → is_good_device t ≡ true → device_in (told_device t) ≡ Some t
@@ -272,9 +254,9 @@ value_sorted text d e = rw (when_gives (is_utf8 text) (read text) d e).1 at (rea
 
 pub tells_if : (input : List ℕ) (p : ℕ) (devices : List ToldDevice) → next (value_in (drop (p + 5) input)) devices_in ≡ Some devices → Tells input p devices
 tells_if input p devices e =
-    let a = after (value_in (drop (p + 5) input)) devices_in devices e in
-    let s = devices_say a.value (value_sorted (drop (p + 5) input) a.value a.first) devices a.then in
-    record { tree = rw (a.first, s.tree_is); good = s.good_is }
+    let a = after {P = λ (d : Data). value_in (drop (p + 5) input) ≡ Some d} _ (λ d is. is) devices_in devices e in
+    let s = devices_say a.value (value_sorted (drop (p + 5) input) a.value a.is) devices a.then in
+    record { tree = rw (a.is, s.tree_is); good = s.good_is }
 
 pub told_back : (input : List ℕ) (p : ℕ) (devices : List ToldDevice) → Tells input p devices → next (value_in (drop (p + 5) input)) devices_in ≡ Some devices
 told_back input p devices t = first_then devices_in t.tree (each_back told_device is_good_device device_in device_back devices t.good)

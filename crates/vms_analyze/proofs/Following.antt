@@ -59,8 +59,7 @@ takes_head name instance version old id small = record { is = λ more. whole mor
 -- ---- one after the other
 
 pub behind_none : (f : Found) → behind [] f ≡ f
-behind_none (Lines more) = refl
-behind_none (Differs place) = refl
+behind_none f = grind arith
 
 pub behind_both : (xs ys : List (List ℕ)) (f : Found) → behind xs (behind ys f) ≡ behind (xs ++ ys) f
 behind_both xs ys (Lines more) = rw (append_assoc xs ys more)

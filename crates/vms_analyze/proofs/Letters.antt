@@ -1,9 +1,9 @@
 -- Names of a well-formed set and paths are of the bytes that a description may have.
 use Rattle.vms_analyze.proofs.Facade.{decimal_all, ◌≡◌, ℕ, ◌+◌, ◌<◌, ◌≤◌, Bool, true, ◌&&◌, nat_le, List, [], ◌∷◌, ◌++◌}
 use Rattle.vms_analyze.proofs.Facade.{elements_each, what_of, length, length-append, refl, ap, ◌∙◌, arith, get_or, ℤ, list_all, AllByRecursion}
-use Rattle.vms_analyze.proofs.Facade.{and_parts, leb-true, le-leb, and_from, list_all-append, Count, One}
-use Rattle.vms_analyze.proofs.Facade.{is_name_byte, is_name, is_sub_name, index_text, What, Constant, Filler, Rule, is_path_byte, is_path, sub_name_is, Item}
-use Rattle.vms_analyze.proofs.Facade.{Num, Unused, MOST_UNUSED, in_range, defaults_well, is_small_item, Field, Desc, Set, no_desc, elements_in}
+use Rattle.vms_analyze.proofs.Facade.{and_parts, leb-true, le-leb, and_from, list_all-append, Count, is_name_byte, is_name, is_sub_name, index_text, What}
+use Rattle.vms_analyze.proofs.Facade.{Constant, Filler, Rule, is_path_byte, is_path, sub_name_is, Item, MOST_UNUSED, in_range, defaults_well, is_small_item}
+use Rattle.vms_analyze.proofs.Facade.{Field, Desc, Set, no_desc, elements_in}
 use Rattle.std.specs.Fmt.{decimal}
 use Rattle.vms_elements.specs.Elements.{Number, Element, behind}
 
@@ -65,8 +65,7 @@ decimal_bytes : (n : ℕ) → list_all is_path_byte (decimal n) ≡ true
 decimal_bytes n = path_bytes (decimal n) (decimal_all _ digit_byte n)
 
 pub index_bytes : (count : Count) (e : ℕ) → list_all is_path_byte (index_text count e) ≡ true
-index_bytes One e = refl
-index_bytes _ e = every_both (91 ∷ decimal e) (93 ∷ []) (decimal_bytes e) refl
+index_bytes count e = grind (arith, every_both, decimal_bytes)
 
 -- ---- Each element of a part of a well-formed set has a path of the right bytes, and may be described.
 
@@ -102,8 +101,7 @@ AreGoodFields = AllByRecursion IsGoodField
 -- ---- elements of fields
 
 has_path : (w : What) (name : List ℕ) → 1 ≤ length name → HasPath w name
-has_path (Rule holds) name h = tt
-has_path _ name h = h
+has_path w name h = grind arith
 
 behind_good : (f : Field) → is_name 32 f.name ≡ true → (e : ℕ) (step : ℕ × ℕ) (c p : Bool) (x : Element) → IsPart x
     → IsGoodElement (behind step (f.name ++ index_text f.count e) c p x)
@@ -116,9 +114,7 @@ behind_good f name e step c p x h =
     }
 
 what_good : (i : Item) (caps : List ℕ) (z : ℤ) → defaults_well i z ≡ true → is_small_item i ≡ true → IsGoodWhat (what_of i caps z)
-what_good (Num kind) caps z default small = default
-what_good (Unused k) caps z default small = small
-what_good _ caps z default small = tt
+what_good i caps z default small = grind arith
 
 pub elements_good : (set : Set) → ((j : ℕ) → AreGoodFields (get_or set.structs j no_desc).fields) → (d : Desc) → AreGoodFields d.fields
     → (v : ℕ) (n : List ℤ) (at : ℕ) → AllByRecursion IsGoodElement (elements_in set d v n at)

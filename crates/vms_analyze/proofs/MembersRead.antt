@@ -1,14 +1,15 @@
 -- What was read of an object's members and of a list's items, and keys in order.
 use Rattle.vms_analyze.proofs.Facade.{natural_at, four_at, whole_of, whole_at, each, Ordering, Less, Equal, Greater, ◌≡◌, ℕ, Bool, true, false}
-use Rattle.vms_analyze.proofs.Facade.{◌&&◌, List, [], ◌∷◌, ◌++◌, append-nil, unwrap_or, Option, Some, None, refl, sym, ap}
-use Rattle.vms_analyze.proofs.Facade.{◌∙◌, IfSome, option_map, option_and_then, map, ℤ, pos, negsuc, arith, and_parts, le-ltb, nat_list_cmp_total}
-use Rattle.vms_analyze.proofs.Facade.{exact_bytes, is_eq-slice_cmp, nat_cmp, match_ordering, ordering_reverse, is_eq, slice_cmp, list_all, Data, null, boolean}
-use Rattle.vms_analyze.proofs.Facade.{number, string, array, object, Members, no_members, member, put, Items, item, unsigned, negative, no_items, get}
-use Rattle.vms_analyze.proofs.Facade.{get_member, as_bool, as_number, as_str, as_array, as_u64, of_integer, is_one_of, has, has_no_others, has_all, fits}
-use Rattle.vms_analyze.proofs.Facade.{IsLess, IsBefore, AreOrdered, keys_of, IsSorted, AreSorted, HoldSorted, tokens, number_of, of_json, of_items, of_members}
-use Rattle.vms_analyze.proofs.Facade.{max_depth, read, items_of, natural, is_path, fits_four, next, only, text_at, path_at}
+use Rattle.vms_analyze.proofs.Facade.{◌&&◌, List, [], ◌∷◌, ◌++◌, append-nil, unwrap_or, Option, Some, None, refl, sym, ap, ◌∙◌, IfSome}
+use Rattle.vms_analyze.proofs.Facade.{option_map, option_and_then, map, ℤ, arith, and_parts, nat_list_cmp_total, exact_bytes, is_eq-slice_cmp, nat_cmp}
+use Rattle.vms_analyze.proofs.Facade.{match_ordering, ordering_reverse, is_eq, slice_cmp, list_all, Data, null, boolean, number, string, array, object, Members}
+use Rattle.vms_analyze.proofs.Facade.{no_members, member, put, Items, item, unsigned, no_items, get, get_member, as_bool, as_number, as_str, as_array, as_u64}
+use Rattle.vms_analyze.proofs.Facade.{of_integer, is_one_of, has, has_no_others, has_all, fits, IsLess, IsBefore, AreOrdered, keys_of, IsSorted, AreSorted}
+use Rattle.vms_analyze.proofs.Facade.{HoldSorted, tokens, number_of, of_json, of_items, of_members, max_depth, read, items_of, natural, is_path, fits_four}
+use Rattle.vms_analyze.proofs.Facade.{next, only, path_at}
 use Rattle.vms_analyze.proofs.Shapes.{each_good}
 use Rattle.serde_json.specs.Data.{Num}
+use Rattle.std.proofs.lemmas.Option.{same_Some}
 use Rattle.json.specs.Json as json
 
 -- ---- An object whose keys are in order and are exactly these has them one after the other.
@@ -27,13 +28,7 @@ before_more k l (m ∷ keys) lt h = (nat_list_cmp_total.trans k l m lt h.0, befo
 
 put_before : (l k : List ℕ) (d : Data) (ms : Members) → IsLess l k → IsBefore l (keys_of ms) → IsBefore l (keys_of (put k d ms))
 put_before l k d no_members lt h = (lt, tt)
-put_before l k d (member m e ms) lt h = go (slice_cmp nat_cmp k m) (put_before l k d ms lt h.1)
-  where
-    go : (o : Ordering) → IsBefore l (keys_of (put k d ms))
-        → IsBefore l (keys_of (match_ordering o (member k d (member m e ms)) (member m d ms) (member m e (put k d ms))))
-    go Less more = (lt, h)
-    go Equal more = h
-    go Greater more = (h.0, more)
+put_before l k d (member m e ms) lt h = grind (arith, put_before l k d ms lt h.1)
 
 abbrev AreBoth : Members → Type 0
 AreBoth ms = AreOrdered (keys_of ms) × HoldSorted ms
@@ -133,17 +128,14 @@ is_picked keys h _ sorted e = cc
 -- ---- A value that was read has the keys of each object in order.
 
 by_map : {A B : Type 0} (P : A → Type 0) (Q : B → Type 0) (f : A → B) → ((a : A) → P a → Q (f a)) → (o : Option A) → IfSome o P → IfSome (option_map f o) Q
-by_map P Q f h None x = tt
-by_map P Q f h (Some a) x = h a x
+by_map P Q f h o x = grind arith
 
 by_then : {A B : Type 0} (P : A → Type 0) (Q : B → Type 0) (f : A → Option B) → ((a : A) → P a → IfSome (f a) Q) → (o : Option A) → IfSome o P
     → IfSome (option_and_then f o) Q
-by_then P Q f h None x = tt
-by_then P Q f h (Some a) x = h a x
+by_then P Q f h o x = grind arith
 
 any : {A : Type 0} (o : Option A) → IfSome o (λ _. Unit {0})
-any None = tt
-any (Some a) = tt
+any o = grind arith
 
 mutual
   sorted_json : (j : json.Json) → IfSome (of_json j) IsSorted
@@ -171,15 +163,15 @@ read_sorted text = if_parsed (option_and_then (λ p. json.if_last p.0 p.1) (json
 
 -- ---- What was read of the members of an object, and of a list's items.
 
--- something was read, and then this of it
-pub record After {A B : Type 0} (o : Option A) (f : A → Option B) (b : B) : Type 0 where
+-- something was read, of which this holds, and then this of it
+pub record After {A B : Type 0} (P : A → Type 0) (f : A → Option B) (b : B) : Type 0 where
   pub value : A
-  pub first : o ≡ Some value
+  pub is : P value
   pub then : f value ≡ Some b
 
-pub after : {A B : Type 0} (o : Option A) (f : A → Option B) (b : B) → next o f ≡ Some b → After o f b
-after None f b e = cc
-after (Some a) f b e = record { value = a; first = refl; then = e }
+pub after : {A B : Type 0} {P : A → Type 0} (o : Option A) → ((a : A) → o ≡ Some a → P a) → (f : A → Option B) (b : B) → next o f ≡ Some b → After P f b
+after None is f b e = cc
+after (Some a) is f b e = record { value = a; is = is a refl; then = e }
 
 -- and so it was read
 pub first_then : {A B : Type 0} {o : Option A} {a : A} {r : Option B} (f : A → Option B) → o ≡ Some a → f a ≡ r → next o f ≡ r
@@ -190,8 +182,7 @@ pub record Only {A : Type 0} (b : Bool) (a c : A) : Type 0 where
   pub same : a ≡ c
 
 pub only_is : {A : Type 0} (b : Bool) (a c : A) → only b a ≡ Some c → Only b a c
-only_is true a c e = record { so = refl; same = cc }
-only_is false a c e = cc
+only_is b a c e = grind arith
 
 pub only_so : {A : Type 0} (b : Bool) (a : A) → b ≡ true → only b a ≡ Some a
 only_so b a e = grind arith
@@ -211,9 +202,9 @@ pub record IsPathAt (most : ℕ) (key : List ℕ) (d : Data) (t : List ℕ) : Ty
 
 pub path_is : (most : ℕ) (key : List ℕ) (d : Data) (t : List ℕ) → path_at most key d ≡ Some t → IsPathAt most key d t
 path_is most key d t e =
-    let a = after (text_at key d) (λ text. only (is_path most text) text) t e in
+    let a = after _ (text_is (get key d)) (λ text. only (is_path most text) text) t e in
     let o = only_is (is_path most a.value) a.value t a.then in
-    record { is = text_is (get key d) t (rw (a.first, o.same)); good = rw o.same at o.so }
+    rw (← o.same) (record { is = a.is; good = o.so })
 
 pub flag_is : (o : Option Data) (b : Bool) → next o as_bool ≡ Some b → unwrap_or o null ≡ boolean b
 flag_is (Some (boolean b)) t e = cc
@@ -228,13 +219,12 @@ number_in (Some (number n)) t e = cc
 number_in _ t e = cc
 
 unsigned_is : (n : Num) (k : ℕ) → as_u64 n ≡ Some k → n ≡ unsigned k
-unsigned_is (unsigned m) k e = cc
-unsigned_is _ k e = cc
+unsigned_is n k e = grind arith
 
 pub natural_is : (key : List ℕ) (d : Data) (k : ℕ) → natural_at key d ≡ Some k → under key d ≡ natural k
 natural_is key d k e =
-    let a = after (next (get key d) as_number) as_u64 k e in
-    rw (number_in (get key d) a.value a.first, unsigned_is a.value k a.then)
+    let a = after _ (number_in (get key d)) as_u64 k e in
+    rw (a.is, unsigned_is a.value k a.then)
 
 pub record IsFourAt (key : List ℕ) (d : Data) (k : ℕ) : Type 0 where
   pub is : under key d ≡ natural k
@@ -242,22 +232,20 @@ pub record IsFourAt (key : List ℕ) (d : Data) (k : ℕ) : Type 0 where
 
 pub four_is : (key : List ℕ) (d : Data) (k : ℕ) → four_at key d ≡ Some k → IsFourAt key d k
 four_is key d k e =
-    let a = after (natural_at key d) (λ n. only (fits_four n) n) k e in
+    let a = after _ (natural_is key d) (λ n. only (fits_four n) n) k e in
     let o = only_is (fits_four a.value) a.value k a.then in
-    record { is = natural_is key d k (rw (a.first, o.same)); good = rw o.same at o.so }
+    rw (← o.same) (record { is = a.is; good = o.so })
 
 whole_is_of : (n : Num) (z : ℤ) → whole_of n ≡ Some z → n ≡ of_integer z
-whole_is_of (negative (pos m)) z e = let f = rw (le-ltb m 0 (omega arith)) at e in cc
-whole_is_of _ _ e = cc
+whole_is_of n z e = grind arith
 
 pub whole_is : (key : List ℕ) (d : Data) (z : ℤ) → whole_at key d ≡ Some z → under key d ≡ number (of_integer z)
 whole_is key d z e =
-    let a = after (next (get key d) as_number) whole_of z e in
-    rw (number_in (get key d) a.value a.first, whole_is_of a.value z a.then)
+    let a = after _ (number_in (get key d)) whole_of z e in
+    rw (a.is, whole_is_of a.value z a.then)
 
 pub whole_back : (z : ℤ) → whole_of (of_integer z) ≡ Some z
-whole_back (pos m) = refl
-whole_back (negsuc m) = refl
+whole_back z = grind arith
 
 -- ---- lists
 
@@ -270,26 +258,19 @@ pub record EachSays {A : Type 0} (tree : A → Data) (good : A → Bool) (ds : I
   pub trees_are : ds ≡ items_of (map tree list)
   pub good_are : list_all good list ≡ true
 
+says_more : {A : Type 0} {tree : A → Data} {good : A → Bool} {d : Data} {ds : Items} {list : List A} (x : A) (rest : List A) → x ∷ rest ≡ list
+    → Says tree good d x → EachSays tree good ds rest → EachSays tree good (item d ds) list
+says_more x rest e s more = rw (← e) (record { trees_are = rw (s.tree_is, more.trees_are); good_are = rw (s.good_is, more.good_are) })
+
 module _ {A : Type 0} (tree : A → Data) (good : A → Bool) (says : Data → Option A) where
   pub each_says : ((d : Data) → IsSorted d → (a : A) → says d ≡ Some a → Says tree good d a) → (ds : Items) → AreSorted ds → (list : List A)
       → each says ds ≡ Some list → EachSays tree good ds list
   each_says one no_items sorted [] e = record { trees_are = refl; good_are = refl }
   each_says one no_items sorted (b ∷ list) e = cc
-  each_says one (item d ds) sorted list e = go list a.value b.value (one d sorted.0 a.value a.first) (each_says one ds sorted.1 b.value b.first) b.then
-    where
-      a : After (says d) (λ a. next (each says ds) (λ rest. Some (a ∷ rest))) list
-      a = after (says d) (λ a. next (each says ds) (λ rest. Some (a ∷ rest))) list e
-
-      b : After (each says ds) (λ rest. Some (a.value ∷ rest)) list
-      b = after (each says ds) (λ rest. Some (a.value ∷ rest)) list a.then
-
-      go : (list : List A) (x : A) (rest : List A) → Says tree good d x → EachSays tree good ds rest → Some (x ∷ rest) ≡ Some list
-          → EachSays tree good (item d ds) list
-      go [] x rest s more e = cc
-      go (y ∷ others) x rest s more e =
-          let first : x ≡ y = cc in
-          let later : rest ≡ others = cc in
-          record { trees_are = rw (s.tree_is, more.trees_are, first, later); good_are = rw (← first, s.good_is, ← later, more.good_are) }
+  each_says one (item d ds) sorted list e =
+      let a = after _ (one d sorted.0) (λ a. next (each says ds) (λ rest. Some (a ∷ rest))) list e in
+      let b = after _ (each_says one ds sorted.1) (λ rest. Some (a.value ∷ rest)) list a.then in
+      says_more a.value b.value (same_Some _ _ b.then) a.is b.is
 
   pub each_back : ((a : A) → good a ≡ true → says (tree a) ≡ Some a) → (list : List A) → list_all good list ≡ true
       → each says (items_of (map tree list)) ≡ Some list

@@ -2,13 +2,13 @@
 use Rattle.vms_analyze.proofs.DevicesRead.{told_back, tells_if, not_told}
 use Rattle.vms_analyze.proofs.Facade.{TotalLaw, devices_in, ◌≡◌, ℕ, ◌+◌, ◌<◌, ◌≤◌, Bool, true, false, ◌==◌, List, length, take, refl}
 use Rattle.vms_analyze.proofs.Facade.{◌∙◌, arith, slice_index, ◌++◌, length-append, Err, sym, ap, append-nil, Vec, Global, Result, ◌≢◌, []}
-use Rattle.vms_analyze.proofs.Facade.{◌∷◌, drop, ◌-◌, Ok, length-drop, map, Option, Some, None, append_assoc, ⊎_elim, eq-eqb, cases_lt, get_or-take}
+use Rattle.vms_analyze.proofs.Facade.{◌∷◌, drop, ◌-◌, length-drop, map, Option, Some, None, append_assoc, ⊎_elim, eq-eqb, cases_lt, get_or-take}
 use Rattle.vms_analyze.proofs.Facade.{drop_all, take_all, map-append, NoneAfter, Nowhere, Passes, is_byte, IsPlace, IsLastPlace, longest_input, Listing}
 use Rattle.vms_analyze.proofs.Facade.{Refused, listing_of, Lists, IsTooLong, HasNone, HasNoShape, IsRead, Text, Intake, takes_both, takes_as, breaks_more}
 use Rattle.vms_analyze.proofs.Facade.{nothing_follows, Takes, Appended, IsWhole, TakesPiece, TakesInput, HasMore, NoInput, AnalyzeFault, ListsAs, IsListed}
-use Rattle.vms_analyze.proofs.Facade.{IsTooMuch, ListsTaken, ShowsAs, Found, Lines, Differs, Want, behind, found, Walk, left, Goes, WhyStopped, AtStart}
-use Rattle.vms_analyze.proofs.Facade.{WhyNone, Stop, Data, Items, no_items, item, next, each, ReadsAs, Unread, same_Some, ap₂, ToldDevice, wants, OneLaw}
-use Rattle.vms_analyze.proofs.Facade.{LongestLaw, zero, suc, ◌&&◌, get_or, and_parts, eqb-true, value_in, number_at, TellsPlace, HasListing}
+use Rattle.vms_analyze.proofs.Facade.{IsTooMuch, ListsTaken, ShowsAs, Differs, Want, behind, found, Walk, left, Goes, WhyStopped, AtStart, WhyNone, Stop, Data}
+use Rattle.vms_analyze.proofs.Facade.{Items, no_items, item, next, each, ReadsAs, Unread, same_Some, ap₂, ToldDevice, wants, OneLaw, LongestLaw, zero, suc}
+use Rattle.vms_analyze.proofs.Facade.{◌&&◌, get_or, and_parts, eqb-true, value_in, number_at, TellsPlace, HasListing}
 use Rattle.std.proofs.lemmas.List.{length-take}
 use Rattle.vms_analyze.specs.declared.input.NoInput.TheVariants as none
 use Rattle.vms_analyze.specs.declared.fault.AnalyzeFault.TheVariants as faults
@@ -82,14 +82,7 @@ piece_fails old mid new was now room none.NoMemory p h le =
 -- ---- From what was taken of a source to what it lists.
 
 too_long : (input : List ℕ) (at : ℕ) (l : Listing) → Lists input l → l ≡ Refused at reasons.TooLong → longest_input < length input
-too_long input at _ (IsTooLong lt) e = lt
-too_long input at _ (HasNone few none) e = cc
-too_long input at _ (HasNoShape p few last none) e = cc
-too_long input at _ (IsRead p devices few last tells) e = by _ e
-  where
-    by : (f : Found) → listing_of f ≡ Refused at reasons.TooLong → longest_input < length input
-    by (Lines lines) e = cc
-    by (Differs place) e = cc
+too_long input at l xs e = grind arith
 
 module _ (old new : Intake) (input : List ℕ) (whole : IsWhole old new input) where
   is_listed : (l : Listing) → Lists input l → IsListed old new l
@@ -158,10 +151,7 @@ pub text_behind : (input : List ℕ) (k : ℕ) → take (length input - k) (drop
 text_behind input k = take_all (length input - k) (drop k input) (omega (arith, length-drop k input))
 
 pub lists_as : (input : List ℕ) (listing : Listing) (r : Result (Vec ℕ Global) AnalyzeFault) → Lists input listing → ShowsAs listing r → ListsAs input r
-lists_as input listing (Ok text) lists e = rw e at lists
-lists_as input listing (Err (faults.Refused at reason)) lists e = rw e at lists
-lists_as input listing (Err faults.NoMemory) lists e = tt
-lists_as input listing _ lists e = absurd e
+lists_as input listing r lists e = grind arith
 
 -- ---- Lists whose items are read one after the other.
 
@@ -174,8 +164,7 @@ before_one done a (Some rest) = ap Some (sym (append_assoc done (a ∷ []) rest)
 before_one done a None = refl
 
 pub before_none : {A : Type 0} (said : Option (List A)) → said ≡ before [] said
-before_none (Some rest) = refl
-before_none None = refl
+before_none said = grind arith
 
 pub goes_on : {A T : Type 0} (m : T → A) (says : Data → Option A) (now rest : Items) (d : Data) (whole : Option (List A)) (done : List T) (t : T)
     → whole ≡ before (map m done) (each says now) → now ≡ item d rest → says d ≡ Some (m t) → whole ≡ before (map m (done ++ t ∷ [])) (each says rest)
@@ -183,8 +172,7 @@ goes_on m says now rest d whole done t e is said = rw (e, is, said, before_one (
 
 pub stops : {A T U : Type 0} (m : T → A) (n : U → List A) (says : Data → Option A) (now rest : Items) (d : Data) (whole : Option (List A)) (done : List A)
     → (why : Unread) → whole ≡ before done (each says now) → now ≡ item d rest → ReadsAs m (says d) (Err why) → ReadsAs n whole (Err why)
-stops m n says now rest d whole done unread.Shape e is said = rw (e, is, said) refl
-stops m n says now rest d whole done unread.NoMemory e is said = tt
+stops m n says now rest d whole done why e is said = grind arith
 
 pub ends : {A : Type 0} (says : Data → Option A) (now : Items) (whole : Option (List A)) (done : List A)
     → whole ≡ before done (each says now) → now ≡ no_items → whole ≡ Some done

@@ -2,11 +2,11 @@
 use Rattle.vms_analyze.proofs.Facade.{nat_tests, ◌≡◌, ℕ, suc, ◌<◌, ◌≤◌, List, [], ◌∷◌, length, get_or, arith, true, ◌&&◌, ◌||◌}
 use Rattle.vms_analyze.proofs.Facade.{list_all, AllByRecursion, Bool, and_parts, and_from, LONGEST_NAME, ToldSub, ToldDevice, is_path, fits_four, is_good}
 use Rattle.vms_analyze.proofs.Facade.{is_kept, is_width, is_good_sub, is_good_device, ◌+◌, false, is_some, map, Option, ℤ, refl, ap, ◌∙◌, codes}
-use Rattle.vms_analyze.proofs.Facade.{◌*◌, nat_le, length-append, zero, is_none, Some, None, ⊎_elim, map-append, length-map, lt-ltb, cases_lt}
-use Rattle.vms_analyze.proofs.Facade.{get_or-eq_default, slice_get-get_or, list_all-append, no_members, Members, member, number, string, Desc, Sub, Device, Set}
-use Rattle.vms_analyze.proofs.Facade.{AtLeast, desc_cells, struct_cells, no_desc, no_field, counted, Image, own_cells, What, Constant, Filler, shapes}
-use Rattle.vms_analyze.proofs.Facade.{elements_in, entry_of, entries_of, part_entries, sub_trees, device_trees, described_tree, natural, entry_tree, told_entry}
-use Rattle.vms_analyze.proofs.Facade.{told_sub, told_device, told_tree, Told, Sent, Kept, Fixed, Skipped, is_path_byte, told_what, tolds, told_part, told_subs}
+use Rattle.vms_analyze.proofs.Facade.{◌*◌, nat_le, length-append, zero, is_none, ⊎_elim, map-append, length-map, lt-ltb, cases_lt, get_or-eq_default}
+use Rattle.vms_analyze.proofs.Facade.{slice_get-get_or, list_all-append, no_members, Members, member, number, string, Desc, Sub, Device, Set, AtLeast}
+use Rattle.vms_analyze.proofs.Facade.{desc_cells, struct_cells, no_desc, no_field, counted, Image, own_cells, What, Constant, Filler, shapes, elements_in}
+use Rattle.vms_analyze.proofs.Facade.{entry_of, entries_of, part_entries, sub_trees, device_trees, described_tree, natural, entry_tree, told_entry, told_sub}
+use Rattle.vms_analyze.proofs.Facade.{told_device, told_tree, Told, Sent, Kept, Fixed, Skipped, is_path_byte, told_what, tolds, told_part, told_subs}
 use Rattle.vms_analyze.proofs.Facade.{told_devices, told, told_sub_of, told_device_of, escape, escape_byte, compact_text, members_text, Kind, width, kind_word}
 use Rattle.vms_analyze.proofs.Facade.{of_integer, Part, MOST_UNUSED, is_name, in_range, defaults_well, counts_well, is_small_item, is_small_optional}
 use Rattle.vms_analyze.proofs.Facade.{WellFormed, struct_items, struct_depths, items_in, deepest, subs_items, devices_items, HasPart, desc_at, sub_at}
@@ -27,11 +27,7 @@ pub record SubParts (s : ToldSub) : Type 0 where
   pub kept : (s.sent || list_all is_kept s.elements) ≡ true
 
 pub sub_parts : (s : ToldSub) → is_good_sub s ≡ true → SubParts s
-sub_parts s e =
-    let p = and_parts (is_path LONGEST_NAME s.name && fits_four s.version && list_all is_good s.elements) (s.sent || list_all is_kept s.elements) e in
-    let q = and_parts (is_path LONGEST_NAME s.name && fits_four s.version) (list_all is_good s.elements) p.0 in
-    let r = and_parts (is_path LONGEST_NAME s.name) (fits_four s.version) q.0 in
-    record { name = r.0; version = r.1; elements = q.1; kept = p.1 }
+sub_parts s e = grind arith
 
 pub sub_from : (s : ToldSub) → SubParts s → is_good_sub s ≡ true
 sub_from s p = and_from _ _ (and_from _ _ (and_from _ _ p.name p.version) p.elements) p.kept
@@ -44,13 +40,7 @@ pub record DeviceParts (d : ToldDevice) : Type 0 where
   pub subs : list_all is_good_sub d.subs ≡ true
 
 pub device_parts : (d : ToldDevice) → is_good_device d ≡ true → DeviceParts d
-device_parts d e =
-    let p = and_parts (is_path LONGEST_NAME d.name && fits_four d.instance && fits_four d.version && list_all is_good d.elements)
-    (list_all is_good_sub d.subs) e in
-    let q = and_parts (is_path LONGEST_NAME d.name && fits_four d.instance && fits_four d.version) (list_all is_good d.elements) p.0 in
-    let r = and_parts (is_path LONGEST_NAME d.name && fits_four d.instance) (fits_four d.version) q.0 in
-    let s = and_parts (is_path LONGEST_NAME d.name) (fits_four d.instance) r.0 in
-    record { name = s.0; instance = s.1; version = r.1; elements = q.1; subs = p.1 }
+device_parts d e = grind arith
 
 pub device_from : (d : ToldDevice) → DeviceParts d → is_good_device d ≡ true
 device_from d p = and_from _ _ (and_from _ _ (and_from _ _ (and_from _ _ p.name p.instance) p.version) p.elements) p.subs
@@ -69,8 +59,6 @@ all_at P d (x ∷ xs) h = (h 0 (omega arith), all_at P d xs (λ i lt. h (suc i) 
 -- a width is at most the most unused bytes
 pub width_few : (n : ℕ) → is_width n ≡ true → n ≤ MOST_UNUSED
 width_few n e = grind (arith, nat_tests)
-
--- ---- the description of a well-formed set has the right shape
 
 -- ---- The tree of a self-description is that of what it says.
 
@@ -154,8 +142,7 @@ abbrev AreFine : List Told → Type 0
 AreFine = AllByRecursion IsFine
 
 width_fits : (kind : Kind) → is_width (width kind) ≡ true
-width_fits kinds.U8 = refl
-width_fits _ = refl
+width_fits kind = grind arith
 
 what_fine : (w : What) (counted present : Bool) (path : List ℕ) → list_all is_path_byte path ≡ true → IsGoodWhat w → HasPath w path
     → AreFine (told_what w counted present path)
@@ -171,20 +158,18 @@ all_fine sent (x ∷ xs) h =
     all_both _ (told_what x.what x.counted (sent && x.present) x.name) (tolds sent xs)
     (what_fine x.what x.counted (sent && x.present) x.name h.0.part.bytes h.0.part.what h.0.path) (all_fine sent xs h.1)
 
-one_good : (t : Told) → IsFine t → length (path_of t) ≤ LONGEST_PATH → is_good t ≡ true
-one_good (Sent path kind) h le = named_path LONGEST_PATH path (record { some = h.some; few = le; bytes = h.bytes })
-one_good (Kept path kind z) h le = and_from _ _ (named_path LONGEST_PATH path (record { some = h.some; few = le; bytes = h.bytes })) h.shape
-one_good (Fixed path n) h le = and_from _ _ (named_path LONGEST_PATH path (record { some = h.some; few = le; bytes = h.bytes })) h.shape
-one_good (Skipped path n) h le = and_from _ _ (named_path LONGEST_PATH path (record { some = h.some; few = le; bytes = h.bytes })) h.shape
+one_good : (t : Told) → is_path LONGEST_PATH (path_of t) ≡ true → IsOfShape t → is_good t ≡ true
+one_good t path shape = grind arith
 
 each_told : (ts : List Told) → AreFine ts → AreLong 299 (map told_entry ts) → list_all is_good ts ≡ true
 each_told [] fine long = refl
-each_told (t ∷ ts) fine long = and_from (is_good t) (list_all is_good ts) (one_good t fine.0 (path_short t long.0)) (each_told ts fine.1 long.1)
+each_told (t ∷ ts) fine long =
+    let path = named_path LONGEST_PATH (path_of t) (record { some = fine.0.some; few = path_short t long.0; bytes = fine.0.bytes }) in
+    and_from (is_good t) (list_all is_good ts) (one_good t path fine.0.shape) (each_told ts fine.1 long.1)
 
 -- of a part that isn't sent no element is in the stream
 what_kept : (w : What) (counted : Bool) (path : List ℕ) → list_all is_kept (told_what w counted false path) ≡ true
-what_kept (Number cell) true path = refl
-what_kept _ _ path = refl
+what_kept w counted path = grind arith
 
 pub all_kept : (xs : List Element) → list_all is_kept (tolds false xs) ≡ true
 all_kept [] = refl
@@ -278,8 +263,7 @@ abbrev pub AreGoodDevices : Set → List Device → Type 0
 AreGoodDevices set = AllByRecursion (IsGoodDevice set)
 
 kept_or_sent : (set : Set) (d : Desc) (c : Option ℕ) (n : List ℤ) (at : ℕ) → (is_some c || list_all is_kept (told_part set d (is_some c) n at)) ≡ true
-kept_or_sent set d None n at = all_kept (elements_in set d d.version n at)
-kept_or_sent set d (Some v) n at = refl
+kept_or_sent set d c n at = grind (arith, all_kept)
 
 subs_good : (set : Set) (n : List ℤ) (at : ℕ) (subs : List Sub) (came : List (Option ℕ)) → AreGoodSubs set subs
     → list_all is_good_sub (told_subs set n at subs came) ≡ true

@@ -1,16 +1,16 @@
 -- What is written of ready images with their description lists the values text.
-use Rattle.vms_analyze.proofs.{Facade.is_width, Streams.front, Streams.front_found}
+use Rattle.vms_analyze.proofs.{Streams.front, Streams.front_found}
 use Rattle.vms_analyze.proofs.Facade.{◌≡◌, ℕ, ◌+◌, ◌<◌, ◌≤◌, true, List, [], ◌∷◌, ◌++◌, length, length-append, append_assoc}
 use Rattle.vms_analyze.proofs.Facade.{take, drop, is_none, Option, Some, refl, sym, ap, ◌∙◌, subst, arith, Bool, if◌then◌else◌, None, is_utf8}
-use Rattle.vms_analyze.proofs.Facade.{flat_map, same_Some, ◌*◌, false, ◌&&◌, ◌==◌, nat_le, length-drop, get_or, map, ℤ, and_parts, leb-true}
-use Rattle.vms_analyze.proofs.Facade.{list_all, compact_text, value_in, escape_byte, read, FitsHeads, Set, Image, AreReady, be32, end_mark, trailer, written}
-use Rattle.vms_analyze.proofs.Facade.{WellFormed, few_devices, front_take, front_drop, IsMachineOf, values_lines, text_law, few_items, IsSound, described_tree}
-use Rattle.vms_analyze.proofs.Facade.{described_text, short_holds, described_plain, reads_whole, told_tree, Bytes, Lines, device_wants, wants, found}
-use Rattle.vms_analyze.proofs.Facade.{IsLastPlace, Tells, Text, listing_of, Lists, IsRead, told, ReadBackLaw, ShownLaw, width, LONGEST_NAME, MOST_UNUSED}
-use Rattle.vms_analyze.proofs.Facade.{number_at, bytes_at, is_name_byte, Sub, Device, Desc, desc_cells, struct_cells, own_cells, begins_with, configuration}
-use Rattle.vms_analyze.proofs.Facade.{struct_items, items_in, subs_items, devices_items, width_small, LONGEST_PATH, Told, Sent, Kept, Fixed, Skipped, is_path}
-use Rattle.vms_analyze.proofs.Facade.{is_good, Want, Any, Number, Machine, Head, Foot, Line, element_want, sub_wants, Took, took, only_if, take_machine}
-use Rattle.vms_analyze.proofs.Facade.{is_machine, taken, Found, Differs, behind, found_after, told_part, told_subs, told_devices, told_device_of, told_sub_of}
+use Rattle.vms_analyze.proofs.Facade.{flat_map, ◌*◌, false, ◌==◌, nat_le, length-drop, get_or, map, ℤ, and_parts, leb-true, list_all, compact_text}
+use Rattle.vms_analyze.proofs.Facade.{value_in, escape_byte, read, FitsHeads, Set, Image, AreReady, be32, end_mark, trailer, written, WellFormed, few_devices}
+use Rattle.vms_analyze.proofs.Facade.{front_take, front_drop, IsMachineOf, values_lines, text_law, few_items, IsSound, described_tree, described_text}
+use Rattle.vms_analyze.proofs.Facade.{short_holds, described_plain, reads_whole, told_tree, Bytes, Lines, device_wants, wants, found, IsLastPlace, Tells, Text}
+use Rattle.vms_analyze.proofs.Facade.{listing_of, Lists, IsRead, told, ReadBackLaw, ShownLaw, width, LONGEST_NAME, MOST_UNUSED, number_at, bytes_at}
+use Rattle.vms_analyze.proofs.Facade.{is_name_byte, Sub, Device, Desc, desc_cells, struct_cells, own_cells, begins_with, configuration, struct_items, items_in}
+use Rattle.vms_analyze.proofs.Facade.{subs_items, devices_items, width_small, Told, is_good, Want, Any, Number, Machine, Head, Foot, Line, element_want}
+use Rattle.vms_analyze.proofs.Facade.{sub_wants, Took, took, only_if, take_machine, is_machine, taken, Found, Differs, behind, found_after, told_part}
+use Rattle.vms_analyze.proofs.Facade.{told_subs, told_devices, told_device_of, told_sub_of}
 use Rattle.vms_analyze.proofs.Shapes.{each_good, width_few, all_good, told_good, tree_same, IsGoodPart, AreGoodSubs, IsGoodDevice, AreGoodDevices}
 use Rattle.vms_analyze.proofs.Texts.{told_text, HasNoMark, last_place, tree_sound, text_printed, no_mark}
 
@@ -31,8 +31,7 @@ total [] = 0
 total (w ∷ ws) = most_of w + total ws
 
 only_long : (b : Bool) (t u : Took) → only_if b t ≡ Some u → u.long ≡ t.long
-only_long true t u e = rw (sym (same_Some t u e))
-only_long false t u e = cc
+only_long b t u e = grind arith
 
 only_so : (b : Bool) (t u : Took) → only_if b t ≡ Some u → b ≡ true
 only_so b t u e = grind arith
@@ -82,11 +81,7 @@ total_append [] ys = omega arith
 total_append (x ∷ xs) ys = omega (arith, total_append xs ys)
 
 element_long : (t : Told) → is_good t ≡ true → most_of (element_want t) ≤ MOST_UNUSED
-element_long (Sent path kind) e = width_small kind
-element_long (Kept path kind z) e = omega arith
-element_long (Fixed path n) e = let small = width_few n (and_parts (is_path LONGEST_PATH path) (is_width n) e).1 in omega arith
-element_long (Skipped path n) e =
-    leb-true n MOST_UNUSED (and_parts (nat_le 1 n) (nat_le n MOST_UNUSED) (and_parts (is_path LONGEST_PATH path) (nat_le 1 n && nat_le n MOST_UNUSED) e).1).1
+element_long t e = grind (arith, width_small, width_few)
 
 module _ (set : Set) where
   abbrev sizes : List ℕ

@@ -91,8 +91,7 @@ module _ (n : List ℤ) (id : ℕ) where
 
   line_more : (b : Bool) (x : Element) (xs : List Element)
       → lines_if b (number_line n x) ++ map (number_line n) xs ≡ map (number_line n) (if b then x ∷ xs else xs)
-  line_more true x xs = refl
-  line_more false x xs = refl
+  line_more b x xs = grind arith
 
   all_follow : (sent : Bool) (xs : List Element) → Each (IsSaid sent n) xs
       → Follows (map element_want (tolds sent xs)) id (bytes_of sent xs) id (map (number_line n) (printed xs))
@@ -126,8 +125,7 @@ fine_said n short (x ∷ xs) counted fine =
     its_line c w = first (x.counted && is_number x.what) fine (rw c (w))
 
 kept_as : (n : List ℤ) (at : ℕ) (w : What) (counted present : Bool) → has_default n at w ≡ true → IsSaidAs false w counted present (get_or n at (pos 0))
-kept_as n at (Number cell) counted present h = (λ p. absurd (cc), λ c p. same_number_is (get_or n at (pos 0)) cell.default h)
-kept_as n at _ counted present h = tt
+kept_as n at w counted present h = grind (arith, same_number_is)
 
 pub default_said : (n : List ℤ) (xs : List Element) → have_defaults n xs ≡ true → Each (IsSaid false n) xs
 default_said n [] h = tt
@@ -262,8 +260,7 @@ module _ (set : Set) (well : WellFormed set) (images : List Image) (us : List Wa
 -- the fine lines and good parts of the devices
 devices_said : (set : Set) (machine : Option (List ℕ)) (images : List Image) → AreFine (entries set machine images) → AreGood set (entries set machine images)
     → AreFine (devices_entries set set.devices images) × AreGood set (devices_entries set set.devices images)
-devices_said set None images f g = (f, g)
-devices_said set (Some name) images f g = (f.1, g.1)
+devices_said set machine images f g = grind arith
 
 abbrev pub front : Set → Option (List ℕ) → List Image → List ℕ
 front set machine images = stream_head ++ optional configuration machine ++ written_sections set 0 set.devices images ++ end_mark

@@ -1,14 +1,14 @@
 -- Descriptions, subsections, devices and sets can be read back from their files.
 use Rattle.vms_descfile.proofs.Facade.{◌≡◌, ℕ, ◌≤◌, List, ◌∷◌, get_or, length, map, Bool, true, false, ◌&&◌, ◌==◌, nat_le, Option}
-use Rattle.vms_descfile.proofs.Facade.{Some, None, refl, sym, ◌∙◌, codes, arith, [], slice_get, and_parts, eqb-true, leb-true, false≢true, Data, string}
-use Rattle.vms_descfile.proofs.Facade.{◌++◌, is_one_of, get, as_str, items_of, Formula, Field, Desc, Count, Counted, nodes, is_small_test}
-use Rattle.vms_descfile.proofs.Facade.{is_small_optional, is_small_item, is_steady_in, is_earlier_in, names_well, nobody, test_names_well, count_names_well}
-use Rattle.vms_descfile.proofs.Facade.{is_counting, defaults_well, counts_well, counted, has_few, Clean, good, names_of, text_or_none, maybe_at, u32_of}
-use Rattle.vms_descfile.proofs.Facade.{text_of, Scope, names_if, number_in, DEEPEST, test_of, field_of, desc_needs, desc_allows, Head, head_of, minimum_or}
-use Rattle.vms_descfile.proofs.Facade.{rest_of, struct_of, FitsTest, FitsOptional, FitsDesc, list_file, natural_file, own_names, counter_in, test_file}
-use Rattle.vms_descfile.proofs.Facade.{field_file, desc_members, struct_file, set_file, Sub, Device, Set, WellFormed, struct_depths, struct_rules, sub_rules}
-use Rattle.vms_descfile.proofs.Facade.{device_rules, struct_clean, device_parts, sub_clean, sub_of, Whole, whole_of, device_of, set_of, parts_of, FitsSub}
-use Rattle.vms_descfile.proofs.Facade.{FitsWhole, FitsDevice, FitsSet, sub_file, whole_file, device_file}
+use Rattle.vms_descfile.proofs.Facade.{Some, None, refl, ◌∙◌, codes, arith, [], slice_get, and_parts, leb-true, false≢true, Data, string, ◌++◌}
+use Rattle.vms_descfile.proofs.Facade.{is_one_of, get, as_str, items_of, Formula, Field, Desc, Count, Counted, nodes, is_small_test, is_small_optional}
+use Rattle.vms_descfile.proofs.Facade.{is_small_item, is_steady_in, is_earlier_in, names_well, nobody, test_names_well, count_names_well, is_counting}
+use Rattle.vms_descfile.proofs.Facade.{defaults_well, counts_well, counted, has_few, Clean, good, names_of, text_or_none, maybe_at, u32_of, text_of, Scope}
+use Rattle.vms_descfile.proofs.Facade.{names_if, number_in, DEEPEST, test_of, field_of, desc_needs, desc_allows, Head, head_of, minimum_or, rest_of, struct_of}
+use Rattle.vms_descfile.proofs.Facade.{FitsTest, FitsOptional, FitsDesc, list_file, natural_file, own_names, counter_in, test_file, field_file, desc_members}
+use Rattle.vms_descfile.proofs.Facade.{struct_file, set_file, Sub, Device, Set, WellFormed, struct_depths, struct_rules, sub_rules, device_rules, struct_clean}
+use Rattle.vms_descfile.proofs.Facade.{device_parts, sub_clean, sub_of, Whole, whole_of, device_of, set_of, parts_of, FitsSub, FitsWhole, FitsDevice, FitsSet}
+use Rattle.vms_descfile.proofs.Facade.{sub_file, whole_file, device_file}
 use Rattle.vms_descfile.proofs.FieldBack.{field_table, field_tabled, field_back}
 use Rattle.vms_descfile.proofs.ObjectLaws.{list_good, list_or_good, natural_good, Table, members_in, object_of, found, found_behind, or_none, got, table_fits}
 use Rattle.vms_descfile.proofs.ObjectLaws.{kept, listed, unless_if, list_if}
@@ -125,8 +125,7 @@ minimum_back true o n there le = rw there
 minimum_back false o n there le = rw (there, natural_good 4294967295 n le)
 
 minimum_made : (version n : ℕ) (b : Bool) → (n == version) ≡ b → minimum_or version (minimum_kept b n) ≡ n
-minimum_made version n true e = sym (eqb-true n version e)
-minimum_made version n false e = refl
+minimum_made version n b e = grind arith
 
 abbrev pub head_shown : Bool → Desc → Head
 head_shown asks d = record { fields = map (field_shown asks) d.fields; minimum = minimum_kept (d.minimum == d.version) d.minimum; name = d.name }

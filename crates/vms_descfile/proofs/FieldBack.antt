@@ -2,11 +2,10 @@
 use Rattle.vms_descfile.proofs.Facade.{item_word, capacity_in, length_in, counter_in, equal_in, size_in, Answer, Front, test_file, front_file, field_file}
 use Rattle.vms_descfile.proofs.Facade.{◌≡◌, ℕ, ◌≤◌, List, [], ◌∷◌, get_or, map, Bool, true, false, not, ◌&&◌, ◌==◌}
 use Rattle.vms_descfile.proofs.Facade.{if◌then◌else◌, Option, Some, None, option_map, is_some, ℤ, pos, negsuc, int_le, int_lt, IfSome, refl, sym, ap}
-use Rattle.vms_descfile.proofs.Facade.{◌∙◌, codes, arith, and_parts, eqb-true, false≢true, ints, Data, string, get}
-use Rattle.vms_descfile.proofs.Facade.{as_str, Kind, Item, Count, One, Formula, Field, in_range, defaults_well, same_number, ranges, Sort, good}
-use Rattle.vms_descfile.proofs.Facade.{fits, maybe_at, u16_of, u32_of, integer_of, text_of, Names, number_in, name_in, test_of, sort_named}
-use Rattle.vms_descfile.proofs.Facade.{counts_fit, values_fit, sort_fits, field_needs, field_allows, field_fits, count_as, count_of, item_as, front_of}
-use Rattle.vms_descfile.proofs.Facade.{field_after, field_in, field_of, FitsField, natural_file, integer_file, is_zero}
+use Rattle.vms_descfile.proofs.Facade.{◌∙◌, codes, arith, and_parts, eqb-true, ints, Data, string, get, as_str, Kind, Item, Count, One, Formula, Field}
+use Rattle.vms_descfile.proofs.Facade.{in_range, defaults_well, same_number, ranges, Sort, good, fits, maybe_at, u16_of, u32_of, integer_of, text_of, Names}
+use Rattle.vms_descfile.proofs.Facade.{number_in, name_in, test_of, sort_named, counts_fit, values_fit, sort_fits, field_needs, field_allows, field_fits}
+use Rattle.vms_descfile.proofs.Facade.{count_as, count_of, item_as, front_of, field_after, field_in, field_of, FitsField, natural_file, integer_file, is_zero}
 use Rattle.vms_descfile.proofs.ObjectLaws.{list_if, found, number_named, judged_good, maybe_good, default_good, list_or_good, natural_good}
 use Rattle.vms_descfile.proofs.ObjectLaws.{integer_good, Table, members_in, object_of, or_none, got, table_fits, kept, listed, given_if, unless_if}
 use Rattle.vms_descfile.proofs.ShownLaws.{number_shown, test_shown, count_shown, field_shown, map_same}
@@ -68,8 +67,7 @@ counts_by counted capacity count = if is_some counted then is_some capacity && n
 count_keys : (own : List (List ℕ)) (c : Count)
     → counts_by (option_map (λ k. string (get_or own k [])) (counter_in c)) (option_map natural_file (capacity_in c)) (option_map natural_file (length_in c))
     ≡ true
-count_keys own One = refl
-count_keys own _ = refl
+count_keys own c = grind arith
 
 abbrev item_sort : Item → Sort
 item_sort (items.Num kind) = sorts.Number kind
@@ -78,9 +76,7 @@ item_sort (items.Unused n) = sorts.Unused
 item_sort (items.Struct j) = sorts.Struct
 
 item_named : (item : Item) → sort_named (item_word item) ≡ Some (item_sort item)
-item_named (items.Num kind) = number_named kind
-item_named (items.Equal kind value) = number_named kind
-item_named _ = refl
+item_named item = grind (arith, number_named)
 
 -- size, struct, equal and default
 abbrev sort_by : Sort → Option Data → Option Data → Option Data → Option Data → Bool
@@ -90,12 +86,10 @@ sort_by sorts.Struct size struct equal default = is_some struct && not (is_some 
 
 sort_by_keys : (sort : Sort) (d : Data)
     → sort_fits (Some sort) d ≡ sort_by sort (get (codes "size") d) (get (codes "struct") d) (get (codes "equal") d) (get (codes "default") d)
-sort_by_keys (sorts.Number kind) d = refl
-sort_by_keys _ d = refl
+sort_by_keys sort d = grind arith
 
 zero_is : (z : ℤ) → same_number z (pos 0) ≡ true → is_zero z ≡ true
-zero_is (pos n) same = same
-zero_is (negsuc n) same = cc
+zero_is z same = grind arith
 
 no_default : (z : ℤ) → same_number z (pos 0) ≡ true → kept (is_zero z) (integer_file z) ≡ None
 no_default z same = rw (zero_is z same)
@@ -124,13 +118,10 @@ in_64 kinds.U8 z well = let r = ranges kinds.U8 z well in grind (arith, ints)
 in_64 kind z well = let r = ranges kind z well in grind (arith, ints)
 
 zero_is_0 : (z : ℤ) → is_zero z ≡ true → pos 0 ≡ z
-zero_is_0 (pos n) zero = ap pos (sym (eqb-true n 0 zero))
-zero_is_0 (negsuc n) zero = cc
+zero_is_0 z zero = grind arith
 
 not_zero : (item : Item) (z : ℤ) → defaults_well item z ≡ true → is_zero z ≡ false → integer_of (integer_file z) ≡ good z
-not_zero (items.Num kind) z well other = integer_good z (in_64 kind z well)
-not_zero (items.Equal kind y) z well other = absurd (false≢true (sym other ∙ zero_is z (and_parts (in_range kind y) (same_number z (pos 0)) well).1))
-not_zero _ z well other = absurd (false≢true (sym other ∙ zero_is z well))
+not_zero item z well other = grind (arith, integer_good, in_64, zero_is)
 
 constant_good : (item : Item) (z : ℤ) → defaults_well item z ≡ true → (y : ℤ) → equal_in item ≡ Some y → integer_of (integer_file y) ≡ good y
 constant_good (items.Equal kind v) z well y is =

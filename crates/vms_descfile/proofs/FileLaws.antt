@@ -10,8 +10,8 @@ use Rattle.vms_descfile.proofs.Facade.{is_small_item, WellFormed, has_few, struc
 use Rattle.vms_descfile.proofs.Facade.{list_file, natural_file, given_as, unless, list_as, own_names, is_zero, item_word, capacity_in, length_in, counter_in}
 use Rattle.vms_descfile.proofs.Facade.{equal_in, size_in, rel_file, test_file, integer_file, front_file, field_file, desc_members, struct_file, sub_file}
 use Rattle.vms_descfile.proofs.Facade.{whole_file, device_file, set_file, or_parts, has_float, members_have_float, is_none, String, Global, string_bytes}
-use Rattle.vms_descfile.proofs.Facade.{◌∙◌, true≢false, IsUtf8-string_bytes, read, compact_text, SetFault, first_fault, Parts, judged_said, FitsSet}
-use Rattle.vms_descfile.specs.{Written.struct_in}
+use Rattle.vms_descfile.proofs.Facade.{◌∙◌, IsUtf8-string_bytes, read, compact_text, SetFault, first_fault, Parts, judged_said, FitsSet}
+use Rattle.vms_descfile.specs.Written.{struct_in}
 use Rattle.vms_json.specs.declared.fault.Fault.TheVariants as faults
 use Rattle.vms_descfile.specs.declared.file_fault.FileFault.TheVariants as file_faults
 use Rattle.vms_spec.specs.declared.Rel.TheVariants as rels
@@ -21,19 +21,14 @@ use Rattle.vms_spec.specs.Rules as rules
 
 pub no_json : (text : List ℕ) (fault : FileFault) → GivesValue (value_in text) (Err fault) → Gives (file_said text) (Err fault)
 unfolding file_said
-no_json text file_faults.Syntax e = ap value_said e
-no_json text file_faults.NoMemory e = tt
-no_json text _ e = absurd e
+no_json text fault e = grind arith
 
 pub said_by : (text : List ℕ) (d : Data) → value_in text ≡ Some d → parts_said (parts_of d) ≡ file_said text
 unfolding file_said
 said_by text d e = sym (ap value_said e)
 
 pub shape_said : (a : Answer Set) (fault : Fault) (result : FileFault) → Refuses a fault → IsFileFault fault result → Gives (parts_said a) (Err result)
-shape_said a (faults.Shape path) (file_faults.Shape whole) said is = cc
-shape_said a (faults.Shape path) file_faults.NoMemory said is = tt
-shape_said a faults.NoMemory file_faults.NoMemory said is = tt
-shape_said a _ _ said is = absurd is
+shape_said a fault result said is = grind arith
 
 -- ---- the file of a set has no number with a fraction, and if the set is well formed, fewer levels than what can be read back
 
@@ -210,8 +205,7 @@ pub compact_file : (set : Set) (d : Data) (s : String Global) → d ≡ set_file
 compact_file set d s is text = cc (text (ap has_float is ∙ (set_fine set).whole))
 
 formed : (o : Option SetFault) → is_none o ≡ true → o ≡ None
-formed None is = refl
-formed (Some fault) is = absurd (true≢false (sym is))
+formed o is = grind arith
 
 pub file_reads : (set : Set) (d : Data) (s : String Global) → d ≡ set_file set → is_none (first_fault set) ≡ true → FitsSet set
     → (depth d ≤ max_depth → read (string_bytes s) ≡ Some d) → file_said (string_bytes s) ≡ Parts set

@@ -1,13 +1,12 @@
 -- Values of a file: lists, objects whose members may be missing, good answers, and plain fields.
 use Rattle.vms_descfile.proofs.Facade.{◌≡◌, ℕ, ◌+◌, ◌<◌, List, [], ◌∷◌, ◌++◌, length, get_or, map, refl, ap, sym, ◌∙◌, drop}
 use Rattle.vms_descfile.proofs.Facade.{append_assoc, zero, suc, arith, map-append, Data, Members, put, items_of, Value, own_names, list_file, list_as, drop_is}
-use Rattle.vms_descfile.proofs.Facade.{Bool, true, false, ◌&&◌, if◌then◌else◌, Option, Some, None, is_some, option_map, Ordering, Less, Equal}
-use Rattle.vms_descfile.proofs.Facade.{Greater, nat_cmp, match_ordering, slice_cmp, bytes_eq, false≢true, and_parts, and_from, bytes_eq-Decides, no_members}
-use Rattle.vms_descfile.proofs.Facade.{member, object, get, get_member, get_member-put, get_member-put_other, is_one_of, has, has_no_others, has_all, fits}
-use Rattle.vms_descfile.proofs.Facade.{given_as, unless, natural_file, integer_file, ◌≤◌, ℤ, pos, negsuc, int_le, int_lt, slice_get, le-leb, number}
-use Rattle.vms_descfile.proofs.Facade.{of_integer, Answer, good, bad, under, next, each_from, list_of, at, at_or, maybe_at, natural, integer_of, judged, IfSome}
-use Rattle.vms_descfile.proofs.Facade.{option_and_then, codes, as_str, given, Names, Kind, One, TellsKind, kind_word, Number, Front, IsPlain, field_after}
-use Rattle.vms_descfile.proofs.Facade.{field_fits, plain_field, plain_members, sort_named, sort_of}
+use Rattle.vms_descfile.proofs.Facade.{Bool, true, false, ◌&&◌, if◌then◌else◌, Option, Some, None, is_some, option_map, bytes_eq, false≢true}
+use Rattle.vms_descfile.proofs.Facade.{and_parts, and_from, bytes_eq-Decides, no_members, member, object, get, get_member, get_member-put, get_member-put_other}
+use Rattle.vms_descfile.proofs.Facade.{is_one_of, has, has_no_others, has_all, fits, given_as, unless, natural_file, integer_file, ◌≤◌, ℤ, pos, negsuc}
+use Rattle.vms_descfile.proofs.Facade.{int_le, int_lt, slice_get, le-leb, number, Answer, good, under, next, each_from, list_of, at, at_or, maybe_at, natural}
+use Rattle.vms_descfile.proofs.Facade.{integer_of, judged, IfSome, option_and_then, codes, as_str, Names, Kind, One, TellsKind, kind_word, Number, Front}
+use Rattle.vms_descfile.proofs.Facade.{IsPlain, field_after, field_fits, plain_field, plain_members, sort_named, sort_of}
 use Rattle.serde_json.specs.View.{view}
 use Rattle.vms_parts.specs.{Views.field_of, declared.types.Field.Field}
 use Rattle.vms_kinds.specs.declared.Kind.TheVariants as kinds
@@ -82,8 +81,7 @@ found_is k [] = refl
 found_is k (e ∷ table) = found_by k e.0 e.1 (members_in table) (found k table) (bytes_eq k e.0) refl (found_is k table)
 
 pub or_none : (o : Option Data) → or o None ≡ o
-or_none None = refl
-or_none (Some d) = refl
+or_none o = grind arith
 
 pub got : (k : List ℕ) (table : Table) (o : Option Data) → found k table ≡ o → get k (object_of table) ≡ o
 got k table o is = found_is k table ∙ is
@@ -91,11 +89,7 @@ got k table o is = found_is k table ∙ is
 -- a key of some finds what it finds behind an entry with another key
 pub found_behind : (keys : List (List ℕ)) (k j : List ℕ) (o : Option Data) (table : Table) → is_one_of keys k ≡ true → is_one_of keys j ≡ false
     → found k ((j, o) ∷ table) ≡ found k table
-found_behind keys k j o table known other = by (bytes_eq k j) refl
-  where
-    by : (same : Bool) → bytes_eq k j ≡ same → found k ((j, o) ∷ table) ≡ found k table
-    by true is = absurd (false≢true (sym other ∙ ap (is_one_of keys) (sym ((bytes_eq-Decides k j).0 is)) ∙ known))
-    by false is = rw is
+found_behind keys k j o table known other = grind (arith, bytes_eq-Decides)
 
 pub has_is : (k : List ℕ) (table : Table) (o : Option Data) → found k table ≡ o → has k (object_of table) ≡ is_some o
 has_is k table o is = ap is_some (got k table o is)
@@ -107,17 +101,8 @@ put_known : (keys : List (List ℕ)) (k : List ℕ) (d : Data) (ms : Members) �
 put_known keys k d no_members known rest = and_from (is_one_of keys k) true known refl
 put_known keys k d (member l e ms) known rest =
     let parts = and_parts (is_one_of keys l) (has_no_others keys ms) rest in
-    by_order (slice_cmp nat_cmp k l)
-    (and_from (is_one_of keys k) (is_one_of keys l && has_no_others keys ms) known rest)
-    rest
-    (and_from (is_one_of keys l) (has_no_others keys (put k d ms)) parts.0 (put_known keys k d ms known parts.1))
-  where
-    by_order : (o : Ordering) → has_no_others keys (member k d (member l e ms)) ≡ true → has_no_others keys (member l d ms) ≡ true
-        → has_no_others keys (member l e (put k d ms)) ≡ true
-        → has_no_others keys (match_ordering o (member k d (member l e ms)) (member l d ms) (member l e (put k d ms))) ≡ true
-    by_order Less p q r = p
-    by_order Equal p q r = q
-    by_order Greater p q r = r
+    let more = put_known keys k d ms known parts.1 in
+    grind arith
 
 put_if_known : (keys : List (List ℕ)) (k : List ℕ) (o : Option Data) (ms : Members) → is_one_of keys k ≡ true → has_no_others keys ms ≡ true
     → has_no_others keys (put_if k o ms) ≡ true
@@ -161,16 +146,13 @@ listed f [] = None
 listed f (x ∷ xs) = Some (list_file f (x ∷ xs))
 
 pub given_if : {A : Type 0} (k : List ℕ) (f : A → Data) (o : Option A) (ms : Members) → given_as k f o ms ≡ put_if k (option_map f o) ms
-given_if k f None ms = refl
-given_if k f (Some a) ms = refl
+given_if k f o ms = grind arith
 
 pub unless_if : (b : Bool) (k : List ℕ) (d : Data) (ms : Members) → unless b k d ms ≡ put_if k (kept b d) ms
-unless_if true k d ms = refl
-unless_if false k d ms = refl
+unless_if b k d ms = grind arith
 
 pub list_if : {A : Type 0} (k : List ℕ) (f : A → Data) (xs : List A) (ms : Members) → list_as k f xs ms ≡ put_if k (listed f xs) ms
-list_if k f [] ms = refl
-list_if k f (x ∷ xs) ms = refl
+list_if k f xs ms = grind arith
 
 -- ---- good answers: of members, of lists, and of numbers and texts in their written form
 
@@ -189,13 +171,11 @@ at_good says key d e a there said = cc
 pub maybe_good : {A B : Type 0} (says : Data → Answer B) (file : A → Data) (shown : A → B) (key : List ℕ) (d : Data) (o : Option A)
     → get key d ≡ option_map file o → ((a : A) → o ≡ Some a → says (file a) ≡ good (shown a))
     → maybe_at says key d ≡ good (option_map shown o)
-maybe_good says file shown key d None there said = rw there
-maybe_good says file shown key d (Some a) there said = cc (said a refl)
+maybe_good says file shown key d o there said = grind arith
 
 pub default_good : {A : Type 0} (says : Data → Answer A) (key : List ℕ) (d e : Data) (default a : A) (b : Bool)
     → get key d ≡ kept b e → (b ≡ true → default ≡ a) → (b ≡ false → says e ≡ good a) → at_or default says key d ≡ good a
-default_good says key d e default a true there is said = cc (is refl)
-default_good says key d e default a false there is said = cc (said refl)
+default_good says key d e default a b there is said = grind arith
 
 -- ---- lists
 
@@ -223,11 +203,7 @@ natural_good most n le = rw (le-leb n most le)
 
 pub integer_good : (z : ℤ) → (int_le (negsuc 9223372036854775807) z && int_lt z (pos 18446744073709551616)) ≡ true
     → integer_of (integer_file z) ≡ good z
-integer_good z fits = cc (by_sign z)
-  where
-    by_sign : (z : ℤ) → integer_of (number (of_integer z)) ≡ good z
-    by_sign (pos n) = refl
-    by_sign (negsuc n) = refl
+integer_good z fits = grind arith
 
 -- ---- fields with a kind of number, a name and at most former names, and the kinds that words name: the field
 
@@ -238,18 +214,13 @@ fronted names = record { count = One; default = pos 0; equal = None; former = na
 module _ (kind : Kind) (k n : Data) (name : List ℕ) (named : option_and_then sort_named (as_str k) ≡ Some (Number kind))
     (called : Some name ≡ as_str n) where
   sort_told : sort_of k ≡ good (Number kind)
-  sort_told = cc (by (as_str k))
-    where
-      by : (word : Option (List ℕ)) → next (given word) (λ w. given (sort_named w)) ≡ given (option_and_then sort_named word)
-      by None = refl
-      by (Some word) = refl
+  sort_told = grind arith
 
   abbrev whole : Option Data → Data
   whole former = object (plain_members former (Some k) (Some n))
 
   fits_plain : (former : Option Data) → field_fits (whole former) ≡ true
-  fits_plain None = rw named
-  fits_plain (Some f) = rw named
+  fits_plain former = grind arith
 
   after_plain : (names : Names) (former : Option Data) (fs : List (List ℕ))
       → field_after names (fronted fs) (whole former) ≡ good (plain_field kind name fs)
@@ -260,8 +231,7 @@ module _ (kind : Kind) (k n : Data) (name : List ℕ) (named : option_and_then s
       → ((fs : List (List ℕ)) → field_after names (fronted fs) d ≡ good (plain_field kind name fs))
       → next (next (under (codes "former") answer) (λ fs. good (fronted fs))) (λ front. field_after names front d)
       ≡ next (under (codes "former") answer) (λ fs. good (plain_field kind name fs))
-  then_after names d (good fs) after = after fs
-  then_after names d (bad path) after = refl
+  then_after names d answer after = grind arith
 
   pub field_plain : (former : Option Data) → IsPlain former kind name (whole former)
   field_plain None names = rw (fits_plain None) (after_plain names None [])
@@ -271,8 +241,7 @@ module _ (kind : Kind) (k n : Data) (name : List ℕ) (named : option_and_then s
 -- ---- words
 
 pub number_named : (kind : Kind) → sort_named (kind_word kind) ≡ Some (Number kind)
-number_named kinds.U8 = refl
-number_named _ = refl
+number_named kind = grind arith
 
 -- the kind that a word names
 pub kind_told : (named : Option Kind) (word : List ℕ) (said : Option (List ℕ)) → TellsKind word named → Some word ≡ said

@@ -8,7 +8,7 @@ use Rattle.vms_descfile.proofs.Facade.{has_few, Clean, good, number_in, own_name
 use Rattle.vms_descfile.proofs.Facade.{Fault, Answer, next, Refuses, Answers, Scope, test_within, test_as, form_of, max, Ordering, Equal, sym, codes, same_Some}
 use Rattle.vms_descfile.proofs.Facade.{nat_cmp, match_ordering, slice_cmp, array, object, no_items, item, Members, no_members, member, depth, members_depth}
 use Rattle.vms_descfile.proofs.Facade.{get, get_member, DEEPEST, bad, under, changed, member_of, Pair, key_of, joined, two_of, both, DepthLaw, string, put, Rel}
-use Rattle.vms_descfile.proofs.Facade.{Own, Parent, names_well, u32_of, u64_of, rel_of, own_cell, parent_cell, with_parent, natural_file, rel_file}
+use Rattle.vms_descfile.proofs.Facade.{Own, Parent, names_well, u32_of, u64_of, rel_of, parent_cell, with_parent, natural_file, rel_file}
 use Rattle.vms_descfile.proofs.ObjectLaws.{natural_good}
 use Rattle.vms_spec.specs.Rules.{depth as test_depth}
 use Rattle.vms_json.specs.declared.fault.Fault.TheVariants as faults
@@ -84,12 +84,10 @@ test_same (Or s t) = cc (test_same s, test_same t)
 test_same _ = refl
 
 count_same : (c : Count) → count_shown true c ≡ c
-count_same One = refl
-count_same _ = refl
+count_same c = grind arith
 
 optional_same : (o : Option Formula) → option_map (test_shown true) o ≡ o
-optional_same None = refl
-optional_same (Some t) = ap Some (test_same t)
+optional_same o = grind (arith, test_same)
 
 field_same : (f : Field) → field_shown true f ≡ f
 field_same f = rw (count_same f.count, optional_same f.test)
@@ -183,8 +181,7 @@ by_form (suc n) scope d form r more is said =
     rw is at (simp unary_clauses at said)
 
 pub refused_next : {A B : Type 0} (x : Answer A) (f : A → Answer B) (fault : Fault) → Refuses x fault → Refuses (next x f) fault
-refused_next x f (faults.Shape path) said = rw said
-refused_next x f faults.NoMemory said = tt
+refused_next x f fault said = grind arith
 
 -- ---- a test says the same within each bound that is at least its value's number of levels
 
@@ -218,16 +215,13 @@ pair_nests _ p is = absurd (cc)
 
 of_same : (inner other : Data → Answer Formula) (key : List ℕ) (o : Option Data) → ((e : Data) → o ≡ Some e → inner e ≡ other e)
     → member_of inner key o ≡ member_of other key o
-of_same inner other key None same = refl
-of_same inner other key (Some e) same = ap (under key) (same e refl)
+of_same inner other key o same = grind arith
 
 two_same : (inner other : Data → Answer Formula) (key : List ℕ) (join : Formula → Formula → Formula) (x : Answer Pair)
     → ((p : Pair) → x ≡ good p → (inner p.first ≡ other p.first) × (inner p.second ≡ other p.second))
     → next (under key x) (λ p. under key (both join (inner p.first) (inner p.second))) ≡ next (under key x)
     (λ p. under key (both join (other p.first) (other p.second)))
-two_same inner other key join (good p) same =
-    let both_same = same p refl in rw (both_same.0, both_same.1)
-two_same inner other key join (bad path) same = refl
+two_same inner other key join x same = grind arith
 
 pair_same : (inner other : Data → Answer Formula) (key : List ℕ) (join : Formula → Formula → Formula) (o : Option Data)
     → ((e : Data) → o ≡ Some e → (f : Data) → depth f ≤ depth e → inner f ≡ other f)
@@ -248,9 +242,7 @@ as_same (forms.Leaf leaf) inner other scope d same = refl
 
 -- a value without parts is no test
 flat_test : (n : ℕ) (scope : Scope) (d : Data) → depth d ≤ 0 → test_within (suc n) scope d ≡ test_within 0 scope d
-flat_test n scope (array ds) flat = absurd (omega arith)
-flat_test n scope (object ms) flat = absurd (omega arith)
-flat_test n scope _ flat = refl
+flat_test n scope d flat = grind arith
 
 within_same : (n m : ℕ) (scope : Scope) (d : Data) → depth d ≤ n → depth d ≤ m → test_within n scope d ≡ test_within m scope d
 within_same zero zero scope d one other = refl
@@ -271,8 +263,7 @@ pub record Scoped (asks : Bool) (own parent : List (List ℕ)) (may may_parent :
       → with_parent (λ names. number_in names (get_or parent k [])) scope.parent ≡ good (number_shown asks k)
 
 rel_good : (rel : Rel) → rel_of (rel_file rel) ≡ good rel
-rel_good rels.Eq = refl
-rel_good _ = refl
+rel_good rel = grind arith
 
 u32_good : (n : ℕ) → n ≤ 4294967295 → u32_of (natural_file n) ≡ good n
 u32_good n le = natural_good 4294967295 n le
@@ -280,22 +271,12 @@ u32_good n le = natural_good 4294967295 n le
 u64_good : (n : ℕ) → n ≤ 18446744073709551615 → u64_of (natural_file n) ≡ good n
 u64_good n le = natural_good 18446744073709551615 n le
 
-own_good : (scope : Scope) (name : List ℕ) (k m mask : ℕ) (rel : Rel) (value : ℕ) → number_in scope.own name ≡ good m
-    → mask ≤ 18446744073709551615 → value ≤ 18446744073709551615
-    → own_cell scope (object (put (codes "field") (string name) (compared_file mask rel value))) ≡ good (Cell Own m mask rel value)
-own_good scope name k m mask rel value found fits_mask fits_value = rw (found, rel_good rel, u64_good mask fits_mask, u64_good value fits_value)
-
-parent_good : (names : Names) (name : List ℕ) (m mask : ℕ) (rel : Rel) (value : ℕ) → number_in names name ≡ good m → mask ≤ 18446744073709551615
-    → value ≤ 18446744073709551615
-    → parent_cell names (object (put (codes "parent") (string name) (compared_file mask rel value))) ≡ good (Cell Parent m mask rel value)
-parent_good names name m mask rel value found fits_mask fits_value = rw (rel_good rel, u64_good mask fits_mask, found, u64_good value fits_value)
-
 with_good : (o : Option Names) (name : List ℕ) (m mask : ℕ) (rel : Rel) (value : ℕ) → with_parent (λ names. number_in names name) o ≡ good m
     → mask ≤ 18446744073709551615 → value ≤ 18446744073709551615
     → with_parent (λ names. parent_cell names (object (put (codes "parent") (string name) (compared_file mask rel value)))) o ≡ good
     (Cell Parent m mask rel value)
 with_good None name m mask rel value found fits_mask fits_value = cc
-with_good (Some names) name m mask rel value found fits_mask fits_value = parent_good names name m mask rel value found fits_mask fits_value
+with_good (Some names) name m mask rel value found fits_mask fits_value = rw (rel_good rel, u64_good mask fits_mask, found, u64_good value fits_value)
 
 module _ (asks : Bool) (own parent : List (List ℕ)) (may may_parent : ℕ → Bool) (scope : Scope)
     (scoped : Scoped asks own parent may may_parent scope) where
@@ -306,7 +287,7 @@ module _ (asks : Bool) (own parent : List (List ℕ)) (may may_parent : ℕ → 
   test_back (suc n) (AtLeast m) deep fits well = rw (u32_good m fits)
   test_back (suc n) (Below m) deep fits well = rw (u32_good m fits)
   test_back (suc n) (Cell Own k mask rel value) deep fits well =
-      own_good scope (get_or own k []) k (number_shown asks k) mask rel value (scoped.found k well) fits.0 fits.1
+      rw (scoped.found k well, rel_good rel, u64_good mask fits.0, u64_good value fits.1)
   test_back (suc n) (Cell Parent k mask rel value) deep fits well =
       with_good scope.parent (get_or parent k []) (number_shown asks k) mask rel value (scoped.found_above k well) fits.0 fits.1
   test_back (suc n) (Not t) deep fits well = rw (test_back n t (omega arith) fits well)
