@@ -1,5 +1,5 @@
 -- Units by the bytes that came: numbers, heads, footers, and what ends a stream.
-use Rattle.std.proofs.{lemmas.Result.err_from_is_err_and, Math.Bool.and-false, Common.IsErrAnd, Common.Result}
+use Rattle.std.proofs.{Math.Bool.and-false, Common.Result}
 use Rattle.std.proofs.lemmas.List.{get_or_append_left, drop-append-le}
 use Rattle.vms_frames.proofs.Facade.{◌≡◌, ℕ, suc, zero, ◌+◌, ◌<◌, ◌≤◌, List, [], ◌++◌, length, get_or, drop, Some, Ok, Err, refl, sym}
 use Rattle.vms_frames.proofs.Facade.{ap, arith, length-drop, take-append-le, le-ltb, lt-ltb, big_from, Reason, number_at, bytes_at, Refused, Piece, Known, Due}
@@ -17,10 +17,7 @@ use Rattle.vms_spec.specs.declared.Reason.TheVariants as reasons
 use Rattle.vms_kinds.specs.declared.Kind.TheVariants as kinds
 use Rattle.vms_stream.specs.SoFar as tails
 use Rattle.vms_frames.proofs.Facade.{if_both}
-
--- what `?` returns
-pub err_is : {T E : Type 0} (r : Result T E) (e : E) → IsErrAnd r (λ y. y ≡ e) → r ≡ Err e
-err_is r e is = let p = err_from_is_err_and r is in rw (p.1, p.2)
+pub use Rattle.vms_spec.proofs.ListsAndNumbers.{err_is}
 
 -- ---- what the bytes of a unit are, whatever comes after them
 

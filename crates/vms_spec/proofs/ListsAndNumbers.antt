@@ -7,6 +7,7 @@ use Rattle.vms_spec.proofs.Facade.{is_one_of, natural_from, ℤ, pos, negsuc, �
 use Rattle.vms_spec.proofs.Facade.{is_above, exceeds, ◌%◌, ◌^◌, append-nil, mod_below, pow_pos, big_number, big_bytes, twos_complement}
 use Rattle.vms_spec.proofs.Facade.{big_number-reads_back, Kind, U8, I8, I16, I32, I64, width, residue, code, InRange, value_of, MOST_UNUSED, be32, is_bad_bool}
 use Rattle.vms_spec.proofs.Facade.{nat_tests, is_name_byte}
+use Rattle.std.proofs.{lemmas.Result.err_from_is_err_and, Common.Err, Common.IsErrAnd, Common.Result}
 use Rattle.vms_kinds.specs.declared.Kind.TheVariants.{Bool as Truth}
 
 -- ---- tests
@@ -43,6 +44,10 @@ both_below n a b = same_tests (nat_le n (min a b)) (nat_le n a && nat_le n b) fo
 pub either_of : {C : Type 0} (a b : Bool) → (a || b) ≡ true → (a ≡ true → C) → (b ≡ true → C) → C
 either_of true b e f g = f refl
 either_of false b e f g = g e
+
+-- what `?` returns
+pub err_is : {T E : Type 0} (r : Result T E) (e : E) → IsErrAnd r (λ y. y ≡ e) → r ≡ Err e
+err_is r e is = let p = err_from_is_err_and r is in rw (p.1, p.2)
 
 -- ---- lists
 

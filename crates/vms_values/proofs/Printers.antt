@@ -9,12 +9,13 @@ use Rattle.vms_values.proofs.Facade.{is_well_formed, struct_clean, reach, MOST_I
 use Rattle.vms_values.proofs.Facade.{place_first, desc_of, field_of, field_at, own_numbers, first_cell, desc_at, sub_at, found_field, here_fields, sub_next}
 use Rattle.vms_values.proofs.Facade.{sub_inside, own_inside_device, few_cells, PartAt, HasSpot, size_in, table, cells_in, item_rank, part_rank, reach_whole}
 use Rattle.vms_values.proofs.Facade.{uses_more, rank_below, next_field, cells_table, start_after, cell_of, fields_at, IsRun, run_lines, IsOf, section_text}
-use Rattle.vms_values.proofs.Facade.{whole_sub, Image, own_cells, sub_place, device_at, take-take, Result, Err, length-drop, take, length-take, Bor, is_ok}
-use Rattle.vms_values.proofs.Facade.{joined, Outlet, Wrote, devices_lines, AreOf, below, below_part, Stays, err_from_is_err_and, take-append-le, Part, HasPart}
+use Rattle.vms_values.proofs.Facade.{whole_sub, Image, own_cells, sub_place, device_at, take-take, Result, length-drop, take, length-take, Bor, is_ok}
+use Rattle.vms_values.proofs.Facade.{joined, Outlet, Wrote, devices_lines, AreOf, below, below_part, Stays, take-append-le, Part, HasPart}
 use Rattle.vms_values.proofs.Facade.{few_structs, field_clean, LONGEST_PATH, PART_ROOM}
 use Rattle.vms_spec.specs.Sets.{AtLeast}
 use Rattle.vms_parts.specs.{declared.types.Desc.Desc as CodeDesc, declared.types.Field.Field as CodeField}
-use Rattle.std.proofs.Common.{take_all, IsErrAnd}
+use Rattle.std.proofs.Common.{take_all}
+pub use Rattle.vms_spec.proofs.ListsAndNumbers.{err_is}
 use Rattle.vms_spec.specs.declared.Part.TheVariants as parts
 
 abbrev pub cells_of : List Printer → List (List Cell)
@@ -209,10 +210,6 @@ pub joined_at : (pieces : List (Bor (List ℕ))) (i : ℕ) (d : Bor (List ℕ)) 
 joined_at pieces i d lt = rw (drop_more pieces i d lt)
 
 -- ---- The parts of a printed text.
-
--- what `?` returns
-pub err_is : {T E : Type 0} (r : Result T E) (e : E) → IsErrAnd r (λ y. y ≡ e) → r ≡ Err e
-err_is r e is = let p = err_from_is_err_and r is in rw (p.1, p.2)
 
 -- a call whose fault was passed on as another
 pub wrote_mapped : {T E F : Type 0} (a b : Outlet) (text : List ℕ) (r : Result T E) (mapped : Result T F) → is_ok mapped ≡ is_ok r → Wrote a b text r → Wrote a b text mapped
