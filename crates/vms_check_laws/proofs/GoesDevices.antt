@@ -68,9 +68,6 @@ module _ (old new : Set) (good_old : WellFormed old) (good_new : WellFormed new)
   abbrev qs : List (Option ℕ)
   qs = flat_map (named_partners old new e) d.subs
 
-  sizes : (m : ℕ) (s : Sub) → slice_get d.subs m ≡ Some s → length (named_partners old new e s) ≡ sub_size old s
-  sizes = sized old new good_old good_new i d e at_i
-
   -- ---- taken
 
   -- a subsection whose cell has a partner is one that has its name in the newer device
@@ -108,15 +105,15 @@ module _ (old new : Set) (good_old : WellFormed old) (good_new : WellFormed new)
   abbrev NoneHas : ℕ → Type 0
   NoneHas r = (c : ℕ) → slice_get qs c ≡ Some (Some (own_cells new e + r)) → has_come (own_cells old d + c) ≡ false
 
-  other_come : (l : ℕ) (t : Sub) (r q : ℕ) → slice_get e.subs l ≡ Some t → q < sub_size new t → own_cells new e + r ≡ place' l + q → NoneHas r
-      → Comes old new d image t → get_or (carried t) q (pos 0) ≡ (get_or (new_cells t) q no_cell).default
-  other_come l t r q at_l lt is none h =
+  other_come : (l : ℕ) (t : Sub) → Comes old new d image t → (r q : ℕ) → slice_get e.subs l ≡ Some t → q < sub_size new t → own_cells new e + r ≡ place' l + q
+      → NoneHas r → get_or (carried t) q (pos 0) ≡ (get_or (new_cells t) q no_cell).default
+  other_come l t h r q at_l lt is none =
       let goes = goes_of l t at_l h in
       rw h.segment (goes.other q lt (λ c f.
       let inside : c < sub_size old h.f.sub = (let i = slice_get_within _ c (Some (place' l + q)) f in omega arith) in
       let b = (place h.f.number + c) - own_cells old d in
       let b_is : own_cells old d + b ≡ place h.f.number + c = omega (arith, sub_place_up old (own_cells old d) d.subs h.f.number) in
-      let here = at_place old (named_partners old new e) _ d.subs h.f.number h.f.sub sizes h.f.there b c inside b_is in
+      let here = at_place old (named_partners old new e) _ d.subs h.f.number h.f.sub (sized old new good_old good_new i d e at_i) h.f.there b c inside b_is in
       let has : has_come (own_cells old d + b) ≡ false = none b (here ∙ rw (named_is h.f.sub t l at_l h.f.name_is, is) f) in
       part_apart old d numbers (λ xs. has_cell xs (place h.f.number + c) ≡ false) (none_in_both _) (own_cells old d) d.subs image.came
       (rw b_is at has) h.f.number h.f.sub h.v h.f.there h.is_come))
@@ -129,7 +126,7 @@ module _ (old new : Set) (good_old : WellFormed old) (good_new : WellFormed new)
         number_at new new_cells _ e.subs l t (λ m s f. refl) at_l no_cell r q lt is,
       ) (elim (comes old new d image t) [
         | inl h ↦ rw h.segment (defaults_at _ q)
-        | inr h ↦ other_come l t r q at_l lt is none h
+        | inr h ↦ other_come l t h r q at_l lt is none
       ])
 
   other_in : (r : ℕ) → r < length (flat_map new_cells e.subs) → NoneHas r → get_or rest r (pos 0) ≡ (get_or (flat_map new_cells e.subs) r no_cell).default
@@ -156,7 +153,7 @@ module _ (old new : Set) (good_old : WellFormed old) (good_new : WellFormed new)
     paired = rest_paired old new good_old good_new i d e at_i;
     within = come_within;
     long = all_long new _ e.subs sized';
-    taken = λ c r f come. taken_in c r (stands_in old _ _ d.subs c _ sizes f) come;
+    taken = λ c r f come. taken_in c r (stands_in old _ _ d.subs c _ (sized old new good_old good_new i d e at_i) f) come;
     other = other_in;
   }
 

@@ -40,10 +40,6 @@ module _ (to new : Set) (wanted : List (List ℤ)) (images : List Typed) (lost :
       may = λ i d image there at. may_be to new fit well compatible wanted backs are_back kinds i d image there at;
     }
 
-    -- images that are valid, each as the newer set's device of its name, are ready
-    pub are_ready : ((k : ℕ) → k < length new.devices → IsValidAt to new backs k) → AreReady to backs
-    are_ready valid = ready_if to new fit well compatible wanted backs are_back kinds valid
-
 -- ---- one device
 
 -- the search by a name and an instance that are those of a device
@@ -142,7 +138,7 @@ module _ (to new : Set) (images : List Image) (typed : List Typed) (lost : Optio
   backs_are = are_back to new wants typed lost p.returned
 
   pub ready_back : ((k : ℕ) → k < length new.devices → IsValidAt to new states k) → AreReady to states
-  ready_back valid = are_ready to new wants typed lost p.returned p.fit well p.compatible (newest_kinds to new p.newest images p.kept) valid
+  ready_back valid = ready_if to new p.fit well p.compatible wants states backs_are (newest_kinds to new p.newest images p.kept) valid
 
   first_lost : (found : Option LostCell) → lost ≡ found → IsFirstLost to new wants (length to.devices) states found
   first_lost found same = rw (← same) p.returned.first_lost

@@ -59,10 +59,10 @@ module _ (s : Side) where
   sum_small start lt h = grind (arith, field_size, cells_here, few_are)
 
 -- which structures a field uses
-pub uses_here : (set : Set) → is_well_formed set ≡ true → (part : Part) → HasPart set part → (k : ℕ) → k < length (desc_at set part).fields
+pub uses_here : (set : Set) (k : ℕ) → is_well_formed set ≡ true → (part : Part) → HasPart set part → k < length (desc_at set part).fields
     → (uses_below (reach set part) (get_or (desc_at set part).fields k no_field).item ≡ true)
     × (uses_below (length set.structs) (get_or (desc_at set part).fields k no_field).item ≡ true)
-uses_here set well part h k lt =
+uses_here set k well part h lt =
     let uses = (field_clean set well part h k lt).uses in
     (uses, uses_more (reach set part) (length set.structs) (get_or (desc_at set part).fields k no_field).item (reach_whole set part h) uses)
 
@@ -192,8 +192,8 @@ device_pairs old new i k s now is e = rw (e, is)
 pub arrays_are : (s t : Side) (k l : ℕ) → IsSide s → IsSide t → k < length (desc_on s).fields → l < length (desc_on t).fields → HasFew s k
     → AreArrays (arrays_on s k t l)
 arrays_are s t k l in_s in_t lt lt' few = record {
-  one = (uses_here _ s.set.now.well_formed s.part in_s k lt).1;
-  other = (uses_here _ t.set.now.well_formed t.part in_t l lt').1;
+  one = (uses_here _ k s.set.now.well_formed s.part in_s lt).1;
+  other = (uses_here _ l t.set.now.well_formed t.part in_t lt').1;
   few = few_here s k lt few;
 }
 
