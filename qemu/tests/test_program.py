@@ -1,8 +1,10 @@
 """The program `vmstate` itself: what its process prints, and the status that it ends with."""
 import os
+import resource
 import shutil
+import signal
 import subprocess
-from typing import Dict, List, Optional, Tuple
+from typing import Callable, Dict, List, Optional, Tuple
 
 from tests import TOP
 from tests.kit import Case, read
@@ -11,6 +13,14 @@ from vmstate_qemu.program import path_of
 EXAMPLES = os.path.join(os.path.dirname(TOP), "examples")
 SMALLEST = os.path.join(EXAMPLES, "smallest.stream")
 SHOWN = b"section timer 0 v1\nnow = 0\n"
+
+
+def files_of_at_most(size: int) -> Callable[[], None]:
+    """Returns what makes the calling process fail to write files beyond `size` bytes, as on a full disk."""
+    def limit() -> None:
+        signal.signal(signal.SIGXFSZ, signal.SIG_IGN)
+        resource.setrlimit(resource.RLIMIT_FSIZE, (size, size))
+    return limit
 
 
 class Process(Case):
@@ -50,6 +60,13 @@ class Process(Case):
         done = subprocess.run([os.fsencode(path_of()), b"show", b"\xff"], input=b"", capture_output=True, check=False)
         self.assertEqual((done.returncode, done.stdout, done.stderr), (2, b"", b"bad words\n"))
 
+    def test_an_input_of_analyze_has_at_most_100_000_000_bytes(self):
+        for size, reason in ((100_000_000, b"NoDescription"), (100_000_001, b"TooLong")):
+            with self.subTest(size=size), open(self.path("long"), "wb+") as file:
+                file.truncate(size)
+                self.assertEqual(self.run_in(["analyze"], stdin=file, timeout=60),
+                                 (1, b"", b"refused at 100000000 in -: " + reason + b"\n"))
+
     def test_a_stream_that_fails_has_its_status(self):
         smallest, folder = read(SMALLEST), os.open(self.folder, os.O_RDONLY)
         self.addCleanup(os.close, folder)
@@ -58,3 +75,38 @@ class Process(Case):
         with open("/dev/full", "wb") as full:
             self.assertEqual(self.run_in(["show", "@0"], smallest, stdout=full), (6, None, b"write fault\n"))
             self.assertEqual(self.run_in(["show"], stderr=full), (6, b"", None))
+
+    def test_a_late_fault_is_told_after_what_was_written(self):
+        with open(self.path("out"), "wb") as out:
+            got = self.run_in(["drill", "isa-1", "1", "1"], stdout=out, preexec_fn=files_of_at_most(6))
+        self.assertEqual(got, (6, None, b"write fault\n"))
+        self.assertEqual(read(self.path("out")), b"isa-1 ")
+
+    def test_a_script_has_at_most_4_194_304_bytes(self):
+        self.put("script", b"\n" * 4194304)
+        self.assertEqual(self.run_in(["load", "isa-1", "script"], b""), (3, b"", b"script line 1: Form\n"))
+
+    def play(self, **how: object) -> Tuple[object, ...]:
+        """Plays a session that stores a board's stream under `a` and then under `b`."""
+        self.put("session", b"save @4 a\nsave @4 b\n")
+        return self.run_in(["play", "isa-4", "session"], **how)
+
+    def test_a_store_keeps_permissions_and_links(self):
+        os.chmod(self.put("a", b"old"), 0o640)
+        os.symlink("a", self.path("b"))
+        status, trace, notes = self.play()
+        self.assertEqual((status, notes), (0, b""))
+        self.assertEqual(os.stat(self.path("a")).st_mode & 0o777, 0o640)
+        self.assertEqual(os.readlink(self.path("b")), "a")
+        self.assertEqual(trace, b"saved %d\n" % len(read(self.path("a"))) * 2)
+
+    def test_a_store_that_fails_keeps_the_old_file(self):
+        for old in (b"old", None):
+            with self.subTest(old=old):
+                if old is not None:
+                    self.put("a", old)
+                self.assertEqual(self.play(preexec_fn=files_of_at_most(100)), (7, b"", b"shelf fault\n"))
+                self.assertEqual(sorted(os.listdir(self.folder)), ["a", "session"] if old else ["session"])
+                if old is not None:
+                    self.assertEqual(read(self.path("a")), old)
+                    os.remove(self.path("a"))

@@ -12,8 +12,6 @@
 #![tactic(auto)]
 
 #[cfg(test)]
-mod disks;
-#[cfg(test)]
 mod hooks;
 #[cfg(test)]
 mod kinds;

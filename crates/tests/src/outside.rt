@@ -1,5 +1,5 @@
-// The real objects of the outside: 20,000 bytes, readers, writers and disks that fail, and a shelf in memory whose
-// calls fail.
+// The real objects of the outside: 20,000 bytes, readers and writers that fail, a folder, and a shelf in memory
+// whose calls fail.
 use std::alloc::Global;
 use std::io;
 use std::io::{BufWriter, ErrorKind, Read, Write};
@@ -19,20 +19,16 @@ fn fetched<H: Shelf>(alloc: Global, shelf: &mut H, name: &str) -> Result<Vec<u8>
     shelf.fetch(alloc, name, 4)
 }
 
-/// The number of bytes that go through each object: more than two of its blocks.
-pub const MANY: usize = 20_000;
+// The number of bytes that go through each object: more than two of its blocks.
+const MANY: usize = 20_000;
 
 // Returns byte `n` of them.
 fn byte(n: usize) -> u8 {
     (n % 251) as u8
 }
 
-/// Returns [`MANY`] bytes.
-///
-/// # Errors
-///
-/// [`Fail`] if memory runs out.
-pub fn many(alloc: Global) -> Result<Vec<u8>, Fail> {
+// Returns these bytes.
+fn many(alloc: Global) -> Result<Vec<u8>, Fail> {
     let mut bytes = Vec::with_capacity(alloc, MANY)?;
     for n in 0..MANY {
         bytes.push(byte(n))?;
@@ -188,8 +184,8 @@ fn an_error_of_a_writer_is_told(rt: HostRuntime) -> Result<(), Fail> {
     Ok(())
 }
 
-/// Returns why `name` can't be fetched from the shelf.
-pub fn refusal<H: Shelf>(alloc: Global, shelf: &mut H, name: &str) -> Option<FetchFault> {
+// Returns why `name` can't be fetched from the shelf.
+fn refusal<H: Shelf>(alloc: Global, shelf: &mut H, name: &str) -> Option<FetchFault> {
     fetched(alloc, shelf, name).err()
 }
 
@@ -230,4 +226,33 @@ fn a_shelf_in_memory_fails_at_the_listed_calls(rt: HostRuntime) -> Result<(), Fa
     let mut shelf = MemShelf::new(alloc, vec![in alloc; 1, 3]?);
     assert!(rt; fails_at_1_and_3(alloc, &mut shelf));
     Ok(())
+}
+
+// Checks whether the shelf holds exactly these bytes under the name, within the limit.
+fn gives<H: Shelf>(alloc: Global, shelf: &mut H, name: &str, limit: u32, bytes: &[u8]) -> bool {
+    shelf
+        .fetch(alloc, name, limit)
+        .is_ok_and(|held| held.as_slice() == bytes)
+}
+
+#[test]
+fn a_folder_keeps_many_bytes(rt: HostRuntime) -> Result<(), Fail> {
+    let alloc = rt.alloc();
+    rt.create_dir("many")?;
+    let bytes = many(alloc)?;
+    let mut shelf = FileShelf::new(rt.clone()?, String::from_str(alloc, "many")?);
+    keeps_many(&rt, alloc, &mut shelf, &bytes);
+    Ok(())
+}
+
+fn keeps_many<H: Shelf>(rt: &impl Abort, alloc: Global, shelf: &mut H, bytes: &[u8]) {
+    let limit = MANY as u32;
+    assert!(rt; shelf.store("a", bytes).is_ok());
+    assert!(rt; gives(alloc, shelf, "a", limit, bytes));
+    assert!(rt; gives(alloc, shelf, "a", 20_001, bytes));
+    assert!(rt; shelf.fetch(alloc, "a", 19_999).err() == Some(FetchFault::TooLarge));
+    // a shorter content leaves none of the earlier bytes
+    assert!(rt; shelf.store("a", b"four").is_ok());
+    assert!(rt; gives(alloc, shelf, "a", 4, b"four"));
+    assert!(rt; refusal(alloc, shelf, ".a.new") == Some(FetchFault::NotThere));
 }
