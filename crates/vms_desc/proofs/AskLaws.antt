@@ -1,28 +1,21 @@
 -- The fields that tests and counts of a well-formed set name exist, and the code's answers are
 -- those of the definitions.
 use Rattle.vms_desc.proofs.{Clean.small_layout, Clean.field_clean, Clean.validate_clean, Clean.sub_clean, EvalLaws.truth_same}
-use Rattle.vms_desc.proofs.Facade.{◌≡◌, ℕ, zero, suc, ◌+◌, ◌<◌, ◌≤◌, List, [], ◌∷◌, length, length-append, get_or, map, Option}
-use Rattle.vms_desc.proofs.Facade.{Some, None, refl, sym, ap, ◌∙◌, arith, Bool, true, ◌&&◌, flat_map, slice_get, list_all, and_parts, length-map}
-use Rattle.vms_desc.proofs.Facade.{get_or_from_slice_get, get_or-map, MOST_ITEMS, Counted, Own, Parent, Part, Formula, AtLeast, Below, Cell, Not, And, Or}
-use Rattle.vms_desc.proofs.Facade.{Field, Desc, Sub, Device, Set, own_cells, sub_place, no_desc, no_field, no_parent, all_hold, desc_cells, struct_cells}
-use Rattle.vms_desc.proofs.Facade.{device_cells, is_num, is_one, has_no_test, is_steady, is_steady_in, is_earlier_in, is_counting, names_well, nobody}
-use Rattle.vms_desc.proofs.Facade.{test_names_well, count_names_well, device_at, field_of, desc_of, sub_of, device_of, form_of, get_map_at, Scope}
-use Rattle.vms_desc.proofs.Facade.{is_well_formed, fields_in, HasPart, desc_at, sub_at, is_number, is_number_in, is_placed}
+use Rattle.vms_desc.proofs.Facade.{◌≡◌, ℕ, zero, suc, ◌+◌, ◌<◌, ◌≤◌, List, [], ◌∷◌, length, length-append, get_or, map, Some, refl}
+use Rattle.vms_desc.proofs.Facade.{sym, ap, ◌∙◌, arith, Bool, true, flat_map, slice_get, list_all, and_parts, length-map, get_or_from_slice_get}
+use Rattle.vms_desc.proofs.Facade.{get_or-map, MOST_ITEMS, Counted, Own, Parent, Part, Formula, AtLeast, Below, Cell, Not, And, Or, Field, Desc, Sub, Device}
+use Rattle.vms_desc.proofs.Facade.{Set, own_cells, sub_place, no_desc, no_field, no_parent, all_hold, desc_cells, struct_cells, device_cells, is_steady_in}
+use Rattle.vms_desc.proofs.Facade.{is_earlier_in, is_counting, names_well, nobody, test_names_well, count_names_well, device_at, field_of, desc_of, sub_of}
+use Rattle.vms_desc.proofs.Facade.{device_of, form_of, get_map_at, Scope, is_well_formed, fields_in, HasPart, desc_at, sub_at, is_number_in, is_placed}
 pub use Rattle.vms_spec.proofs.ListsAndNumbers.{sub_first}
 use Rattle.vms_parts.specs.{declared.types.Desc.Desc as CodeDesc, declared.types.Device.Device as CodeDevice, declared.types.Field.Field as CodeField}
-use Rattle.vms_parts.specs.{declared.types.Sub.Sub as CodeSub}
+use Rattle.vms_parts.specs.declared.types.Sub.{Sub as CodeSub}
 use Rattle.vms_spec.specs.declared.Part.TheVariants as parts
 
 -- ---- what tests name
 
 steady_number : (d : Desc) (j : ℕ) → is_steady_in d j ≡ true → is_number_in d.fields j ≡ true
-steady_number d j e = by_field (slice_get d.fields j) e
-  where
-    by_field : (o : Option Field) → is_steady d.minimum o ≡ true → is_number o ≡ true
-    by_field None e = cc
-    by_field (Some f) e =
-        let a = and_parts (is_num f.item && is_one f.count && has_no_test f.test) _ e in
-        (and_parts (is_num f.item && is_one f.count) (has_no_test f.test) a.0).0
+steady_number d j e = grind arith
 
 module _ (own more parent others : ℕ → Bool) (h : (j : ℕ) → own j ≡ true → more j ≡ true) (i : (j : ℕ) → parent j ≡ true → others j ≡ true) where
   names_more : (t : Formula) → names_well own parent t ≡ true → names_well more others t ≡ true
@@ -41,18 +34,15 @@ module _ (own more parent others : ℕ → Bool) (h : (j : ℕ) → own j ≡ tr
 earlier_number : (d : Desc) (k j : ℕ) → is_earlier_in d k j ≡ true → is_number_in d.fields j ≡ true
 earlier_number d k j e = steady_number d j (and_parts _ (is_steady_in d j) e).1
 
-test_names : (d : Desc) (k : ℕ) (test : Option Formula) (t : Formula) → test ≡ Some t → test_names_well d k test ≡ true
-    → names_well (is_number_in d.fields) nobody t ≡ true
-test_names d k None t is e = cc
-test_names d k (Some u) t is e =
-    let same : t ≡ u = cc in rw same (names_more (is_earlier_in d k) (is_number_in d.fields) nobody nobody (earlier_number d k) (λ j x. x) u e)
-
 module _ (set : Set) (well : is_well_formed set ≡ true) where
   module _ (part : Part) (h : HasPart set part) (k : ℕ) (lt : k < length (desc_at set part).fields) (f : Field)
       (fs : f ≡ get_or (desc_at set part).fields k no_field) where
     -- the test of a field
     pub field_names : (t : Formula) → f.test ≡ Some t → names_well (is_number_in (desc_at set part).fields) nobody t ≡ true
-    field_names t is = test_names (desc_at set part) k _ t (ap (λ (x : Field). x.test) (sym fs) ∙ is) (field_clean set well part h k lt).test
+    field_names t is =
+        let d = desc_at set part in
+        let named : test_names_well d k (Some t) ≡ true = rw (← fs, is) at (field_clean set well part h k lt).test in
+        names_more (is_earlier_in d k) (is_number_in d.fields) nobody nobody (earlier_number d k) (λ j x. x) t named
 
     -- the field that counts the elements of a field
     pub field_counts : (by most : ℕ) → f.count ≡ Counted by most → (own : Scope) → fields_in own ≡ (desc_at set part).fields

@@ -1,5 +1,5 @@
 -- Well-formed sets: their limits, their properties part by part, and that the shipped sets are.
-use Rattle.vms_desc.proofs.{Facade.newest_set, EvalLaws.cells_size, EvalLaws.struct_sizes}
+use Rattle.vms_desc.proofs.{Facade.nat_tests, Facade.newest_set, EvalLaws.cells_size, EvalLaws.struct_sizes}
 use Rattle.vms_desc.proofs.Facade.{shipped_set, clock_set, heads_fit, clock_1, clock_2, items_are, items_to, is_well_formed, ◌≡◌, ℕ, zero, suc, ◌*◌}
 use Rattle.vms_desc.proofs.Facade.{◌≤◌, List, ◌∷◌, ◌++◌, length, length-append, get_or, map, sym, ap, ◌∙◌, arith, true, ◌&&◌, nat_le}
 use Rattle.vms_desc.proofs.Facade.{[], flat_map, and_parts, leb-true, length-map, map-map, Item, Struct, MOST_ITEMS, Field, Desc, Sub, Device, Set, first}
@@ -7,7 +7,7 @@ use Rattle.vms_desc.proofs.Facade.{no_desc, capacity_of, desc_cells, struct_cell
 use Rattle.vms_desc.proofs.Facade.{IsFit, IsGood, FitsHeads, first_long, well_good, Cells, Items, in_u32, size_of, fields_size, sizes_to, form_of, layout_of}
 use Rattle.vms_desc.proofs.Facade.{◌<◌, Some, refl, Bool, list_all, slice_get, slice_get-get_or, Equal, Unused, Count, One, Fixed, Counted, Part, Formula}
 use Rattle.vms_desc.proofs.Facade.{AtLeast, no_field, is_name, is_name_byte, is_steady_in, names_well, nobody, test_names_well, count_names_well, uses_below}
-use Rattle.vms_desc.proofs.Facade.{has_good_count, field_rules, validation_rules, has_few, struct_rules, sub_rules, device_rules, WellFormed, device_at}
+use Rattle.vms_desc.proofs.Facade.{has_good_count, field_rules, validation_rules, has_few, struct_rules, sub_rules, device_rules, WellFormed, device_at, mul-le}
 use Rattle.vms_desc.proofs.Facade.{HasPart, desc_at, sub_at, AllTrue, Clean, device_parts, ◌+◌, ltb-true, lt-ltb, ◌-◌, drop, get_or_default, get_or-map}
 use Rattle.vms_desc.proofs.Facade.{get_or-drop, get_or-map-range_with_len, range_with_len, NEWEST_SET, shipped_sets, all_fit, device_fits, each, fit, is_fit}
 pub use Rattle.vms_spec.proofs.ShippedSets.{none_is}
@@ -17,17 +17,17 @@ use Rattle.vms_spec.specs.declared.Part.TheVariants as parts
 -- ---- no fault at the set
 
 module _ (set : Set) (h : is_well_formed set ≡ true) where
-  few_parts : ((nat_le (length set.machines) 16 && nat_le (length set.structs) 64) ≡ true) × (nat_le (length set.devices) 64 ≡ true)
-  few_parts = and_parts (nat_le (length set.machines) 16 && nat_le (length set.structs) 64) (nat_le (length set.devices) 64) (set_clean set (none_is (first_fault set) h)).own.1.1.1.1.1.1.0
+  limits : (nat_le (length set.machines) 16 && nat_le (length set.structs) 64 && nat_le (length set.devices) 64) ≡ true
+  limits = (set_clean set (none_is (first_fault set) h)).own.1.1.1.1.1.1.0
 
   pub few_machines : length set.machines ≤ 16
-  few_machines = leb-true (length set.machines) 16 (and_parts (nat_le (length set.machines) 16) (nat_le (length set.structs) 64) few_parts.0).0
+  few_machines = grind (arith, nat_tests, limits)
 
   pub few_structs : length set.structs ≤ 64
-  few_structs = leb-true (length set.structs) 64 (and_parts (nat_le (length set.machines) 16) (nat_le (length set.structs) 64) few_parts.0).1
+  few_structs = grind (arith, nat_tests, limits)
 
   pub few_devices : length set.devices ≤ 64
-  few_devices = leb-true (length set.devices) 64 few_parts.1
+  few_devices = grind (arith, nat_tests, limits)
 
   pub few_items : devices_items (struct_items set.structs) set.devices ≤ MOST_ITEMS
   few_items = leb-true (devices_items (struct_items set.structs) set.devices) MOST_ITEMS (set_clean set (none_is (first_fault set) h)).sizes.1.1.1.1.1.1.0
@@ -41,42 +41,33 @@ module _ (set : Set) (h : is_well_formed set ≡ true) where
 
 -- ---- there are at most as many cells as items
 
--- each number of one list is at most that of the other
-abbrev pub Less : List ℕ → List ℕ → Type 0
-Less [] ys = Unit {0}
-Less (a ∷ xs) [] = ⊥
-Less (a ∷ xs) (b ∷ ys) = (a ≤ b) × Less xs ys
+-- each number of one list is at most that of the other, also with one number more
+less_append : (xs ys : List ℕ) (a b : ℕ) → length xs ≡ length ys → ((j : ℕ) → get_or xs j 0 ≤ get_or ys j 0) → a ≤ b → (j : ℕ)
+    → get_or (xs ++ a ∷ []) j 0 ≤ get_or (ys ++ b ∷ []) j 0
+less_append [] [] a b e h le zero = le
+less_append [] [] a b e h le (suc j) = omega arith
+less_append (c ∷ xs) (d ∷ ys) a b e h le zero = h 0
+less_append (c ∷ xs) (d ∷ ys) a b e h le (suc j) = less_append xs ys a b (omega arith) (λ i. h (suc i)) le j
+less_append xs ys a b e h le j = absurd (omega arith)
 
-less_at : (xs ys : List ℕ) (j : ℕ) → Less xs ys → get_or xs j 0 ≤ get_or ys j 0
-less_at [] ys j h = omega arith
-less_at (a ∷ xs) [] j h = absurd h
-less_at (a ∷ xs) (b ∷ ys) zero h = h.0
-less_at (a ∷ xs) (b ∷ ys) (suc j) h = less_at xs ys j h.1
-
-less_append : (xs ys : List ℕ) (a b : ℕ) → length xs ≡ length ys → Less xs ys → a ≤ b → Less (xs ++ a ∷ []) (ys ++ b ∷ [])
-less_append [] [] a b e h le = (le, tt)
-less_append [] (c ∷ ys) a b e h le = absurd (omega arith)
-less_append (c ∷ xs) [] a b e h le = absurd h
-less_append (c ∷ xs) (d ∷ ys) a b e h le = (h.0, less_append xs ys a b (omega arith) h.1 le)
-
-less_item : (xs ys : List ℕ) (item : Item) → Less xs ys → size_of Cells xs item ≤ size_of Items ys item
-less_item xs ys (Struct j) h = less_at xs ys j h
+less_item : (xs ys : List ℕ) (item : Item) → ((j : ℕ) → get_or xs j 0 ≤ get_or ys j 0) → size_of Cells xs item ≤ size_of Items ys item
+less_item xs ys (Struct j) h = h j
 less_item xs ys item h = omega arith
 
-less_product : (c a b : ℕ) → a ≤ b → c * a ≤ c * b
-less_product c a b le = grind arith
-
-less_fields : (xs ys : List ℕ) (fs : List Field) → Less xs ys → fields_size Cells xs fs ≤ fields_size Items ys fs
+less_fields : (xs ys : List ℕ) (fs : List Field) → ((j : ℕ) → get_or xs j 0 ≤ get_or ys j 0) → fields_size Cells xs fs ≤ fields_size Items ys fs
 less_fields xs ys [] h = omega arith
-less_fields xs ys (f ∷ fs) h = omega (arith, less_product (capacity_of f.count) _ _ (less_item xs ys f.item h), less_fields xs ys fs h)
+less_fields xs ys (f ∷ fs) h =
+    let n = capacity_of f.count in
+    let most = mul-le n (size_of Cells xs f.item) n (size_of Items ys f.item) (omega arith) (less_item xs ys f.item h) in
+    omega (arith, most, less_fields xs ys fs h)
 
-less_structs : (ds : List Desc) (k : ℕ) → Less (sizes_to Cells ds k) (sizes_to Items ds k)
+less_structs : (ds : List Desc) (k j : ℕ) → get_or (sizes_to Cells ds k) j 0 ≤ get_or (sizes_to Items ds k) j 0
 unfolding first
-less_structs ds zero = tt
-less_structs ds (suc k) =
+less_structs ds zero j = omega arith
+less_structs ds (suc k) j =
     let long = first_long (λ sizes d. fields_size Cells sizes d.fields) ds k ∙ sym (first_long (λ sizes d. fields_size Items sizes d.fields) ds k) in
     less_append (sizes_to Cells ds k) (sizes_to Items ds k) _ _ long (less_structs ds k)
-    (less_fields (sizes_to Cells ds k) (sizes_to Items ds k) (get_or ds k no_desc).fields (less_structs ds k))
+    (less_fields (sizes_to Cells ds k) (sizes_to Items ds k) (get_or ds k no_desc).fields (less_structs ds k)) j
 
 -- the cells of a description of the set
 desc_less : (set : Set) (d : Desc) → length (desc_cells (struct_cells set) d) ≤ items_in (struct_items set.structs) d.fields
@@ -260,9 +251,12 @@ pub by_list : {X : Type 0} (f : Set → X) (g : ℕ → X) (n : ℕ) → map f (
     → s ≤ NEWEST_SET → f (shipped_set s) ≡ g s
 by_list f g n same s low le =
     let at : n + (s - n) ≡ s = omega (arith, low) in
-    ap (λ k. f (shipped_set k)) (sym at) ∙ ap f (sym (get_or-drop n shipped_sets (s - n) newest_set))
-    ∙ sym (get_or-map f (drop n shipped_sets) (s - n) newest_set) ∙ ap (λ l. get_or l (s - n) (f newest_set)) same
-    ∙ get_or-map-range_with_len g n (length shipped_sets - n) (s - n) s (f newest_set) (omega (arith, low, le)) at
+    cc (
+      get_or-drop n shipped_sets (s - n) newest_set,
+      get_or-map f (drop n shipped_sets) (s - n) newest_set,
+      same,
+      get_or-map-range_with_len g n (length shipped_sets - n) (s - n) s (f newest_set) (omega (arith, low, le)) at,
+    )
 
 -- the set of a number is that of the list
 pub numbered : (s : ℕ) (d : Set) → s < length shipped_sets → get_or shipped_sets s d ≡ shipped_set s

@@ -46,7 +46,7 @@ pairs_more P xs ys x dx y dy long h p k lt = absurd (omega arith)
 
 -- ---- the first cells of fields
 
-size_taken : (sizes : List ℕ) (fs : List Field) (i : ℕ) → i < length fs
+pub size_taken : (sizes : List ℕ) (fs : List Field) (i : ℕ) → i < length fs
     → fields_size Cells sizes (take (suc i) fs) ≡ fields_size Cells sizes (take i fs) + capacity_of (get_or fs i no_field).count * size_of Cells sizes
     (get_or fs i no_field).item
 size_taken sizes [] i lt = absurd (omega arith)
@@ -133,15 +133,12 @@ number_below sizes [] k h = cc
 number_below sizes (f ∷ fs) zero h = omega (arith, one_size sizes f.item f.count h)
 number_below sizes (f ∷ fs) (suc k) h = omega (arith, number_below sizes fs k h)
 
-pub number_there : (fields : List CodeField) (k : ℕ) → is_number (slice_get (map field_of fields) k) ≡ true → k < length fields
+-- a single number of the definition is one of the code's fields, and a number
+pub number_there : (fields : List CodeField) (k : ℕ) → is_number (slice_get (map field_of fields) k) ≡ true
+    → (k < length fields) × ((d : CodeField) → is_num (get_or fields k d).item ≡ true)
 number_there [] k h = cc
-number_there (f ∷ fields) zero h = omega arith
-number_there (f ∷ fields) (suc k) h = omega (arith, number_there fields k h)
-
-pub number_num : (fields : List CodeField) (k : ℕ) (d : CodeField) → is_number (slice_get (map field_of fields) k) ≡ true → is_num (get_or fields k d).item ≡ true
-number_num [] k d h = cc
-number_num (f ∷ fields) zero d h = (and_parts (is_num f.item) _ h).0
-number_num (f ∷ fields) (suc k) d h = number_num fields k d h
+number_there (f ∷ fields) zero h = (omega arith, λ d. (and_parts (is_num f.item) _ h).0)
+number_there (f ∷ fields) (suc k) h = let r = number_there fields k h in (omega arith, r.1)
 
 -- ---- the sizes of structures are the numbers of their cells
 
@@ -217,14 +214,10 @@ place_is cs fields i base (f ∷ fs) zero = omega arith
 pub place_after : (cs : List (List OneCell)) (fields : List Field) (i base : ℕ) (fs : List Field) (k : ℕ) → k < length fs
     → place_of cs fields i base fs (k + 1)
     ≡ place_of cs fields i base fs k + capacity_of (get_or fs k no_field).count * item_size cs (get_or fs k no_field).item
-place_after cs fields i base [] k lt = absurd (omega arith)
-place_after cs fields i base (f ∷ fs) zero lt =
-    let one : 0 + 1 ≡ suc 0 = omega arith in
-    ap (λ k. place_of cs fields i base (f ∷ fs) k) one
-    ∙ omega (arith, field_size cs fields i f, place_is cs fields (suc i) (base + length (field_cells cs fields i f)) fs 0)
-place_after cs fields i base (f ∷ fs) (suc k) lt =
-    let one : suc k + 1 ≡ suc (k + 1) = omega arith in
-    rw one (place_after cs fields (suc i) (base + length (field_cells cs fields i f)) fs k (omega arith))
+place_after cs fields i base fs k lt =
+    let next : k + 1 ≡ suc k = omega arith in
+    let size = size_taken (map length cs) fs k lt in
+    rw (next, item_sizes cs (get_or fs k no_field).item) (omega (arith, size, place_is cs fields i base fs k, place_is cs fields i base fs (suc k)))
 
 pub take_less : (sizes : List ℕ) (fs : List Field) (k : ℕ) → fields_size Cells sizes (take k fs) ≤ fields_size Cells sizes fs
 take_less sizes (f ∷ fs) (suc k) = omega (arith, take_less sizes fs k)

@@ -1,13 +1,13 @@
 -- The cell of a path, given the numbers of cells of the structures, and the first cell of a path.
-use Rattle.vms_desc.proofs.EvalLaws.{cells_size, place_is, take_less, exact}
 use Rattle.vms_desc.proofs.Facade.{◌≡◌, ℕ, zero, suc, ◌+◌, ◌*◌, ◌<◌, ◌≤◌, List, ◌∷◌, length, length-append, length-take-le}
 use Rattle.vms_desc.proofs.Facade.{get_or, take, map, refl, sym, ap, cases_Bool, ◌∙◌, arith, inl, inr, Option, Some, None, [], nat_lt}
 use Rattle.vms_desc.proofs.Facade.{if◌then◌else◌, flat_map, slice_get, ltb-true, lt-ltb, cases_lt, length-map, take_all, take-append-le, take-map}
-use Rattle.vms_desc.proofs.Facade.{map-map, get_or-map, Kind, Item, Num, Struct, MOST_ITEMS, first, no_desc, capacity_of, place_of, item_size, desc_cells}
-use Rattle.vms_desc.proofs.Facade.{struct_cells, device_cells, sub_place, own_cells, item_at, element_at, path_at, cell_in, desc_of_sub, element_room}
-use Rattle.vms_desc.proofs.Facade.{first_long, first_at, Cells, in_u32, size_of, fields_size, subs_size, field_of, desc_of, form_of, layout_of, capped_fields}
-use Rattle.vms_desc.proofs.Facade.{capped_subs, Placed, Element, sizes_of, element_in, element_of, begin_desc, begin_base, Begins, Enters, IsPlaced}
-use Rattle.vms_desc.proofs.Facade.{slice_get-map, slice_get_within, slice_get-get_or, get_or_from_slice_get}
+use Rattle.vms_desc.proofs.Facade.{map-map, get_or-map, Kind, Item, Num, Struct, MOST_ITEMS, first, no_desc, no_field, capacity_of, place_of, item_size}
+use Rattle.vms_desc.proofs.Facade.{desc_cells, struct_cells, device_cells, sub_place, own_cells, item_at, element_at, path_at, cell_in, desc_of_sub}
+use Rattle.vms_desc.proofs.Facade.{element_room, first_long, first_at, Cells, in_u32, size_of, fields_size, subs_size, field_of, desc_of, form_of, layout_of}
+use Rattle.vms_desc.proofs.Facade.{capped_fields, capped_subs, Placed, Element, sizes_of, element_in, element_of, begin_desc, begin_base, Begins, Enters}
+use Rattle.vms_desc.proofs.EvalLaws.{cells_size, place_is, size_taken, take_less, exact}
+use Rattle.vms_desc.proofs.Facade.{IsPlaced, slice_get-map, slice_get_within, slice_get-get_or, get_or_from_slice_get}
 use Rattle.vms_spec.specs.Layout.{Cell}
 use Rattle.vms_parts.specs.declared.types.Field.{Field}
 use Rattle.std.proofs.lemmas.List.{get_or-map as map_at}
@@ -18,17 +18,12 @@ use Rattle.vms_spec.specs.Sets as sets
 pub at_there : {X Y : Type 0} (g : X → Y) (xs : List X) (i : ℕ) (x : X) → i < length xs → x ≡ get_or xs i x → slice_get (map g xs) i ≡ Some (g x)
 at_there g xs i x lt is = cc (slice_get-map g xs i, slice_get-get_or xs i x lt)
 
-field_room : (sizes : List ℕ) (fs : List sets.Field) (i : ℕ) (f : sets.Field) → slice_get fs i ≡ Some f
-    → fields_size Cells sizes (take i fs) + capacity_of f.count * size_of Cells sizes f.item ≤ fields_size Cells sizes fs
-field_room sizes [] i f e = cc
-field_room sizes (g ∷ fs) zero f e = let same : f ≡ g = cc in rw same (omega arith)
-field_room sizes (g ∷ fs) (suc i) f e = omega (arith, field_room sizes fs i f e)
-
 pub element_fits : (sizes : List ℕ) (fs : List sets.Field) (base i e : ℕ) (f : sets.Field) → slice_get fs i ≡ Some f → e < capacity_of f.count
     → base + fields_size Cells sizes fs ≤ MOST_ITEMS
     → base + fields_size Cells sizes (take i fs) + e * size_of Cells sizes f.item + size_of Cells sizes f.item ≤ MOST_ITEMS
 element_fits sizes fs base i e f there lt few =
-    omega (arith, field_room sizes fs i f there, element_room e (capacity_of f.count) (size_of Cells sizes f.item) lt)
+    let taken = rw (get_or_from_slice_get fs i f no_field there) at (size_taken sizes fs i (slice_get_within fs i f there)) in
+    omega (arith, taken, take_less sizes fs (suc i), element_room e (capacity_of f.count) (size_of Cells sizes f.item) lt)
 
 -- the fields before it have few cells too
 pub before_fits : (sizes : List ℕ) (fields : List Field) (base i before : ℕ) → base + fields_size Cells sizes (map field_of fields) ≤ MOST_ITEMS

@@ -1,6 +1,4 @@
 -- Units by the bytes that came: numbers, heads, footers, and what ends a stream.
-use Rattle.std.proofs.{Math.Bool.and-false, Common.Result}
-use Rattle.std.proofs.lemmas.List.{get_or_append_left, drop-append-le}
 use Rattle.vms_frames.proofs.Facade.{◌≡◌, ℕ, suc, zero, ◌+◌, ◌<◌, ◌≤◌, List, [], ◌++◌, length, get_or, drop, Some, Ok, Err, refl, sym}
 use Rattle.vms_frames.proofs.Facade.{ap, arith, length-drop, take-append-le, le-ltb, lt-ltb, big_from, Reason, number_at, bytes_at, Refused, Piece, Known, Due}
 use Rattle.vms_frames.proofs.Facade.{first_row, alone, needs, Seen, Good, Bad, Short, seen_in, seen_by, not, ℤ, Bool, true, false, if◌then◌else◌}
@@ -10,13 +8,13 @@ use Rattle.vms_frames.proofs.Facade.{seen, nothing_known, ◌==◌, nat_lt, take
 use Rattle.vms_frames.proofs.Facade.{sub_head_in, AfterFields, text_at, Section, step_long, unit_of_step, in_section, head_seen, start_seen, IsStartReason}
 use Rattle.vms_frames.proofs.Facade.{sub_seen, foot_seen, ReadsTrailer, LONGEST_DESCRIPTION, ◌-◌, ◌∷◌, Option, Result, Intake, Takes, Breaks}
 use Rattle.vms_frames.proofs.Facade.{reads_behind, reads_last, longest_text, Description, AfterEnd, trailer_at, FrameFault, ReadFault, AnswersEnd, ReadsEnd}
-use Rattle.vms_frames.proofs.Facade.{IsLong, ReadsText}
+use Rattle.std.proofs.{Common.Result, Math.Bool.and-false, lemmas.List.get_or_append_left, lemmas.List.drop-append-le}
+use Rattle.vms_frames.proofs.Facade.{IsLong, ReadsText, if_both}
 use Rattle.vms_spec.specs.{Layout.Number as NumberSlot, Units.SubHead as ASub, Units.Mark}
 use Rattle.vms_stream.specs.Dues.{Between as IsBetween}
 use Rattle.vms_spec.specs.declared.Reason.TheVariants as reasons
 use Rattle.vms_kinds.specs.declared.Kind.TheVariants as kinds
 use Rattle.vms_stream.specs.SoFar as tails
-use Rattle.vms_frames.proofs.Facade.{if_both}
 pub use Rattle.vms_spec.proofs.ListsAndNumbers.{err_is}
 
 -- ---- what the bytes of a unit are, whatever comes after them

@@ -85,8 +85,7 @@ added_more list i x first had have lt is before now n =
 pub new_more : (list : List (List ℕ)) (i : ℕ) (x : List ℕ) (had have : List ℕ → Bool) (so_far whole : Bool) → i < length list → x ≡ get_or list i x
     → (so_far && are_new_to had (drop i list)) ≡ whole → ((n : List ℕ) → have n ≡ with_name had x n)
     → ((so_far && not (had x)) && are_new_to have (drop (i + 1) list)) ≡ whole
-new_more list i x had have so_far whole lt is before now =
-    cc (same_new have (with_name had x) (drop (i + 1) list) now, and_assoc so_far (not (had x)) (are_new_to (with_name had x) (drop (i + 1) list)), drop_is list i x lt is)
+new_more list i x had have so_far whole lt is before now = grind (arith, same_new, and_assoc, drop_is)
 
 -- ---- a subsection's name
 
@@ -109,22 +108,13 @@ pub ruleset sub_name_laws = (sub_name_parts, no_sub_name)
 
 -- ---- the earlier fields that a field may name
 
-one_less : (i k : ℕ) → nat_lt (suc i) (suc k) ≡ nat_lt i k
-one_less i k = grind (arith, nat_tests)
-
-none_before : (i : ℕ) → nat_lt i 0 ≡ false
-none_before i = grind (arith, nat_tests)
-
-first_before : (k : ℕ) → nat_lt 0 (suc k) ≡ true
-first_before k = grind (arith, nat_tests)
-
 pub earlier_is : (fields : List Field) (m k i : ℕ)
     → is_steady m (slice_get (map field_of (take k fields)) i) ≡ (nat_lt i k && is_steady m (slice_get (map field_of fields) i))
-earlier_is [] m zero i = sym (and-false (nat_lt i 0))
-earlier_is [] m (suc k) i = sym (and-false (nat_lt i (suc k)))
-earlier_is (f ∷ fields) m zero i = rw (none_before i)
-earlier_is (f ∷ fields) m (suc k) zero = rw (first_before k)
-earlier_is (f ∷ fields) m (suc k) (suc i) = cc (earlier_is fields m k i, one_less i k)
+earlier_is [] m zero i = grind (arith, and-false)
+earlier_is [] m (suc k) i = grind (arith, and-false)
+earlier_is (f ∷ fields) m zero i = grind (arith, nat_tests)
+earlier_is (f ∷ fields) m (suc k) zero = grind (arith, nat_tests)
+earlier_is (f ∷ fields) m (suc k) (suc i) = grind (arith, nat_tests, earlier_is fields m k i)
 
 pub named_in : (own known parent : ℕ → Bool) (t : Formula) → ((i : ℕ) → own i ≡ known i) → names_well own parent t ≡ names_well known parent t
 named_in own known parent t same = needed_names own known parent parent t same (λ i. refl)
@@ -158,13 +148,6 @@ pub names_more : (fields : List Field) (i : ℕ) (f : Field) (had have : List �
 names_more fields i f had have lt is before now n =
     rw (now n, before n, names_with fields i f lt is, one_of_both) (or_comm (is_one_of (f.name ∷ f.former) n) (is_one_of (all_names (map field_of (take i fields))) n))
 
--- the names of a field are new to the set of the earlier ones
-pub names_new : (fields : List Field) (i : ℕ) (names : List (List ℕ)) (had : List ℕ → Bool) (is_new : Bool)
-    → ((n : List ℕ) → had n ≡ is_one_of (all_names (map field_of (take i fields))) n) → is_new ≡ are_new_to had names
-    → is_new ≡ are_new (all_names (take i (map field_of fields))) names
-names_new fields i names had is_new before e =
-    cc (same_new had (is_one_of (all_names (map field_of (take i fields)))) names before, new_is (all_names (map field_of (take i fields))) names, take-map field_of i fields)
-
 -- ---- names whose keys differ are distinct
 
 abbrev pub same : ℕ → ℕ → Bool
@@ -183,22 +166,14 @@ all_left : (P : ℕ → Type 0) (xs ys : List ℕ) → AllByRecursion P (xs ++ y
 all_left P [] ys h = tt
 all_left P (x ∷ xs) ys h = (h.0, all_left P xs ys h.1)
 
-distinct_left : (xs ys : List ℕ) → IsDistinct same (xs ++ ys) → IsDistinct same xs
+distinct_both : (xs ys : List ℕ) → IsDistinct same (xs ++ ys) → IsDistinct same xs × IsDistinct same ys
 unfolding IsDistinct
-distinct_left [] ys h = tt
-distinct_left (x ∷ xs) ys h = (all_left (λ y. same x y ≡ false) xs ys h.0, distinct_left xs ys h.1)
-
-distinct_right : (xs ys : List ℕ) → IsDistinct same (xs ++ ys) → IsDistinct same ys
-unfolding IsDistinct
-distinct_right [] ys h = h
-distinct_right (x ∷ xs) ys h = distinct_right xs ys h.1
+distinct_both [] ys h = (tt, h)
+distinct_both (x ∷ xs) ys h = let r = distinct_both xs ys h.1 in ((all_left (λ y. same x y ≡ false) xs ys h.0, r.0), r.1)
 
 -- no name of the list has the key of this one
 abbrev pub KeysApart : List ℕ → List (List ℕ) → Type 0
 KeysApart n names = AllByRecursion (λ e. same (key n) e ≡ false) (map key names)
-
-is_same : (x n : List ℕ) → bytes_eq x n ≡ true → x ≡ n
-is_same x n e = (bytes_eq-Decides x n).0 e
 
 -- the earlier names and the others
 apart_from : (earlier names : List (List ℕ)) → IsDistinct same (map key (earlier ++ names)) → (n : List ℕ) → is_one_of earlier n ≡ true → KeysApart n names
@@ -206,21 +181,20 @@ unfolding IsDistinct
 apart_from [] names h n e = cc
 apart_from (x ∷ earlier) names h n e =
     either_of (bytes_eq x n) (is_one_of earlier n) e
-    (λ y. rw (← is_same x n y) (all_right (λ e. same (key x) e ≡ false) (map key earlier) (map key names) (rw (map-append key earlier names) at h.0)))
+    (λ y. rw (← (bytes_eq-Decides x n).0 y) (all_right (λ e. same (key x) e ≡ false) (map key earlier) (map key names) (rw (map-append key earlier names) at h.0)))
     (λ y. apart_from earlier names h.1 n y)
 
 is_itself : (n : ℕ) → same n n ≡ false → ⊥
 is_itself n e = let r : same n n ≡ true = (eq_by_cmp_equiv nat_cmp_total).refl n in cc
-
-false_of : (b : Bool) → (b ≡ true → ⊥) → not b ≡ true
-false_of b h = grind arith
 
 new_to : (had : List ℕ → Bool) (names : List (List ℕ)) → ((n : List ℕ) → had n ≡ true → KeysApart n names) → IsDistinct same (map key names)
     → are_new_to had names ≡ true
 unfolding IsDistinct
 new_to had [] h d = refl
 new_to had (y ∷ names) h d =
-    cc (false_of (had y) (λ e. is_itself (key y) (h y e).0), new_to (with_name had y) names (λ n e. either_of (bytes_eq y n) (had n) e (λ z. rw (← is_same y n z) d.0) (λ z. (h n z).1)) d.1)
+    let new : had y ≡ true → ⊥ = λ e. is_itself (key y) (h y e).0 in
+    let rest = new_to (with_name had y) names (λ n e. either_of (bytes_eq y n) (had n) e (λ z. rw (← (bytes_eq-Decides y n).0 z) d.0) (λ z. (h n z).1)) d.1 in
+    grind (arith, new, rest)
 
 -- the names of a field are new if the keys of all fields' names are distinct
 module _ (fields : List Field) (i : ℕ) (f : Field) (lt : i < length fields) (is : f ≡ get_or fields i f) where
@@ -234,8 +208,8 @@ module _ (fields : List Field) (i : ℕ) (f : Field) (lt : i < length fields) (i
       cc (take-append-drop i fields, drop_is fields i f lt is, map-append field_of (take i fields) (f ∷ drop (i + 1) fields), names_of_both (map field_of (take i fields)) (map field_of (f ∷ drop (i + 1) fields))) in
       let split : map key (all_names (map field_of fields)) ≡ map key (before ++ names) ++ map key rest =
       cc (append_assoc before names rest, map-append key (before ++ names) rest) in
-      let both : IsDistinct same (map key (before ++ names)) = distinct_left (map key (before ++ names)) (map key rest) (rw split at d) in
-      let own : IsDistinct same (map key names) = distinct_right (map key before) (map key names) (rw (map-append key before names) at both) in
+      let both : IsDistinct same (map key (before ++ names)) = (distinct_both (map key (before ++ names)) (map key rest) (rw split at d)).0 in
+      let own : IsDistinct same (map key names) = (distinct_both (map key before) (map key names) (rw (map-append key before names) at both)).1 in
       rw take-map (new_is before names ∙ new_to (is_one_of before) names (apart_from before names both) own)
 
 -- whether they are new: the keys of all differ, or they are looked up
@@ -244,4 +218,6 @@ pub names_known : (fields : List Field) (i : ℕ) (f : Field) (had : List ℕ �
     → (differ ≡ false → (n : List ℕ) → had n ≡ is_one_of (all_names (map field_of (take i fields))) n) → is_new ≡ (differ || are_new_to had (f.name ∷ f.former))
     → is_new ≡ are_new (all_names (take i (map field_of fields))) (f.name ∷ f.former)
 names_known fields i f had true is_new lt is distinct before e = cc (new_names fields i f lt is (distinct refl))
-names_known fields i f had false is_new lt is distinct before e = names_new fields i (f.name ∷ f.former) had is_new (before refl) e
+names_known fields i f had false is_new lt is distinct before e =
+    let earlier = all_names (map field_of (take i fields)) in
+    cc (same_new had (is_one_of earlier) (f.name ∷ f.former) (before refl), new_is earlier (f.name ∷ f.former), take-map field_of i fields)

@@ -5,9 +5,9 @@ use Rattle.vms_rules.proofs.Facade.{false, ap, ◌∙◌, add-one, drop_all, dro
 use Rattle.vms_rules.proofs.Facade.{struct_items, subs_items, devices_items, Items, in_u32, subs_size, sizes_to, capped_fields, capped_subs, items_are}
 use Rattle.vms_rules.proofs.Facade.{items_to, Result, sym, IsErrAnd, err_from_is_err_and, or_else, first_answer, SetFault, DescFault, IllFormed, NoMemory}
 use Rattle.vms_rules.proofs.Facade.{IsFirst, Judges, take, ◌==◌, list_any, bytes_eq, take-map, Own, Parent, names_well, Formula, Cell, Not, And, Or}
-use Rattle.vms_rules.proofs.Facade.{is_same_device, Device, device_of, zero, suc, ◌++◌, length-map, Item, Struct, first, no_desc, item_depth, deepest}
-use Rattle.vms_rules.proofs.Facade.{struct_depths, Desc, field_of, desc_of, get_map_at, first_long, are_new_to, not, ◌||◌, is_at, BTreeSet}
-use Rattle.vms_rules.proofs.Facade.{nat_list_eq_equiv, Bor, is_one_of, are_distinct, and_swap, key, by_key, has_name, with_name}
+use Rattle.vms_rules.proofs.Facade.{is_same_device, Device, device_of, zero, suc, ◌++◌, length-map, Item, Struct, first, item_depth, deepest, struct_depths}
+use Rattle.vms_rules.proofs.Facade.{Desc, field_of, desc_of, get_map_at, first_long, are_new_to, not, ◌||◌, is_at, BTreeSet, nat_list_eq_equiv, Bor}
+use Rattle.vms_rules.proofs.Facade.{is_one_of, are_distinct, and_swap, key, by_key, has_name, with_name, get_or_default}
 use Rattle.vms_spec.specs.Sets.{Field}
 use Rattle.vms_spec.specs.Sets as sets
 
@@ -17,13 +17,9 @@ fits_lesser : (o : Option ℕ) (most : ℕ) (z : ℤ) → fits (lesser o most) z
 fits_lesser (Some least) most (pos n) = both_below n least most
 fits_lesser _ most _ = refl
 
-and_true : (b : Bool) → b ≡ (b && true)
-and_true b = grind arith
-
 fits_all : (o : Option ℕ) (capacities : List ℕ) (z : ℤ) → fits (least_from o capacities) z ≡ (fits o z && counts_well capacities z)
-fits_all o [] z = and_true (fits o z)
-fits_all o (most ∷ capacities) z =
-    cc (fits_all (lesser o most) capacities z, fits_lesser o most z, and_assoc (fits o z) (int_le z (pos most)) (counts_well capacities z))
+fits_all o [] z = grind arith
+fits_all o (most ∷ capacities) z = grind (arith, fits_lesser, and_assoc, fits, fits_all (lesser o most) capacities z)
 
 -- a number is at most the least capacity exactly if it is at most each of them
 pub least_fits : (fields : List Field) (table : List (Option ℕ)) (i : ℕ) (z : ℤ) → AreLeast fields table → i < length fields
@@ -32,17 +28,13 @@ least_fits fields table i z h lt = cc (h.least i lt, fits_all None (counted i fi
 
 -- ---- the rules at a place, in order
 
-head_is : (rules : List Bool) (i : ℕ) (b d : Bool) (place : Place) → i < length rules → get_or rules i d ≡ b
-    → failing (i + 1) (drop i rules) place ≡ failing (i + 1) (b ∷ drop (i + 1) rules) place
-head_is rules i b d place lt is = ap (λ (r : List Bool). failing (i + 1) r place) (drop_more rules i d lt ∙ ap (λ (x : Bool). x ∷ drop (i + 1) rules) is)
-
 pub rule_holds : (rules : List Bool) (i : ℕ) (d : Bool) (place : Place) → i < length rules → get_or rules i d ≡ true
     → failing (i + 1) (drop i rules) place ≡ failing 1 rules place → failing (i + 1 + 1) (drop (i + 1) rules) place ≡ failing 1 rules place
-rule_holds rules i d place lt is e = cc (add-one (i + 1), head_is rules i true d place lt is)
+rule_holds rules i d place lt is e = rw (add-one (i + 1)) (rw (drop_more rules i d lt, is) at e)
 
 pub rule_fails : (rules : List Bool) (i : ℕ) (d : Bool) (place : Place) → i < length rules → get_or rules i d ≡ false
     → failing (i + 1) (drop i rules) place ≡ failing 1 rules place → failing 1 rules place ≡ Some (record { rule = i + 1; place = place })
-rule_fails rules i d place lt is e = cc (head_is rules i false d place lt is)
+rule_fails rules i d place lt is e = sym (rw (drop_more rules i d lt, is) at e)
 
 pub rules_hold : (rules : List Bool) (i : ℕ) (place : Place) → length rules ≤ i
     → failing (i + 1) (drop i rules) place ≡ failing 1 rules place → failing 1 rules place ≡ None
@@ -74,8 +66,7 @@ same_limit n = grind (arith, nat_tests)
 pub few_items : (structs : List sets.Desc) (devices : List sets.Device) (sizes : List ℕ) (items : ℕ)
     → sizes ≡ map in_u32 (sizes_to Items structs (length structs))
     → items ≡ in_u32 (devices_items sizes devices) → nat_le items MOST_ITEMS ≡ nat_le (devices_items (struct_items structs) devices) MOST_ITEMS
-few_items structs devices sizes items is e =
-    cc (capped_devices (sizes_to Items structs (length structs)) devices, same_limit (devices_items (sizes_to Items structs (length structs)) devices), items_to structs (length structs))
+few_items structs devices sizes items is e = grind (arith, capped_devices, same_limit, items_to)
 
 -- ---- walks over lists of places that have no fault so far: the exit of a `?`
 
@@ -90,15 +81,6 @@ first_stops x y (IllFormed rule place) h = rw h
 first_stops x y NoMemory h = tt
 
 -- if the first has none, the others decide
-pub first_good : (x y : Option SetFault) → x ≡ None → or_else x y ≡ y
-first_good x y h = rw h
-
-pub later_stops : (x y : Option SetFault) (e : DescFault) → x ≡ None → IsFirst y e → IsFirst (or_else x y) e
-later_stops x y e none h = rw none h
-
-pub both_good : (x y : Option SetFault) → x ≡ None → y ≡ None → or_else x y ≡ None
-both_good x y none h = first_good x y none ∙ h
-
 pub judged_after : {X : Type 0} (x y : Option SetFault) (r : Result X DescFault) → x ≡ None → Judges y r → Judges (or_else x y) r
 judged_after x y r none h = rw none h
 
@@ -110,7 +92,7 @@ module _ {Y : Type 0} (f : ℕ → Y → Option SetFault) (i : ℕ) (y : Y) (ys 
   first_is = rw add-one (sym (ap (first_answer f i) is) ∙ is_whole)
 
   pub goes_on : f i y ≡ None → first_answer f (i + 1) rest ≡ whole
-  goes_on none = sym (first_good (f i y) _ none) ∙ first_is
+  goes_on none = rw none at first_is
 
   pub stops_here : (e : DescFault) → IsFirst (f i y) e → IsFirst whole e
   stops_here e h = rw first_is at (first_stops (f i y) (first_answer f (i + 1) rest) e h)
@@ -162,9 +144,7 @@ pub depths_more : (structs : List Desc) (depths : List ℕ) (i depth : ℕ) (d :
     → depths ≡ depths_to (map desc_of structs) i → depth ≡ 1 + deepest depths (map field_of d.fields)
     → depths ++ depth ∷ [] ≡ depths_to (map desc_of structs) (i + 1)
 unfolding first
-depths_more structs depths i depth d lt is e now =
-    let ds = map desc_of structs in
-    cc (get_map_at desc_of structs i d no_desc lt is, (ap (λ (k : ℕ). depths_to ds k) (add-one i)), now, e)
+depths_more structs depths i depth d lt is e now = grind (arith, get_map_at)
 
 push_small : (xs : List ℕ) (x most j : ℕ) → ((k : ℕ) → get_or xs k 0 ≤ most) → x ≤ most → get_or (xs ++ x ∷ []) j 0 ≤ most
 push_small [] x most zero small le = le
@@ -183,15 +163,10 @@ pub depths_long : (structs : List Desc) (depths : List ℕ) → depths ≡ struc
 depths_long structs depths e =
     cc (first_long (λ depths d. 1 + deepest depths d.fields) (map desc_of structs) (length (map desc_of structs)), length-map structs desc_of)
 
-value_at : (xs : List ℕ) (i v : ℕ) → i < length xs → v ≡ get_or xs i v → v ≡ get_or xs i 0
-value_at [] i v lt is = absurd (omega arith)
-value_at (x ∷ xs) zero v lt is = is
-value_at (x ∷ xs) (suc i) v lt is = value_at xs i v (omega arith) is
-
 pub depth_at : (structs : List Desc) (depths : List ℕ) (i depth : ℕ) → i < length structs → depths ≡ struct_depths (map desc_of structs)
     → depth ≡ get_or depths i depth
     → depth ≡ get_or (struct_depths (map desc_of structs)) i 0
-depth_at structs depths i depth lt e is = cc (value_at depths i depth (omega (arith, lt, depths_long structs depths e)) is)
+depth_at structs depths i depth lt e is = cc (get_or_default depths i depth 0 (omega (arith, lt, depths_long structs depths e)), is)
 
 -- ---- the machines of a set, and the whole walk: distinct names
 
@@ -210,12 +185,7 @@ none_with had x (n ∷ names) =
 new_and_distinct : (had : List ℕ → Bool) (names : List (List ℕ)) → are_new_to had names ≡ (none had names && are_distinct names)
 unfolding none
 new_and_distinct had [] = refl
-new_and_distinct had (n ∷ names) =
-    let new = not (had n) in
-    let once = not (is_one_of names n) in
-    let news = none had names in
-    let all = are_distinct names in
-    cc (new_and_distinct (with_name had n) names, none_with had n names, and_assoc once news all, and_assoc new once (news && all), and_swap new once news all)
+new_and_distinct had (n ∷ names) = grind (arith, none, none_with, and_assoc, and_swap, new_and_distinct (with_name had n) names)
 
 none_of_none : (had : List ℕ → Bool) (names : List (List ℕ)) → ((n : List ℕ) → had n ≡ false) → none had names ≡ true
 unfolding none

@@ -9,8 +9,6 @@ use Rattle.vms_spots.proofs.SpotLaws.{aligned_is, spot_is, code_at, numbers_are,
 -- there are the number of bytes that the spots need
 pub raw_long : (e : ℕ) (kinds : List Kind) (numbers : List ℤ) → length numbers ≡ length kinds → e + length (raw_from e kinds numbers) ≡ end_from e kinds
 raw_long e [] [] long = omega arith
-raw_long e [] (z ∷ numbers) long = absurd (omega arith)
-raw_long e (kind ∷ kinds) [] long = absurd (omega arith)
 raw_long e (kind ∷ kinds) (z ∷ numbers) long =
     let at = aligned (width kind) e in
     omega (
@@ -22,6 +20,7 @@ raw_long e (kind ∷ kinds) (z ∷ numbers) long =
       length-replicate {A = ℕ} (at - e) 0,
       length-code kind z,
     )
+raw_long e _ _ long = absurd (omega arith)
 
 -- ---- one number
 
@@ -82,13 +81,7 @@ pub record Holds (spots : List Spot) (seen : Held) (bytes : List ℕ) : Type 0 w
 -- the bytes of numbers in range have these numbers
 pub holds : (spots : List Spot) (numbers : List ℤ) (bytes : List ℕ) → length spots ≤ MOST_ITEMS → spots ≡ spots_of (kinds_of spots)
     → AreOf (kinds_of spots) numbers → bytes ≡ raw_of (kinds_of spots) numbers → Holds spots (record { kinds = kinds_of spots; numbers = numbers }) bytes
-holds spots numbers bytes few laid are raw =
-    let kinds = kinds_of spots in
-    let read : map (number_at bytes) spots ≡ numbers = cc (numbers_are kinds numbers are) in
-    record {
-      held_is = record { few = few; laid = laid; fit = rw read are; raw = cc };
-      seen_is = ap (λ (l : List ℤ). let h : Held = record { kinds = kinds; numbers = l } in h) read;
-    }
+holds spots numbers bytes few laid are raw = search (arith, number_at, numbers_are)
 
 -- a number is set in place of another
 pub puts : {spots : List Spot} {bytes : List ℕ} {seen : Held} {cell : ℕ} {s : Spot} (new part : List ℕ) (n : ℕ) (z : ℤ) → AtSpot spots bytes seen cell s
@@ -141,8 +134,4 @@ begun {kinds} spots bytes n few laid size e =
 -- buffers of the same kinds have the same number of bytes
 pub same_long : {spots others : List Spot} {bytes more : List ℕ} {seen other : Held} → held spots bytes ≡ seen → held others more ≡ other
     → IsHeld spots bytes → IsHeld others more → seen.kinds ≡ other.kinds → length bytes ≡ length more
-same_long {spots} {others} {bytes} {more} s o h k same =
-    let kinds : kinds_of spots ≡ kinds_of others = cc in
-    let long = raw_long 0 (kinds_of spots) (map (number_at bytes) spots) h.fit.long in
-    let longer = raw_long 0 (kinds_of others) (map (number_at more) others) k.fit.long in
-    omega (arith, ap length h.raw, ap length k.raw, ap (end_from 0) kinds)
+same_long {spots} {others} {bytes} {more} s o h k same = grind (arith, raw_long, number_at)

@@ -1,21 +1,16 @@
 -- Numbers of one kind in consecutive cells are set by their codes.
-use Rattle.vms_spots.proofs.{SpotLaws.put_is, BufferLaws.Holds, BufferLaws.at_spot, BufferLaws.puts, Facade.put_from}
-use Rattle.vms_spots.proofs.Facade.{nil_from_length, ◌≡◌, ℕ, zero, suc, ◌+◌, ◌-◌, ◌*◌, ◌<◌, ◌≤◌, List, [], ◌∷◌, ◌++◌}
-use Rattle.vms_spots.proofs.Facade.{length, get_or, take, drop, map, set, refl, sym, ap, ◌∙◌, arith, length-append, append_assoc, length-drop, length-map}
-use Rattle.vms_spots.proofs.Facade.{length-take-le, take-append-drop, get_or_read, IsBytes, bytes_first, bytes_rest, value_taken, Kind, U8, Bool, width}
-use Rattle.vms_spots.proofs.Facade.{value_of, Spot, aligned, spots_from, spots_of, no_spot, kinds_of, number_at, Held, held, IsHeld, AreOne, values_of}
-use Rattle.vms_spots.proofs.RunLaws.{again, twice, codes_seen}
+use Rattle.vms_spots.proofs.Facade.{put_from, nil_from_length, ◌≡◌, ℕ, zero, suc, ◌+◌, ◌-◌, ◌*◌, ◌<◌, ◌≤◌, List, [], ◌∷◌}
+use Rattle.vms_spots.proofs.Facade.{◌++◌, length, get_or, take, drop, map, set, refl, sym, ap, ◌∙◌, arith, length-append, append_assoc, length-drop}
+use Rattle.vms_spots.proofs.Facade.{length-map, length-take-le, take-append-drop, get_or_read, IsBytes, bytes_first, bytes_rest, value_taken, Kind, U8, Bool}
+use Rattle.vms_spots.proofs.{SpotLaws.put_is, BufferLaws.Holds, BufferLaws.at_spot, BufferLaws.puts, RunLaws.again, RunLaws.twice, RunLaws.codes_seen}
+use Rattle.vms_spots.proofs.Facade.{width, value_of, Spot, aligned, spots_from, spots_of, no_spot, kinds_of, number_at, Held, held, IsHeld, AreOne, values_of}
 
 -- after a number of a kind the next of the kind follows without a gap
 next_spot : (kind : Kind) (e : ℕ) (kinds : List Kind) (k : ℕ) → suc k < length kinds → get_or kinds k U8 ≡ kind → get_or kinds (suc k) U8 ≡ kind
     → (get_or (spots_from e kinds) (suc k) no_spot).offset ≡ (get_or (spots_from e kinds) k no_spot).offset + width kind
-next_spot kind e [] k lt a b = absurd (omega arith)
-next_spot kind e (x ∷ []) k lt a b = absurd (omega arith)
-next_spot kind e (x ∷ (y ∷ kinds)) zero lt a b =
-    let first : x ≡ kind = a in
-    let second : y ≡ kind = b in
-    rw (second, first) (again kind (aligned (width kind) e) (twice kind e))
+next_spot kind e (x ∷ (y ∷ kinds)) zero lt a b = grind (arith, again, aligned, twice)
 next_spot kind e (x ∷ (y ∷ kinds)) (suc k) lt a b = next_spot kind (aligned (width x) e + width x) (y ∷ kinds) k (omega arith) a b
+next_spot kind e _ k lt a b = absurd (omega arith)
 
 module _ (spots : List Spot) (kind : Kind) (any : kind ≡ Bool → ⊥) where
   -- one more is set in place of the old one
@@ -40,9 +35,7 @@ module _ (spots : List Spot) (kind : Kind) (any : kind ≡ Bool → ⊥) where
       → IsBytes codes → bytes ≡ before ++ (old ++ after)
       → let numbers = put_from (map (number_at bytes) spots) first (values_of kind count codes) in
       Holds spots (record { kinds = kinds_of spots; numbers = numbers }) (before ++ (codes ++ after))
-  puts_all zero first before old codes after bytes h room ones at o c ok e =
-      let none : old ≡ codes = nil_from_length old (omega arith) ∙ sym (nil_from_length codes (omega arith)) in
-      rw (← none, ← e) (record { held_is = h; seen_is = refl })
+  puts_all zero first before old codes after bytes h room ones at o c ok e = search (arith, nil_from_length)
   puts_all (suc count) first before old codes after bytes h room ones at o c ok e =
       let w = width kind in
       let more : suc count * w ≡ w + count * w = grind arith in

@@ -21,14 +21,13 @@ twice _ n = omega arith
 run_front : (kind : Kind) (count e : ℕ) (kinds : List Kind) (numbers : List ℤ) → aligned (width kind) e ≡ e → ((k : ℕ) → k < count → get_or kinds k U8 ≡ kind)
     → count ≤ length kinds → length numbers ≡ length kinds → (rest : List ℕ) × (raw_from e kinds numbers ≡ codes_of kind (take count numbers) ++ rest)
 run_front kind zero e kinds numbers at ones room long = (raw_from e kinds numbers, refl)
-run_front kind (suc count) e [] numbers at ones room long = absurd (omega arith)
-run_front kind (suc count) e (x ∷ kinds) [] at ones room long = absurd (omega arith)
 run_front kind (suc count) e (x ∷ kinds) (z ∷ numbers) at ones room long =
     let w = width kind in
     let r = run_front kind count (e + w) kinds numbers (again kind e at) (λ k lt. ones (suc k) (omega arith)) (omega arith) (omega arith) in
     let is : x ≡ kind = ones 0 (omega arith) in
     let none : e - e ≡ 0 = omega arith in
     (r.0, rw (is, at, none, r.1) (sym (append_assoc (code kind z) (codes_of kind (take count numbers)) r.0)))
+run_front kind _ e kinds numbers at ones room long = absurd (omega arith)
 
 -- ---- the first of them anywhere
 
@@ -40,8 +39,6 @@ record Run (kind : Kind) (count e : ℕ) (kinds : List Kind) (numbers : List ℤ
 
 run_at : (kind : Kind) (count e : ℕ) (kinds : List Kind) (numbers : List ℤ) (first : ℕ) → 0 < count → AreOne kinds first count kind → first + count ≤ length kinds
     → length numbers ≡ length kinds → Run kind count e kinds numbers first
-run_at kind count e [] numbers first some ones room long = absurd (omega arith)
-run_at kind count e (x ∷ kinds) [] first some ones room long = absurd (omega arith)
 run_at kind count e (x ∷ kinds) (z ∷ numbers) zero some ones room long =
     let at = aligned (width x) e in
     let a = aligned_is x e in
@@ -66,6 +63,7 @@ run_at kind count e (x ∷ kinds) (y ∷ numbers) (suc k) some ones room long =
       long = omega (arith, length-append front (code x y ++ r.before), length-append (code x y) r.before, length-code x y, length-replicate {A = ℕ} (at - e) 0);
       whole = cc (append_assoc (code x y) r.before (codes ++ r.after), append_assoc front (code x y ++ r.before) (codes ++ r.after));
     }
+run_at kind count e _ numbers first some ones room long = absurd (omega arith)
 
 -- ---- their codes
 

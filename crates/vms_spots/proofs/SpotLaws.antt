@@ -45,20 +45,14 @@ pub record IsSpot (e end : ℕ) (kind : Kind) (s : Spot) : Type 0 where
 
 pub spot_is : (e : ℕ) (kinds : List Kind) (k : ℕ) → k < length kinds → IsSpot e (end_from e kinds) (get_or kinds k U8) (get_or (spots_from e kinds) k no_spot)
 spot_is e [] k lt = absurd (omega arith)
-spot_is e (kind ∷ kinds) zero lt =
-    let a = aligned_is kind e in
-    record { kind_is = refl; multiple = a.whole; behind = a.below; inside = end_after (aligned (width kind) e + width kind) kinds }
-spot_is e (kind ∷ kinds) (suc k) lt =
-    let a = aligned_is kind e in
-    let r = spot_is (aligned (width kind) e + width kind) kinds k (omega arith) in
-    record { kind_is = r.kind_is; multiple = r.multiple; behind = omega arith; inside = r.inside }
+spot_is e (kind ∷ kinds) zero lt = search (arith, aligned_is, end_after, aligned)
+spot_is e (kind ∷ kinds) (suc k) lt = search (arith, aligned_is, aligned, spot_is (aligned (width kind) e + width kind) kinds k (omega arith))
 
 pub apart : (e : ℕ) (kinds : List Kind) (j k : ℕ) → j < k → k < length kinds
     → (get_or (spots_from e kinds) j no_spot).offset + width (get_or kinds j U8) ≤ (get_or (spots_from e kinds) k no_spot).offset
-apart e [] j k jk lt = absurd (omega arith)
-apart e (kind ∷ kinds) j zero jk lt = absurd (omega arith)
 apart e (kind ∷ kinds) zero (suc k) jk lt = (spot_is (aligned (width kind) e + width kind) kinds k (omega arith)).behind
 apart e (kind ∷ kinds) (suc j) (suc k) jk lt = apart (aligned (width kind) e + width kind) kinds j k (omega arith) (omega arith)
+apart e _ j k jk lt = absurd (omega arith)
 
 -- each spot is of its kind, inside the buffer, and overlaps no other
 pub are_apart : (kinds : List Kind) → AreApart kinds (spots_of kinds)
@@ -73,11 +67,9 @@ are_apart kinds = record {
 -- the last one ends where all end
 pub last_end : (e : ℕ) (kinds : List Kind) (n : ℕ) → length kinds ≡ suc n
     → (get_or (spots_from e kinds) n no_spot).offset + width (get_or (spots_from e kinds) n no_spot).kind ≡ end_from e kinds
-last_end e [] n lt = absurd (omega arith)
 last_end e (kind ∷ []) zero lt = refl
-last_end e (kind ∷ []) (suc n) lt = absurd (omega arith)
-last_end e (kind ∷ next ∷ kinds) zero lt = absurd (omega arith)
 last_end e (kind ∷ next ∷ kinds) (suc n) lt = last_end (aligned (width kind) e + width kind) (next ∷ kinds) n (omega arith)
+last_end e _ n lt = absurd (omega arith)
 
 -- ---- the bytes
 
@@ -89,8 +81,6 @@ pub record Split (e : ℕ) (kinds : List Kind) (numbers : List ℤ) (k : ℕ) : 
   pub whole : (z : ℤ) → raw_from e kinds (set numbers k z) ≡ before ++ (code (get_or kinds k U8) z ++ after)
 
 pub split : (e : ℕ) (kinds : List Kind) (numbers : List ℤ) (k : ℕ) → k < length kinds → length numbers ≡ length kinds → Split e kinds numbers k
-split e [] numbers k lt long = absurd (omega arith)
-split e (kind ∷ kinds) [] k lt long = absurd (omega arith)
 split e (kind ∷ kinds) (y ∷ numbers) zero lt long =
     let at = aligned (width kind) e in
     record {
@@ -110,6 +100,7 @@ split e (kind ∷ kinds) (y ∷ numbers) (suc k) lt long =
       long = omega (arith, length-append front (code kind y ++ r.before), length-append (code kind y) r.before, length-code kind y, length-replicate {A = ℕ} (at - e) 0);
       whole = λ z. rw (r.whole z, append_assoc, append_assoc);
     }
+split e _ numbers k lt long = absurd (omega arith)
 
 -- the bytes at an offset, by those before them
 pub part_is : (before part after : List ℕ) (at n : ℕ) → length before ≡ at → length part ≡ n → take n (drop at (before ++ (part ++ after))) ≡ part
@@ -127,8 +118,7 @@ code_at kinds numbers k lt long =
 
 pub number_is : (kinds : List Kind) (numbers : List ℤ) (k : ℕ) → k < length kinds → AreOf kinds numbers
     → number_at (raw_of kinds numbers) (get_or (spots_of kinds) k no_spot) ≡ get_or numbers k (pos 0)
-number_is kinds numbers k lt are =
-    cc ((spot_is 0 kinds k lt).kind_is, code_at kinds numbers k lt are.long, value_code (get_or kinds k U8) (get_or numbers k (pos 0)) (are.fits k lt))
+number_is kinds numbers k lt are = grind (arith, spot_is, code_at, value_code)
 
 -- so the numbers can be read back from the bytes
 pub numbers_are : (kinds : List Kind) (numbers : List ℤ) → AreOf kinds numbers → map (number_at (raw_of kinds numbers)) (spots_of kinds) ≡ numbers

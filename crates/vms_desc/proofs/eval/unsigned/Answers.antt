@@ -1,7 +1,6 @@
-use Rattle.vms_desc.proofs.Facade.{◌*◌, ◌∙◌, rules, to_z-of_z, w128, SFits}
+use Rattle.vms_desc.proofs.{EvalLaws.residue_cut, Facade.◌*◌, Facade.◌∙◌, Facade.rules, Facade.to_z-of_z, Facade.w128, Facade.SFits}
 use Rattle.std.proofs.lemmas.Nat.{and_mask}
 use Rattle.vms_kinds.specs.Codes.{residue, width}
-use Rattle.vms_desc.proofs.EvalLaws.{residue_cut}
 use Rattle.vms_desc.proofs.eval.unsigned.Goals as goal
 
 pub returns : goal.returns

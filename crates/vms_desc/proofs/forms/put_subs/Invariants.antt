@@ -1,5 +1,4 @@
-use Rattle.vms_desc.proofs.Facade.{map, drop, subs_forms, structs_forms, sub_of}
-use Rattle.vms_desc.proofs.FormLaws.{Left}
+use Rattle.vms_desc.proofs.{FormLaws.Left, Facade.map, Facade.drop, Facade.subs_forms, Facade.structs_forms, Facade.sub_of}
 use Rattle.vms_desc.proofs.forms.put_subs.Given as goal
 
 abbrev pub invariant-loop-sub : goal.invariant-loop-sub

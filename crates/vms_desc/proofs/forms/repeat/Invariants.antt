@@ -1,5 +1,4 @@
-use Rattle.vms_desc.proofs.Facade.{◌≡◌, ◌++◌, ◌-◌, ◌<◌, ◌≤◌, take, drop}
-use Rattle.vms_desc.proofs.FormLaws.{repeated}
+use Rattle.vms_desc.proofs.{FormLaws.repeated, Facade.◌≡◌, Facade.◌++◌, Facade.◌-◌, Facade.◌<◌, Facade.◌≤◌, Facade.take, Facade.drop}
 use Rattle.vms_desc.proofs.forms.repeat.Given as goal
 
 abbrev pub invariant-loop-done : goal.invariant-loop-done

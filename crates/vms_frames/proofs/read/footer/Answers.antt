@@ -1,6 +1,5 @@
-use Rattle.vms_frames.proofs.Facade.{rules, arith, ◌≡◌, length, Ok, Err}
-use Rattle.vms_frames.proofs.HeadLemmas.{foot_cut, foot_whole, foot_wrong}
-use Rattle.vms_frames.proofs.ReadsUnits.{a_foot, unit_on, unit_whole, unit_refused, unit_short}
+use Rattle.vms_frames.proofs.{ReadsUnits.unit_refused, HeadLemmas.foot_whole, HeadLemmas.foot_wrong, ReadsUnits.unit_whole, ReadsUnits.unit_short, Facade.rules}
+use Rattle.vms_frames.proofs.{HeadLemmas.foot_cut, ReadsUnits.unit_on, ReadsUnits.a_foot, Facade.◌≡◌, Facade.length, Facade.arith, Facade.Err, Facade.Ok}
 use Rattle.vms_frames.proofs.read.footer.Goals as goal
 
 pub returns-in_err-grow : goal.returns-in_err-grow

@@ -1,6 +1,5 @@
-use Rattle.vms_frames.proofs.Facade.{arith, ◌≡◌, ◌+◌, length, get_or, Ok, sub_head_in}
-use Rattle.vms_frames.proofs.HeadLemmas.{sub_cut, sub_whole_long, sub_whole}
-use Rattle.vms_frames.proofs.ReadsUnits.{a_sub, unit_on, unit_whole, head_short}
+use Rattle.vms_frames.proofs.{HeadLemmas.sub_whole_long, ReadsUnits.unit_whole, ReadsUnits.head_short, HeadLemmas.sub_whole, HeadLemmas.sub_cut, Facade.◌+◌}
+use Rattle.vms_frames.proofs.{ReadsUnits.unit_on, Facade.sub_head_in, ReadsUnits.a_sub, Facade.◌≡◌, Facade.length, Facade.get_or, Facade.arith, Facade.Ok}
 use Rattle.vms_frames.proofs.read.subsection.Goals as goal
 
 pub of-requires : goal.of-requires

@@ -1,5 +1,4 @@
-use Rattle.vms_desc.proofs.Facade.{arith, struct_cells, described, desc_at}
-use Rattle.vms_desc.proofs.EvalLaws.{place_within, start_at}
+use Rattle.vms_desc.proofs.{EvalLaws.place_within, EvalLaws.start_at, Facade.arith, Facade.struct_cells, Facade.described, Facade.desc_at}
 use Rattle.vms_desc.proofs.set.DescSet.start_in.Goals as goal
 
 pub returns : goal.returns
