@@ -1,16 +1,14 @@
 -- The names of other crates, and of this crate's `specs`, that the proofs use.
 pub use Rattle.std.proofs.{lemmas.Bool.Decides.Decides-eqb, lemmas.Bool.Decides.nat_tests, lemmas.Grind.and_numeral}
-pub use Rattle.std.proofs.Common.{Bool, Err, List, None, Ok, Option, Result, Some, [], ap, arith, bit_and, bit_or, cond, drop, false, if◌then◌else◌, inl, inr}
-pub use Rattle.std.proofs.Common.{length, length-append, max, min, not, pos, refl, subst, suc, sym, take, true, zero, ℕ, ℤ, ⊎_elim, ◌%◌, ◌&&◌, ◌*◌, ◌+◌, ◌-◌}
-pub use Rattle.std.proofs.Common.{◌/◌, ◌<◌, ◌==◌, ◌^◌, ◌||◌, ◌∙◌, ◌∷◌, ◌≡◌, ◌≢◌, ◌≤◌, ◌⊎◌}
-pub use Rattle.std.proofs.Math.Bool.{and-false, and-true, or-false, or-true}
-pub use Rattle.std.proofs.lemmas.Bool.{and_from, and_parts, cases_eq, cases_lt, cond_both, false≢true, le-leb, lt-leb, ne_eqb, or_parts}
+pub use Rattle.std.proofs.Common.{Bool, Err, List, None, Ok, Option, Result, Some, [], ap, arith, bit_and, bit_or, cond, drop, false, if◌then◌else◌, inl}
+pub use Rattle.std.proofs.Common.{inr, length, length-append, max, min, not, pos, refl, subst, suc, sym, take, true, zero, ℕ, ℤ, ⊎_elim, ◌%◌}
+pub use Rattle.std.proofs.Common.{◌&&◌, ◌*◌, ◌+◌, ◌-◌, ◌/◌, ◌<◌, ◌==◌, ◌^◌, ◌||◌, ◌∙◌, ◌∷◌, ◌≡◌}
+pub use Rattle.std.proofs.{Common.◌≢◌, Common.◌≤◌, Common.◌⊎◌, Math.Bool.and-false, Math.Bool.and-true, Math.Bool.or-false, Math.Bool.or-true}
+pub use Rattle.std.proofs.lemmas.Bool.{and_from, cases_eq, cases_lt, cond_both, false≢true, or_parts}
 pub use Rattle.std.proofs.lemmas.Nat.{and_le_l, and_le_r, or_of_16, or_of_8, pow_below, Bits.bit_at_cat_high, Bits.bit_at_cat_low, Bits.bit_at_not}
 pub use Rattle.std.proofs.lemmas.Nat.Bits.{bit_at_or, same_from_bits, same_from_bits_below, and_pow, bit_at-lt, bit_at-pow_other, bit_at-zero, bit_at_and}
-pub use Rattle.std.specs.Int.{bit_at, w16, w8}
-pub use Rattle.std.specs.Prelude.{IfSome, is_some, nat_le, nat_lt}
-pub use Rattle.dev_base.proofs.CellLaws.{long, of_more, of_none}
-pub use Rattle.dev_base.proofs.RuleLaws.{either, hook-ok, judged-ok, ok-hook}
+pub use Rattle.std.specs.{Int.bit_at, Int.w16, Int.w8, Prelude.IfSome, Prelude.is_some, Prelude.nat_le, Prelude.nat_lt}
+pub use Rattle.dev_base.proofs.{CellLaws.long, CellLaws.of_more, CellLaws.of_none, RuleLaws.either, RuleLaws.hook-ok, RuleLaws.judged-ok, RuleLaws.ok-hook}
 pub use Rattle.dev_base.specs.{Bits.bits_where, Bits.has, Cells.AreOf, Levels.IsLevel, Levels.MayRestore, Levels.MaySave}
 pub use Rattle.dev_base.specs.declared.limits.TheConstants.{LAST_MOMENT, NEWEST}
 pub use Rattle.dev_board.specs.{Kept.IsCalm, Kept.calm_by, Kept.later, Laws.PortsAre, Laws.SoundStays, Laws.StaysAlike, Ports.read, Ports.write, Saved.pit_back}
@@ -22,10 +20,10 @@ pub use Rattle.dev_board.specs.Laws.{WiresStay, moment_left, wire_left, AlikeSta
 pub use Rattle.dev_board.specs.Saved.{serial_back, timer_kinds, AreBoardCells, AreSavedCells, MaySaveUnder, moment_of, numbers_at, numbers_back, pair_back}
 pub use Rattle.dev_board.specs.SavedLaws.{ComesBack, IsTold, RestoredIsSound, SavedAreCells, SavedComesBack, SavedGoesOn, SoundMeetsRules}
 pub use Rattle.dev_board.specs.Sound.{Alike, HasDevices, HasLines, IsSound}
-pub use Rattle.dev_board.specs.Touch.{write_touches, HasTaken, IsBefore, IsSettled, Stays, asks_port, asks_timer, calm_after, is_access, is_nothing, read_touches, saying}
+pub use Rattle.dev_board.specs.Touch.{write_touches, HasTaken, IsBefore, IsSettled, Stays, asks_port, asks_timer, calm_after, is_access, is_nothing}
+pub use Rattle.dev_board.specs.{Touch.read_touches, Touch.saying, declared.misfit.Misfit.TheVariants.LinesDisagree}
 pub use Rattle.dev_board.specs.declared.event.Event.TheVariants.{Ack, Byte, Read, Wait, Wire, Write}
-pub use Rattle.dev_board.specs.declared.misfit.Misfit.TheVariants.{LinesDisagree, Unsound}
-pub use Rattle.dev_board.specs.declared.misfit.TheConstants.{MASTER_DEVICE, PIT_DEVICE, SERIAL_DEVICE, TIMER_DEVICE}
+pub use Rattle.dev_board.specs.declared.misfit.TheConstants.{MASTER_DEVICE, PIT_DEVICE, SERIAL_DEVICE}
 pub use Rattle.dev_board.specs.declared.ports.Target.TheVariants.{Control, Counter, Nothing, Pair, Register}
 pub use Rattle.dev_board.specs.declared.touch.Touch.TheVariants.{Access, Command, Untouched}
 unfoldable pub use Rattle.dev_board.specs.{Ports.read_at, Ports.target_of, Ports.written_at, State.power_on, Wires.wires_of, Wires.with_wire}
@@ -44,10 +42,9 @@ unfoldable pub use Rattle.dev_pic.specs.Chip.{answered, cascaded, served_of, tak
 unfoldable pub use Rattle.dev_pic.specs.Pair.{acked_for, chip_on, lines_of, settled_pair, slave_int_of, written_pair}
 pub use Rattle.dev_pit.proofs.{EdgeLaws.edge_in_parts, SoundLaws.sound_stays, SavedLaws.pit-restored, SavedLaws.pit_of-saved}
 pub use Rattle.dev_pit.proofs.CallLaws.{at_step, read-goes_on, same}
-pub use Rattle.dev_pit.specs.{Cells.AreCellsOf, Cells.pit_cells, Count.period, Count.ticks, Counter.edge_since, GoesOn.GoesOn, Pit.IsLoadedBy, Pit.IsPort}
-pub use Rattle.dev_pit.specs.{Pit.counter_of, Pit.pit_written, Saved.pit_of, Saved.restored_pit, Saved.rules, Sound.IsSoundPit, Turns.AreTurns, Turns.IsTurn}
-pub use Rattle.dev_pit.specs.{declared.mode.Mode.Mode, declared.pit.Pit.Pit, declared.turns.Turns.Turns}
-pub use Rattle.dev_pit.specs.declared.mode.Mode.TheVariants.{HardwareStrobe, OneShot, RateGenerator, SquareWave}
+pub use Rattle.dev_pit.specs.{Cells.AreCellsOf, Cells.pit_cells, Counter.edge_since, GoesOn.GoesOn, Pit.IsLoadedBy, Pit.IsPort, Pit.counter_of, Pit.pit_written}
+pub use Rattle.dev_pit.specs.{Saved.pit_of, Saved.restored_pit, Saved.rules, Sound.IsSoundPit, Turns.AreTurns, Turns.IsTurn, declared.mode.Mode.Mode}
+pub use Rattle.dev_pit.specs.{declared.pit.Pit.Pit, declared.turns.Turns.Turns}
 unfoldable pub use Rattle.dev_pit.specs.{Count.rises, Counter.edge_of, Counter.out_of, Counter.powered_on, Pit.new_pit, Pit.pit_edge, Pit.pit_out, Pit.pit_read}
 pub use Rattle.dev_serial.proofs.{SavedCells.numbers-back, SavedLaws.restored-saved, WaitLaws.still}
 pub use Rattle.dev_serial.proofs.AlikeLaws.{advances_alike, alike_back, alike_itself, alike_on, bytes_in_alike, lines_alike, reads_alike, writes_alike}

@@ -1,7 +1,7 @@
 -- What each port reaches.
-use Rattle.dev_board.proofs.Facade.{◌≡◌, ◌≢◌, ℕ, ◌-◌, ◌<◌, ◌≤◌, ◌==◌, ◌⊎◌, inl, inr, Bool, true, false, ◌&&◌}
-use Rattle.dev_board.proofs.Facade.{◌||◌, if◌then◌else◌, refl, ◌∙◌, arith, sym, subst, ⊎_elim, and-false, cond_both, nat_le, nat_tests}
-use Rattle.dev_board.proofs.Facade.{is_port, PortsAre, target_of, Target, Pair, Counter, Control, Register, Nothing, IsPort, HasDevices, State}
+use Rattle.dev_board.proofs.Facade.{◌≡◌, ◌≢◌, ℕ, ◌-◌, ◌<◌, ◌≤◌, ◌==◌, ◌⊎◌, Bool, true, false, ◌&&◌, ◌||◌}
+use Rattle.dev_board.proofs.Facade.{if◌then◌else◌, refl, ◌∙◌, arith, sym, subst, ⊎_elim, and-false, nat_le, nat_tests, is_port, PortsAre}
+use Rattle.dev_board.proofs.Facade.{target_of, Target, Pair, Counter, Control, Register, Nothing, IsPort, HasDevices, State}
 
 -- What a port reaches that isn't the pair's.
 abbrev other : ℕ → Target
@@ -24,8 +24,7 @@ not_pair level port a b c d e f = grind (arith, none_of)
 
 -- A port between two chips', or after both and before their level registers, isn't the pair's.
 between : (level port : ℕ) → (0x21 < port) × (port < 0xa0) ⊎ (0xa1 < port) × (port < 0x4d0) → target_of level port ≡ other port
-between level port (inl (low, high)) = grind (arith, by_pair, not_pair)
-between level port (inr (low, high)) = grind (arith, by_pair, not_pair)
+between level port e = grind (arith, by_pair, not_pair)
 
 counter_of : (port counter : ℕ) → 0x40 ≤ port → port ≤ 0x42 → port - 0x40 ≡ counter → other port ≡ Counter counter
 counter_of port counter low high back = grind arith
@@ -35,10 +34,10 @@ register_of port offset low high back = grind arith
 
 -- A port below or above a range isn't in it.
 out_of : (low high port : ℕ) → (port < low) ⊎ (high < port) → (nat_le low port && nat_le port high) ≡ false
-out_of low high port h3 = grind (arith, and-false)
+out_of low high port outside = grind (arith, and-false)
 
 wider : (port : ℕ) → (port < 0x40) ⊎ (0x43 < port) → (port < 0x40) ⊎ (0x42 < port)
-wider port h1 = grind arith
+wider port outside = grind arith
 
 pub ports_are : PortsAre
 ports_are = record {
@@ -59,9 +58,6 @@ IsReached level port Control = IsPort port
 IsReached level port (Register offset) = offset ≤ 7
 IsReached level port Nothing = Unit {0}
 
-counter-port : (port : ℕ) → (nat_le 0x40 port && nat_le port 0x42) ≡ true → (port - 0x40 < 3) × IsPort port
-counter-port port e = (grind (arith, nat_tests), (grind (arith, nat_tests), grind (arith, nat_tests)))
-
 control-port : (port : ℕ) → (port == 0x43) ≡ true → IsPort port
 control-port port e = (grind (arith, nat_tests), grind (arith, nat_tests))
 
@@ -70,11 +66,7 @@ register-port port e = grind (arith, nat_tests)
 
 reached : (level port : ℕ) → IsReached level port (target_of level port)
 unfolding target_of
-reached level port =
-    cond_both (is_port level port) _ _ (IsReached level port) (λ e. e) (λ _.
-    cond_both (nat_le 0x40 port && nat_le port 0x42) _ _ (IsReached level port) (counter-port port) (λ _.
-    cond_both (port == 0x43) _ _ (IsReached level port) (control-port port) (λ _.
-    cond_both (nat_le 0x3f8 port && nat_le port 0x3ff) _ _ (IsReached level port) (register-port port) (λ _. tt))))
+reached level port = grind (arith, control-port, register-port)
 
 -- The same for what a call returned and a match found.
 pub reached_as : (level port : ℕ) (target found : Target) → target ≡ target_of level port → target ≡ found → IsReached level port found

@@ -1,25 +1,20 @@
 -- Events that leave the lines as they were.
 use Rattle.dev_board.proofs.{QuietLaws.command-taken, QuietLaws.ack-taken, QuietLaws.untouched-settled, PortLaws.ports_are, WireLaws.wires_of-are}
-use Rattle.dev_board.proofs.Facade.{◌≡◌, ℕ, Bool, true, false, ◌==◌, bit_or, arith, refl, ap, ◌∙◌, sym, not, ◌&&◌, if◌then◌else◌}
-use Rattle.dev_board.proofs.Facade.{cond_both, false≢true, nat_tests, and-false, and-true, or-false, has, bits_where, lines_of, written_pair, acked, PicPair}
-use Rattle.dev_board.proofs.Facade.{HasTaken, IsBefore, is_command, Stays, ack_touches, leaves_port, read_touches, time_touches, write_touches, has-or, either}
-use Rattle.dev_board.proofs.Facade.{State, Act, waited, Before, Touch, Untouched, Command, Access, pit_out, lsr_of, lsr_read, Port, line_of, target_of, read_at}
-use Rattle.dev_board.proofs.Facade.{written_at, read, write, IsSound, Target, Pair, Counter, Register, ◌<◌, Option, None, Some, IfSome, int_of, is_nothing}
-use Rattle.dev_board.proofs.Facade.{is_untouched, HasDevices, written, saying, Event, Read, Write, step, acted, after_act, wires_after, settled, wires_of}
-use Rattle.dev_board.proofs.Facade.{IsCalm, Pit, pit_read}
+use Rattle.dev_board.proofs.Facade.{◌≡◌, ℕ, Bool, true, false, bit_or, arith, refl, ap, ◌∙◌, sym, not, if◌then◌else◌, cond_both, nat_tests}
+use Rattle.dev_board.proofs.Facade.{and-false, and-true, or-false, has, bits_where, lines_of, written_pair, acked, PicPair, HasTaken, IsBefore, is_command}
+use Rattle.dev_board.proofs.Facade.{Stays, ack_touches, leaves_port, read_touches, time_touches, write_touches, has-or, either, State, Act, waited, Before}
+use Rattle.dev_board.proofs.Facade.{Touch, Untouched, Command, Access, pit_out, lsr_of, lsr_read, Port, line_of, target_of, read_at, written_at, read, write}
+use Rattle.dev_board.proofs.Facade.{IsSound, Target, Pair, Counter, Register, ◌<◌, Option, None, Some, IfSome, int_of, is_nothing, is_untouched, HasDevices}
+use Rattle.dev_board.proofs.Facade.{written, saying, Event, Read, Write, step, acted, after_act, wires_after, settled, wires_of, IsCalm, Pit, pit_read}
 use Rattle.dev_board.proofs.SoundLaws.{read-out, read_at-kept, serial-written, calm-read, calm-write, settled-sound}
-use Rattle.dev_board.specs.{declared.touch.Touch.TheVariants.Port as OfPort, Kept.IsKept, Ports.has_port, Ports.is_device, declared.kept.Kept.Kept}
+use Rattle.dev_board.specs.{Kept.IsKept, Ports.has_port, Ports.is_device, declared.kept.Kept.Kept}
 use Rattle.std.specs.Prelude.{MatchOption}
 use Rattle.dev_serial.specs.Access.{read_of as registers_read}
 
 -- ---- what an event leaves of the lines
 
--- The bit of an overrun in the line status.
-bit-of : (b : Bool) (bits : ℕ) → has 0 1 ≡ false → has (bits_where b bits) 1 ≡ (has bits 1 && b)
-bit-of b bits z = grind (arith, and-true, and-false)
-
 or-bits : (a b c d : Bool) → has (bit_or (bit_or (bit_or (bits_where a 0x01) (bits_where b 0x02)) (bits_where c 0x20)) (bits_where d 0x40)) 1 ≡ b
-or-bits a b c d = grind (arith, has-or, has, bit-of, or-false)
+or-bits a b c d = grind (arith, has-or, has, and-true, and-false, or-false)
 
 pub lsr-overrun : (port : Port) → has (lsr_of port) 1 ≡ port.receiver.overrun
 unfolding lsr_of
@@ -37,17 +32,7 @@ is_at offset n value e h = cc
 
 left-at : (offset now : ℕ) (port : Port) → Leaves offset port (registers_read offset now port)
 unfolding leaves_port registers_read
-left-at offset now port =
-    cond_both (offset == 0) _ _ (Leaves offset port) (λ e h. let is : offset ≡ 0 = grind (arith, nat_tests) in absurd (false≢true (is_at offset 0 _ is h)))
-    (λ _.
-    cond_both (offset == 1) _ _ (Leaves offset port) (λ e. either (Leaves offset port) (has port.lcr 7) _ _ (λ h. refl) (λ h. refl)) (λ _.
-    cond_both (offset == 2) _ _ (Leaves offset port) (λ e h. let is : offset ≡ 2 = grind (arith, nat_tests) in absurd (false≢true (is_at offset 2 _ is h)))
-    (λ _.
-    either (Leaves offset port) (offset == 3) _ _ (λ h. refl)
-    (either (Leaves offset port) (offset == 4) _ _ (λ h. refl)
-    (cond_both (offset == 5) _ _ (Leaves offset port)
-    (λ e h. let is : offset ≡ 5 = grind (arith, nat_tests) in no-overrun port (is_at offset 5 (lsr_of port) is h))
-    (λ _. either (Leaves offset port) (offset == 6) _ _ (λ h. refl) (λ h. refl)))))))
+left-at offset now port = grind (arith, nat_tests, cond_both, either, has, no-overrun)
 
 touched : {A : Type 0} → true ≡ false → A
 touched e = cc
@@ -65,15 +50,9 @@ module _ (m : State) (s : IsSound m) (before : Before) (b : IsBefore before m) w
   still-taken : HasTaken before.lines m.pair
   still-taken = rw b.lines (pair-taken m s)
 
-  -- A read of a register.
-  port-stays : (offset : ℕ) (leaves : Bool) → leaves_port offset (registers_read offset m.moment m.serial).0 ≡ leaves
-      → Stays (if leaves then Untouched else OfPort) before (record m { serial = (registers_read offset m.moment m.serial).1 })
-  port-stays offset true e = record { out = λ e. out; serial = λ f. serial ∙ ap (line_of m.moment) (sym (left-at offset m.moment m.serial e)); int = λ e. b.int; pair = λ e. still-taken }
-  port-stays offset false e = record { out = λ e. out; serial = λ f. touched f; int = λ e. b.int; pair = λ e. still-taken }
-
   read-stays : (target : Target) (port : ℕ) → Stays (read_touches target (read_at target port m).0) before (read_at target port m).1
   unfolding read_at
-  read-stays (Register offset) port = port-stays offset (leaves_port offset (registers_read offset m.moment m.serial).0) refl
+  read-stays (Register offset) port = grind (arith, left-at, still-taken, touched)
   read-stays _ port = search (out, serial, still-taken, touched, read-out)
 
   command-stays : (port value : ℕ) (command : Bool) → is_command port value ≡ command
@@ -87,13 +66,11 @@ module _ (m : State) (s : IsSound m) (before : Before) (b : IsBefore before m) w
   write-stays _ port value = search (out, serial, still-taken, touched)
 
   ack-stays : (slave : Bool) → has before.lines 2 ≡ slave → Stays (if slave then Access else Command) before (record m { pair = (acked m.pair).1 })
-  ack-stays true e = search (out, serial, touched)
-  ack-stays false e = search (out, serial, still-taken, touched, ack-taken)
+  ack-stays slave e = grind (arith, out, serial, touched, still-taken, ack-taken)
 
   time-stays : (to : ℕ) (calm : Bool) → (calm ≡ true → pit_out 0 to m.pit ≡ pit_out 0 m.moment m.pit) → Stays (time_touches calm) before (waited to m).1
   unfolding waited
-  time-stays to true still = record { out = λ e. out ∙ sym (still refl); serial = λ e. touched e; int = λ e. b.int; pair = λ e. still-taken }
-  time-stays to false still = search (still-taken, touched)
+  time-stays to calm still = search (arith, touched, still-taken)
 
   -- The same for what calls returned.
   pub after-read : (port value : ℕ) (after : State) (touch : Touch) → touch ≡ read_touches (target_of m.level port) (read port m).0
@@ -124,11 +101,6 @@ pub record Holds (known : Kept) (after : State) : Type 0 where
   pub sound : IsSound after
   pub kept : IsKept known after
 
-untouched-wires : (touch : Touch) (m : State) (before : Before) → before.lines ≡ lines_of m.pair → is_nothing touch ≡ true
-    → is_untouched touch false (wires_of m) before.lines ≡ true
-unfolding is_untouched wires_of
-untouched-wires touch m before e nothing = rw (nothing, e) (grind (arith, nat_tests))
-
 module _ (m : State) (s : IsSound m) where
   before : Before
   before = record { lines = lines_of m.pair; int = int_of m.pair }
@@ -140,7 +112,8 @@ module _ (m : State) (s : IsSound m) where
   -- The board after an access that touched nothing that drives a line.
   module _ (touch : Touch) (after : State) (nothing : is_nothing touch ≡ true) (stays : Stays touch before after) (h : HasDevices after) where
     same-settled : settled (wires_of m) false after ≡ after
-    same-settled = untouched-settled (wires_of m) before false touch after stays (untouched-wires touch m before (is-before).lines nothing)
+    unfolding is_untouched wires_of
+    same-settled = untouched-settled (wires_of m) before false touch after stays (rw (nothing, (is-before).lines) (grind (arith, nat_tests)))
 
     still-sound : IsSound after
     still-sound = rw same-settled at (settled-sound (wires_of m) false after (wires_of-are m) h)
@@ -191,12 +164,9 @@ module _ (m : State) (s : IsSound m) where
   -- A command to the master.
   module _ (value : ℕ) (after : State) (e : after ≡ write 0x20 value m) (even : has value 4 ≡ false) (h : HasDevices after) (int : Bool)
       (out : int ≡ int_of after.pair) where
-    is-pair : target_of m.level 0x20 ≡ Pair
-    is-pair = ports_are.pair m.level 0x20 refl
-
     touches : Command ≡ write_touches (target_of m.level 0x20) 0x20 value
     unfolding is_command
-    touches = rw (is-pair, even) refl
+    touches = rw (ports_are.pair m.level 0x20 refl, even) refl
 
     command-leaves : Stays Command before after
     command-leaves = after-write m s before is-before 0x20 value after Command touches e
@@ -221,16 +191,14 @@ module _ (m seen : State) (port : ℕ) (view : m ≡ seen) (at : port ≡ 0x3fd)
 
   pub status-read : (A : Type 0) → (o : Option ℕ) → MatchOption o A Status → MatchOption o (seen ≡ seen) (λ value. (value, seen) ≡ read port seen)
   unfolding read_at registers_read
-  status-read A None e = refl
-  status-read A (Some value) e = rw (is-status, ← view) (ap (λ done. (done.0, record m { serial = done.1 })) e)
+  status-read A o e = grind (arith, is-status)
 
   status-leaves : (value : ℕ) → Status value → leaves_port 5 value ≡ true
   unfolding leaves_port
   status-leaves value e = grind (arith, lsr-overrun)
 
   pub status-touch : (A : Type 0) → (o : Option ℕ) → MatchOption o A Status → IfSome o (λ value. read_touches (target_of seen.level port) value ≡ Untouched)
-  status-touch A None e = tt
-  status-touch A (Some value) e = rw (is-status, status-leaves value e) refl
+  status-touch A o e = grind (arith, is-status, status-leaves)
 
 -- Counter 0.
 module _ (m seen : State) (port : ℕ) (view : m ≡ seen) (at : port ≡ 0x40) where

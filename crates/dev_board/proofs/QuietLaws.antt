@@ -3,11 +3,11 @@ use Rattle.dev_board.proofs.Facade.{◌⊎◌, either, ◌≡◌, ℕ, ◌+◌, 
 use Rattle.dev_board.proofs.Facade.{false, ◌==◌, cond, min, max, bit_and, bit_or, arith, refl, ap, ◌∙◌, sym, ⊎_elim, ◌≢◌, not, ◌&&◌}
 use Rattle.dev_board.proofs.Facade.{◌||◌, Option, Some, None, zero, suc, cases_lt, cases_eq, cond_both, w8, bit_at, and_numeral, and_le_l, or_of_8}
 use Rattle.dev_board.proofs.Facade.{pow_below, bit_at_and, bit_at_or, bit_at_not, bit_at-lt, bit_at-zero, same_from_bits, same_from_bits_below, bit_at_cat_low}
-use Rattle.dev_board.proofs.Facade.{bit_at_cat_high, bit_at-pow_other, and_pow, Decides-eqb, nat_tests, is_some, IfSome, has, bits_where, but_not}
-use Rattle.dev_board.proofs.Facade.{without_input, requests_hold, level_inputs_of, taken, answered, cascaded, lines_of, slave_int_of, settled_pair}
-use Rattle.dev_board.proofs.Facade.{with_cascade, written_pair, acked, acked_for, from_slave, Chip, PicPair, HasTaken, IsSettled, is_command, Stays, is_nothing}
-use Rattle.dev_board.proofs.Facade.{asks_timer, asks_port, is_access, is_quiet, is_untouched, DRIVEN, WIRES, level_inputs-lt, and-twice, each_input}
-use Rattle.dev_board.proofs.Facade.{without_input-lt, Keeps, even-keeps, odd-keeps, winner-lt, State, inputs_of, Before, Touch}
+use Rattle.dev_board.proofs.Facade.{bit_at_cat_high, bit_at-pow_other, and_pow, nat_tests, is_some, IfSome, has, bits_where, but_not, without_input}
+use Rattle.dev_board.proofs.Facade.{requests_hold, level_inputs_of, taken, answered, cascaded, lines_of, slave_int_of, settled_pair, with_cascade, written_pair}
+use Rattle.dev_board.proofs.Facade.{acked, acked_for, from_slave, Chip, PicPair, HasTaken, IsSettled, is_command, Stays, is_nothing, asks_timer, asks_port}
+use Rattle.dev_board.proofs.Facade.{is_access, is_quiet, is_untouched, DRIVEN, WIRES, level_inputs-lt, and-twice, each_input, without_input-lt, Keeps}
+use Rattle.dev_board.proofs.Facade.{even-keeps, odd-keeps, winner-lt, State, inputs_of, Before, Touch}
 use Rattle.dev_pic.specs.Chip.{settled}
 use Rattle.dev_board.specs.Step.{settled as settled_board}
 
@@ -27,11 +27,7 @@ parts r l e hr hl he =
 -- A settled chip that takes its own lines stays unchanged.
 chip_again : (chip : Chip) → IsSettled chip → settled chip.lines 0 chip ≡ chip
 unfolding settled but_not requests_hold
-chip_again chip h =
-    let e = level_inputs_of chip in
-    let same : bit_and chip.irr e ≡ bit_and chip.lines e = (Decides-eqb (bit_and chip.irr e) (bit_and chip.lines e)).0 h.requests in
-    let kept = bit_and (bit_or chip.irr (bit_or (bit_and chip.lines (255 - chip.lines)) 0)) (255 - e) in
-    rw (ap (bit_or kept) (sym same) ∙ parts chip.irr chip.lines e h.irr h.lines (level_inputs-lt chip.ltim chip.elcr h.elcr))
+chip_again chip h = grind (arith, parts, level_inputs-lt)
 
 -- The inputs of two bytes.
 and-bytes : (a b c d : ℕ) → b < 256 → d < 256 → bit_and (a * 256 + b) (c * 256 + d) ≡ bit_and a c * 256 + bit_and b d
@@ -82,9 +78,6 @@ pair-again pair h =
 
 -- ---- accesses of the pair after which it has still taken its lines
 
-kept-settled : (chip after : Chip) → Keeps chip after → IsSettled chip → IsSettled after
-kept-settled chip after k h = search arith
-
 -- The master of a pair changes, and its lines are the same.
 module _ (lines : ℕ) (pair : PicPair) (h : HasTaken lines pair) where
   with-master : (chip : Chip) → IsSettled chip → chip.lines ≡ pair.master.lines → HasTaken lines (record pair { master = chip })
@@ -92,23 +85,14 @@ module _ (lines : ℕ) (pair : PicPair) (h : HasTaken lines pair) where
   with-master chip settled e = record { master = settled; slave = h.slave; cascade = rw e h.cascade; same = cc }
 
   kept-taken : (chip : Chip) → Keeps pair.master chip → HasTaken lines (record pair { master = chip })
-  kept-taken chip k = with-master chip (kept-settled pair.master chip k h.master) k.lines
-
-  -- A command to the master.
-  odd-from : (even odd bit : Bool) → even ≡ false → (odd || (even && not bit)) ≡ true → odd ≡ true
-  odd-from even odd bit f e = grind arith
+  kept-taken chip k = with-master chip (search arith) k.lines
 
   bit-from : (even odd bit : Bool) → odd ≡ false → (odd || (even && not bit)) ≡ true → bit ≡ false
   bit-from even odd bit f e = grind arith
 
   pub command-taken : (port value : ℕ) → is_command port value ≡ true → HasTaken lines (written_pair port value pair)
   unfolding is_command written_pair
-  command-taken port value e =
-      cond_both (port == 0x20) _ _ (λ p. HasTaken lines p)
-      (λ even. let other : (port == 0x21) ≡ false = grind (arith, nat_tests) in
-      kept-taken _ (even-keeps pair.level value pair.master (bit-from (port == 0x20) (port == 0x21) (has value 4) other e)))
-      (λ even. let odd : (port == 0x21) ≡ true = odd-from (port == 0x20) (port == 0x21) (has value 4) even e in
-      rw odd (kept-taken _ (odd-keeps pair.master.init_state value pair.master)))
+  command-taken port value e = grind (arith, kept-taken, even-keeps, bit-from, has, odd-keeps)
 
 -- The bits of a register without an input.
 bit-without : (r w k : ℕ) → w < 8 → k < 8 → bit_at (without_input r w) k ≡ min (bit_at r k) (1 - bit_at (2 ^ w) k)
@@ -164,10 +148,7 @@ module _ (chip : Chip) (w : ℕ) (h : IsSettled chip) (hw : w < 8) where
   -- With its line low, the cascade is taken as any other input.
   cascaded-is : (low : has chip.lines 2 ≡ false) (two : w ≡ 2) → cascaded chip ≡ taken w chip
   unfolding cascaded
-  cascaded-is low two =
-      rw two (rw (ap (λ (n : ℕ). without_input n 2) at-two ∙ without-none chip.lines 2 h.lines (omega arith) low ∙ sym at-two)) where
-        at-two : (taken 2 chip).lines ≡ chip.lines
-        at-two = grind (arith, taken, taken-lines)
+  cascaded-is low two = grind (arith, without-none, taken, taken-lines)
 
 -- An acknowledge while the slave's output is low.
 module _ (lines : ℕ) (pair : PicPair) (h : HasTaken lines pair) (none : has lines 2 ≡ false) where
@@ -185,8 +166,7 @@ module _ (lines : ℕ) (pair : PicPair) (h : HasTaken lines pair) (none : has li
   by_slave : (o : Option ℕ) → is_some o ≡ false → (master : Chip) → HasTaken lines (record pair { master = master })
       → Taken (from_slave (record pair { master = master }) (answered o pair.slave))
   unfolding answered
-  by_slave None e master k = k
-  by_slave (Some w) e master k = cc
+  by_slave o e master k = grind arith
 
   by_winner : (o : Option ℕ) → IfSome o (λ w. w < 8) → Taken (acked_for o pair)
   unfolding acked_for answered slave_int_of
@@ -213,9 +193,7 @@ parts_of access edge same e = grind arith
 pub quiet-settled : (wires inputs : ℕ) (before : Before) (edge : Bool) (touch : Touch) (m : State) → Stays touch before m → inputs ≡ inputs_of wires m
     → is_quiet touch edge inputs before.lines ≡ true → settled_board wires edge m ≡ m
 unfolding settled_board is_quiet
-quiet-settled wires inputs before edge touch m stays is e =
-    let q = parts_of (is_access touch) edge (inputs == bit_and before.lines DRIVEN) e in
-    rw (q.1) (rw (again before.lines (inputs_of wires m) m.pair (stays.pair q.0) (sym is ∙ (grind (arith, nat_tests)))))
+quiet-settled wires inputs before edge touch m stays is e = grind (arith, nat_tests, parts_of, again)
 
 -- If nothing was touched, the inputs are the lines.
 untouched : (touch : Touch) (test : Bool) → (is_nothing touch && test) ≡ true

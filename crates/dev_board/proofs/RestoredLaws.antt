@@ -1,12 +1,11 @@
 -- A restored board is sound, and the rules hold of a sound board alone.
 use Rattle.dev_board.proofs.Facade.{◌≡◌, ℕ, ◌≤◌, Bool, true, false, cond, Result, Ok, Err, refl, sym, ap, subst, ◌∙◌, arith, nat_tests}
-use Rattle.dev_board.proofs.Facade.{nat_le, ok-hook, IsLevel, MayRestore, LAST_MOMENT, steps_keep_registers, pair-sound, IsSoundPair, ChipFault, PicPair}
-use Rattle.dev_board.proofs.Facade.{pit-restored, IsSoundPit, Pit, IsSoundAt, Port, AreBoardCells, moment_of, timed, by_chip, by_device, lines_agree, agreed}
-use Rattle.dev_board.proofs.Facade.{joined, numbers_back, pair_back, pit_back, serial_back, restored, RestoredIsSound, HasDevices, IsSound, State, BoardCells}
-use Rattle.dev_board.proofs.Facade.{Misfit, LinesDisagree, MASTER_DEVICE, PIT_DEVICE, SERIAL_DEVICE, ℤ, ◌/◌, List, length, take, drop, length-append}
-use Rattle.dev_board.proofs.Facade.{saved-count, saved_are_cells, kinds, saved_cells, pair_cells, pit_cells, saved, carried, MaySaveUnder, judged-ok, NEWEST}
-use Rattle.dev_board.proofs.Facade.{pair-same, pit_of-saved, rules, pit_of, numbers-back, lines_alike, restored-saved, line_of, IsTold, SoundMeetsRules}
-use Rattle.dev_board.proofs.Facade.{HasLines}
+use Rattle.dev_board.proofs.Facade.{ok-hook, IsLevel, MayRestore, LAST_MOMENT, steps_keep_registers, pair-sound, IsSoundPair, ChipFault, PicPair, pit-restored}
+use Rattle.dev_board.proofs.Facade.{IsSoundPit, Pit, IsSoundAt, Port, AreBoardCells, moment_of, timed, by_chip, by_device, lines_agree, agreed, joined}
+use Rattle.dev_board.proofs.Facade.{numbers_back, pair_back, pit_back, serial_back, restored, RestoredIsSound, HasDevices, IsSound, State, BoardCells, Misfit}
+use Rattle.dev_board.proofs.Facade.{LinesDisagree, MASTER_DEVICE, PIT_DEVICE, SERIAL_DEVICE, ℤ, ◌/◌, List, length, take, drop, length-append, saved-count}
+use Rattle.dev_board.proofs.Facade.{saved_are_cells, kinds, saved_cells, pair_cells, pit_cells, saved, carried, MaySaveUnder, judged-ok, NEWEST, pair-same}
+use Rattle.dev_board.proofs.Facade.{pit_of-saved, rules, pit_of, numbers-back, lines_alike, restored-saved, line_of, IsTold, SoundMeetsRules, HasLines}
 use Rattle.dev_board.proofs.SavedLaws.{has-lines, comes-back}
 use Rattle.dev_serial.proofs.RestoredLaws.{restored_is_sound as port-sound, sound_meets_rules as port-meets}
 use Rattle.dev_serial.specs.{PortNumbers.saved as port-saved, Rules.restored as port-restored, Sound.IsSound as IsSoundPort}
@@ -37,10 +36,7 @@ agreed-ok found m e = let-through (lines_agree found) found m _ e
 pub made_of : (level : ℕ) (of_timer : Result ℕ Misfit) (of_pair : Result PicPair Misfit) (of_pit : Result Pit Misfit) (of_port : Result Port Misfit) (m : State)
     → joined level of_timer of_pair of_pit of_port ≡ Ok m → IsMadeOf level of_timer of_pair of_pit of_port m
 unfolding joined
-made_of level (Ok moment) (Ok pair) (Ok pit) (Ok serial) m e =
-    let is = agreed-ok _ m e in
-    rw (← is.1) (record { same_level = refl; timer = refl; pair = refl; pit = refl; serial = refl; lines = is.0 })
-made_of level _ _ _ _ m e = cc
+made_of level of_timer of_pair of_pit of_port m e = search (arith, agreed-ok)
 
 pub chip-ok : (outcome : Result PicPair ChipFault) (pair : PicPair) → by_chip outcome ≡ Ok pair → outcome ≡ Ok pair
 unfolding by_chip
@@ -57,9 +53,7 @@ pub record IsTimed (moment found : ℕ) : Type 0 where
 
 pub timed-ok : (moment found : ℕ) → timed moment ≡ Ok found → IsTimed moment found
 unfolding timed
-timed-ok moment found e =
-    let is = let-through (nat_le moment LAST_MOMENT) moment found _ e in
-    record { last = grind (arith, nat_tests); same = sym is.1 }
+timed-ok moment found e = search (arith, nat_tests, let-through)
 
 module _ (level : ℕ) (cells : BoardCells) (l : IsLevel level) (are : AreBoardCells cells) (last : moment_of cells ≤ LAST_MOMENT) where
   abbrev moment : ℕ
@@ -152,8 +146,6 @@ module _ (level : ℕ) (cells : BoardCells) (found : ℕ) (time : timed (moment_
 
     pub found-sound : IsLevel level → AreBoardCells cells → lines_agree board ≡ true → IsSound board
     found-sound l are e = sound level cells board l are (lines-taken e)
-
--- ---- a board is sound exactly if its cells in the newest set meet the rules and the lines agree
 
 -- ---- the cells of a pair's two chips, separately and one after the other
 

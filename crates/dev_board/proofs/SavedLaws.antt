@@ -1,13 +1,12 @@
 -- What is saved of a board is restored as a board like it, which answers each event alike.
 use Rattle.dev_board.proofs.Facade.{subst, IsLevel, ◌≡◌, ℕ, Bool, List, [], ◌∷◌, refl, sym, ap, PicPair, reads_alike, writes_alike}
 use Rattle.dev_board.proofs.Facade.{bytes_in_alike, advances_alike, lines_alike, alike_itself, alike_back, alike_on, Port, AnswersAlike, StaysAlike, AlikeStays}
-use Rattle.dev_board.proofs.Facade.{Likeness, target_of, read_at, written_at, Alike, State, Act, valued, waited, acted, wires_after, inputs_of, settled}
-use Rattle.dev_board.proofs.Facade.{after_act, step, after_by, answers_by, wires_of, Answer, Event, Read, Target, pos, ◌≤◌, true, Result, Ok, arith}
-use Rattle.dev_board.proofs.Facade.{and_from, nat_tests, nat_le, of_none, of_more, long, has, AreOf, MaySave, MayRestore, NEWEST, LAST_MOMENT, hook-ok}
-use Rattle.dev_board.proofs.Facade.{carried-saved, pair-restored, set-of, saved_cells, lines_of, slave_int_of, restored_pair, ChipFault, pit_cells, AreCellsOf}
-use Rattle.dev_board.proofs.Facade.{pit_out, restored_pit, Pit, cells_at, restored_cells, numbers_at, saved, carried, MaySaveUnder, timer_kinds, AreSavedCells}
-use Rattle.dev_board.proofs.Facade.{AreBoardCells, timed, by_chip, by_device, lines_agree, agreed, joined, restored, SavedAreCells, ComesBack, SavedComesBack}
-use Rattle.dev_board.proofs.Facade.{SavedGoesOn, HasLines, IsSound, Misfit, PIT_DEVICE, SERIAL_DEVICE, ◌∙◌}
+use Rattle.dev_board.proofs.Facade.{Likeness, read_at, written_at, Alike, State, Act, waited, acted, inputs_of, settled, after_act, step, after_by, answers_by}
+use Rattle.dev_board.proofs.Facade.{wires_of, Answer, Event, Target, pos, ◌≤◌, true, Result, Ok, arith, and_from, nat_tests, nat_le, of_none, of_more}
+use Rattle.dev_board.proofs.Facade.{long, has, AreOf, MaySave, MayRestore, NEWEST, LAST_MOMENT, hook-ok, carried-saved, pair-restored, set-of, saved_cells}
+use Rattle.dev_board.proofs.Facade.{restored_pair, ChipFault, pit_cells, AreCellsOf, restored_pit, Pit, cells_at, restored_cells, numbers_at, saved, carried}
+use Rattle.dev_board.proofs.Facade.{MaySaveUnder, timer_kinds, AreSavedCells, AreBoardCells, timed, by_chip, by_device, lines_agree, agreed, joined, restored}
+use Rattle.dev_board.proofs.Facade.{SavedAreCells, ComesBack, SavedComesBack, SavedGoesOn, HasLines, IsSound, Misfit, PIT_DEVICE, SERIAL_DEVICE, ◌∙◌}
 use Rattle.dev_serial.proofs.SavedCells.{saved_are_cells as serial-saved, saved_comes_back as serial-comes-back}
 use Rattle.dev_serial.specs.{Sound.Alike as AlikePorts, Cells.carried as serial_carried, Laws.ComesBack as PortComesBack}
 use Rattle.dev_base.specs.Bits.{same}
@@ -39,31 +38,15 @@ module _ (m : State) (port : Port) (a : AlikePorts m.serial port) where
 
   acted-alike : (event : Event) → AnswersAlike Alike (acted event m) (acted event other)
   unfolding acted
-  acted-alike (Read number) =
-      let answers = read_at-alike (target_of m.level number) number in
-      record { value = ap valued answers.value; alike = answers.alike }
-  acted-alike event = search (arith, written_at-alike, bytes_in_alike, waited-alike)
-
-  inputs-alike : (wires : ℕ) → inputs_of wires other ≡ inputs_of wires m
-  unfolding inputs_of
-  inputs-alike wires = rw (lines_alike m.moment m.serial port a) refl
+  acted-alike event = search (arith, read_at-alike, written_at-alike, bytes_in_alike, waited-alike)
 
   pair-alike : (wires : ℕ) (edge : Bool) → (settled wires edge other).pair ≡ (settled wires edge m).pair
-  unfolding settled
-  pair-alike wires edge = rw (inputs-alike wires)
-
-  settled-alike : (wires : ℕ) (edge : Bool) → Alike (settled wires edge m) (settled wires edge other)
-  unfolding settled
-  settled-alike wires edge = record { same = rw (pair-alike wires edge); serial = a }
+  unfolding settled inputs_of
+  pair-alike wires edge = grind (arith, lines_alike)
 
   after_act-alike : (wires : ℕ) (act : Act) → AnswersAlike Alike (after_act wires (act, m)) (after_act wires (act, other))
-  unfolding after_act
-  after_act-alike wires act = search (arith, pair-alike, settled-alike)
-
--- The lines of boards that are alike are updated after equal acts.
-settle-alike : (wires : ℕ) (first second : Act × State) → AnswersAlike Alike first second → AnswersAlike Alike (after_act wires first) (after_act wires second)
-settle-alike wires (act, m) (other, n) answers =
-    rw (answers.alike.same, answers.value) (after_act-alike m n.serial answers.alike.serial wires act)
+  unfolding after_act settled
+  after_act-alike wires act = search (arith, pair-alike)
 
 same_wires : (m : State) (port : Port) → wires_of (record m { serial = port }) ≡ wires_of m
 unfolding wires_of
@@ -71,9 +54,7 @@ same_wires m port = refl
 
 other-step : (event : Event) (m : State) (port : Port) → AlikePorts m.serial port → AnswersAlike Alike (step event m) (step event (record m { serial = port }))
 unfolding step
-other-step event m port a =
-    rw (same_wires m port)
-    (settle-alike (wires_after event (wires_of m)) (acted event m) (acted event (record m { serial = port })) (acted-alike m port a event))
+other-step event m port a = grind (arith, same_wires, acted-alike, after_act-alike)
 
 step-alike : (event : Event) (m n : State) → Alike m n → AnswersAlike Alike (step event m) (step event n)
 step-alike event m n a = rw a.same (other-step event m n.serial a.serial)
@@ -113,9 +94,7 @@ same-is a b e = grind arith
 
 lines-agree : (m : State) → HasLines m → lines_agree m ≡ true
 unfolding lines_agree
-lines-agree m h =
-    and_from (same (has (lines_of m.pair) 0) (pit_out 0 m.moment m.pit)) _ (same-refl _ _ h.out)
-    (and_from (same (has (lines_of m.pair) 2) (slave_int_of m.pair)) _ (same-refl _ _ h.slave) (same-refl _ _ h.serial))
+lines-agree m h = grind (arith, and_from, same, has, same-refl)
 
 pub has-lines : (m : State) → lines_agree m ≡ true → HasLines m
 unfolding lines_agree

@@ -1,16 +1,15 @@
 -- What each event keeps: level and moment, sound devices, and what is known of the timer.
-use Rattle.dev_board.proofs.Facade.{Command, Access, is_command, Control, refl, NumbersAre, ◌≡◌, ℕ, AnswersTellInt, ClockGoesOn, moment_left, target_of}
-use Rattle.dev_board.proofs.Facade.{read_at, written_at, State, Act, waited, acted, settled, after_act, step, Event, Read, Write, Target, Pair, ◌-◌}
-use Rattle.dev_board.proofs.Facade.{◌<◌, ◌≤◌, true, ◌&&◌, arith, ap, sym, subst, List, ◌∙◌, either, LAST_MOMENT, steps_keep_registers}
-use Rattle.dev_board.proofs.Facade.{is_port, read_pair, written_pair, acked, PairHasRegisters, PicPair, sound_stays, IsLoadedBy, pit_read, pit_written}
-use Rattle.dev_board.proofs.Facade.{IsSoundPit, Pit, reads_keep_sound, writes_keep_sound, bytes_in_keep_sound, advances_keep_sound, reads_keep_level}
-use Rattle.dev_board.proofs.Facade.{writes_keep_level, bytes_in_keep_level, advances_keep_level, read_of, written, came_in, advanced, Port, IsEvent, write}
-use Rattle.dev_board.proofs.Facade.{HasDevices, later_by, Byte, Wait, Wire, Ack, Counter, Register, Bool, false, Option, or_parts, nat_tests, nat_lt, at_step}
-use Rattle.dev_board.proofs.Facade.{same, read-goes_on, edge_in_parts, rises, edge_of, edge_since, out_of, GoesOn, counter_of, pit_edge, pit_out, AreTurns}
-use Rattle.dev_board.proofs.Facade.{IsTurn, Mode, Turns, IsCalm, calm_by, later, read, calm_after, write_touches, Touch, wires_after, after_all, after_by}
-use Rattle.dev_board.proofs.Facade.{AreWires, wires_of, ◌^◌, [], ◌∷◌, IsLevel, lines_are_taken, but_not, winner_at, served_of, winner_of, ready_among}
-use Rattle.dev_board.proofs.Facade.{chip_on, lines_of, slave_int_of, settled_pair, IsSoundPair, powered_on, new_pit, power_on_is_sound, bits_where, interrupt}
-use Rattle.dev_board.proofs.Facade.{line_of, AreEvents, SoundStays, HasLines, IsSound, power_on, inputs_of}
+use Rattle.dev_board.proofs.Facade.{refl, NumbersAre, ◌≡◌, ℕ, AnswersTellInt, ClockGoesOn, moment_left, target_of, read_at, written_at, State, Act}
+use Rattle.dev_board.proofs.Facade.{waited, acted, settled, after_act, step, Event, Target, ◌-◌, ◌<◌, ◌≤◌, true, arith, ap, sym, subst, List}
+use Rattle.dev_board.proofs.Facade.{◌∙◌, either, LAST_MOMENT, steps_keep_registers, is_port, read_pair, written_pair, acked, PairHasRegisters, PicPair}
+use Rattle.dev_board.proofs.Facade.{sound_stays, IsLoadedBy, pit_read, pit_written, IsSoundPit, Pit, reads_keep_sound, writes_keep_sound, bytes_in_keep_sound}
+use Rattle.dev_board.proofs.Facade.{advances_keep_sound, reads_keep_level, writes_keep_level, bytes_in_keep_level, advances_keep_level, read_of, written}
+use Rattle.dev_board.proofs.Facade.{came_in, advanced, Port, IsEvent, write, HasDevices, Counter, Bool, false, or_parts, nat_tests, at_step, same, read-goes_on}
+use Rattle.dev_board.proofs.Facade.{edge_in_parts, rises, edge_of, out_of, GoesOn, counter_of, pit_edge, pit_out, AreTurns, IsTurn, Mode, Turns, IsCalm}
+use Rattle.dev_board.proofs.Facade.{calm_by, later, read, calm_after, write_touches, Touch, after_all, after_by, AreWires, [], ◌∷◌, IsLevel}
+use Rattle.dev_board.proofs.Facade.{lines_are_taken, but_not, winner_at, served_of, winner_of, ready_among, chip_on, lines_of, slave_int_of, settled_pair}
+use Rattle.dev_board.proofs.Facade.{IsSoundPair, powered_on, new_pit, power_on_is_sound, bits_where, interrupt, line_of, AreEvents, SoundStays, HasLines}
+use Rattle.dev_board.proofs.Facade.{IsSound, power_on, inputs_of}
 use Rattle.dev_board.proofs.WireLaws.{names, wires_of-are, wires_after-are, one-lt, inputs-lt, inputs-out, inputs-serial}
 use Rattle.dev_pic.proofs.StepLaws.{steps_keep_level as pair_keeps_level}
 use Rattle.dev_pic.specs.Pair.{power_on as pair_on}
@@ -27,15 +26,7 @@ numbers_are = record { wires = refl; timer_input = refl; serial_input = refl; dr
 
 acted-clock : (event : Event) (m : State) → ((acted event m).1.moment ≡ moment_left event m.moment) × ((acted event m).1.level ≡ m.level)
 unfolding acted waited read_at written_at
-acted-clock (Read port) m = by (target_of m.level port) where
-  by : (target : Target) → ((read_at target port m).1.moment ≡ m.moment) × ((read_at target port m).1.level ≡ m.level)
-  by Pair = (refl, refl)
-  by _ = (refl, refl)
-acted-clock (Write port value) m = by (target_of m.level port) where
-  by : (target : Target) → ((written_at target port value m).moment ≡ m.moment) × ((written_at target port value m).level ≡ m.level)
-  by Pair = (refl, refl)
-  by _ = (refl, refl)
-acted-clock _ m = (refl, refl)
+acted-clock event m = grind arith
 
 pub clock_goes_on : ClockGoesOn
 unfolding step after_act settled
@@ -70,10 +61,7 @@ module _ (m : State) (h : HasDevices m) where
 
   pub read_at-kept : (target : Target) (port : ℕ) → HasDevices (read_at target port m).1
   unfolding read_at
-  read_at-kept Pair port = pair-read port
-  read_at-kept (Counter counter) port = pit-read counter
-  read_at-kept (Register offset) port = serial-read offset
-  read_at-kept _ port = h
+  read_at-kept target port = grind (arith, pair-read, pit-read, serial-read)
 
   pub pit-written : (port value : ℕ) → value < 256 → HasDevices (record m { pit = pit_written port value m.moment m.pit })
   pit-written port value v = with-pit _ (sound_stays.in_writes port value m.moment m.pit v h.pit) (pit_keeps_level.write port value m.moment m.pit)
@@ -104,12 +92,7 @@ module _ (m : State) (h : HasDevices m) where
 
   pub acted-kept : (event : Event) → IsEvent event → HasDevices (acted event m).1
   unfolding acted
-  acted-kept (Read port) e = read_at-kept (target_of m.level port) port
-  acted-kept (Write port value) e = write-kept port value e
-  acted-kept (Byte value) e = byte-kept value e
-  acted-kept (Wait ns) e = waited-kept (later_by ns m.moment) (omega arith) (omega arith)
-  acted-kept (Wire input up) e = h
-  acted-kept Ack e = ack-kept
+  acted-kept event e = grind (arith, read_at-kept, write-kept, byte-kept, waited-kept, ack-kept)
 
 -- The answers of devices, as their calls return them.
 module _ (m : State) (h : HasDevices m) where
@@ -136,20 +119,13 @@ module _ (m : State) (h : HasDevices m) where
 
 -- ---- what is known of the timer between events
 
--- No edge comes in no time.
-no-more : (x : Bool) (q : ℕ) → (x && nat_lt q q) ≡ false
-no-more x q = grind (arith, nat_tests)
-
 no-rise : (mode : Mode) (count a : ℕ) → rises mode count a a ≡ false
 unfolding rises
-no-rise mode count a = grind (arith, no-more)
-
-no-edge_since : (load : Option ℕ) (mode : Mode) (count at : ℕ) → edge_since load mode count at at ≡ false
-no-edge_since load mode count at = grind (arith, no-rise)
+no-rise mode count a = grind (arith, nat_tests)
 
 no-edge : (counter : Counting) (at : ℕ) → edge_of counter at at ≡ false
 unfolding edge_of
-no-edge counter at = no-edge_since counter.loaded_at counter.mode counter.count at
+no-edge counter at = grind (arith, no-rise)
 
 -- Before the first of three turns that is after the base, none has come.
 none-came : (turns : Turns) (base at to : ℕ) → IsTurn turns base at → base ≤ at → at ≤ to → to < calm_by turns base → at ≡ base
@@ -196,10 +172,7 @@ module _ (until : ℕ) (m : State) (calm : IsCalm until m) where
 
   written_at-calm : (target : Target) (port value : ℕ) → IsCalm (calm_after (write_touches target port value) until) (written_at target port value m)
   unfolding written_at
-  written_at-calm Pair port value = either (λ touch. IsCalm (calm_after touch until) m) (is_command port value) Command Access calm calm
-  written_at-calm (Counter counter) port value = λ to l h. absurd (omega arith)
-  written_at-calm Control port value = λ to l h. absurd (omega arith)
-  written_at-calm _ port value = calm
+  written_at-calm target port value = grind (arith, either)
 
   -- What events leave of it.
   pub calm-read : (port value : ℕ) (after : State) → (value, after) ≡ read port m → IsCalm until after
@@ -234,21 +207,15 @@ on-devices level l = record {
   serial = power_on_is_sound level 0 l;
 }
 
-on-lines : (level : ℕ) → HasLines (power_on level)
-unfolding power_on pair_on chip_on new_pit powered_on serial_on lines_of slave_int_of winner_at winner_of ready_among served_of but_not pit_out out_of line_of interrupt
-on-lines level = record { out = refl; slave = refl; serial = refl }
-
 pub power_on-sound : (level : ℕ) → IsLevel level → IsSound (power_on level)
-unfolding power_on
-power_on-sound level l = record { devices = on-devices level l; pair = steps_keep_registers.power level l; lines = on-lines level }
+unfolding power_on pair_on chip_on new_pit powered_on serial_on lines_of slave_int_of winner_at winner_of ready_among served_of but_not pit_out out_of line_of interrupt
+power_on-sound level l =
+    record { devices = on-devices level l; pair = steps_keep_registers.power level l; lines = record { out = refl; slave = refl; serial = refl } }
 
 -- The board after the lines are updated.
 module _ (wires : ℕ) (edge : Bool) (m : State) (w : AreWires wires) (h : HasDevices m) where
-  edge-lt : bits_where edge 0x01 < 2 ^ 16
-  edge-lt = one-lt edge 0x01 (omega arith)
-
   settled-pair : IsSoundPair (settled_pair (inputs_of wires m) (bits_where edge 0x01) m.pair)
-  settled-pair = steps_keep_registers.settle (inputs_of wires m) (bits_where edge 0x01) m.pair (inputs-lt wires m w) edge-lt h.pair
+  settled-pair = steps_keep_registers.settle (inputs_of wires m) (bits_where edge 0x01) m.pair (inputs-lt wires m w) (one-lt edge 0x01 (omega arith)) h.pair
 
   settled-lines : HasLines (settled wires edge m)
   unfolding settled
@@ -270,9 +237,7 @@ module _ (wires : ℕ) (edge : Bool) (m : State) (w : AreWires wires) (h : HasDe
 -- After each event.
 pub step-sound : (event : Event) (m : State) → IsEvent event → HasDevices m → IsSound (step event m).1
 unfolding step after_act
-step-sound event m e h =
-    settled-sound (wires_after event (wires_of m)) (acted event m).0.edge (acted event m).1
-    (wires_after-are event (wires_of m) (names event e) (wires_of-are m)) (acted-kept m h event e)
+step-sound event m e h = grind (arith, settled-sound, wires_after-are, names, wires_of-are, acted-kept)
 
 all-sound : (events : List Event) (m : State) → AreEvents events → IsSound m → IsSound (after_all events m)
 unfolding after_by

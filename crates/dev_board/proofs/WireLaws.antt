@@ -4,7 +4,7 @@ use Rattle.dev_board.proofs.Facade.{false≢true, nat_tests, and_le_l, and_le_r,
 use Rattle.dev_board.proofs.Facade.{has-or, has-one_other, lines_of, pit_out, line_of, IsEvent, State, inputs_of, names_wire, wires_after, AreWires, is_wire}
 use Rattle.dev_board.proofs.Facade.{wires_of, with_wire, Event, Wire, WIRES, ◌+◌, ◌≤◌, ◌==◌, not, if◌then◌else◌, ⊎_elim, cases_lt}
 use Rattle.dev_board.proofs.Facade.{bit_at_not, bit_at-lt, bit_at-zero, bit_at, w16, or-true, has-one, not_test, lines_are_taken, settled_pair, wire_left}
-use Rattle.dev_board.proofs.Facade.{WiresStay, acted, after_act, settled, step}
+use Rattle.dev_board.proofs.Facade.{WiresStay, after_act, settled, step}
 
 -- ---- the inputs of the pair, bit by bit
 
@@ -80,13 +80,10 @@ module _ (wires : ℕ) (m : State) (w : AreWires wires) where
 
 -- ---- a wire stays as the last event that named it left it
 
-second_true : (a b : Bool) → (a && b) ≡ true → b ≡ true
-second_true a b e = grind arith
-
 -- The wires have the lines' level at each wire.
 wires_of-wire : (m : State) (wire : ℕ) → is_wire wire ≡ true → has (wires_of m) wire ≡ has (lines_of m.pair) wire
 unfolding wires_of
-wires_of-wire m wire e = cc (has-and (lines_of m.pair) WIRES wire, second_true _ (has WIRES wire) e, and-true (has (lines_of m.pair) wire))
+wires_of-wire m wire e = grind (arith, has-and, has)
 
 has-rest : (input wire : ℕ) → input < 16 → wire < 16 → has (65535 - 2 ^ input) wire ≡ not (has (2 ^ input) wire)
 has-rest input wire h l = cc (bit_at_not w16 (2 ^ input) wire (pow_below input 16 h) l, not_test (bit_at (2 ^ input) wire) (bit_at-lt (2 ^ input) wire))
@@ -99,8 +96,7 @@ named input wire wires false h l = grind (arith, nat_tests, has, has-and, has-re
 
 left : (event : Event) (wire wires : ℕ) → wire < 16 → IsEvent event → has (wires_after event wires) wire ≡ wire_left wire event (has wires wire)
 unfolding wires_after
-left (Wire input up) wire wires l e = named input wire wires up (wire-bound input e) l
-left _ wire wires l e = refl
+left event wire wires l e = grind (arith, named, wire-bound)
 
 -- No device drives a wire.
 driven : (b : Bool) (input wire : ℕ) → wire ≢ input → has (bits_where b (2 ^ input)) wire ≡ false
@@ -125,11 +121,4 @@ settled-wire wires wire edge m w e = taken (inputs_of wires m) (bits_where edge 
 
 pub wires_stay : WiresStay
 unfolding step after_act
-wires_stay = record {
-  wire = λ event m wire e is. cc (
-    settled-wire (wires_after event (wires_of m)) wire (acted event m).0.edge (acted event m).1
-        (wires_after-are event (wires_of m) (names event is) (wires_of-are m)) e,
-    left event wire (wires_of m) (wire-bound wire e) is,
-    wires_of-wire m wire e,
-  );
-}
+wires_stay = search (arith, settled-wire, wires_after-are, names, wires_of-are, left, wire-bound, wires_of-wire)

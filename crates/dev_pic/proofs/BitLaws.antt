@@ -1,8 +1,8 @@
 -- Sets of inputs, input by input, and their bounds.
-use Rattle.dev_pic.proofs.Facade.{◌≡◌, ◌≢◌, ℕ, zero, suc, ◌-◌, ◌<◌, ◌^◌, ◌==◌, min, max, Bool, true, false, not, ◌&&◌, arith}
-use Rattle.dev_pic.proofs.Facade.{bit_or, refl, ◌||◌, bit_at, w8, and_le_l, and_le_r, or_of_8, pow_below, bit_at_and, bit_at_or, bit_at_not}
-use Rattle.dev_pic.proofs.Facade.{same_from_bits_below, bit_at-lt, bit_at-pow_same, bit_at-pow_other, same_from_bits, or-true, or-false, has, but_not}
-use Rattle.dev_pic.proofs.Facade.{with_input, without_input, level_inputs, LevelInputsAre}
+use Rattle.dev_pic.proofs.Facade.{◌≡◌, ◌≢◌, ℕ, ◌-◌, ◌<◌, ◌^◌, ◌==◌, min, max, Bool, true, false, not, ◌&&◌, arith, bit_or}
+use Rattle.dev_pic.proofs.Facade.{refl, ◌||◌, bit_at, w8, and_le_l, and_le_r, or_of_8, pow_below, bit_at_and, bit_at_or, bit_at_not, same_from_bits_below}
+use Rattle.dev_pic.proofs.Facade.{bit_at-lt, bit_at-pow_same, bit_at-pow_other, same_from_bits, or-true, or-false, has, but_not, with_input, without_input}
+use Rattle.dev_pic.proofs.Facade.{level_inputs, LevelInputsAre}
 use Rattle.std.proofs.Common.{bit_and}
 
 not_bit : (r i : ℕ) → r < 256 → i < 8 → bit_at (255 - r) i ≡ 1 - bit_at r i
@@ -38,9 +38,6 @@ has-one_other i other h = rw (bit_at-pow_other i other h)
 pub and_not_true : (b : Bool) → (b && not true) ≡ false
 and_not_true b = grind arith
 
-and_not_false : (b : Bool) → (b && not false) ≡ b
-and_not_false b = grind arith
-
 -- An input that is taken out or put in.
 pub has-without_same : (r i : ℕ) → i < 8 → has (without_input r i) i ≡ false
 unfolding without_input
@@ -48,7 +45,7 @@ has-without_same r i h = cc (has-but_not r (2 ^ i) i (pow_lt i h) h, has-one i, 
 
 pub has-without_other : (r i other : ℕ) → i < 8 → other < 8 → other ≢ i → has (without_input r i) other ≡ has r other
 unfolding without_input
-has-without_other r i other h l n = cc (has-but_not r (2 ^ i) other (pow_lt i h) l, has-one_other i other n, and_not_false (has r other))
+has-without_other r i other h l n = grind (arith, has-but_not, pow_lt, has-one_other, has)
 
 pub has-with_same : (r i : ℕ) → has (with_input r i) i ≡ true
 unfolding with_input
@@ -79,15 +76,7 @@ and-twice v m = same_from_bits _ _ (λ k. simp bit_at_and (omega arith))
 
 -- What holds for each of eight inputs.
 pub each_input : (P : ℕ → Type 0) → P 0 → P 1 → P 2 → P 3 → P 4 → P 5 → P 6 → P 7 → (i : ℕ) → i < 8 → P i
-each_input P a b c d e f g h zero l = a
-each_input P a b c d e f g h (suc zero) l = b
-each_input P a b c d e f g h (suc (suc zero)) l = c
-each_input P a b c d e f g h (suc (suc (suc zero))) l = d
-each_input P a b c d e f g h (suc (suc (suc (suc zero)))) l = e
-each_input P a b c d e f g h (suc (suc (suc (suc (suc zero))))) l = f
-each_input P a b c d e f g h (suc (suc (suc (suc (suc (suc zero)))))) l = g
-each_input P a b c d e f g h (suc (suc (suc (suc (suc (suc (suc zero))))))) l = h
-each_input P a b c d e f g h (suc (suc (suc (suc (suc (suc (suc (suc i)))))))) l = absurd (omega arith)
+each_input P a b c d e f g h i l = grind arith
 
 -- The level inputs.
 has-all : (i : ℕ) → i < 8 → has 0xff i ≡ true
@@ -95,7 +84,7 @@ has-all = each_input (λ i. has 0xff i ≡ true) refl refl refl refl refl refl r
 
 pub level_inputs_are : LevelInputsAre
 unfolding level_inputs
-level_inputs_are h0 elcr input within = grind (arith, has-all, or-true, has, or-false)
+level_inputs_are ltim elcr input within = grind (arith, has-all, or-true, has, or-false)
 
 pub level_inputs-lt : (ltim : Bool) (elcr : ℕ) → elcr < 256 → level_inputs ltim elcr < 256
 unfolding level_inputs

@@ -1,10 +1,9 @@
 -- The names of other crates, and of this crate's `specs`, that the proofs use.
 pub use Rattle.std.proofs.{Math.Bool.and-false, Math.Bool.and-true, Math.Bool.or-false, Math.Bool.or-true, Math.Nat.mod-lt, Math.Seq.drop-append_seam}
-pub use Rattle.std.proofs.{Math.Seq.take-append_seam, lemmas.List.at_drop_more, lemmas.List.FromFn.get_or-map-range_with_len}
-pub use Rattle.std.proofs.Common.{Bool, Err, IfSome, List, MatchOption, None, Ok, Option, Result, Some, [], ap, arith, bit_or, codes, cond, drop, false, find}
-pub use Rattle.std.proofs.Common.{get_or, if◌then◌else◌, inl, inr, length, max, min, not, pos, refl, subst, suc, sym, take, true, zero, ℕ, ℤ}
-pub use Rattle.std.proofs.Common.{⊎_elim, ◌%◌, ◌&&◌, ◌*◌, ◌++◌, ◌+◌, ◌-◌, ◌/◌, ◌<◌, ◌==◌, ◌^◌, ◌||◌, ◌∙◌}
-pub use Rattle.std.proofs.Common.{◌∷◌, ◌≡◌, ◌≢◌, ◌≤◌, ◌⊎◌}
+pub use Rattle.std.proofs.{Math.Seq.take-append_seam, lemmas.List.FromFn.get_or-map-range_with_len}
+pub use Rattle.std.proofs.Common.{Bool, Err, IfSome, List, None, Ok, Option, Result, Some, [], ap, arith, bit_or, codes, cond, drop, false, find, get_or}
+pub use Rattle.std.proofs.Common.{length, max, min, not, pos, refl, subst, suc, sym, take, true, zero, ℕ, ℤ, ⊎_elim, ◌%◌, ◌&&◌, ◌*◌, ◌++◌}
+pub use Rattle.std.proofs.Common.{◌+◌, ◌-◌, ◌/◌, ◌<◌, ◌==◌, ◌^◌, ◌||◌, ◌∙◌, ◌∷◌, ◌≡◌, ◌≢◌, ◌≤◌}
 pub use Rattle.std.proofs.lemmas.Bool.{cases_lt, cond_both, false≢true, Decides.nat_tests}
 pub use Rattle.std.proofs.lemmas.Nat.{and_le_l, and_le_r, div-add-mod', or_of_8, pow_below, pow_pos}
 pub use Rattle.std.proofs.lemmas.Nat.Bits.{bit_at-lt, bit_at-pow_other, bit_at-pow_same, bit_at-trailing_zeros, bit_at-zero, bit_at_above, bit_at_and}
@@ -26,17 +25,14 @@ unfoldable pub use Rattle.dev_pic.specs.Pair.{acked_for, chip_on, lines_of, powe
 unfoldable pub use Rattle.dev_pic.specs.Winner.{highest_of, ready_among, winner_of}
 pub use Rattle.dev_pic.specs.{Chip.rising, Ocw2.HasInput, Ocw2.command_of, SheetNumbers.NumbersAre, declared.chip.Chip.Chip, declared.chip.InitState.InitState}
 pub use Rattle.dev_pic.specs.{declared.chip.Role.Role, declared.fault.ChipFault.ChipFault, declared.ocw2.Ocw2.Ocw2, declared.pair.PicPair.PicPair, Pair.acked}
-pub use Rattle.dev_pic.specs.{Pair.is_port, Pair.with_cascade, declared.ocw2.Ocw2.TheVariants.SetPriority, declared.ocw2.Ocw2.TheVariants.SpecificEoi}
+pub use Rattle.dev_pic.specs.{Pair.is_port, Pair.with_cascade, Laws.SoundMeetsRules, Laws.StepsKeepLevel}
 pub use Rattle.dev_pic.specs.Cells.{IsChipCells, carried, cell_count, cell_in, flag_in, kinds, named, restored, rules, state_number, state_of}
-pub use Rattle.dev_pic.specs.Chip.{vector_of, written_odd, cascade_input, elcr_mask, highest_served, in_service_of, level_inputs_of, ltim_after, requests_of}
+pub use Rattle.dev_pic.specs.Chip.{vector_of, cascade_input, elcr_mask, highest_served, in_service_of, level_inputs_of, ltim_after, requests_of}
 pub use Rattle.dev_pic.specs.Laws.{StepsKeepRegisters, TakesLinesOver, TakesWinner, WinnerIsLeastRequest, AckWithoutWinner, EndsService, EoiEndsHighest}
-pub use Rattle.dev_pic.specs.Laws.{FaultsAreTold, InitializesByWords, IsHighestServed, IsInitialized, LevelInputsAre, LinesAreKept, LinesAreTaken}
-pub use Rattle.dev_pic.specs.Laws.{MaskedNeverWins, NestsSpecially, PollsOnce, RestoredIsSound, RotatesAtOnce, SavedAreCells, SavedIsRestored}
-pub use Rattle.dev_pic.specs.Laws.{ServedBlocksLower, SoundMeetsRules, StepsKeepLevel}
+pub use Rattle.dev_pic.specs.Laws.{FaultsAreTold, InitializesByWords, IsHighestServed, LevelInputsAre, LinesAreKept, LinesAreTaken, MaskedNeverWins}
+pub use Rattle.dev_pic.specs.Laws.{NestsSpecially, PollsOnce, RestoredIsSound, RotatesAtOnce, SavedAreCells, SavedIsRestored, ServedBlocksLower}
 pub use Rattle.dev_pic.specs.Saved.{CanRestore, CanSave, fault_of, hook_restored, hook_rule, pair_carried, pair_cells, restored_pair}
 pub use Rattle.dev_pic.specs.Sound.{HasRegisters, IsSoundChip, IsSoundPair, MeetsRules, PairHasRegisters}
 pub use Rattle.dev_pic.specs.Winner.{IsFirstPlace, IsWinner, MeansWinner, before, input_at, order}
-pub use Rattle.dev_pic.specs.declared.chip.InitState.TheVariants.{Icw2, Ready}
 pub use Rattle.dev_pic.specs.declared.chip.Role.TheVariants.{Master, Slave}
 pub use Rattle.dev_pic.specs.declared.levels.TheConstants.{ELCR_SINCE, LTIM_SINCE}
-pub use Rattle.dev_pic.specs.declared.ocw2.Ocw2.TheVariants.{NoOperation, NonSpecificEoi, RotateInAutomaticEoi, RotateOnNonSpecificEoi, RotateOnSpecificEoi}

@@ -1,11 +1,10 @@
 -- The remembered lines.
 use Rattle.dev_pic.proofs.BitLaws.{has-or, has-one_other, has-without_same, has-without_other, without_input-lt}
 use Rattle.dev_pic.proofs.Facade.{◌≡◌, ◌≢◌, ℕ, ◌+◌, ◌-◌, ◌*◌, ◌/◌, ◌%◌, ◌<◌, ◌≤◌, ◌^◌, ◌==◌, Bool, true}
-use Rattle.dev_pic.proofs.Facade.{bit_at_cat_low, bit_at_cat_high, false, not, ◌&&◌, cond, Option, Some, None, refl, ap, ◌∙◌, arith, ⊎_elim}
-use Rattle.dev_pic.proofs.Facade.{cases_lt, cond_both, nat_tests, and-true, and-false, or-false, has, without_input, winner_at, taken, settled, started}
-use Rattle.dev_pic.proofs.Facade.{selected, written_even, elcr_written, polled_by, read_of, answered, cascaded, LinesAreTaken, LinesAreKept, command_of}
-use Rattle.dev_pic.proofs.Facade.{slave_int_of, lines_of, acked, acked_for, with_cascade, settled_pair, read_pair, written_pair, PairHasRegisters, Chip, Role}
-use Rattle.dev_pic.proofs.Facade.{Master, Slave, PicPair}
+use Rattle.dev_pic.proofs.Facade.{bit_at_cat_low, bit_at_cat_high, false, not, ◌&&◌, cond, Option, Some, refl, ap, ◌∙◌, arith, cond_both, nat_tests}
+use Rattle.dev_pic.proofs.Facade.{and-true, and-false, or-false, has, without_input, winner_at, taken, settled, started, selected, written_even, elcr_written}
+use Rattle.dev_pic.proofs.Facade.{polled_by, read_of, answered, cascaded, LinesAreTaken, LinesAreKept, command_of, slave_int_of, lines_of, acked, acked_for}
+use Rattle.dev_pic.proofs.Facade.{with_cascade, settled_pair, read_pair, written_pair, PairHasRegisters, Chip, Role, Master, Slave, PicPair}
 use Rattle.dev_pic.proofs.StepLaws.{cascade-lt, commanded-keeps, odd-keeps}
 
 -- The bits of a number of two bytes.
@@ -20,19 +19,13 @@ high-bit high low i l h =
 bytes : (inputs : ℕ) → inputs ≡ inputs / 256 * 256 + inputs % 256
 bytes inputs = omega arith
 
-low-input : (inputs i : ℕ) → i < 8 → has (inputs % 256) i ≡ has inputs i
-low-input inputs i h = grind (arith, has, bytes, low-bit)
-
 -- The set of the cascade input only, or the empty set.
 cascade-same : (b : Bool) → has (cond b 4 0) 2 ≡ b
 cascade-same b = grind (arith, nat_tests)
 
-no-input : (i : ℕ) → i < 8 → has 0 i ≡ false
-no-input = grind (arith, has)
-
 cascade-other : (b : Bool) (i : ℕ) → i < 8 → i ≢ 2 → has (cond b 4 0) i ≡ false
 cascade-other true i h n = has-one_other 2 i n
-cascade-other false i h n = no-input i h
+cascade-other false i h n = grind (arith, has)
 
 with-other : (b : Bool) (inputs i : ℕ) → i < 8 → i ≢ 2 → has (with_cascade b inputs) i ≡ has inputs i
 with-other b inputs i h n = grind (arith, has-or, cascade-other, or-false, has, has-without_other)
@@ -49,7 +42,8 @@ module _ (inputs edges : ℕ) (pair : PicPair) (bound : inputs < 2 ^ 16) where
 
   taken-master : (i : ℕ) → i < 8 → i ≢ 2 → has (lines_of (settled_pair inputs edges pair)) i ≡ has inputs i
   unfolding settled_pair lines_of settled
-  taken-master i h n = low-bit (inputs / 256) (with_cascade output (inputs % 256)) i low-lt h ∙ with-other output (inputs % 256) i h n ∙ low-input inputs i h
+  taken-master i h n =
+      low-bit (inputs / 256) (with_cascade output (inputs % 256)) i low-lt h ∙ with-other output (inputs % 256) i h n ∙ (grind (arith, has, bytes, low-bit))
 
   taken-cascade : has (lines_of (settled_pair inputs edges pair)) 2 ≡ slave_int_of (settled_pair inputs edges pair)
   unfolding settled_pair lines_of settled slave_int_of
@@ -118,21 +112,12 @@ written-kept port value pair = grind (arith, nat_tests, with-master, with-slave,
 
 acked_for-kept : (o : Option ℕ) (pair : PicPair) → o ≢ Some 2 → Kept (lines_of pair) (acked_for o pair)
 unfolding acked_for
-acked_for-kept None pair n = with-master pair _ (answered-lines None pair.master)
-acked_for-kept (Some w) pair n =
-    cond_both (w == 2) _ _ (Kept (lines_of pair)) (λ e. absurd (n (let same : w ≡ 2 = grind (arith, nat_tests) in ap Some same)))
-    (λ e. with-master pair _ (answered-lines (Some w) pair.master))
+acked_for-kept o pair n = grind (arith, with-master, answered-lines, cond_both)
 
 -- The lines after the slave's output is acknowledged.
 acked-slave : (pair : PicPair) → winner_at Master pair.master ≡ Some 2 → lines_of (acked pair).1 ≡ pair.slave.lines * 256 + without_input pair.master.lines 2
 unfolding acked_for lines_of
 acked-slave pair e = rw e (rw (answered-lines (winner_at Slave pair.slave) pair.slave, cascaded-lines pair.master))
-
-without-bit : (lines i : ℕ) → i < 8 → has (without_input lines 2) i ≡ (has lines i && not (i == 2))
-without-bit lines i h = by_value (i == 2) refl where
-  by_value : (b : Bool) → (i == 2) ≡ b → has (without_input lines 2) i ≡ (has lines i && not b)
-  by_value true e = grind (arith, has, has-without_same, and-false)
-  by_value false e = grind (arith, has-without_other, and-true, has)
 
 high-acked : (slave master i : ℕ) → master < 256 → 8 ≤ i → i < 16
     → has (slave * 256 + without_input master 2) i ≡ (has (slave * 256 + master) i && not (i == 2))
@@ -145,9 +130,7 @@ high-acked slave master i bound least l =
 acked-bit : (pair : PicPair) → PairHasRegisters pair → (i : ℕ) → i < 16
     → has (pair.slave.lines * 256 + without_input pair.master.lines 2) i ≡ (has (lines_of pair) i && not (i == 2))
 unfolding lines_of
-acked-bit pair h i l =
-    ⊎_elim (λ low. (grind (arith, low-bit, without_input-lt, without-bit)))
-    (λ high. high-acked pair.slave.lines pair.master.lines i h.master.lines high l) (cases_lt i 8)
+acked-bit pair h i l = grind (arith, low-bit, without_input-lt, has, has-without_same, and-false, has-without_other, and-true, high-acked)
 
 pub lines_are_kept : LinesAreKept
 lines_are_kept = search (arith, read-kept, written-kept, acked_for-kept, acked-slave, acked-bit)

@@ -1,15 +1,13 @@
 -- What is saved of a pair and restored from it, and what its hooks return.
-use Rattle.dev_pic.proofs.Facade.{◌≡◌, ℕ, ◌≤◌, ◌%◌, true, List, ℤ, take, drop, Result, Ok, Err, arith, nat_tests, IsLevel, U8, number-lt}
+use Rattle.dev_pic.proofs.Facade.{◌≡◌, ℕ, ◌≤◌, ◌%◌, true, List, ℤ, take, drop, Result, Ok, Err, arith, nat_tests, IsLevel, number-lt}
 use Rattle.dev_pic.proofs.Facade.{AllTrue, judged-ok, hook-ok, cell_count, IsChipCells, chip_of, registers_hold, rules, restored, RestoredIsSound, pair_of}
 use Rattle.dev_pic.proofs.Facade.{restored_pair, by_number, IsSoundChip, IsSoundPair, Chip, Role, Master, Slave, ChipFault, PicPair, ◌++◌, length, subst}
-use Rattle.dev_pic.proofs.Facade.{◌∙◌, sym, ap, zero, suc, ◌+◌, ◌-◌, ◌<◌, ◌==◌, Bool, false, cond, [], ◌∷◌, refl, pos, codes}
-use Rattle.dev_pic.proofs.Facade.{Option, Some, take-append_seam, drop-append_seam, nat_le, kinds, cell_in, flag_in, state_number, state_of, named, saved_cells}
-use Rattle.dev_pic.proofs.Facade.{carried, levels_hold, mode_holds, cells_under, i8259_rows, Numbers, flag_number, AreOf, MayRestore, NEWEST, either, byte}
-use Rattle.dev_pic.proofs.Facade.{flag, flag-back, AllHold, one_holds, none_lacks, of_rows, carried_rows, none_failing, all_true, judged-all, ok-hook}
-use Rattle.dev_pic.proofs.Facade.{first_failing_is_first, SoundMeetsRules, SavedAreCells, SavedIsRestored, FaultsAreTold, CanSave, CanRestore, pair_cells}
-use Rattle.dev_pic.proofs.Facade.{pair_carried, hook_rule, fault_of, hook_restored, HasRegisters, MeetsRules, InitState, ELCR_SINCE, LTIM_SINCE, HookFault}
-use Rattle.dev_pic.proofs.Facade.{hook_result, first_failing, judged_by}
-use Rattle.vms_kinds.specs.declared.Kind.TheVariants.{Bool as Truth}
+use Rattle.dev_pic.proofs.Facade.{◌∙◌, sym, ap, ◌+◌, ◌-◌, ◌<◌, ◌==◌, Bool, false, cond, [], ◌∷◌, refl, pos, codes, Option, Some}
+use Rattle.dev_pic.proofs.Facade.{take-append_seam, drop-append_seam, nat_le, kinds, cell_in, flag_in, state_number, named, saved_cells, carried, levels_hold}
+use Rattle.dev_pic.proofs.Facade.{mode_holds, cells_under, i8259_rows, Numbers, flag_number, AreOf, MayRestore, NEWEST, either, byte, flag, flag-back, AllHold}
+use Rattle.dev_pic.proofs.Facade.{one_holds, none_lacks, of_rows, carried_rows, none_failing, all_true, judged-all, ok-hook, first_failing_is_first}
+use Rattle.dev_pic.proofs.Facade.{SoundMeetsRules, SavedAreCells, SavedIsRestored, FaultsAreTold, CanSave, CanRestore, pair_cells, pair_carried, hook_rule}
+use Rattle.dev_pic.proofs.Facade.{fault_of, hook_restored, HasRegisters, MeetsRules, InitState, ELCR_SINCE, LTIM_SINCE, HookFault, hook_result, judged_by}
 
 -- ---- a restored pair is sound
 
@@ -41,8 +39,7 @@ pub record IsMadeOf (level : ℕ) (master slave : Result Chip ℕ) (pair : PicPa
 
 pub made_of : (level : ℕ) (master slave : Result Chip ℕ) (pair : PicPair) → pair_of level master slave ≡ Ok pair → IsMadeOf level master slave pair
 unfolding pair_of
-made_of level (Ok master) (Ok slave) pair e = record { same_level = cc; of_master = cc; of_slave = cc }
-made_of level _ _ pair e = cc
+made_of level master slave pair e = search arith
 
 pub number-ok : (outcome : Result PicPair ChipFault) (pair : PicPair) → by_number outcome ≡ Ok pair → outcome ≡ Ok pair
 unfolding by_number
@@ -80,17 +77,13 @@ slave_cells master slave both joined first cells = rw joined (subst IsChipCells 
 
 -- ---- saved and restored
 
--- A state is that of its own number.
-state-back : (s : InitState) → state_of (state_number s) ≡ s
-state-back s = grind arith
-
 state-le : (s : InitState) → state_number s ≤ 3
 state-le s = grind arith
 
 -- A chip is that of its own cells.
 pub chip_of-saved : (chip : Chip) → chip_of (saved_cells NEWEST chip) ≡ chip
 unfolding chip_of saved_cells
-chip_of-saved chip = simp (flag-back, state-back)
+chip_of-saved chip = grind (flag-back, arith)
 
 -- Rule 1 holds for a chip with its registers.
 registers-met : (level : ℕ) (role : Role) (chip : Chip) → HasRegisters level role chip
@@ -101,19 +94,11 @@ registers-met level role chip h = grind (arith, state-le)
 -- All rules hold for a sound chip.
 met : (level : ℕ) (role : Role) (chip : Chip) → IsSoundChip level role chip → AllTrue (rules level role (saved_cells NEWEST chip))
 unfolding saved_cells
-met level role chip s =
-    let ltim = flag-back chip.ltim in
-    (registers-met level role chip s.registers, (s.registers.levels, (rw ltim s.requests, (rw ltim s.registers.mode, tt))))
+met level role chip s = grind (arith, flag-back, registers-met)
 
 -- Each field has as many numbers of its kind as it counts.
 holds : (level : ℕ) (role : Role) (chip : Chip) → HasRegisters level role chip → AllHold (named chip) i8259_rows
-holds level role chip h =
-    one_holds _ _ (byte _ h.irr) (one_holds _ _ (byte _ h.isr) (one_holds _ _ (byte _ h.imr) (one_holds _ _ (byte _ h.lines)
-    (one_holds _ _ (byte _ (omega arith))
-    (one_holds _ _ (byte _ h.base) (one_holds _ _ (byte _ (omega (arith, state-le chip.init_state))) (one_holds _ _ (flag _)
-    (one_holds _ _ (flag _) (one_holds _ _ (flag _) (one_holds _ _ (flag _) (one_holds _ _ (flag _)
-    (one_holds _ _ (flag _) (one_holds _ _ (flag _) (one_holds _ _ (flag _) (one_holds _ _ (byte _ h.elcr)
-    (one_holds _ _ (flag _) tt))))))))))))))))
+holds level role chip h = grind (arith, one_holds, byte, state-le, flag)
 
 pub set-of : (level set : ℕ) (role : Role) (chip : Chip) → HasRegisters level role chip → AreOf (kinds set) (saved_cells set chip)
 unfolding saved_cells
@@ -125,9 +110,7 @@ by_sets a b chip = cells_under i8259_rows 1 (named chip) ++ (cond a (pos chip.el
 
 pub saved-count : (set : ℕ) (chip : Chip) → length (saved_cells set chip) ≡ length (kinds set)
 unfolding saved_cells
-saved-count set chip = by_tests (nat_le ELCR_SINCE set) (nat_le LTIM_SINCE set) where
-  by_tests : (a b : Bool) → length (by_sets a b chip) ≡ length (kinds 1 ++ (cond a (U8 ∷ []) [] ++ (cond b (Truth ∷ []) [] ++ [])))
-  by_tests a b = grind arith
+saved-count set chip = grind (arith, kinds)
 
 -- A chip is sound if its cells break no rule, and conversely.
 meets : (level : ℕ) (role : Role) (chip : Chip) → IsSoundChip level role chip → IsChipCells (saved_cells NEWEST chip) × MeetsRules level role chip
@@ -174,11 +157,7 @@ off ltim e = grind (arith, nat_tests)
 unneeded : (set : ℕ) (chip : Chip) → LTIM_SINCE ≤ set → flag_in (saved_cells set chip) (codes "ltim") ≡ false
     → cell_in (saved_cells set chip) (codes "ltim") ≡ pos 0
 unfolding saved_cells
-unneeded set chip h = by_tests (nat_le ELCR_SINCE set) (nat_le LTIM_SINCE set) (grind (arith, nat_tests)) (grind (arith, nat_tests)) where
-  by_tests : (a b : Bool) → a ≡ true → b ≡ true → flag_in (by_sets a b chip) (codes "ltim") ≡ false → cell_in (by_sets a b chip) (codes "ltim") ≡ pos 0
-  by_tests true true p q e = off chip.ltim e
-  by_tests true false p q e = cc
-  by_tests false b p q e = cc
+unneeded set chip h = grind (arith, cell_in, off)
 
 master-part : (set : ℕ) (pair : PicPair) → take (length (kinds set)) (pair_cells set pair) ≡ saved_cells set pair.master
 master-part set pair = first_part (length (kinds set)) (saved_cells set pair.master) (saved_cells set pair.slave) (saved-count set pair.master)
@@ -197,12 +176,7 @@ saved_are_cells = record {
 
 -- A fault is that of its own number.
 told : (chip rule : ℕ) → chip < 2 → 1 ≤ rule → rule ≤ 10 → fault_of (hook_rule (record { chip = chip; rule = rule })) ≡ record { chip = chip; rule = rule }
-told zero rule c l h = let e : nat_le rule 10 ≡ true = grind (arith, nat_tests) in rw e
-told (suc zero) rule c l h =
-    let e : nat_le (10 + rule) 10 ≡ false = grind (arith, nat_tests) in
-    let back : 10 + rule - 10 ≡ rule = omega arith in
-    rw e (ap (λ n. record { chip = 1; rule = n }) back)
-told (suc (suc chip)) rule c l h = absurd (omega arith)
+told chip rule c l h = search arith
 
 pub faults_are_told : FaultsAreTold
 faults_are_told = record { fault = λ fault c l h. told fault.chip fault.rule c l h }
@@ -253,32 +227,20 @@ unfolding judged_by
 failing answer chip rule e = grind arith
 
 chip-rule : (level : ℕ) (role : Role) (cells : List ℤ) (rule : ℕ) → restored level role cells ≡ Err rule → IsRule rule
-chip-rule level role cells rule e =
-    (rw (failing (first_failing (rules level role cells)) (chip_of cells) rule e) at (first_failing_is_first (rules level role cells))).within
+chip-rule level role cells rule e = search (arith, failing, first_failing_is_first)
 
 made-fault : (level : ℕ) (master slave : Result Chip ℕ) (fault : ChipFault) → ((rule : ℕ) → master ≡ Err rule → IsRule rule)
     → ((rule : ℕ) → slave ≡ Err rule → IsRule rule) → pair_of level master slave ≡ Err fault → IsFault fault
 unfolding pair_of
-made-fault level (Err rule) slave fault m s e =
-    let is : record { chip = 0; rule = rule } ≡ fault = cc in
-    subst IsFault is (record { chip = omega arith; rule = m rule refl })
-made-fault level (Ok master) (Err rule) fault m s e =
-    let is : record { chip = 1; rule = rule } ≡ fault = cc in
-    subst IsFault is (record { chip = omega arith; rule = s rule refl })
-made-fault level (Ok master) (Ok slave) fault m s e = cc
+made-fault level master slave fault m s e = search arith
 
 pair-fault : (level : ℕ) (master slave : List ℤ) (fault : ChipFault) → restored_pair level master slave ≡ Err fault → IsFault fault
-pair-fault level master slave fault e =
-    made-fault level (restored level Master master) (restored level Slave slave) fault (chip-rule level Master master) (chip-rule level Slave slave) e
+pair-fault level master slave fault e = grind (arith, made-fault, chip-rule)
 
 hook-err : (outcome : Result PicPair ChipFault) (fault : HookFault) → ((found : ChipFault) → outcome ≡ Err found → IsFault found)
     → hook_result (by_number outcome) ≡ Err fault → outcome ≡ Err (fault_of fault.rule)
 unfolding hook_result by_number
-hook-err (Ok pair) fault within e = cc
-hook-err (Err found) fault within e =
-    let is = within found refl in
-    let rule : hook_rule found ≡ fault.rule = ap (λ f. f.rule) (let same : record { rule = hook_rule found } ≡ fault = cc in same) in
-    ap Err (sym (faults_are_told.fault found is.chip is.rule.0 (omega arith)) ∙ ap fault_of rule)
+hook-err outcome fault within e = search (arith, faults_are_told)
 
 -- Two chips' cells, one after the other.
 module _ (numbers : Numbers) (master slave : List ℤ) (m : IsChipCells master) where

@@ -1,12 +1,12 @@
 -- What each step of a chip and of the pair keeps.
 use Rattle.dev_pic.proofs.BitLaws.{level-lines, level_inputs-lt, but_not-lt, without_input-lt, with_input-lt, and-twice}
-use Rattle.dev_pic.proofs.Facade.{refl, ◌≡◌, ℕ, Option, Some, None, false, ◌-◌, ◌%◌, ◌<◌, ◌≤◌, ◌==◌, Bool, true, IfSome, arith}
+use Rattle.dev_pic.proofs.Facade.{◌≡◌, ℕ, Option, Some, None, false, ◌-◌, ◌%◌, ◌<◌, ◌≤◌, ◌==◌, Bool, true, IfSome, arith}
 use Rattle.dev_pic.proofs.Facade.{nat_tests, or_of_8, and_le_l, bit_and, nat_le, either, has, ended, ended_lowest, commanded, selected, written_even}
 use Rattle.dev_pic.proofs.Facade.{written_odd_in, level_inputs, level_inputs_of, ltim_after, requests_of, served_of, winner_at, taken, settled, started}
-use Rattle.dev_pic.proofs.Facade.{polled_by, read_of, answered, cascaded, command_of, HasInput, Chip, InitState, Ocw2, but_not, with_input, without_input}
-use Rattle.dev_pic.proofs.Facade.{requests_hold, mode_holds, HasRegisters, IsSoundChip, Role, LTIM_SINCE, ◌^◌, or-true, cond_both, levels_hold, elcr_mask}
-use Rattle.dev_pic.proofs.Facade.{elcr_written, cascade_input, IsLevel, StepsKeepRegisters, StepsKeepLevel, chip_on, power_on, is_port, with_cascade}
-use Rattle.dev_pic.proofs.Facade.{settled_pair, read_pair, written_pair, acked, acked_for, PairHasRegisters, IsSoundPair, Master, Slave, ELCR_SINCE, PicPair}
+use Rattle.dev_pic.proofs.Facade.{polled_by, read_of, answered, cascaded, command_of, HasInput, Chip, InitState, Ocw2, but_not, requests_hold, mode_holds}
+use Rattle.dev_pic.proofs.Facade.{HasRegisters, IsSoundChip, Role, LTIM_SINCE, ◌^◌, or-true, cond_both, levels_hold, elcr_mask, elcr_written, cascade_input}
+use Rattle.dev_pic.proofs.Facade.{IsLevel, StepsKeepRegisters, StepsKeepLevel, chip_on, power_on, is_port, with_cascade, settled_pair, read_pair, written_pair}
+use Rattle.dev_pic.proofs.Facade.{acked_for, PairHasRegisters, IsSoundPair, Master, Slave, ELCR_SINCE, PicPair}
 use Rattle.dev_pic.proofs.WinnerLaws.{highest-lt, winner-lt as winners-lt}
 
 -- ---- commands that leave the requests and the lines
@@ -37,13 +37,9 @@ unfolding winner_at
 winner-lt role chip = winners-lt chip.lowest (requests_of chip) (served_of role chip)
 
 command-input : (value : ℕ) → HasInput (command_of value)
-command-input value =
-    let input : value % 8 < 8 = omega arith in search (arith, nat_tests)
+command-input value = grind arith
 
 module _ (level : ℕ) (role : Role) (chip : Chip) (h : HasRegisters level role chip) where
-  with-irr : (v : ℕ) → v < 256 → HasRegisters level role (record chip { irr = v })
-  with-irr v l = search
-
   with-isr : (v : ℕ) → v < 256 → HasRegisters level role (record chip { isr = v })
   with-isr v l = search
 
@@ -63,22 +59,15 @@ module _ (level : ℕ) (role : Role) (chip : Chip) (h : HasRegisters level role 
 
   pub taken-registers : (w : ℕ) → w < 8 → HasRegisters level role (taken w chip)
   unfolding taken
-  taken-registers w l =
-      let served = either (HasRegisters level role) chip.auto_eoi _ _
-      (either (HasRegisters level role) chip.rotate _ _ (with-lowest level role chip h w (omega arith)) h)
-      (with-isr level role chip h (with_input chip.isr w) (with_input-lt chip.isr w h.isr l)) in
-      either (HasRegisters level role) (has (level_inputs_of chip) w) _ _ served
-      (with-irr level role _ served (without_input chip.irr w) (without_input-lt chip.irr w h.irr))
+  taken-registers w l = grind (arith, either, with-lowest, with-isr, with_input-lt, has, without_input-lt)
 
   ended-registers : (o : Option ℕ) → HasRegisters level role (ended o chip)
   unfolding ended
-  ended-registers None = h
-  ended-registers (Some w) = with-isr level role chip h _ (without_input-lt chip.isr w h.isr)
+  ended-registers o = grind (arith, with-isr, without_input-lt)
 
   ended_lowest-registers : (o : Option ℕ) → IfSome o (λ w. w < 8) → HasRegisters level role (ended_lowest o chip)
   unfolding ended_lowest
-  ended_lowest-registers None l = h
-  ended_lowest-registers (Some w) l = with-lowest level role _ (with-isr level role chip h _ (without_input-lt chip.isr w h.isr)) w (omega arith)
+  ended_lowest-registers o l = grind (arith, with-lowest, with-isr, without_input-lt)
 
   commanded-registers : (command : Ocw2) → HasInput command → HasRegisters level role (commanded command chip)
   unfolding commanded
@@ -102,9 +91,7 @@ module _ (level : ℕ) (role : Role) (chip : Chip) (h : HasRegisters level role 
 
   pub written_even-registers : (value : ℕ) → HasRegisters level role (written_even level value chip)
   unfolding written_even
-  written_even-registers value =
-      either (HasRegisters level role) (has value 4) _ _ (started-registers value)
-      (either (HasRegisters level role) (has value 3) _ _ (selected-registers value) (commanded-registers (command_of value) (command-input value)))
+  written_even-registers value = grind (arith, either, has, started-registers, selected-registers, commanded-registers, command-input)
 
   pub written_odd-registers : (s : InitState) (value : ℕ) → value < 256 → HasRegisters level role (written_odd_in s value chip)
   unfolding written_odd_in
@@ -120,8 +107,7 @@ module _ (level : ℕ) (role : Role) (chip : Chip) (h : HasRegisters level role 
 
   pub read-registers : (is_odd : Bool) → HasRegisters level role (read_of role is_odd chip).1
   unfolding read_of
-  read-registers is_odd =
-      let polled = polled-registers (winner_at role chip) (winner-lt role chip) in search (arith, nat_tests)
+  read-registers is_odd = grind (arith, polled-registers, winner-lt)
 
   pub answered-registers : (o : Option ℕ) → IfSome o (λ w. w < 8) → HasRegisters level role (answered o chip).1
   unfolding answered
@@ -141,9 +127,7 @@ module _ (level : ℕ) (role : Role) (chip : Chip) (h : HasRegisters level role 
   settled-requests : (inputs edges : ℕ) → inputs < 256 → edges < 256
       → requests_hold (settled inputs edges chip).irr (settled inputs edges chip).lines (level_inputs_of (settled inputs edges chip)) ≡ true
   unfolding settled but_not
-  settled-requests inputs edges i e =
-      let levels = level_inputs_of chip in
-      agreed _ inputs levels (level-lines _ inputs levels (or_of_8 chip.irr _ h.irr (or_of_8 _ edges (but_not-lt inputs chip.lines i) e)) i (level_inputs-lt chip.ltim chip.elcr h.elcr))
+  settled-requests inputs edges i e = grind (arith, agreed, level-lines, or_of_8, but_not-lt, level_inputs-lt)
 
   pub settled-sound : (inputs edges : ℕ) → inputs < 256 → edges < 256 → IsSoundChip level role (settled inputs edges chip)
   settled-sound inputs edges i e = search (settled-registers, settled-requests)
@@ -218,9 +202,6 @@ module _ (pair : PicPair) (h : PairHasRegisters pair) where
         slave = answered-registers pair.level Slave pair.slave h.slave (winner_at Slave pair.slave) (winner-lt Slave pair.slave);
       }) (with-master _ (answered-registers pair.level Master pair.master h.master (Some w) l))
 
-  acked-kept : PairHasRegisters (acked pair).1
-  acked-kept = acked_for-kept (winner_at Master pair.master) (winner-lt Master pair.master)
-
   read-kept : (port : ℕ) → Kept (read_pair port pair)
   unfolding read_pair
   read-kept port =
@@ -244,17 +225,8 @@ module _ (pair : PicPair) (h : PairHasRegisters pair) where
       (with-slave _ (elcr-written pair.level Slave pair.slave value since v h.slave))))))
 
 pub steps_keep_registers : StepsKeepRegisters
-steps_keep_registers =
-    let sound : (pair : PicPair) → IsSoundPair pair → PairHasRegisters pair = λ pair h.
-    record { level = h.level; master = h.master.registers; slave = h.slave.registers } in
-    search (power-sound, read-kept, written-kept, acked-kept, settle-sound)
+steps_keep_registers = search (arith, power-sound, read-kept, written-kept, acked_for-kept, winner-lt, settle-sound)
 
 pub steps_keep_level : StepsKeepLevel
 unfolding power_on settled_pair read_pair written_pair acked_for
-steps_keep_level = record {
-  power = λ level. refl;
-  read = λ port pair. grind (arith, nat_tests);
-  write = λ port value pair. grind (arith, nat_tests);
-  ack = λ pair. grind (arith, nat_tests);
-  settle = λ inputs edges pair. refl;
-}
+steps_keep_level = search arith

@@ -79,10 +79,7 @@ module _ (lowest requests served : ℕ) where
       (other, omega arith, serving.there (omega arith)))) (cases_lt first other)
 
   pub winner-lt : IfSome (winner_of lowest requests served) (λ w. w < 8)
-  winner-lt = by _ winner_of-means where
-    by : (o : Option ℕ) → MeansWinner lowest requests served o → IfSome o (λ w. w < 8)
-    by None m = tt
-    by (Some w) m = omega (arith, m.in_order.1)
+  winner-lt = grind (arith, winner_of-means)
 
 -- No two inputs meet the relation, and none does if there is no winner.
 only_for : (lowest requests served winner : ℕ) (o : Option ℕ) → MeansWinner lowest requests served o → IsWinner lowest requests served winner → o ≡ Some winner

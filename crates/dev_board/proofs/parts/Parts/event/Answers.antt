@@ -1,7 +1,6 @@
-use Rattle.dev_board.proofs.Facade.{wires_after, parts_view, wires_of, Wire, ◌≡◌, sym, ap, subst, ◌∙◌, int_of, IsCalm}
-use Rattle.dev_board.proofs.Facade.{IsSound, State, names_wire, settled}
+use Rattle.dev_board.proofs.Facade.{wires_after, parts_view, wires_of, Wire, ◌≡◌, sym, ap, subst, ◌∙◌, int_of, IsCalm, IsSound, State, names_wire}
+use Rattle.dev_board.proofs.{Facade.settled, SoundLaws.after-ack, SoundLaws.calm-read, SoundLaws.calm-write}
 use Rattle.dev_board.proofs.QuickLaws.{after-ack as ack-stays, after-read, after-write}
-use Rattle.dev_board.proofs.SoundLaws.{after-ack, calm-read, calm-write}
 use Rattle.dev_board.proofs.WireLaws.{named-bound, wires_of-are, wires_after-are}
 use Rattle.dev_board.specs.{Kept.IsKept, declared.kept.Kept.Kept}
 use Rattle.dev_board.proofs.parts.Parts.event.Goals as goal

@@ -1,5 +1,4 @@
-use Rattle.dev_board.proofs.{SoundLaws.calm-wait, QuickLaws.after-time}
-use Rattle.dev_board.proofs.Facade.{◌<◌, arith, nat_tests, settled}
+use Rattle.dev_board.proofs.{SoundLaws.calm-wait, QuickLaws.after-time, Facade.◌<◌, Facade.arith, Facade.nat_tests, Facade.settled}
 use Rattle.dev_board.proofs.parts.Parts.pass.Goals as goal
 
 pub settle-kept-requires-clause-stays : goal.settle-kept-requires-clause-stays
