@@ -70,6 +70,15 @@ abbrev pub news : List File → List Pair → List Entry
 news lent [] = []
 news lent (e ∷ es) = if is_lent lent (name_in e) (bytes_in e) then news lent es else entry (name_in e) (bytes_in e) ∷ news lent es
 
+-- what holds of the news of the later entries, and with this entry too if it is news, holds of all
+by_news : (P : List Entry → Type 0) (lent : List File) (e : Pair) (es : List Pair) → P (news lent es)
+    → (is_lent lent (name_in e) (bytes_in e) ≡ false → P (entry (name_in e) (bytes_in e) ∷ news lent es)) → P (news lent (e ∷ es))
+by_news P lent e es rest one = by (is_lent lent (name_in e) (bytes_in e)) refl
+  where
+    by : (b : Bool) → is_lent lent (name_in e) (bytes_in e) ≡ b → P (if b then news lent es else entry (name_in e) (bytes_in e) ∷ news lent es)
+    by true q = rest
+    by false q = one q
+
 some_is : {xs ys : List ℕ} → Some xs ≡ Some ys → xs ≡ ys
 some_is e = cc
 
@@ -113,14 +122,11 @@ IsNew lent held file = (held file.name ≡ Some file.bytes) × (file_of file.nam
 
 all_new : (lent : List File) (held : Held) (es : List Pair) → All (λ e. held (name_in e) ≡ Some (bytes_in e)) es → All (IsNew lent held) (news lent es)
 all_new lent held [] there = λ k d lt. absurd (omega (arith, lt))
-all_new lent held (e ∷ es) there = by (is_lent lent (name_in e) (bytes_in e)) refl (all_new lent held es (λ k d lt. there (suc k) d (omega (arith, lt))))
-  where
-    by : (b : Bool) → is_lent lent (name_in e) (bytes_in e) ≡ b → All (IsNew lent held) (news lent es)
-        → All (IsNew lent held) (if b then news lent es else entry (name_in e) (bytes_in e) ∷ news lent es)
-    by true q rest = rest
-    by false q rest =
-        let differs = not_from_Decides _ (is_just-Decides (file_of (name_in e) lent) (bytes_in e)) q in
-        All-cons (IsNew lent held) _ _ (there zero e (omega arith), differs) rest
+all_new lent held (e ∷ es) there =
+    let rest = all_new lent held es (λ k d lt. there (suc k) d (omega (arith, lt))) in
+    by_news (All (IsNew lent held)) lent e es rest (λ q.
+    let differs = not_from_Decides _ (is_just-Decides (file_of (name_in e) lent) (bytes_in e)) q in
+    All-cons (IsNew lent held) _ _ (there zero e (omega arith), differs) rest)
 
 later : {X : Type 0} (x y : X) (ys : List X) → Contains ys x → Contains (y ∷ ys) x
 later x y ys (k, lt, e) = (suc k, omega (arith, lt), e)
@@ -128,49 +134,40 @@ later x y ys (k, lt, e) = (suc k, omega (arith, lt), e)
 has_new : (lent : List File) (es : List Pair) (name bytes : List ℕ) → held_in es name ≡ Some bytes → file_of name lent ≢ Some bytes
     → Contains (news lent es) (entry name bytes)
 has_new lent [] name bytes there differs = cc
-has_new lent (e ∷ es) name bytes there differs =
-    by (is_eq (slice_cmp nat_cmp name (name_in e))) refl there (λ found. has_new lent es name bytes found differs)
+has_new lent (e ∷ es) name bytes there differs = by (is_eq (slice_cmp nat_cmp name (name_in e))) refl there
   where
+    by : (b : Bool) → is_eq (slice_cmp nat_cmp name (name_in e)) ≡ b
+        → option_map (λ content. content.bytes.items) (cond b (Some e.1) (lookup (is_at (λ k. slice_cmp nat_cmp name (string_bytes k))) es)) ≡ Some bytes
+        → Contains (news lent (e ∷ es)) (entry name bytes)
+    by true q found =
+        let same = (bytes_eq-Decides name (name_in e)).0 (sym (is_eq-slice_cmp name (name_in e)) ∙ q) in
+        here (is_lent lent (name_in e) (bytes_in e)) refl same (some_is found)
+    by false q found =
+        let rest = has_new lent es name bytes found differs in
+        by_news (λ files. Contains files (entry name bytes)) lent e es rest (λ q. later _ _ _ rest)
+
     here : (b : Bool) → is_lent lent (name_in e) (bytes_in e) ≡ b → name ≡ name_in e → bytes_in e ≡ bytes
         → Contains (if b then news lent es else entry (name_in e) (bytes_in e) ∷ news lent es) (entry name bytes)
     here true q same found = absurd (differs (ap (λ n. file_of n lent) same ∙ (is_just-Decides (file_of (name_in e) lent) (bytes_in e)).0 q ∙ ap Some found))
     here false q same found = (zero, omega arith, ap (λ n. entry n (bytes_in e)) (sym same) ∙ ap (entry name) found)
-
-    skip : (b : Bool) → Contains (news lent es) (entry name bytes)
-        → Contains (if b then news lent es else entry (name_in e) (bytes_in e) ∷ news lent es) (entry name bytes)
-    skip true c = c
-    skip false c = later _ _ _ c
-
-    by : (b : Bool) → is_eq (slice_cmp nat_cmp name (name_in e)) ≡ b
-        → option_map (λ content. content.bytes.items) (cond b (Some e.1) (lookup (is_at (λ k. slice_cmp nat_cmp name (string_bytes k))) es)) ≡ Some bytes
-        → (held_in es name ≡ Some bytes → Contains (news lent es) (entry name bytes)) → Contains (news lent (e ∷ es)) (entry name bytes)
-    by true q found rest = here _ refl ((bytes_eq-Decides name (name_in e)).0 (sym (is_eq-slice_cmp name (name_in e)) ∙ q)) (some_is found)
-    by false q found rest = skip _ (rest found)
 
 -- ---- in which order
 
 below : (lent : List File) (first : List ℕ) (es : List Pair) → AllByRecursion (λ k. slice_cmp nat_cmp first (string_bytes k) ≡ Less) (keys_of es)
     → AllByRecursion (λ n. slice_cmp nat_cmp first n ≡ Less) (map (λ (file : Entry). file.name) (news lent es))
 below lent first [] all = tt
-below lent first (e ∷ es) all = by (is_lent lent (name_in e) (bytes_in e)) (below lent first es all.1)
-  where
-    by : (b : Bool) → AllByRecursion (λ n. slice_cmp nat_cmp first n ≡ Less) (map (λ (file : Entry). file.name) (news lent es))
-        → AllByRecursion (λ n. slice_cmp nat_cmp first n ≡ Less)
-        (map (λ (file : Entry). file.name) (if b then news lent es else entry (name_in e) (bytes_in e) ∷ news lent es))
-    by true rest = rest
-    by false rest = (all.0, rest)
+below lent first (e ∷ es) all =
+    let rest = below lent first es all.1 in
+    by_news (λ files. AllByRecursion (λ n. slice_cmp nat_cmp first n ≡ Less) (map (λ (file : Entry). file.name) files)) lent e es rest (λ q. (all.0, rest))
 
 sorted_news : (lent : List File) (es : List Pair) → IsStrictlySortedBy string_cmp (keys_of es)
     → IsStrictlySortedBy (slice_cmp nat_cmp) (map (λ (file : Entry). file.name) (news lent es))
 unfolding IsStrictlySortedBy
 sorted_news lent [] sorted = tt
-sorted_news lent (e ∷ es) sorted = by (is_lent lent (name_in e) (bytes_in e)) (sorted_news lent es sorted.1)
-  where
-    by : (b : Bool) → IsStrictlySortedBy (slice_cmp nat_cmp) (map (λ (file : Entry). file.name) (news lent es))
-        → IsStrictlySortedBy (slice_cmp nat_cmp)
-        (map (λ (file : Entry). file.name) (if b then news lent es else entry (name_in e) (bytes_in e) ∷ news lent es))
-    by true rest = rest
-    by false rest = (below lent (name_in e) es sorted.0, rest)
+sorted_news lent (e ∷ es) sorted =
+    let rest = sorted_news lent es sorted.1 in
+    by_news (λ files. IsStrictlySortedBy (slice_cmp nat_cmp) (map (λ (file : Entry). file.name) files)) lent e es rest
+    (λ q. (below lent (name_in e) es sorted.0, rest))
 
 pub is_stored : (lent : List File) (m : BTreeMap (String Global) Content) → IsOrdered string_cmp m → All (λ e. get string_cmp m e.0 ≡ Some e.1) m.entries
     → IsStored lent (held_in m.entries) (news lent m.entries)

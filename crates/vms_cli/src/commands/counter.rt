@@ -7,6 +7,7 @@ ghost use Rattle.vms_spec.specs.Lists.{at_option};
 ghost use Rattle.vms_spec.specs.Values.{values_text};
 ghost use Rattle.vms_desc.specs.Described.{described};
 ghost use Rattle.vms_image.specs.Typed.{state_of};
+ghost use Rattle.vms_load.specs.Kept.{loads};
 ghost use Rattle.vms_counter_laws.specs.Computed.{computed};
 ghost use Rattle.vms_counter.specs.Found.{answer_of, IsFindingOf};
 ghost use Rattle.vms_commands.specs.Asks.{set_asked};
@@ -72,8 +73,24 @@ fn find<O: Sink>(alloc: Global, sets: TwoSets, out: &mut O) -> Result<(), Ending
         (ending_of result) }
 {
     let mut loader = Loader::new(alloc, sets.new)?;
-    let finding = vms_counter::counter(alloc, &sets.old, &mut loader)?;
-    write_finding(alloc, &sets.old, loader.set(), &finding, out)
+    find_by(alloc, &sets.old, &mut loader, out)
+}
+
+// Does the same. The newer set is in a loader.
+fn find_by<O: Sink>(
+    alloc: Global,
+    old: &DescSet,
+    new: &mut Loader,
+    out: &mut O,
+) -> Result<(), Ending>
+    ensures ends { let old = described old.now in WrittenAs
+        (counter_text old (loads new.old) (computed old (loads new.old)))
+        (outlet O.Sink out.old) (outlet O.Sink out.new) (ending_of result) }
+    ensures so { WritesBy false false (outlet O.Sink out.old) (outlet O.Sink out.new)
+        (ending_of result) }
+{
+    let finding = vms_counter::counter(alloc, old, new)?;
+    write_finding(alloc, old, new.set(), &finding, out)
 }
 
 fn write_finding<O: Sink>(
