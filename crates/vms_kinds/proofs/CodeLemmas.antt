@@ -49,12 +49,7 @@ two_back _ n s h = cc
 plain_code : (kind : Kind) (n : ℕ) → is_signed kind ≡ false → InRange kind (pos n) → big_bytes (width kind) n ≡ code kind (pos n)
 unfolding code
 plain_code U8 n s h = ap (big_bytes 1) (omega (arith, ints))
-plain_code U16 n s h = ap (big_bytes 2) (omega (arith, ints))
-plain_code U32 n s h = ap (big_bytes 4) (omega (arith, ints))
-plain_code U64 n s h = ap (big_bytes 8) (omega (arith, ints))
-plain_code Bool n s h = ap (big_bytes 1) (omega (arith, ints))
-plain_code Timer n s h = ap (big_bytes 8) (omega (arith, ints))
-plain_code _ n s h = cc
+plain_code kind n s h = ap (big_bytes (width kind)) (grind (arith, ints))
 
 -- the number that the bytes of a signed kind give
 pub signed_take : (kind : Kind) (bs : List ℕ) → is_signed kind ≡ true → length bs ≡ width kind → IsBytes bs
@@ -111,12 +106,7 @@ written_i8 kind z old n is h f some small e =
 
 not_negative : (kind : Kind) (n : ℕ) → is_signed kind ≡ false → InRange kind (negsuc n) → ⊥
 not_negative U8 n s h = omega (arith, ints)
-not_negative U16 n s h = omega (arith, ints)
-not_negative U32 n s h = omega (arith, ints)
-not_negative U64 n s h = omega (arith, ints)
-not_negative Bool n s h = omega (arith, ints)
-not_negative Timer n s h = omega (arith, ints)
-not_negative _ n s h = cc
+not_negative kind n s h = grind (arith, ints)
 
 -- the bytes after another number was written
 pub written_plain : (kind : Kind) (z : ℤ) (w : ℕ) (old new : List ℕ) → w ≡ width kind → is_signed kind ≡ false → InRange kind z → SFits w128 z
@@ -131,10 +121,6 @@ pub written_byte : (kind : Kind) (z : ℤ) (old : List ℕ) → 1 ≡ width kind
     → nat_abs (to_z w128 (of_z w128 z)) < 256
     → slice_set old 0 (nat_abs (to_z w128 (of_z w128 z))) ≡ code kind z ++ drop (width kind) old
 written_byte kind z old ew s h f some small = written_plain kind z 1 old _ ew s h f (first_put old _ some small)
-
--- a reading, for an equal number
-pub taken : (kind : Kind) (bs : List ℕ) (y z : ℤ) → z ≡ y → InRange kind y × (bs ≡ code kind y) → InRange kind z × (bs ≡ code kind z)
-taken kind bs y z e h = rw e h
 
 -- a reading of bytes
 pub value_taken : (kind : Kind) (bs : List ℕ) → length bs ≡ width kind → IsBytes bs → (IsBadBool kind bs → ⊥)
