@@ -1,8 +1,8 @@
 -- Edges of OUT in a span of time, and the ticks at which they are.
-use Rattle.dev_pit.proofs.Facade.{◌≡◌, ℕ, ◌+◌, ◌/◌, ◌<◌, ◌≤◌, ◌==◌, Bool, false, not, ◌&&◌, ◌||◌, Option, Some}
-use Rattle.dev_pit.proofs.Facade.{refl, arith, nat_tests, nat_lt, nat_le, grown, quotient_mono, rises, ticks, period, edge_of, edge_since, TicksGoOn}
+use Rattle.dev_pit.proofs.Facade.{◌≡◌, ℕ, ◌+◌, ◌/◌, ◌<◌, ◌≤◌, ◌==◌, Bool, false, not, ◌&&◌, ◌||◌, Option, Some, refl}
+use Rattle.dev_pit.proofs.Facade.{arith, nat_tests, nat_lt, nat_le, grown, quotient_mono, rises, ticks, period, edge_of, edge_since, TicksGoOn}
 use Rattle.dev_pit.proofs.Facade.{SecondsHaveTicks, EdgeInParts, Mode, TerminalCount, RateGenerator, SquareWave, SoftwareStrobe, ◌-◌, ◌*◌, ◌%◌}
-use Rattle.dev_pit.proofs.Facade.{true, ⊎_elim, cases_lt, cases_Bool, le-div, mod-mul-add, out_at, high_part, EdgeTurnsHigh}
+use Rattle.dev_pit.proofs.Facade.{true, ⊎_elim, cases_lt, le-div, mod-mul-add, out_at, high_part, EdgeTurnsHigh}
 
 -- ---- an edge in a span of time is one in a part of it
 
@@ -38,13 +38,9 @@ rises-parts : (mode : Mode) (count a b c : ℕ) → a ≤ b → b ≤ c → rise
 unfolding rises
 rises-parts mode count a b c h l = grind (arith, passed, periods)
 
-since-parts : (load : Option ℕ) (mode : Mode) (count from between to : ℕ) → from ≤ between → between ≤ to
-    → edge_since load mode count from to ≡ (edge_since load mode count from between || edge_since load mode count between to)
-since-parts load mode count from between to h l = grind (arith, rises-parts, ticks-mono)
-
 pub edge_in_parts : EdgeInParts
 unfolding edge_of
-edge_in_parts counter from between to h l = since-parts counter.loaded_at counter.mode counter.count from between to h l
+edge_in_parts counter from between to h l = grind (arith, rises-parts, ticks-mono)
 
 -- ---- an edge is a tick at which OUT turns high
 
@@ -180,14 +176,8 @@ strobe-rises count before after t = grind (arith, nat_tests)
 turns-from_rises : (mode : Mode) (count before after : ℕ) → rises mode count before after ≡ true → Turns mode count before after
 unfolding rises
 turns-from_rises TerminalCount count before after e = terminal-turns count before after e
-turns-from_rises RateGenerator count before after e =
-    ⊎_elim (λ one. absurd (periodic-not_one count _ _ one e))
-    (λ one. periodic-turns RateGenerator count before after one (λ k. rate-low count k one) (λ k. rate-high count k one) (grown-periodic count _ _ one e))
-    (cases_Bool (count == 1))
-turns-from_rises SquareWave count before after e =
-    ⊎_elim (λ one. absurd (periodic-not_one count _ _ one e))
-    (λ one. periodic-turns SquareWave count before after one (λ k. square-low count k one) (λ k. square-high count k one) (grown-periodic count _ _ one e))
-    (cases_Bool (count == 1))
+turns-from_rises RateGenerator count before after e = grind (arith, periodic-not_one, periodic-turns, rate-low, rate-high, grown-periodic)
+turns-from_rises SquareWave count before after e = grind (arith, periodic-not_one, periodic-turns, square-low, square-high, grown-periodic)
 turns-from_rises SoftwareStrobe count before after e = strobe-turns count before after e
 turns-from_rises _ count before after e = cc
 
@@ -195,19 +185,10 @@ turns-from_rises _ count before after e = cc
 rises-from_turns : (mode : Mode) (count before after : ℕ) → Turns mode count before after → rises mode count before after ≡ true
 unfolding rises out_at
 rises-from_turns TerminalCount count before after t = terminal-rises count before after t
-rises-from_turns RateGenerator count before after t =
-    ⊎_elim (λ one. absurd (no_turns RateGenerator count before after (λ k. rw one) t))
-    (λ one. periodic-grown count _ _ one (rate-grown count before after one t)) (cases_Bool (count == 1))
-rises-from_turns SquareWave count before after t =
-    ⊎_elim (λ one. absurd (no_turns SquareWave count before after (λ k. rw one) t))
-    (λ one. periodic-grown count _ _ one (square-grown count before after one t)) (cases_Bool (count == 1))
+rises-from_turns RateGenerator count before after t = grind (arith, no_turns, periodic-grown, rate-grown)
+rises-from_turns SquareWave count before after t = grind (arith, no_turns, periodic-grown, square-grown)
 rises-from_turns SoftwareStrobe count before after t = strobe-rises count before after t
 rises-from_turns _ count before after t = absurd (no_turns _ count before after (λ k. refl) t)
-
--- The same for a counter and moments.
-since-turns : (load : Option ℕ) (mode : Mode) (count from to : ℕ) → edge_since load mode count from to ≡ true
-    → (start : ℕ) × (load ≡ Some start) × Turns mode count (ticks start from) (ticks start to)
-since-turns load mode count from to e = grind (arith, nat_tests, turns-from_rises)
 
 turns-since : (load : Option ℕ) (mode : Mode) (count from to start : ℕ) → load ≡ Some start → Turns mode count (ticks start from) (ticks start to)
     → edge_since load mode count from to ≡ true
@@ -217,7 +198,7 @@ pub edge_turns_high : EdgeTurnsHigh
 unfolding edge_of
 edge_turns_high counter from to = (
   λ e. let found : (start : ℕ) × (counter.loaded_at ≡ Some start) × Turns counter.mode counter.count (ticks start from)
-      (ticks start to) = since-turns counter.loaded_at counter.mode counter.count from to e in
+      (ticks start to) = grind (arith, nat_tests, turns-from_rises) in
       record {
         load = found.0;
         is_loaded = found.1;

@@ -4,8 +4,7 @@ use Rattle.dev_pit.proofs.Facade.{refl, NumbersAre, ◌≡◌, ℕ, ◌-◌, ◌
 use Rattle.dev_pit.proofs.Facade.{⊎_elim, nat_tests, nat_le, is_some, cases_Bool, Call, reads, writes, IsCall, called, programs, sets_mode_of, reads_latch}
 use Rattle.dev_pit.proofs.Facade.{is_last, control_word, loaded, written, read_of, counted_of, latched, status_latched, read_back, LatchStays, counter_of}
 use Rattle.dev_pit.proofs.Facade.{pit_read, asked_back, controlled, pit_written, ControlWord, LatchCount, SetMode, ReadBack, Counter, READ_BACK_LEVEL, Pit}
-use Rattle.dev_pit.proofs.Facade.{either, status_holds, ReadBackByLevel, Channel, out_of}
-use Rattle.dev_pit.proofs.Facade.{status_of, TellsStatus, StatusTells, flag-back}
+use Rattle.dev_pit.proofs.Facade.{either, status_holds, ReadBackByLevel, out_of, status_of, StatusTells, flag-back}
 
 -- ---- the numbers are the constants' by their definition
 
@@ -83,34 +82,16 @@ latch_stays = search (arith, call-holds, pit_read-held)
 
 -- ---- the read-back command by the chip's level
 
--- The chip after each of the chosen counters has latched.
-abbrev all-asked : Bool → Bool → Bool → Bool → Bool → ℕ → Pit → Pit
-all-asked count status first second third now pit =
-    asked_back (count && third) (status && third) 2 now
-    (asked_back (count && second) (status && second) 1 now (asked_back (count && first) (status && first) 0 now pit))
-
-none-asked : (count status first second third : Bool) (now : ℕ) (pit : Pit) → pit.level ≡ 1
-    → controlled (ReadBack count status first second third) now pit ≡ pit
-unfolding controlled
-none-asked count status first second third now pit e = rw e
-
-asked : (count status first second third : Bool) (now : ℕ) (pit : Pit) → 2 ≤ pit.level
-    → controlled (ReadBack count status first second third) now pit ≡ all-asked count status first second third now pit
-unfolding controlled
-asked count status first second third now pit h = let has : nat_le READ_BACK_LEVEL pit.level ≡ true = grind (arith, nat_tests) in rw has
-
-not-latched : (channel : Channel) → status_holds 1 channel ≡ true → channel.status_latched ≡ false
-unfolding status_holds
-not-latched channel h = grind (arith, nat_tests)
-
 pub read_back_by_level : ReadBackByLevel
-read_back_by_level = record { none = none-asked; asks = asked; rule = not-latched }
+unfolding controlled status_holds
+read_back_by_level = record {
+  none = λ count status first second third now pit e. rw e;
+  asks = λ count status first second third now pit h. let has : nat_le READ_BACK_LEVEL pit.level ≡ true = grind (arith, nat_tests) in rw has;
+  rule = λ channel h. grind (arith, nat_tests);
+}
 
 -- ---- the status byte holds its four parts
 
-tells : (counter : Counter) (now : ℕ) → TellsStatus counter now (status_of counter now)
-unfolding status_of
-tells counter now = grind (arith, nat_tests, out_of, flag-small, access-small, mode-small, flag-back)
-
 pub status_tells : StatusTells
-status_tells = record { tells = tells }
+unfolding status_of
+status_tells = record { tells = λ counter now. grind (arith, nat_tests, out_of, flag-small, access-small, mode-small, flag-back) }

@@ -1,9 +1,9 @@
 -- The marked ticks: OUT of a counter and its edges after a moment come at one of them.
 use Rattle.dev_pit.proofs.{Facade.Counter, Facade.Turns, EdgeLaws.period-pos, EdgeLaws.period-two, EdgeLaws.ticks-mono}
 use Rattle.dev_pit.proofs.Facade.{SquareWave, SoftwareStrobe, marks_of, Marks, ◌≡◌, ℕ, ◌+◌, ◌-◌, ◌*◌, ◌/◌, ◌%◌, ◌<◌, ◌≤◌}
-use Rattle.dev_pit.proofs.Facade.{◌==◌, ◌⊎◌, inl, inr, Bool, true, not, refl, ap, ◌∙◌, arith, ⊎_elim, cases_lt, nat_tests, div-add-mod'}
+use Rattle.dev_pit.proofs.Facade.{◌==◌, ◌⊎◌, inl, inr, true, not, refl, ap, ◌∙◌, arith, ⊎_elim, cases_lt, nat_tests, div-add-mod'}
 use Rattle.dev_pit.proofs.Facade.{div-mul-add, mod-mul-add, mul-le-mul_right, nat_lt, quotient_mono, rises, out_at, period, high_part, Mode, TerminalCount}
-use Rattle.dev_pit.proofs.Facade.{RateGenerator, Some, None, ticks, moment_of, AreTurns, IsTurn, Turned, edge_of, out_of}
+use Rattle.dev_pit.proofs.Facade.{RateGenerator, Some, None, ticks, moment_of, AreTurns, Turned, edge_of, out_of}
 
 -- ---- OUT of a counter, and its edges, come again at the marked ticks
 
@@ -63,9 +63,6 @@ marked-strobe count before k tick b l =
 
 -- ---- periods
 
-both_grew : (before first second : ℕ) → before < first → before < second → nat_lt before first ≡ nat_lt before second
-both_grew before first second h l = grind (arith, nat_tests)
-
 neither_is : (first second last : ℕ) → first < last → second < last → (first == last) ≡ (second == last)
 neither_is first second last h l = grind (arith, nat_tests)
 
@@ -104,7 +101,7 @@ module _ (count n before k tick : ℕ) (is_n : n ≡ period count) (b : before �
       let whole : (k / n + 1) * n ≤ tick / n * n = mul-le-mul_right n (omega arith) in
       record {
         rest = is.rest;
-        grew = both_grew _ _ _ (omega (arith, is.quotient, old)) (omega (arith, q, old));
+        grew = grind (arith, nat_tests, is.quotient, old, q);
         from = omega (arith, div-add-mod' k n);
         not_after = omega (arith, div-add-mod' tick n, whole);
       }
@@ -158,13 +155,7 @@ module _ (count n before k tick : ℕ) (is_n : n ≡ period count) (b : before �
       on here (inr (inr (inr refl))) (rate-edge at here.grew) (rate-out at (grind (arith, nat_tests)))
 
   rate : 2 ≤ n → Rate
-  rate two =
-      let order : k / n ≤ tick / n = quotient_mono n k tick (omega arith) l in
-      let below : tick % n < n = omega arith in
-      ⊎_elim (λ h. ⊎_elim (rate-first two h) (λ f. rate-again two h (omega arith)) (cases_lt (tick % n) (n - 1)))
-      (λ h. let here : k / n ≡ tick / n = omega arith in
-      ⊎_elim (λ f. rate-k here (omega (arith, div-add-mod' k n, div-add-mod' tick n, ap (λ q. q * n) here)) f) (λ f. rate-last here (omega arith))
-      (cases_lt (tick % n) (n - 1))) (cases_lt (k / n) (tick / n))
+  rate two = grind (arith, quotient_mono, rate-first, rate-again, rate-k, rate-last)
 
   -- a square wave, high below `high_part`
   square-k : k / n ≡ tick / n → nat_lt (k % n) (high_part n) ≡ nat_lt (tick % n) (high_part n) → Square
@@ -196,27 +187,13 @@ module _ (count n before k tick : ℕ) (is_n : n ≡ period count) (b : before �
       on here (inr (inr (inr refl))) (square-edge at here.grew) (square-out at (none_below _ _ _ (omega arith) f))
 
   square : 2 ≤ n → Square
-  square two =
-      let order : k / n ≤ tick / n = quotient_mono n k tick (omega arith) l in
-      let high = high_part n in
-      ⊎_elim (λ h. ⊎_elim (square-first two h) (λ f. square-again two h f) (cases_lt (tick % n) high))
-      (λ h. let here : k / n ≡ tick / n = omega arith in
-      let rests : k % n ≤ tick % n = omega (arith, div-add-mod' k n, div-add-mod' tick n, ap (λ q. q * n) here) in
-      ⊎_elim (λ f. square-k here (both_below _ _ _ (omega arith) f))
-      (λ f. ⊎_elim (λ g. square-falls two here g f) (λ g. square-k here (none_below _ _ _ g f)) (cases_lt (k % n) high))
-      (cases_lt (tick % n) high)) (cases_lt (k / n) (tick / n))
-
-periodic-rate : (one : Bool) (count before k tick : ℕ) → (count == 1) ≡ one → before ≤ k → k ≤ tick → Marked RateGenerator count (period count) before k tick
-periodic-rate one count before k tick e b l = grind (arith, nat_tests, flat-rate, period, rate, period-two)
-
-periodic-square : (one : Bool) (count before k tick : ℕ) → (count == 1) ≡ one → before ≤ k → k ≤ tick → Marked SquareWave count (period count) before k tick
-periodic-square one count before k tick e b l = grind (arith, nat_tests, flat-square, period, square, period-two)
+  square two = grind (arith, quotient_mono, square-first, square-again, square-k, both_below, square-falls, none_below)
 
 pub marked : (mode : Mode) (count before k tick : ℕ) → before ≤ k → k ≤ tick → Marked mode count (period count) before k tick
 unfolding rises out_at
 marked TerminalCount count before k tick b l = marked-terminal count before k tick b l
-marked RateGenerator count before k tick b l = periodic-rate (count == 1) count before k tick refl b l
-marked SquareWave count before k tick b l = periodic-square (count == 1) count before k tick refl b l
+marked RateGenerator count before k tick b l = grind (arith, nat_tests, flat-rate, period, rate, period-two)
+marked SquareWave count before k tick b l = grind (arith, nat_tests, flat-square, period, square, period-two)
 marked SoftwareStrobe count before k tick b l = marked-strobe count before k tick b l
 marked _ count before k tick b l = itself l refl refl
 
@@ -261,10 +238,6 @@ module _ (load : ℕ) (counter : Counter) (since base to : ℕ) (loaded : counte
   unfolding out_of
   same-out c m e = rw loaded (rw e m.out)
 
-  is-turn : {at : ℕ} → IsMark (ticks load base) (marks_of counter.mode (period counter.count) (ticks load base)) at → ticks load base < at
-      → IsTurn (turns_since load counter base) base (moment_of load at)
-  is-turn m f = grind (arith, nat_tests)
-
   by_mark : load ≤ since → Mark → Done
   by_mark by m = ⊎_elim
       (λ (f : ticks load base < m.at).
@@ -272,7 +245,7 @@ module _ (load : ℕ) (counter : Counter) (since base to : ℕ) (loaded : counte
       let there : ticks load c ≡ m.at = ticks_at load m.at in
       record {
         at = c;
-        is = is-turn m.is f;
+        is = grind (arith, nat_tests, m.is);
         from = ⊎_elim
             (λ (g : c < base). absurd (omega (arith, ticks-mono load c base (omega arith)))) (λ (g : base ≤ c). g) (cases_lt c base);
         upto = moment_came load to m.at (omega arith) m.not_after;

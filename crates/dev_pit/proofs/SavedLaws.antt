@@ -1,27 +1,20 @@
 -- What is saved of a chip and restored from it.
-use Rattle.dev_pit.proofs.CallLaws.{each_of, three_counters}
-use Rattle.dev_pit.proofs.Facade.{ℕ, ◌≤◌, Bool, true, false, cond, List, [], ◌++◌, ℤ, length, codes, arith, nat_le, numbers_of, STATUS_SINCE}
-use Rattle.dev_pit.proofs.Facade.{CELLS, named_statuses, channel_cells, status_cells, three_cells, Channel, Access, LowThenHigh, Pit, ◌≡◌, ◌+◌}
-use Rattle.dev_pit.proofs.Facade.{◌<◌, subst, ◌∙◌, ◌^◌, ◌==◌, not, ◌&&◌, Ok, ◌∷◌, slice_index_or, refl, ◌||◌}
-use Rattle.dev_pit.proofs.Facade.{get_or-append, get_or-append-add, nat_tests, InRange, Kind, U8, kinds_under, status_rows, CHANNEL_CELLS, cell_at}
-use Rattle.dev_pit.proofs.Facade.{kind_at, NEWEST, LAST_MOMENT, channel_kinds, channel_place, latched_place, status_place, IsChannelAt, IsPitCells, channel_at}
-use Rattle.dev_pit.proofs.Facade.{IsLevel, number-lt, AllTrue, judged-ok, hook-ok, held_if, counter_from, moment_holds, status_holds, toggles_hold, LoadedBy}
-use Rattle.dev_pit.proofs.Facade.{powered_on, RestoredIsSound, access_of, three_hold, pit_of, restored_pit, HeldBelow, IsSoundCounter, IsSoundPit}
-use Rattle.dev_pit.proofs.Facade.{READ_BACK_LEVEL, Option, None, ap, sym, is_some, channel_rows, STATUS_LATCHED, Numbers, flag_number, flag_at, number_at}
-use Rattle.dev_pit.proofs.Facade.{AreOf, MayRestore, first_failing, of_none, of_more, of_both, byte, word, long, flag, flag-back, AllHold, one_holds, of_rows}
-use Rattle.dev_pit.proofs.Facade.{carried_rows, none_failing, all_true, judged-all, ok-hook, kinds_of, named, channel_in, pit_cells, carried, field_place}
-use Rattle.dev_pit.proofs.Facade.{AreCellsOf, channel_of, held_or, SoundMeetsRules, SavedAreCells, SavedIsRestored, mode_number, mode_of}
-use Rattle.dev_pit.proofs.Facade.{access_number, counter_of, CanSave, CanRestore, hook_restored, HasWidths, Counter, Mode}
+use Rattle.dev_pit.proofs.Facade.{ℕ, ◌≤◌, Bool, true, false, List, [], ◌++◌, ℤ, length, codes, arith, nat_le, STATUS_SINCE, CELLS, named_statuses}
+use Rattle.dev_pit.proofs.Facade.{channel_cells, status_cells, three_cells, Channel, Access, LowThenHigh, Pit, ◌≡◌, ◌+◌, ◌<◌, subst, ◌∙◌}
+use Rattle.dev_pit.proofs.Facade.{◌^◌, ◌==◌, not, ◌&&◌, Ok, ◌∷◌, slice_index_or, refl, ◌||◌, get_or-append, get_or-append-add, nat_tests}
+use Rattle.dev_pit.proofs.Facade.{InRange, Kind, U8, kinds_under, status_rows, CHANNEL_CELLS, cell_at, kind_at, NEWEST, LAST_MOMENT, channel_kinds}
+use Rattle.dev_pit.proofs.Facade.{channel_place, latched_place, status_place, IsChannelAt, IsPitCells, channel_at, IsLevel, number-lt, AllTrue, judged-ok}
+use Rattle.dev_pit.proofs.Facade.{hook-ok, held_if, counter_from, moment_holds, status_holds, toggles_hold, LoadedBy, powered_on, RestoredIsSound, access_of}
+use Rattle.dev_pit.proofs.Facade.{three_hold, pit_of, restored_pit, HeldBelow, IsSoundCounter, IsSoundPit, READ_BACK_LEVEL, Option, None, ap, sym, is_some}
+use Rattle.dev_pit.proofs.Facade.{channel_rows, STATUS_LATCHED, Numbers, flag_number, flag_at, number_at, AreOf, MayRestore, first_failing, of_none, of_more}
+use Rattle.dev_pit.proofs.Facade.{of_both, byte, word, long, flag, flag-back, AllHold, one_holds, of_rows, carried_rows, none_failing, all_true, judged-all}
+use Rattle.dev_pit.proofs.Facade.{ok-hook, kinds_of, named, channel_in, pit_cells, carried, field_place, AreCellsOf, channel_of, held_or, SoundMeetsRules}
+use Rattle.dev_pit.proofs.Facade.{SavedAreCells, SavedIsRestored, mode_number, mode_of, access_number, counter_of, CanSave, CanRestore, hook_restored}
+use Rattle.dev_pit.proofs.{Facade.HasWidths, Facade.Counter, Facade.Mode, CallLaws.each_of, CallLaws.three_counters}
 use Rattle.dev_pit.proofs.SoundLaws.{PlainSound, StatusFits, TogglesFit, sound-from_plain, plain-from_sound, mode-small, access-small, held-below}
 use Rattle.dev_pit.specs.Saved.{rules}
 
 -- ---- the number of cells of a chip
-
--- The cells of the statuses, by whether the set has them.
-abbrev statuses_where : Bool → Channel → Channel → Channel → List ℤ
-statuses_where has first second third =
-    cond has (numbers_of (named_statuses first second third) (codes "status_latched")) []
-    ++ (cond has (numbers_of (named_statuses first second third) (codes "status")) [] ++ [])
 
 pub three_cells_fit : (set : ℕ) (first second third : Channel) → length (three_cells set first second third) ≤ CELLS
 unfolding three_cells channel_cells status_cells
@@ -205,10 +198,6 @@ channel-of counter h = of_rows (named (channel_of counter)) NEWEST channel_rows 
 no_held : (held : Option ℕ) → (flag_number (is_some held) == 1) ≡ false → held_or held 0 ≡ 0
 no_held held e = grind arith
 
--- A level without the command has no status.
-no-status : (level : ℕ) (status : Option ℕ) → level < READ_BACK_LEVEL → StatusFits level status → status ≡ None
-no-status level status h f = grind arith
-
 -- A sound chip.
 module _ (now : ℕ) (pit : Pit) (s : IsSoundPit now pit) where
   abbrev first : Counter
@@ -260,7 +249,7 @@ pub carried-saved : (set now : ℕ) (pit : Pit) → pit.level ≤ set → IsSoun
 unfolding pit_cells three_cells channel_cells status_cells channel_of
 carried-saved set now pit le s =
     let none : nat_le STATUS_SINCE set ≡ false → (k : ℕ) → k < 3 → (counter_of k pit).status ≡ None =
-    λ e k l. no-status pit.level _ (grind (arith, nat_tests)) (plain-from_sound pit.level now _ (s.counters k l)).status in
+    λ e k l. grind (arith, nat_tests, (plain-from_sound pit.level now _ (s.counters k l)).status) in
     rw (carried_rows (named_statuses (channel_in 0 pit) (channel_in 1 pit) (channel_in 2 pit)) set status_rows (statuses-hold now pit s) (
       (λ e. rw (none e 0 (omega arith), none e 1 (omega arith), none e 2 (omega arith))),
       ((λ e. rw (none e 0 (omega arith), none e 1 (omega arith), none e 2 (omega arith))), tt),

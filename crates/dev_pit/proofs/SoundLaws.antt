@@ -1,13 +1,12 @@
 -- A chip and each of its counters are sound at power on, and stay so.
 use Rattle.dev_pit.proofs.CallLaws.{at_step, count-with, each_of, loaded_by-later}
 use Rattle.dev_pit.proofs.Facade.{◌≡◌, ℕ, ◌≤◌, ◌==◌, Bool, true, false, not, ◌&&◌, ◌||◌, Option, Some, None, refl, arith, ◌^◌}
-use Rattle.dev_pit.proofs.Facade.{◌<◌, nat_tests, nat_le, is_some, channel_of, registers_hold, moment_holds, status_holds, toggles_hold, LoadedBy}
-use Rattle.dev_pit.proofs.Facade.{held_or, live_of, out_of, status_of, written, programmed, powered_on, read_of, counted_of, latched, status_latched, read_back}
+use Rattle.dev_pit.proofs.Facade.{◌<◌, nat_tests, nat_le, is_some, channel_of, registers_hold, moment_holds, status_holds, toggles_hold, LoadedBy, held_or}
+use Rattle.dev_pit.proofs.Facade.{live_of, out_of, status_of, written, programmed, powered_on, read_of, counted_of, latched, status_latched, read_back}
 use Rattle.dev_pit.proofs.Facade.{mode_number, access_number, HasWidths, IsSoundCounter, HeldBelow, Counter, READ_BACK_LEVEL, Access, LowByte, HighByte}
-use Rattle.dev_pit.proofs.Facade.{LowThenHigh, Mode, flag_number, LAST_MOMENT, live_at, square, either, ◌-◌, ◌∷◌, slice_index_or, ⊎_elim, []}
-use Rattle.dev_pit.proofs.Facade.{cases_Bool, IsLevel, control_word, SoundStays, StepsKeepLevel, counter_of, with_counter, new_pit, pit_read, asked_back}
-use Rattle.dev_pit.proofs.Facade.{controlled, pit_written, IsSoundPit, ControlWord, LatchCount, SetMode, ReadBack, Pit}
-use Rattle.dev_pit.proofs.Facade.{nat_lt, high_part, ◌%◌}
+use Rattle.dev_pit.proofs.Facade.{LowThenHigh, Mode, flag_number, LAST_MOMENT, live_at, square, either, ◌-◌, ⊎_elim, cases_Bool, IsLevel, control_word}
+use Rattle.dev_pit.proofs.Facade.{SoundStays, StepsKeepLevel, counter_of, with_counter, new_pit, pit_read, asked_back, controlled, pit_written, IsSoundPit}
+use Rattle.dev_pit.proofs.Facade.{ControlWord, LatchCount, SetMode, ReadBack, Pit, nat_lt, high_part, ◌%◌}
 use Rattle.dev_pit.specs.Counter.{loaded as loading}
 
 -- ---- what the rules say about a counter itself
@@ -164,24 +163,13 @@ read-sound level now counter s = search (arith, nat_tests, turned, no_latch)
 
 new-sound : (level now : ℕ) → IsLevel level → now ≤ LAST_MOMENT → IsSoundPit now (new_pit level)
 unfolding new_pit
-new-sound level now l m = record {
-  level = l;
-  moment = m;
-  count = refl;
-  counters = let on = sound-from_plain level now powered_on (powered_on-sound level now) in
-      each_of (λ k. IsSoundCounter level now (slice_index_or (powered_on ∷ powered_on ∷ powered_on ∷ []) k powered_on)) on on on;
-}
+new-sound level now l m = search (arith, sound-from_plain, powered_on-sound, each_of)
 
 later : (level now after : ℕ) (counter : Counter) → now ≤ after → IsSoundCounter level now counter → IsSoundCounter level after counter
-later level now after counter h s =
-    let p = plain-from_sound level now counter s in
-    sound-from_plain level after counter
-    (record { widths = p.widths; loaded = loaded_by-later counter.loaded_at now after p.loaded h; status = p.status; toggles = p.toggles })
+later level now after counter h s = search (arith, plain-from_sound, sound-from_plain, loaded_by-later)
 
 pit-later : (now after : ℕ) (pit : Pit) → now ≤ after → after ≤ LAST_MOMENT → IsSoundPit now pit → IsSoundPit after pit
-pit-later now after pit h m s =
-    let counters : (k : ℕ) → k < 3 → IsSoundCounter pit.level after (counter_of k pit) = λ k l. later pit.level now after (counter_of k pit) h (s.counters k l) in
-    search
+pit-later now after pit h m s = grind (arith, counter_of, later)
 
 -- A step of counter j that keeps it sound.
 step-sound : (j now : ℕ) (step : Counter → Counter) (pit : Pit) → ((counter : Counter) → PlainSound pit.level now counter → PlainSound pit.level now (step counter)) → IsSoundPit now pit → IsSoundPit now (with_counter j (step (counter_of j pit)) pit)
@@ -227,14 +215,6 @@ sound_stays = record {
 }
 
 -- The level.
-new-level : (level : ℕ) → (new_pit level).level ≡ level
-unfolding new_pit
-new-level level = refl
-
-read-level : (k now : ℕ) (pit : Pit) → (pit_read k now pit).1.level ≡ pit.level
-unfolding pit_read
-read-level k now pit = refl
-
 abbrev HasLevel : ℕ → Pit → Type 0
 HasLevel level pit = pit.level ≡ level
 
@@ -247,4 +227,5 @@ unfolding pit_written
 written-level port value now pit = either (HasLevel pit.level) (port == 0x43) _ _ (controlled-level (control_word value) now pit) refl
 
 pub steps_keep_level : StepsKeepLevel
-steps_keep_level = record { power_on = new-level; read = read-level; write = written-level }
+unfolding new_pit pit_read
+steps_keep_level = record { power_on = λ level. refl; read = λ k now pit. refl; write = written-level }

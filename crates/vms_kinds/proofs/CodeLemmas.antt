@@ -1,127 +1,83 @@
 -- The bytes of a number and back, kind by kind.
 use Rattle.std.proofs.Common.{◌≤◌, slice_set, ◌≡◌, ℕ, ◌^◌, ◌<◌, List, [], ◌∷◌, length, ℤ, pos, negsuc, slice_index, arith, refl}
-use Rattle.std.proofs.Common.{ap, ◌∙◌, sym, true, false, ◌++◌, drop}
-use Rattle.std.proofs.lemmas.Int.{ints, to_z-of_z}
-use Rattle.std.proofs.lemmas.Nat.{be_bytes_2, be_bytes_4, be_bytes_8}
+use Rattle.std.proofs.{lemmas.Int.ints, lemmas.Int.to_z-of_z, lemmas.Nat.be_bytes_2, lemmas.Nat.be_bytes_4, lemmas.Nat.be_bytes_8}
+use Rattle.std.proofs.Common.{◌*◌, ap, ◌∙◌, sym, true, false, ◌++◌, drop}
 use Rattle.std.specs.Int.{Width, w8, w16, w32, w64, w128, cast_unsigned}
 use Rattle.byteorder.specs.Endian.{big_bytes, big_number, twos_complement}
-use Rattle.vms_kinds.specs.{declared.Kind.Kind, Bytes.IsBytes}
+use Rattle.vms_kinds.specs.{Bytes.IsBytes, declared.Kind.Kind}
 use Rattle.vms_kinds.specs.Codes.{width, residue, code, InRange, IsBadBool, is_signed, value_of}
 use Rattle.vms_kinds.specs.declared.Kind.TheVariants.{U8, U16, U32, U64, I8, I16, I32, I64, Bool, Timer}
 use mir.Val.{SFits, to_z, of_z}
 use lib.IntN.{nat_abs}
 
 again_1 : (bs : List ℕ) → length bs ≡ 1 → IsBytes bs → big_bytes 1 (big_number 1 bs) ≡ bs
-again_1 [] len ok = absurd (omega arith)
 again_1 (b ∷ []) len ok = ap (λ n. n ∷ []) (omega (arith, ok 0))
-again_1 (b ∷ d ∷ r) len ok = absurd (omega arith)
-
-again_2 : (bs : List ℕ) → length bs ≡ 2 → IsBytes bs → big_bytes 2 (big_number 2 bs) ≡ bs
-again_2 bs len ok = be_bytes_2 bs (big_number 2 bs) len ok (omega arith)
-
-again_4 : (bs : List ℕ) → length bs ≡ 4 → IsBytes bs → big_bytes 4 (big_number 4 bs) ≡ bs
-again_4 bs len ok = be_bytes_4 bs (big_number 4 bs) len ok (omega arith)
-
-again_8 : (bs : List ℕ) → length bs ≡ 8 → IsBytes bs → big_bytes 8 (big_number 8 bs) ≡ bs
-again_8 bs len ok = be_bytes_8 bs (big_number 8 bs) len ok (omega arith)
+again_1 _ len ok = absurd (omega arith)
 
 -- the bytes of a width are those of the number in them
 pub again : (kind : Kind) (bs : List ℕ) → length bs ≡ width kind → IsBytes bs → big_bytes (width kind) (big_number (width kind) bs) ≡ bs
-again U16 bs len ok = again_2 bs len ok
-again U32 bs len ok = again_4 bs len ok
-again U64 bs len ok = again_8 bs len ok
-again I16 bs len ok = again_2 bs len ok
-again I32 bs len ok = again_4 bs len ok
-again I64 bs len ok = again_8 bs len ok
-again Timer bs len ok = again_8 bs len ok
+again U16 bs len ok = be_bytes_2 bs (big_number 2 bs) len ok (omega arith)
+again I16 bs len ok = be_bytes_2 bs (big_number 2 bs) len ok (omega arith)
+again U32 bs len ok = be_bytes_4 bs (big_number 4 bs) len ok (omega arith)
+again I32 bs len ok = be_bytes_4 bs (big_number 4 bs) len ok (omega arith)
+again U64 bs len ok = be_bytes_8 bs (big_number 8 bs) len ok (omega arith)
+again I64 bs len ok = be_bytes_8 bs (big_number 8 bs) len ok (omega arith)
+again Timer bs len ok = be_bytes_8 bs (big_number 8 bs) len ok (omega arith)
 again _ bs len ok = again_1 bs len ok
 
-two_8 : (n : ℕ) → n < 2 ^ 8 → residue 1 (twos_complement 1 n) ≡ n
-two_8 n h = grind (arith, ints)
+-- a number in the bytes of a width is below the width's power of 2
+below : (kind : Kind) (bs : List ℕ) → IsBytes bs → big_number (width kind) bs < 2 ^ (8 * width kind)
+below U16 bs ok = omega (arith, ok 0, ok 1)
+below I16 bs ok = omega (arith, ok 0, ok 1)
+below U32 bs ok = omega (arith, ok 0, ok 1, ok 2, ok 3)
+below I32 bs ok = omega (arith, ok 0, ok 1, ok 2, ok 3)
+below U64 bs ok = omega (arith, ok 0, ok 1, ok 2, ok 3, ok 4, ok 5, ok 6, ok 7)
+below I64 bs ok = omega (arith, ok 0, ok 1, ok 2, ok 3, ok 4, ok 5, ok 6, ok 7)
+below Timer bs ok = omega (arith, ok 0, ok 1, ok 2, ok 3, ok 4, ok 5, ok 6, ok 7)
+below _ bs ok = omega (arith, ok 0)
 
-two_16 : (n : ℕ) → n < 2 ^ 16 → residue 2 (twos_complement 2 n) ≡ n
-two_16 n h = grind (arith, ints)
-
-two_32 : (n : ℕ) → n < 2 ^ 32 → residue 4 (twos_complement 4 n) ≡ n
-two_32 n h = grind (arith, ints)
-
-two_64 : (n : ℕ) → n < 2 ^ 64 → residue 8 (twos_complement 8 n) ≡ n
-two_64 n h = grind (arith, ints)
-
-range_8 : (n : ℕ) → n < 2 ^ 8 → InRange I8 (twos_complement 1 n)
-range_8 n h = grind (arith, ints)
-
-range_16 : (n : ℕ) → n < 2 ^ 16 → InRange I16 (twos_complement 2 n)
-range_16 n h = grind (arith, ints)
-
-range_32 : (n : ℕ) → n < 2 ^ 32 → InRange I32 (twos_complement 4 n)
-range_32 n h = grind (arith, ints)
-
-range_64 : (n : ℕ) → n < 2 ^ 64 → InRange I64 (twos_complement 8 n)
-range_64 n h = grind (arith, ints)
-
-below_1 : (bs : List ℕ) → IsBytes bs → big_number 1 bs < 2 ^ 8
-below_1 bs ok = omega (arith, ok 0)
-
-below_2 : (bs : List ℕ) → IsBytes bs → big_number 2 bs < 2 ^ 16
-below_2 bs ok = omega (arith, ok 0, ok 1)
-
-below_4 : (bs : List ℕ) → IsBytes bs → big_number 4 bs < 2 ^ 32
-below_4 bs ok = omega (arith, ok 0, ok 1, ok 2, ok 3)
-
-below_8 : (bs : List ℕ) → IsBytes bs → big_number 8 bs < 2 ^ 64
-below_8 bs ok = omega (arith, ok 0, ok 1, ok 2, ok 3, ok 4, ok 5, ok 6, ok 7)
+-- a number below that, read as two's complement: it is in range, and its residue is the number
+two_back : (kind : Kind) (n : ℕ) → is_signed kind ≡ true → n < 2 ^ (8 * width kind)
+    → InRange kind (twos_complement (width kind) n) × (residue (width kind) (twos_complement (width kind) n) ≡ n)
+two_back I8 n s h = (grind (arith, ints), grind (arith, ints))
+two_back I16 n s h = (grind (arith, ints), grind (arith, ints))
+two_back I32 n s h = (grind (arith, ints), grind (arith, ints))
+two_back I64 n s h = (grind (arith, ints), grind (arith, ints))
+two_back _ n s h = cc
 
 -- another number's bytes
 plain_code : (kind : Kind) (n : ℕ) → is_signed kind ≡ false → InRange kind (pos n) → big_bytes (width kind) n ≡ code kind (pos n)
 unfolding code
 plain_code U8 n s h = ap (big_bytes 1) (omega (arith, ints))
-plain_code U16 n s h = ap (big_bytes 2) (omega (arith, ints))
-plain_code U32 n s h = ap (big_bytes 4) (omega (arith, ints))
-plain_code U64 n s h = ap (big_bytes 8) (omega (arith, ints))
-plain_code Bool n s h = ap (big_bytes 1) (omega (arith, ints))
-plain_code Timer n s h = ap (big_bytes 8) (omega (arith, ints))
-plain_code _ n s h = cc
+plain_code kind n s h = ap (big_bytes (width kind)) (grind (arith, ints))
 
 -- the number that the bytes of a signed kind give
 pub signed_take : (kind : Kind) (bs : List ℕ) → is_signed kind ≡ true → length bs ≡ width kind → IsBytes bs
     → InRange kind (twos_complement (width kind) (big_number (width kind) bs)) × (bs ≡ code kind (twos_complement (width kind) (big_number (width kind) bs)))
 unfolding code
-signed_take I8 bs s len ok = (range_8 _ (below_1 bs ok), sym (ap (big_bytes 1) (two_8 _ (below_1 bs ok)) ∙ again_1 bs len ok))
-signed_take I16 bs s len ok = (range_16 _ (below_2 bs ok), sym (ap (big_bytes 2) (two_16 _ (below_2 bs ok)) ∙ again_2 bs len ok))
-signed_take I32 bs s len ok = (range_32 _ (below_4 bs ok), sym (ap (big_bytes 4) (two_32 _ (below_4 bs ok)) ∙ again_4 bs len ok))
-signed_take I64 bs s len ok = (range_64 _ (below_8 bs ok), sym (ap (big_bytes 8) (two_64 _ (below_8 bs ok)) ∙ again_8 bs len ok))
-signed_take _ bs s len ok = cc
+signed_take kind bs s len ok =
+    let r = two_back kind _ s (below kind bs ok) in (r.0, sym (ap (big_bytes (width kind)) r.1 ∙ again kind bs len ok))
 
 -- the number that the bytes of another kind give
 pub plain_take : (kind : Kind) (bs : List ℕ) → is_signed kind ≡ false → length bs ≡ width kind → IsBytes bs → (IsBadBool kind bs → ⊥)
     → InRange kind (pos (big_number (width kind) bs)) × (bs ≡ code kind (pos (big_number (width kind) bs)))
 plain_take kind bs s len ok bad = let r = in_range kind bs s ok bad in (r, sym (again kind bs len ok) ∙ plain_code kind _ s r) where
   in_range : (kind : Kind) (bs : List ℕ) → is_signed kind ≡ false → IsBytes bs → (IsBadBool kind bs → ⊥) → InRange kind (pos (big_number (width kind) bs))
-  in_range U8 bs s ok bad = let h = below_1 bs ok in omega (arith, ints)
-  in_range U16 bs s ok bad = let h = below_2 bs ok in omega (arith, ints)
-  in_range U32 bs s ok bad = let h = below_4 bs ok in omega (arith, ints)
-  in_range U64 bs s ok bad = let h = below_8 bs ok in omega (arith, ints)
-  in_range Timer bs s ok bad = let h = below_8 bs ok in omega (arith, ints)
   in_range Bool bs s ok bad = let no : 1 < slice_index bs 0 → ⊥ = λ x. bad (refl, x) in omega (arith, ints)
-  in_range _ bs s ok bad = cc
+  in_range kind bs s ok bad = grind (arith, ints, below kind bs ok)
 
 -- a signed number fits its own width, and is there the residue
 as_i8 : (z : ℤ) → InRange I8 z → SFits w8 z × (cast_unsigned w8 z ≡ residue 1 z)
-as_i8 (pos n) h = (omega (arith, ints), omega (arith, ints))
-as_i8 (negsuc n) h = (omega (arith, ints), omega (arith, ints))
+as_i8 z h = (grind (arith, ints), grind (arith, ints))
 
 pub as_i16 : (z : ℤ) → InRange I16 z → SFits w16 z × (cast_unsigned w16 z ≡ residue 2 z)
-as_i16 (pos n) h = (omega (arith, ints), omega (arith, ints))
-as_i16 (negsuc n) h = (omega (arith, ints), omega (arith, ints))
+as_i16 z h = (grind (arith, ints), grind (arith, ints))
 
 pub as_i32 : (z : ℤ) → InRange I32 z → SFits w32 z × (cast_unsigned w32 z ≡ residue 4 z)
-as_i32 (pos n) h = (omega (arith, ints), omega (arith, ints))
-as_i32 (negsuc n) h = (omega (arith, ints), omega (arith, ints))
+as_i32 z h = (grind (arith, ints), grind (arith, ints))
 
 pub as_i64 : (z : ℤ) → InRange I64 z → SFits w64 z × (cast_unsigned w64 z ≡ residue 8 z)
-as_i64 (pos n) h = (omega (arith, ints), omega (arith, ints))
-as_i64 (negsuc n) h = (omega (arith, ints), omega (arith, ints))
+as_i64 z h = (grind (arith, ints), grind (arith, ints))
 
 -- a cast from 128 bits to a width that the number fits
 cast_back : (w : Width) (z : ℤ) → SFits w128 z → SFits w z → to_z w (of_z w (to_z w128 (of_z w128 z))) ≡ z
@@ -150,12 +106,7 @@ written_i8 kind z old n is h f some small e =
 
 not_negative : (kind : Kind) (n : ℕ) → is_signed kind ≡ false → InRange kind (negsuc n) → ⊥
 not_negative U8 n s h = omega (arith, ints)
-not_negative U16 n s h = omega (arith, ints)
-not_negative U32 n s h = omega (arith, ints)
-not_negative U64 n s h = omega (arith, ints)
-not_negative Bool n s h = omega (arith, ints)
-not_negative Timer n s h = omega (arith, ints)
-not_negative _ n s h = cc
+not_negative kind n s h = grind (arith, ints)
 
 -- the bytes after another number was written
 pub written_plain : (kind : Kind) (z : ℤ) (w : ℕ) (old new : List ℕ) → w ≡ width kind → is_signed kind ≡ false → InRange kind z → SFits w128 z
@@ -170,10 +121,6 @@ pub written_byte : (kind : Kind) (z : ℤ) (old : List ℕ) → 1 ≡ width kind
     → nat_abs (to_z w128 (of_z w128 z)) < 256
     → slice_set old 0 (nat_abs (to_z w128 (of_z w128 z))) ≡ code kind z ++ drop (width kind) old
 written_byte kind z old ew s h f some small = written_plain kind z 1 old _ ew s h f (first_put old _ some small)
-
--- a reading, for an equal number
-pub taken : (kind : Kind) (bs : List ℕ) (y z : ℤ) → z ≡ y → InRange kind y × (bs ≡ code kind y) → InRange kind z × (bs ≡ code kind z)
-taken kind bs y z e h = rw e h
 
 -- a reading of bytes
 pub value_taken : (kind : Kind) (bs : List ℕ) → length bs ≡ width kind → IsBytes bs → (IsBadBool kind bs → ⊥)

@@ -166,7 +166,7 @@ module _ (set : Set) (names : List (List ℕ)) (state : State) (d : Device) (ima
     after_same : (numbers : List ℤ) (i j : ℕ)
         → beyond i (part_at set (in_body numbers i) (Inside k id part i)) ≡ beyond j (part_at set (in_body numbers j) (Inside k id part j)) → (x : Piece)
         → after set (in_body numbers i) x ≡ after set (in_body numbers j) x
-    after_same numbers i j c x = grind (arith)
+    after_same numbers i j c x = grind arith
 
     cut_same : (i j : ℕ) (p : Progress) (slots : List Slot)
         → verdict i p (due_field state.tail (Some k) slots) Cut ≡ verdict j p (due_field state.tail (Some k) slots) Cut
@@ -236,7 +236,7 @@ module _ (set : Set) (names : List (List ℕ)) (state : State) (d : Device) (ima
     Outer Cut = Unit {0}
 
     outer_same : (i j : ℕ) (p : Progress) (f : Found) → Outer f → verdict i p (AfterFields k state.tail) f ≡ verdict j p (AfterFields k state.tail) f
-    outer_same i j p f o = grind (arith)
+    outer_same i j p f o = grind arith
 
     -- if all slots are passed, what may follow the fields is found, whatever their number
     pub after_read : (i : ℕ) (p : Progress) → drop i (total p.numbers) ≡ []

@@ -14,7 +14,7 @@ use Rattle.vms_spec.specs.declared.Reason.TheVariants as reasons
 
 -- what begins there is between sections, and no footer
 next_between : (k : ℕ) (t : Tail) (rest : List ℕ) → begins_next t rest ≡ true → (is_between (AfterFields k t) ≡ true) × (wants_foot (AfterFields k t) ≡ false)
-next_between k t rest e = grind (arith)
+next_between k t rest e = grind arith
 
 -- an invalid unit is so in any state
 some_row : (set : Set) (names : List (List ℕ)) (s u : State) (m : ℕ) (row : Line) → (row ≡ None → ⊥)
@@ -192,14 +192,13 @@ Alike (r ∷ rows) [] = ⊥
 
 alike_seen : (rows others : List Row) (x : Piece) (n : ℕ) → Alike rows others → seen_by (first_row rows) x n ≡ seen_by (first_row others) x n
 alike_seen [] [] x n a = refl
-alike_seen [] (s ∷ others) x n a = absurd a
-alike_seen (r ∷ rows) [] x n a = absurd a
 alike_seen (r ∷ rows) (s ∷ others) x n a = rw a.0 (by (alike_seen rows others x n a.2) s.taken)
   where
     by : seen_by (first_row rows) x n ≡ seen_by (first_row others) x n → (b : Bool)
         → seen_by (if b then Some (r.section, r.reason) else first_row rows) x n ≡ seen_by (if b then Some (s.section, s.reason) else first_row others) x n
     by later true = ap (Bad n) a.1
     by later false = later
+alike_seen _ _ x n a = absurd a
 
 module _ (t : Tail) (j : ℕ) (l m : Known) (id_is : l.id ≡ m.id) where
   tail_same : (t : Tail) → (is_between (AfterFields j t) ≡ is_between (AfterFields 0 t)) × (wants_foot (AfterFields j t) ≡ wants_foot (AfterFields 0 t))

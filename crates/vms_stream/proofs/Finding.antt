@@ -7,10 +7,10 @@ use Rattle.vms_stream.proofs.Facade.{number_at, bytes_at, Piece, Magic, Version,
 use Rattle.vms_stream.proofs.Facade.{Description, Start, Mark, spell, Due, Between, May, AtMagic, AtVersion, AtConfiguration, AtLongName, AtStart, AtHead}
 use Rattle.vms_stream.proofs.Facade.{AtEnd, AtMark, AtNumber, AtConstant, AtFiller, AtSubHead, AtFoot, AtOther, AtNext, is_foot, is_next, first_byte}
 use Rattle.vms_stream.proofs.Facade.{AtDescription, AtLongText, AtTrailing, raw, length-code, value_code, be32_read, front_take, front_drop, Whole, needs}
-use Rattle.vms_stream.proofs.Facade.{text_at, between_at, behind_at, trailer_at, unit_at, Bare, Footed, Tail, Unknown, if_both, zero, suc, [], Option, Some}
-use Rattle.vms_stream.proofs.Facade.{None, Bool, nat_lt, ltb-false, Reason, Set, Slot, Verdict, Goes, Over, opened, slots, AMagic, AVersion, Field, AfterFields}
-use Rattle.vms_stream.proofs.Facade.{AfterEnd, due, due_field, Advances, width_positive, Found, Cut, Grammar, judge, judge_found, by_row, owes, passed, tail}
-use Rattle.vms_stream.proofs.Facade.{if_so, length-drop, get_or-drop, not, ltb-true, or_from, and_parts, length-take-le, take-append-drop, bytes_first, IsBytes}
+use Rattle.vms_stream.proofs.Facade.{text_at, between_at, behind_at, trailer_at, unit_at, Tail, if_both, zero, suc, [], Option, Some, None, Bool, nat_lt}
+use Rattle.vms_stream.proofs.Facade.{ltb-false, Reason, Set, Slot, Verdict, Goes, Over, opened, slots, AMagic, AVersion, Field, AfterFields, AfterEnd, due}
+use Rattle.vms_stream.proofs.Facade.{due_field, Advances, width_positive, Found, Cut, Grammar, judge, judge_found, by_row, owes, passed, tail, if_so}
+use Rattle.vms_stream.proofs.Facade.{length-drop, get_or-drop, not, ltb-true, or_from, and_parts, length-take-le, take-append-drop, bytes_first, IsBytes}
 use Rattle.vms_stream.proofs.Facade.{fits_four, is_bytes_drop, four_low, split_one, split_four, head_bytes, text_long, sub_bytes, raw_take, start_at, head_at}
 use Rattle.vms_stream.proofs.Facade.{sub_at, IsThere}
 use Rattle.vms_kinds.specs.declared.Kind.TheVariants.{Bool as Truth}
@@ -48,9 +48,7 @@ long_there mark longest unit n more lt f = grind (arith, text_at, be32_read, the
 not_sub : (tail : Tail) (b : ℕ) (r : List ℕ) → is_foot tail b ≡ true
     → behind_at tail b r ≡ (if is_foot tail b then (if b == 0x7e then needs 5 r (Foot (number_at 4 1 r)) else needs 1 r (Mark b)) else between_at false b r)
 unfolding behind_at
-not_sub Unknown b r t = rw (eqb-true b 0x7e t)
-not_sub Footed b r t = rw (not-true (b == 0x05) t)
-not_sub Bare b r t = cc
+not_sub tail b r t = grind arith
 
 -- a byte that begins a unit between sections
 pub next_at : (tail : Tail) (b : ℕ) (r : List ℕ) → is_next tail b ≡ true → behind_at tail b r ≡ between_at false b r
@@ -87,11 +85,7 @@ only _ _ more (AtHead directly after id name instance v f g h) =
     let e4 : number_at 4 (10 + n) r ≡ v = cc (be32_read v more (omega arith)) in
     there (14 + n) x _ more (rw (e1, e2, e3, e4)) (omega (arith, length-append (name ++ be32 instance) (be32 v), length-append name (be32 instance)))
 only _ _ more (AtEnd directly after) = there 1 End End more refl refl
-only _ _ more (AtMark directly after b e) =
-    let a2 = or_parts (b == 0x00 || b == 0x01 || b == 0x04) (b == 0x07 && directly) e in
-    let a1 = or_parts (b == 0x00 || b == 0x01) (b == 0x04) a2.0 in
-    let a = or_parts (b == 0x00) (b == 0x01) a1.0 in
-    rw (a.0, a.1, a1.1, a2.1) (one b more)
+only _ _ more (AtMark directly after b e) = grind (arith, or_parts, one)
 only _ _ more (AtNumber k c kind capacities z r) =
     there (width kind) (Number c kind z) _ more (ap (Number c kind) (raw_value kind z more r)) (sym (length-code kind z))
 only _ _ more (AtConstant k kind z y r) = there (width kind) (Constant kind y) _ more (ap (Constant kind) (raw_value kind y more r)) (sym (length-code kind y))
@@ -105,9 +99,7 @@ only _ _ more (AtSubHead k tail name v f) =
     there (6 + n) (SubHead name v) _ more (rw (front_take n name (be32 v ++ more) (drop 2 r) after refl, e4)) (omega (arith, length-append name (be32 v)))
 only _ _ more (AtFoot k tail id t f) = rw t (there 5 (Foot id) _ more (ap Foot (be32_read id more (omega arith))) refl)
 only _ _ more (AtOther k tail b t e) = not_sub tail b (b ∷ more) t ∙ rw (t, e) (one b more)
-only _ _ more (AtNext k tail x t may) =
-    let r = spell x ++ more in
-    next_at tail (get_or r 0 0) r (ap (is_next tail) (sym (begins x more may)) ∙ t) ∙ only (Between false false) x more may
+only _ _ more (AtNext k tail x t may) = grind (arith, spell, next_at, begins, only (Between false false) x more may)
 only _ _ more (AtDescription text le) = text_there 0x06 longest_text Description text more (omega arith) le refl
 only _ _ more (AtLongText n lt f) = long_there 0x06 longest_text Description n more lt f
 only _ _ more (AtTrailing b e) = rw e (one b more)
@@ -119,7 +111,7 @@ Stays rest (Whole x n) = (0 < n) × (n ≤ length rest)
 Stays rest Cut = Unit {0}
 
 some_bytes : (n : ℕ) (rest : List ℕ) (x : Piece) → 0 < n → Stays rest (needs n rest x)
-some_bytes n rest x h = grind (arith)
+some_bytes n rest x h = grind arith
 
 -- a unit that is no field's
 abbrev pub IsFramed : Piece → Type 0
@@ -131,8 +123,7 @@ IsFramed x = Unit {0}
 -- what holds of each such unit, whether it is whole or not, holds of what is found by a mark
 module _ (P : Found → Type 0) (rest : List ℕ) (each : (n : ℕ) (x : Piece) → 0 < n → IsFramed x → P (needs n rest x)) where
   text_each : (mark longest : ℕ) (unit : List ℕ → Piece) (n : ℕ) → IsFramed (unit (bytes_at n 5 rest)) → P (text_at mark longest unit rest n)
-  text_each mark longest unit n framed =
-      if_both P (nat_lt longest n) _ _ (each 5 (Long mark n) (omega arith) tt) (each (5 + n) (unit (bytes_at n 5 rest)) (omega arith) framed)
+  text_each mark longest unit n framed = grind (arith, if_both, bytes_at)
 
   between_each : (first : Bool) (m : ℕ) → P (between_at first m rest)
   unfolding between_at
@@ -140,14 +131,11 @@ module _ (P : Found → Type 0) (rest : List ℕ) (each : (n : ℕ) (x : Piece) 
 
   pub behind_each : (tail : Tail) (m : ℕ) → P (behind_at tail m rest)
   unfolding behind_at
-  behind_each tail m =
-      if_both P (m == 0x05) _ _ (each (6 + get_or rest 1 0) (SubHead _ _) (omega arith) tt)
-      (if_both P (is_foot tail m) _ _ (if_both P (m == 0x7e) _ _ (each 5 (Foot _) (omega arith) tt) (each 1 (Mark m) (omega arith) tt)) (between_each false m))
+  behind_each tail m = grind (arith, if_both, between_each)
 
   trailer_each : (m : ℕ) → P (trailer_at m rest)
   unfolding trailer_at
-  trailer_each m =
-      if_both P (m == 0x06) _ _ (text_each 0x06 longest_text Description (number_at 4 1 rest) tt) (each 1 (Mark m) (omega arith) tt)
+  trailer_each m = grind (arith, if_both, text_each, number_at)
 
 -- no filler of 0 bytes is due
 abbrev pub IsSolid : Due → Type 0

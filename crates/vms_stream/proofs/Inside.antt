@@ -3,12 +3,12 @@
 use Rattle.vms_stream.proofs.{Bodies.Reads, Bodies.body_read, Facade.part_place, Facade.Fine, Facade.Stays, Facade.stays_refl, Facade.stays_on}
 use Rattle.vms_stream.proofs.Facade.{stays_next, fine_next, sub_front, ◌≡◌, ℕ, ◌+◌, ◌<◌, List, ◌++◌, length, drop, slice_set, Option, Some}
 use Rattle.vms_stream.proofs.Facade.{None, refl, ap, ◌∙◌, subst, arith, Bool, true, false, if◌then◌else◌, ◌==◌, [], zero, suc, ◌∷◌, Ok}
-use Rattle.vms_stream.proofs.Facade.{Err, ℤ, sym, append_assoc, length-append, slice_get, slice_get_within, both_ways, not-true, or-not_self, add-zero}
-use Rattle.vms_stream.proofs.Facade.{IsBytes, bytes_rest, at_option, Set, Device, Sub, Image, IsVersionOf, sub_slots, Spells, sub_head, foot, ComesOnce}
-use Rattle.vms_stream.proofs.Facade.{SubsSpell, subs_of, part_slots, find_sub, Piece, spell, SubHead, Mark, at_set, set_twice, Tail, Unknown, Footed, Bare}
-use Rattle.vms_stream.proofs.Facade.{Known, AfterFields, due_field, rules_hold, is_foot, is_next, first_byte, May, AtSubHead, AtFoot, AtOther, AtNext, first_of}
-use Rattle.vms_stream.proofs.Facade.{is_between, State, Free, Inside, slots_at, due_by, known_at, after, device_cells, desc_cells, Taken, Progress, take_desc}
-use Rattle.vms_stream.proofs.Facade.{takers, cells_of, IsGood, versions_long, same_refl, body_found, its_spelled, sub_are, Beside, beside_back, beside_done}
+use Rattle.vms_stream.proofs.Facade.{Err, ℤ, sym, append_assoc, length-append, slice_get, slice_get_within, add-zero, IsBytes, bytes_rest, at_option, Set}
+use Rattle.vms_stream.proofs.Facade.{Device, Sub, Image, IsVersionOf, sub_slots, Spells, sub_head, foot, ComesOnce, SubsSpell, subs_of, part_slots, find_sub}
+use Rattle.vms_stream.proofs.Facade.{Piece, spell, SubHead, Mark, at_set, set_twice, Tail, Unknown, Footed, Bare, Known, AfterFields, due_field, rules_hold}
+use Rattle.vms_stream.proofs.Facade.{is_foot, is_next, first_byte, May, AtSubHead, AtFoot, AtOther, AtNext, first_of, is_between, State, Free, Inside, slots_at}
+use Rattle.vms_stream.proofs.Facade.{due_by, known_at, after, device_cells, desc_cells, Taken, Progress, take_desc, takers, cells_of, IsGood, versions_long}
+use Rattle.vms_stream.proofs.Facade.{same_refl, body_found, its_spelled, sub_are, Beside, beside_back, beside_done}
 use Rattle.vms_stream.proofs.Steps.{Run, Goes, steps, Opening, opening, free_opens, foot_is, foot_mark_never, sub_is_one, none_from}
 
 -- whether sections have footers, if the tail is known already
@@ -26,14 +26,10 @@ abbrev pub closing : Bool → ℕ → List ℕ
 closing footed id = if footed then foot id else []
 
 foot_agrees : (t : Tail) → is_foot t 0x7e ≡ true → Agrees t true
-foot_agrees Unknown e = tt
-foot_agrees Footed e = refl
-foot_agrees Bare e = cc
+foot_agrees t e = grind arith
 
 next_agrees : (k : ℕ) (t : Tail) (b : ℕ) → is_next t b ≡ true → Agrees t false × (is_between (AfterFields k t) ≡ true)
-next_agrees k Unknown b e = (tt, refl)
-next_agrees k Footed b e = absurd (both_ways _ (not-true _ e) (or-not_self (b == 0x05)))
-next_agrees k Bare b e = (refl, refl)
+next_agrees k t b e = search arith
 
 -- a mark that is neither of a subsection head nor of a footer
 other_never : (set : Set) (names : List (List ℕ)) (k : ℕ) (t : Tail) (so_far : Known) (b : ℕ) → is_foot t b ≡ true → (b == 0x7e) ≡ false

@@ -2,14 +2,14 @@
 use Rattle.vms_stream.proofs.Facade.{◌≡◌, ℕ, zero, suc, ◌+◌, ◌<◌, ◌≤◌, List, ◌∷◌, ◌++◌, length, drop, length-drop, Option, Some}
 use Rattle.vms_stream.proofs.Facade.{None, refl, sym, ap, ◌∙◌, subst, arith, length-append, append_assoc, Bool, true, false, if◌then◌else◌, []}
 use Rattle.vms_stream.proofs.Facade.{IsBytes, bytes_rest, Reason, Set, Verdict, Goes, Faulty, Over, Reading, Accepted, Refused, reading_from, reading_after}
-use Rattle.vms_stream.proofs.Facade.{Piece, spell, spelled, opened, Due, AfterEnd, Nothing, May, AtMagic, due, holds, reason_of, Front, Why, Fails, Wrong}
-use Rattle.vms_stream.proofs.Facade.{Fault, Owes, cut_in, Advances, reading_on, is_bytes_drop, unit_read, Found, Whole, Cut, unit_at, Grammar, judge}
-use Rattle.vms_stream.proofs.Facade.{judge_found, by_row, owes, reading, by_units, Mirrored, Refuses, Ends, Accepts, IsThere, slice_set, slice_get, length-set}
-use Rattle.vms_stream.proofs.Facade.{length-map, slice_get_within, at_option, Image, default_image, Magic, Version, Configuration, Head, Number, Constant}
-use Rattle.vms_stream.proofs.Facade.{Filler, SubHead, Foot, End, put_version, id_of, device_named, come, part, image, fresh, slots, sub_named, at_set, found_is}
-use Rattle.vms_stream.proofs.Facade.{Field, AfterFields, due_field, rules_hold, first_of, Spot, Before, Headed, Free, Inside, Ended, State, at_start, or_none}
-use Rattle.vms_stream.proofs.Facade.{open_at, onward, inside, slots_at, next_spot, due_by, known_at, after, by_state, Known, beyond, images, known, machine}
-use Rattle.vms_stream.proofs.Facade.{passed, put_image, tail}
+use Rattle.vms_stream.proofs.Facade.{Piece, spell, spelled, opened, Due, May, AtMagic, due, holds, reason_of, Front, Why, Fails, Wrong, Fault, Owes, cut_in}
+use Rattle.vms_stream.proofs.Facade.{Advances, reading_on, is_bytes_drop, unit_read, Found, Whole, Cut, unit_at, Grammar, judge, judge_found, by_row, owes}
+use Rattle.vms_stream.proofs.Facade.{reading, by_units, Mirrored, Refuses, Ends, Accepts, IsThere, slice_set, slice_get, length-set, length-map}
+use Rattle.vms_stream.proofs.Facade.{slice_get_within, at_option, Image, default_image, Magic, Version, Configuration, Head, Number, Constant, Filler, SubHead}
+use Rattle.vms_stream.proofs.Facade.{Foot, End, put_version, id_of, device_named, come, part, image, fresh, slots, sub_named, at_set, found_is, Field}
+use Rattle.vms_stream.proofs.Facade.{AfterFields, due_field, rules_hold, first_of, Spot, Before, Headed, Free, Inside, Ended, State, at_start, or_none, open_at}
+use Rattle.vms_stream.proofs.Facade.{onward, inside, slots_at, next_spot, due_by, known_at, after, by_state, Known, beyond, images, known, machine, passed}
+use Rattle.vms_stream.proofs.Facade.{put_image, tail}
 use Rattle.vms_stream.proofs.Finding.{only, Shows, shows, IsSolid, advances, due_solid, field_solid}
 use Rattle.vms_stream.specs.Faults.{Cut as IsCut}
 use Rattle.vms_spec.specs.declared.Reason.TheVariants as reasons
@@ -17,14 +17,10 @@ use Rattle.vms_spec.specs.declared.Reason.TheVariants as reasons
 -- ---- the judge refuses exactly the inputs that have a fault, for each state that mirrors the units so far
 
 owes_true : (d : Due) (rest : List ℕ) → Owes d rest → owes d rest ≡ true
-owes_true Nothing rest o = absurd o
-owes_true AfterEnd [] o = absurd o
-owes_true d rest o = refl
+owes_true d rest o = grind arith
 
 owes_so : (d : Due) (rest : List ℕ) → owes d rest ≡ true → Owes d rest
-owes_so Nothing rest o = cc
-owes_so AfterEnd [] o = cc
-owes_so d rest o = tt
+owes_so d rest o = grind arith
 
 may_owe : (d : Due) (x : Piece) (more : List ℕ) → May d x → Owes d (spell x ++ more)
 may_owe _ _ more (AtMagic bytes l) = tt
@@ -142,13 +138,8 @@ module _ {S : Type 0} (set : Set) (names : List (List ℕ)) (g : Grammar S) (sol
       one_more (Accepted n end) w =
           record { units = w.units; more = w.more ++ j.unit ∷ []; is = w.is ∙ sym (append_assoc w.more (j.unit ∷ []) u); ends = w.ends; mirrors = w.mirrors }
       one_more (Refused place section reason size) f = f
-  by_verdict k later u at input rest x e ok front long (Faulty section reason size) j h =
-      let is : Refused at section reason size ≡ x = cc in
-      subst (Says u input) is (record { units = u; rest = rest; front = front; whole = e; long = long; why = j })
-  by_verdict k later u at input rest x e ok front long (Over end) j h =
-      let is : Accepted at end ≡ x = cc in
-      let ends : Ends set names input at u = record { rest = rest; front = front; held = j.0; over = j.1; whole = e; long = long } in
-      subst (Says u input) is (record { units = u; more = []; is = refl; ends = ends; mirrors = j.2 })
+  by_verdict k later u at input rest x e ok front long (Faulty section reason size) j h = search arith
+  by_verdict k later u at input rest x e ok front long (Over end) j h = search arith
 
   pub says : (k : ℕ) → SaysFrom k
   says zero u s at input rest x e ok front r long h = cc
@@ -314,7 +305,7 @@ module _ (set : Set) where
   -- the rows for a unit between sections need only which devices came
   rows_so : (names : List (List ℕ)) (d : Due) (x : Piece) → May d x → (k l : Known) → k.came ≡ l.came → (IsInside d → k ≡ l)
       → first_of set names d k x ≡ first_of set names d l x
-  rows_so names d x m k l c f = grind (arith)
+  rows_so names d x m k l c f = grind arith
 
   -- ---- after a unit
 

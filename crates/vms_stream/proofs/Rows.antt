@@ -6,8 +6,7 @@ use Rattle.vms_stream.proofs.Facade.{number, counted_set, constant_set, subsecti
 use Rattle.vms_stream.proofs.Facade.{by_units, State, by_state, at_start, tested_set, unit_at, ap, ◌∙◌, ◌<◌, arith, Bool, true, false, ints, InRange}
 use Rattle.vms_stream.proofs.Facade.{Configuration, Long, Constant, SubHead, Foot, Start, Mark, spell, spelled, Between, AfterFields, May, AtMagic, AtVersion}
 use Rattle.vms_stream.proofs.Facade.{AtConfiguration, AtStart, AtHead, AtEnd, AtMark, AtNumber, AtConstant, AtSubHead, AtFoot, AtLongText, AtTrailing, due}
-use Rattle.vms_stream.proofs.Facade.{holds, Unknown, reason_of, Front, Fails, Wrong, Fault}
-use Rattle.vms_stream.proofs.Finding.{only}
+use Rattle.vms_stream.proofs.{Finding.only, Facade.holds, Facade.Unknown, Facade.reason_of, Facade.Front, Facade.Fails, Facade.Wrong, Facade.Fault}
 use Rattle.vms_stream.specs.Faults.{Cut}
 use Rattle.vms_kinds.specs.declared.Kind.TheVariants.{Bool as Truth}
 use Rattle.vms_spec.specs.declared.Reason.TheVariants as reasons

@@ -1,17 +1,16 @@
 -- The laws as they are stated.
-use Rattle.vms_stream.proofs.{StreamFound.found, StreamFound.section_found, Inside.Agrees, Written.written_section_is, Written.written_is_stream}
 use Rattle.vms_stream.proofs.Facade.{◌≡◌, ℕ, List, ◌++◌, Option, refl, append_assoc, Reason, Set, Piece, spell, spelled, IsWhole, Why, Fails, Wrong}
 use Rattle.vms_stream.proofs.Facade.{FurtherLaw, get_or, ◌+◌, take, length, Some, None, IfSome, arith, suc, ◌≤◌, true, sym, ap, ◌∙◌, drop}
 use Rattle.vms_stream.proofs.Facade.{false, slice_get_within, take-append-drop, LONGEST_NAME, Due, Whole, unit_at, IsThere, FoundLaw, is_one_of, longest_text}
-use Rattle.vms_stream.proofs.Facade.{IsConfiguration, IsTrailer, optional, configuration, trailer, written, Reading, Accepted, Refused, well_good, Tail}
-use Rattle.vms_stream.proofs.Facade.{Unknown, Footed, Bare, images, machine, judge, reading, by_units, State, between, by_state, at_start, SectionReadLaw}
-use Rattle.vms_stream.proofs.Facade.{BeginsSection, SectionFoundLaw, ToldLaw, AcceptedLaw, TakenLaw, LocalLaw, UnitsLaw, StreamLaw, GoesOn, FrontLaw}
-use Rattle.vms_stream.proofs.Facade.{OneStreamLaw, Answer, EitherLaw, NeverBothLaw, OneFaultLaw, SectionLaw, WrittenLaw, WholeLaw, AreOneFault, reading_on}
-use Rattle.vms_stream.proofs.Facade.{IsBytes, bytes_rest, front_take}
-use Rattle.vms_stream.proofs.Finding.{only, shows, advances, due_solid}
-use Rattle.vms_stream.proofs.Judging.{solid, state_accepts, state_refuses, cut_is, told_from, Says, says, units_mirror}
+use Rattle.vms_stream.proofs.Facade.{IsConfiguration, IsTrailer, optional, configuration, trailer, written, Reading, Accepted, Refused, well_good, Tail, Bare}
+use Rattle.vms_stream.proofs.Facade.{images, machine, judge, reading, by_units, State, between, by_state, at_start, SectionReadLaw, BeginsSection}
+use Rattle.vms_stream.proofs.Facade.{SectionFoundLaw, ToldLaw, AcceptedLaw, TakenLaw, LocalLaw, UnitsLaw, StreamLaw, GoesOn, FrontLaw, OneStreamLaw, Answer}
+use Rattle.vms_stream.proofs.Facade.{EitherLaw, NeverBothLaw, OneFaultLaw, SectionLaw, WrittenLaw, WholeLaw, AreOneFault, reading_on}
+use Rattle.vms_stream.proofs.{Inside.Agrees, StreamFound.found, StreamFound.section_found, StreamRead.read, StreamRead.free_is, StreamRead.section_on}
+use Rattle.vms_stream.proofs.{Facade.IsBytes, Facade.bytes_rest, Facade.front_take, Finding.only, Finding.shows, Finding.advances, Finding.due_solid}
+use Rattle.vms_stream.proofs.Written.{written_section_is, written_is_stream}
 use Rattle.vms_stream.proofs.Steps.{Goes, Opening, Closes, Opens, Names, settled, free_opens}
-use Rattle.vms_stream.proofs.StreamRead.{read, free_is, section_on}
+use Rattle.vms_stream.proofs.Judging.{solid, state_accepts, state_refuses, cut_is, told_from, Says, says, units_mirror}
 use Rattle.vms_stream.specs.{Faults.Cut, StreamLaws.Taken, StreamLaws.Faulty}
 use Rattle.vms_spec.specs.declared.Reason.TheVariants as reasons
 
@@ -128,9 +127,7 @@ one_fault_holds set names input ok place other_place section other_section reaso
 -- ---- a section at the front of the rest, whatever follows it
 
 may_foot : (t : Tail) → (t ≡ Bare → ⊥) → Agrees t true
-may_foot Unknown h = tt
-may_foot Footed h = refl
-may_foot Bare h = absurd (h refl)
+may_foot t h = grind arith
 
 pub section_read_holds : SectionReadLaw
 section_read_holds set names well heads k d image there machine images came tail first after room new foots id place bytes rest is =

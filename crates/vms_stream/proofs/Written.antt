@@ -131,9 +131,7 @@ module _ (set : Set) where
       (subs-bytes d image _ d.subs _ subs)) (foot_bytes id)
 
   sections-bytes : (id : ℕ) (devices : List Device) (images : List Image) → AreNamed devices → AreBytes (written_sections set id devices images)
-  sections-bytes id (d ∷ devices) (image ∷ images) named =
-      bytes_append (written_section set d image id) (written_sections set (suc id) devices images)
-      (section-bytes d image id named.0 named.1) (sections-bytes (suc id) devices images named.2)
+  sections-bytes id (d ∷ devices) (image ∷ images) named = grind (arith, bytes_append, section-bytes, sections-bytes (suc id) devices images named.2)
   sections-bytes id _ _ named = tt
 
   config-bytes : (machine : Option (List ℕ)) → IfSome machine AreBytes → AreBytes (optional configuration machine)

@@ -1,7 +1,7 @@
 -- Each number has one spelling.
 use Rattle.std.proofs.Common.{◌≡◌, ℕ, zero, suc, ◌-◌, ◌^◌, ◌<◌, Bool, true, not, ◌&&◌, ◌==◌, nat_le, List, ◌∷◌, length, get_or, drop, Some, negsuc, refl, ap, ◌∙◌, arith, ◌||◌, []}
 use Rattle.std.specs.List.{list_all}
-use Rattle.std.proofs.lemmas.Bool.{and_parts, eqb-true, and_from, Decides.nat_tests}
+use Rattle.std.proofs.lemmas.Bool.{and_parts, and_from, Decides.nat_tests}
 use Rattle.std.proofs.lemmas.Str.Parse.{IsDigitsTest, FoldsDigits, IsNumeralModel, numerals_by_fold}
 use Rattle.std.proofs.lemmas.Fmt.{digits_decimal, digits_value-decimal, decimal-digits_value, first_decimal, decimal_nonempty, decimal_digit}
 use Rattle.std.specs.Fmt.{decimal}
@@ -59,19 +59,15 @@ decimal_of_value text e h =
 pub number_holds : NumberLaw
 number_holds z h = grind (arith, digits_of_decimal, value_of_decimal)
 
-negative_first : (text : List ℕ) → get_or text 0 0 ≡ 45 → text ≡ 45 ∷ drop 1 text
-negative_first text e = grind arith
-
 -- a minus and the digits of a number that isn't 0
 minus_number : (text : List ℕ) (n : ℕ) → n < 2 ^ 63 → (get_or text 0 0 == 45 && are_digits (drop 1 text) && not (natural_from 0 (drop 1 text) == 0)) ≡ true
     → Some (negative (natural_from 0 (drop 1 text))) ≡ Some (negsuc n) → text ≡ 45 ∷ decimal (suc n)
 minus_number text n h e is =
     let parts = and_parts (get_or text 0 0 == 45) (are_digits (drop 1 text)) (and_parts _ _ e).0 in
-    let front : text ≡ 45 ∷ drop 1 text = negative_first text (eqb-true (get_or text 0 0) 45 parts.0) in
+    let front : text ≡ 45 ∷ drop 1 text = grind (arith, parts.0) in
     let same : natural_from 0 (drop 1 text) ≡ suc n = grind (arith, nat_tests) in
     front ∙ rw (← (decimal_of_value (drop 1 text) parts.1 (omega arith)), same)
 
--- digits alone, or after a minus
 -- the digits of a number, or a minus and digits
 pub spelled_holds : SpelledLaw
 spelled_holds text z h e = grind (arith, decimal_of_value, minus_number)

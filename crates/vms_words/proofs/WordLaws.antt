@@ -1,7 +1,7 @@
 -- The kinds and their words correspond.
 use Rattle.std.proofs.{Common.[], lemmas.List.drop_more, lemmas.List.drop_all, lemmas.Slice.Eq.bytes_eq-Decides}
-use Rattle.std.proofs.Common.{◌≡◌, ℕ, ◌+◌, ◌<◌, ◌≤◌, List, ◌∷◌, length, get_or, drop, Bool, true, false, Option, Some, None, if◌then◌else◌, refl, sym, ap, ◌∙◌, arith}
-use Rattle.std.specs.{Str.bytes_eq}
+use Rattle.std.proofs.Common.{◌≡◌, ℕ, ◌+◌, ◌<◌, ◌≤◌, List, ◌∷◌, length, get_or, drop, Bool, true, Option, Some, None, if◌then◌else◌, refl, sym, ap, ◌∙◌, arith}
+use Rattle.std.specs.Str.{bytes_eq}
 use Rattle.vms_kinds.specs.declared.Kind.{Kind}
 use Rattle.vms_words.specs.Words.{kind_word, kind_if, kind_named, TellsKind}
 use Rattle.vms_kinds.specs.declared.Kind.TheVariants as kinds
@@ -40,16 +40,10 @@ named_in word (kind ∷ kinds) = kind_if word kind (named_in word kinds)
 
 -- a kind is tried: its word is the given one, or the later kinds remain
 module _ (word text : List ℕ) (kinds : List Kind) (i : ℕ) (d : Kind) (lt : i < length kinds) (e : text ≡ kind_word (get_or kinds i d)) where
-  tried_once : (b : Bool) → bytes_eq word text ≡ b → named_in word (drop i kinds) ≡ (if b then Some (get_or kinds i d) else named_in word (drop (i + 1) kinds))
+  pub tried_once : (b : Bool) → bytes_eq word text ≡ b → named_in word (drop i kinds) ≡ (if b then Some (get_or kinds i d) else named_in word (drop (i + 1) kinds))
   tried_once b same =
       ap (named_in word) (drop_more kinds i d lt)
       ∙ ap (λ b. if b then Some (get_or kinds i d) else named_in word (drop (i + 1) kinds)) (ap (bytes_eq word) (sym e) ∙ same)
-
-  pub this_kind : bytes_eq word text ≡ true → named_in word (drop i kinds) ≡ Some (get_or kinds i d)
-  this_kind same = tried_once true same
-
-  pub other_kind : bytes_eq word text ≡ false → named_in word (drop i kinds) ≡ named_in word (drop (i + 1) kinds)
-  other_kind same = tried_once false same
 
 pub no_kind : (word : List ℕ) (kinds : List Kind) (i : ℕ) → length kinds ≤ i → named_in word (drop i kinds) ≡ None
 no_kind word kinds i h = ap (named_in word) (drop_all i kinds h)
