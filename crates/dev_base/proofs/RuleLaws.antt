@@ -40,8 +40,7 @@ all_more rules h zero l = refl
 all_more rules h (suc place) l = h place (omega (arith, l))
 
 others_more : (rules : List Bool) (place : ℕ) → ((other : ℕ) → other < place → slice_index_or rules other true ≡ true) → (other : ℕ) → other < suc place → slice_index_or (true ∷ rules) other true ≡ true
-others_more rules place h zero l = refl
-others_more rules place h (suc other) l = h other (omega (arith, l))
+others_more rules place h other l = grind arith
 
 more : (number : ℕ) (rules : List Bool) (answer : Option ℕ) → Means (number + 1) rules answer → Means number (true ∷ rules) answer
 more number rules None h = all_more rules h
@@ -96,12 +95,10 @@ record Accepted {D : Type 0} (answer : Option ℕ) (found device : D) : Type 0 w
 
 accepted : {D : Type 0} (answer : Option ℕ) (found device : D) → judged_by answer found ≡ Ok device → Accepted answer found device
 unfolding judged_by
-accepted None found device e = record { none = refl; same = cc }
-accepted (Some rule) found device e = cc
+accepted answer found device e = search arith
 
 pub judged-ok : {D : Type 0} (rules : List Bool) (found device : D) → judged rules found ≡ Ok device → AllTrue rules × (found ≡ device)
-judged-ok rules found device e =
-    let a = accepted (first_failing rules) found device e in (all_true rules a.none, a.same)
+judged-ok rules found device e = grind (arith, accepted, all_true)
 
 -- A hook returns a device exactly if the restore does.
 pub hook-ok : {D : Type 0} (outcome : Result D ℕ) (device : D) → hook_result outcome ≡ Ok device → outcome ≡ Ok device

@@ -1,10 +1,10 @@
 -- Ports that are alike answer each call alike.
-use Rattle.dev_serial.proofs.Facade.{arith, ◌≡◌, ℕ, ℤ, Bool, true, false, not, ◌&&◌, cond, refl, pos, negsuc, ◌||◌, Option, Some, None}
-use Rattle.dev_serial.proofs.Facade.{◌∙◌, int_eq, bit_and, bit_or, is_some, is_empty, lsr_of, iir_of, read_of, id_read, thr_written, ier_written}
-use Rattle.dev_serial.proofs.Facade.{switch_of, fcr_cleared, fcr_written, receiver_cleared, transmitter_cleared, written, came_in, advanced, has, bits_where}
-use Rattle.dev_serial.proofs.Facade.{ipending_of, latch_of, saved, Port, id_number, is_thr_empty, interrupt, line_of, Interrupt, LineStatus, ReceivedData}
-use Rattle.dev_serial.proofs.Facade.{CharacterTimeout, ThrEmpty, NonePending, AlikeItself, AlikeBack, AlikeOn, AnswersAlike, ReadsAlike, nat_tests, WritesAlike}
-use Rattle.dev_serial.proofs.Facade.{BytesInAlike, AdvancesAlike, SavesAlike, LinesAlike, Alike, Trigger}
+use Rattle.dev_serial.proofs.Facade.{arith, ◌≡◌, ℕ, ℤ, Bool, true, not, ◌&&◌, cond, refl, pos, negsuc, ◌||◌, Option, ◌∙◌, int_eq}
+use Rattle.dev_serial.proofs.Facade.{bit_and, bit_or, is_some, is_empty, lsr_of, iir_of, read_of, thr_written, ier_written, switch_of, fcr_cleared, fcr_written}
+use Rattle.dev_serial.proofs.Facade.{receiver_cleared, transmitter_cleared, written, came_in, advanced, has, bits_where, ipending_of, latch_of, saved, Port}
+use Rattle.dev_serial.proofs.Facade.{id_number, is_thr_empty, interrupt, line_of, Interrupt, LineStatus, ReceivedData, CharacterTimeout, ThrEmpty, NonePending}
+use Rattle.dev_serial.proofs.Facade.{AlikeItself, AlikeBack, AlikeOn, AnswersAlike, ReadsAlike, nat_tests, WritesAlike, BytesInAlike, AdvancesAlike, SavesAlike}
+use Rattle.dev_serial.proofs.Facade.{LinesAlike, Alike, Trigger}
 
 -- ---- the line status and the saved latch, as tables of truth
 
@@ -51,17 +51,6 @@ latch_comes_back status ready timeout enabled latch = search arith
 
 -- ---- calls
 
-same_identified : (status ready timeout enabled first second : Bool) → (enabled ≡ true → second ≡ first)
-    → identified status ready timeout enabled second ≡ identified status ready timeout enabled first
-same_identified status ready timeout enabled first second h = grind arith
-
-same_ipending : (enabled identified first second : Bool) → (enabled ≡ true → second ≡ first)
-    → ipending_of enabled second identified ≡ ipending_of enabled first identified
-same_ipending enabled identified first second h = grind arith
-
-sampled : (was is empty first second : Bool) → (was ≡ true → second ≡ first) → is ≡ true → cond (not was && is) empty second ≡ cond (not was && is) empty first
-sampled was is empty first second h e = grind arith
-
 -- the other port is the first with another latch
 module _ (port : Port) (latch : Bool) (h : has port.ier 1 ≡ true → latch ≡ port.thr_empty) where
   abbrev other : Port
@@ -72,56 +61,39 @@ module _ (port : Port) (latch : Bool) (h : has port.ier 1 ≡ true → latch ≡
 
   same_interrupt : (now : ℕ) → interrupt now other ≡ interrupt now port
   unfolding interrupt
-  same_interrupt now = same_identified _ _ _ (has port.ier 1) port.thr_empty latch h
+  same_interrupt now = grind arith
 
   same_line : (now : ℕ) → line_of now other ≡ line_of now port
   unfolding line_of
   same_line now = rw (same_interrupt now)
 
-  id-alike : (now : ℕ) → AnswersAlike (id_read now port) (id_read now other)
-  unfolding iir_of
-  id-alike now = rw (same_interrupt now)
-      (record { value = refl; alike = record { same = refl; enabled = λ e. rw (h e) } })
-
   same_saved : (set now : ℕ) → saved set now other ≡ saved set now port
   unfolding saved lsr_of
-  same_saved set now = rw (same_interrupt now, same_ipending (has port.ier 1) (is_thr_empty (interrupt now port)) port.thr_empty latch h)
+  same_saved set now = grind (arith, same_interrupt, has)
 
   read-alike : (offset now : ℕ) → AnswersAlike (read_of offset now port) (read_of offset now other)
-  unfolding read_of lsr_of
-  read-alike offset now = search (arith, nat_tests, id-alike)
-
-  thr-alike : (byte now : ℕ) → Alike (thr_written byte now port) (thr_written byte now other)
-  unfolding thr_written
-  thr-alike byte now = record { same = refl; enabled = λ _. refl }
+  unfolding read_of lsr_of iir_of
+  read-alike offset now = search (arith, nat_tests, same_interrupt)
 
   ier-alike : (value : ℕ) → Alike (ier_written value port) (ier_written value other)
   unfolding ier_written
-  ier-alike value =
-      record { same = refl; enabled = sampled (has port.ier 1) (has (bit_and value 0x0f) 1) (is_empty port.transmitter.waiting) port.thr_empty latch h }
+  ier-alike value = search (arith, has, is_empty)
 
   cleared-alike : (clears_sent clears_held : Bool) (fifos : Option Trigger) → Alike (record (transmitter_cleared clears_sent (receiver_cleared clears_held port)) { fifos = fifos }) (record (transmitter_cleared clears_sent (receiver_cleared clears_held other)) { fifos = fifos })
-  cleared-alike true _ fifos = record { same = grind arith; enabled = λ e. grind arith }
-  cleared-alike false _ fifos = record { same = grind arith; enabled = λ e. grind arith }
+  cleared-alike clears_sent clears_held fifos = search arith
 
   switched-alike : (value : ℕ) (before after : Option Trigger)
       → Alike (record (fcr_cleared before after value port) { fifos = after }) (record (fcr_cleared before after value other) { fifos = after })
   unfolding fcr_cleared
-  switched-alike value None None = cleared-alike false false None
-  switched-alike value (Some before) (Some after) = cleared-alike (has value 2) (has value 1) (Some after)
-  switched-alike value _ after = cleared-alike true true after
+  switched-alike value before after = grind (arith, cleared-alike, has)
 
   fcr-alike : (value : ℕ) → Alike (fcr_written value port) (fcr_written value other)
   unfolding fcr_written
   fcr-alike value = switched-alike value port.fifos (switch_of value)
 
   write-alike : (offset value now : ℕ) → Alike (written offset value now port) (written offset value now other)
-  unfolding written
-  write-alike offset value now = search (arith, nat_tests, thr-alike, ier-alike, fcr-alike)
-
-  in-alike : (byte now : ℕ) → Alike (came_in byte now port) (came_in byte now other)
-  unfolding came_in
-  in-alike byte now = search (arith, nat_tests)
+  unfolding written thr_written
+  write-alike offset value now = search (arith, nat_tests, ier-alike, fcr-alike)
 
   advance-alike : (to : ℕ) → AnswersAlike (advanced to port) (advanced to other)
   unfolding advanced
@@ -134,7 +106,8 @@ pub writes_alike : WritesAlike
 writes_alike offset value now port other a = rw a.same (write-alike port other.thr_empty a.enabled offset value now)
 
 pub bytes_in_alike : BytesInAlike
-bytes_in_alike byte now port other a = rw a.same (in-alike port other.thr_empty a.enabled byte now)
+unfolding came_in
+bytes_in_alike byte now port other a = rw a.same (search (arith, nat_tests))
 
 pub advances_alike : AdvancesAlike
 advances_alike to port other a = rw a.same (advance-alike port other.thr_empty a.enabled to)

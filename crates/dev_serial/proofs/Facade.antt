@@ -2,11 +2,10 @@
 pub use Rattle.std.proofs.{Math.Bool.and-false, Math.Bool.and-true, Math.Bool.or-true, lemmas.Grind.common_steps, lemmas.Nat.and_le_r, lemmas.Nat.le-div}
 pub use Rattle.std.proofs.{Math.Nat.le-max_right, Math.Nat.mul-le-mul, lemmas.List.Folds.list_all_at, lemmas.List.Folds.list_all_more}
 pub use Rattle.std.proofs.Common.{Bool, List, None, Ok, Option, Some, [], ap, append-nil, append_assoc, arith, cond, drop, false, get_or, if◌then◌else◌}
-pub use Rattle.std.proofs.Common.{inl, length, length-append, map, min, nat_eq, negsuc, not, pos, refl, replicate, subst, suc, sym, take, true, zero, ℕ}
-pub use Rattle.std.proofs.Common.{ℤ, ⊎_elim, ◌%◌, ◌&&◌, ◌*◌, ◌++◌, ◌+◌, ◌-◌, ◌/◌, ◌<◌, ◌==◌, ◌^◌, ◌||◌}
-pub use Rattle.std.proofs.Common.{◌∙◌, ◌∷◌, ◌≡◌, ◌≤◌, ◌⊎◌}
-pub use Rattle.std.proofs.lemmas.Bool.{and_from, and_parts, cases_lt, cond_both, eq-eqb, eqb-false, eqb-true, le-leb, leb-true, lt-leb}
-pub use Rattle.std.proofs.lemmas.Bool.{ltb-true, ne_eqb, not-false, not-true, or_right, Decides.nat_tests}
+pub use Rattle.std.proofs.Common.{inl, length, length-append, map, min, nat_eq, negsuc, not, pos, refl, replicate, subst, suc, sym, take, true, zero, ℕ, ℤ}
+pub use Rattle.std.proofs.Common.{◌%◌, ◌&&◌, ◌*◌, ◌++◌, ◌+◌, ◌-◌, ◌/◌, ◌<◌, ◌==◌, ◌^◌, ◌||◌, ◌∙◌, ◌∷◌}
+pub use Rattle.std.proofs.{Common.◌≡◌, Common.◌≤◌, Common.◌⊎◌, lemmas.Bool.or_right, lemmas.Bool.Decides.nat_tests}
+pub use Rattle.std.proofs.lemmas.Bool.{and_from, and_parts, cond_both, eq-eqb, eqb-false, le-leb, leb-true, lt-leb, ltb-true, ne_eqb, not-false, not-true}
 pub use Rattle.std.proofs.lemmas.List.{get_or-append-add, get_or-map, get_or_append_left, get_or_past, length-map, length-set, map-append, nil_from_length}
 pub use Rattle.std.proofs.lemmas.List.Elements.{All-cons, All-nil}
 pub use Rattle.std.proofs.lemmas.List.FromFn.{get_or-map-range_with_len, get_or-range_with_len, length-map-range_with_len}
@@ -22,9 +21,8 @@ pub use Rattle.dev_base.proofs.CellLaws.{all_set, bytes_within, firsts_more, one
 pub use Rattle.dev_base.proofs.CellLaws.{carried_rows, none_lacks, of_rows, one_holds}
 pub use Rattle.dev_base.proofs.RuleLaws.{either, first_failing_is_first, hook-ok, judged-all, judged-ok}
 pub use Rattle.dev_base.specs.{Levels.IsLevel, Tables.since, declared.limits.TheConstants.LAST_MOMENT, declared.limits.TheConstants.NEWEST}
-pub use Rattle.dev_base.specs.Bits.{bits_where, has, same}
+pub use Rattle.dev_base.specs.{Bits.bits_where, Bits.has, Bits.same, Rules.IsFirstFailing, Rules.first_failing, Rules.judged}
 pub use Rattle.dev_base.specs.Cells.{AreOf, cell_at, firsts, kind_at, nat_of, number_at}
-pub use Rattle.dev_base.specs.Rules.{IsFirstFailing, first_failing, judged}
 unfoldable pub use Rattle.dev_base.specs.{Hooks.hook_result, Rules.judged_by}
 pub use Rattle.dev_serial.specs.{Line.character_bits, Places.PlacesAre, Receive.emptied, Receive.taken, RoomLaws.RoomIsHeld, RoomLaws.all_came}
 pub use Rattle.dev_serial.specs.{SheetNumbers.NumbersAre, declared.interrupt.Interrupt.Interrupt, declared.mode.Mode.Mode}

@@ -1,10 +1,10 @@
 -- Each call keeps a port sound.
 use Rattle.dev_serial.proofs.{WaitLaws.character-positive, SoundLaws.emptied-sound, SoundLaws.thr-sound}
-use Rattle.dev_serial.proofs.Facade.{Trigger, ◌≡◌, ℕ, ◌+◌, ◌*◌, ◌<◌, ◌≤◌, ◌==◌, Bool, true, false, Option, Some, None, refl}
-use Rattle.dev_serial.proofs.Facade.{arith, ◌/◌, ◌%◌, inl, cond_both, leb-true, nat_le, is_some, and_le_r, and-false, with_taken, read_of, id_read}
-use Rattle.dev_serial.proofs.Facade.{lsr_read, thr_written, ier_written, switch_of, fcr_cleared, fcr_written, receiver_cleared, transmitter_cleared, written}
-use Rattle.dev_serial.proofs.Facade.{came_in, advanced, has, character_time, received, taken, IsSound, nat_tests, HasRegisters, LONGEST_CHARACTER, either}
-use Rattle.dev_serial.proofs.Facade.{PowerOnIsSound, ReadsKeepSound, WritesKeepSound, BytesInKeepSound, AdvancesKeepSound, Port, power_on, mode_of}
+use Rattle.dev_serial.proofs.Facade.{Trigger, ◌≡◌, ℕ, ◌+◌, ◌*◌, ◌<◌, ◌≤◌, ◌==◌, Bool, true, false, Option, refl, arith, ◌/◌}
+use Rattle.dev_serial.proofs.Facade.{◌%◌, inl, cond_both, leb-true, nat_le, is_some, and_le_r, and-false, with_taken, read_of, id_read, lsr_read}
+use Rattle.dev_serial.proofs.Facade.{thr_written, ier_written, switch_of, fcr_cleared, fcr_written, receiver_cleared, transmitter_cleared, written, came_in}
+use Rattle.dev_serial.proofs.Facade.{advanced, has, character_time, received, taken, IsSound, nat_tests, LONGEST_CHARACTER, either, PowerOnIsSound}
+use Rattle.dev_serial.proofs.Facade.{ReadsKeepSound, WritesKeepSound, BytesInKeepSound, AdvancesKeepSound, Port, power_on, mode_of}
 use Rattle.dev_serial.proofs.SoundLaws.{latched-sound, cleared-sound, advance-transmitter, advance-receiver, character-longest, received-sound, taken-held}
 
 pub power_on_is_sound : PowerOnIsSound
@@ -41,10 +41,6 @@ module _ (now : ℕ) (port : Port) (sound : IsSound now port) where
   unfolding came_in
   in-kept byte b = either (IsSound now) (has port.mcr 4) _ _ sound (came-kept byte b)
 
-  advance-kept : (to : ℕ) → now ≤ to → IsSound to (advanced to port).1
-  unfolding advanced
-  advance-kept to l = search (arith, advance-receiver, longest, advance-transmitter)
-
   thr-kept : (byte : ℕ) → byte < 256 → IsSound now (thr_written byte now port)
   unfolding thr_written
   thr-kept byte b = search (arith, thr-sound, character-positive, longest)
@@ -56,20 +52,14 @@ module _ (now : ℕ) (port : Port) (sound : IsSound now port) where
   unfolding ier_written
   ier-kept value = let range = and_le_r value 0x0f in search (arith, latched-sound, nat_tests)
 
-  switched-registers : (fifos : Option Trigger) → (is_some fifos ≡ true → 2 ≤ port.level)
-      → HasRegisters port.level port.divisor port.ier port.lcr port.mcr port.scr (is_some fifos)
-  switched-registers fifos h = search
-
   -- lists are cleared, and the switch is set
   switched : (clears_sent clears_held : Bool) (fifos : Option Trigger) → (is_some fifos ≡ true → 2 ≤ port.level) → (clears_sent ≡ false → is_some fifos ≡ is_some port.fifos) → (clears_held ≡ false → is_some fifos ≡ is_some port.fifos) → IsSound now (record (transmitter_cleared clears_sent (receiver_cleared clears_held port)) { fifos = fifos })
-  switched clears_sent clears_held fifos h s t = grind (arith, switched-registers, emptied-sound, cleared-sound)
+  switched clears_sent clears_held fifos h s t = grind (arith, emptied-sound, cleared-sound)
 
   fcr-kept-at : (value : ℕ) (before after : Option Trigger) → 2 ≤ port.level → port.fifos ≡ before
       → IsSound now (record (fcr_cleared before after value port) { fifos = after })
   unfolding fcr_cleared
-  fcr-kept-at value None None h e = switched false false None (λ _. h) (λ _. rw e) (λ _. rw e)
-  fcr-kept-at value (Some before) (Some after) h e = switched (has value 2) (has value 1) (Some after) (λ _. h) (λ _. rw e) (λ _. rw e)
-  fcr-kept-at value _ after h e = switched true true after (λ _. h) (λ f. cc) (λ f. cc)
+  fcr-kept-at value before after h e = grind (arith, switched, has)
 
   fcr-kept : (value : ℕ) → 2 ≤ port.level → IsSound now (fcr_written value port)
   unfolding fcr_written
@@ -99,4 +89,5 @@ pub bytes_in_keep_sound : BytesInKeepSound
 bytes_in_keep_sound byte now port b s = in-kept now port s byte b
 
 pub advances_keep_sound : AdvancesKeepSound
-advances_keep_sound now to port l s = advance-kept now port s to l
+unfolding advanced
+advances_keep_sound now to port l s = search (arith, advance-receiver, longest, advance-transmitter)

@@ -1,13 +1,13 @@
 -- Registers as the data sheet has them, the divisor latch, loop mode, and bytes that come in while
 -- there is room.
-use Rattle.dev_serial.proofs.Facade.{refl, NumbersAre, ◌≡◌, ℕ, Bool, true, false, not, ◌&&◌, cond, List, [], ◌∷◌, ◌++◌, Option, Some}
-use Rattle.dev_serial.proofs.Facade.{None, sym, ap, ◌∙◌, ◌/◌, arith, is_some, is_empty, switch_of, fcr_cleared, fcr_written, nat_tests}
-use Rattle.dev_serial.proofs.Facade.{receiver_cleared, transmitter_cleared, read_of, thr_written, ier_written, written, came_in, advanced, has, Port, asks}
-use Rattle.dev_serial.proofs.Facade.{interrupt, is_pending, line_of, IsFirstAsking, IdentifiesFirst, SomeAsks, LineTellsAsking, HasNoBytes, SwitchClearsBoth}
-use Rattle.dev_serial.proofs.Facade.{IsResetBy, ResetsByBits, StaysOff, IsSwitched, WritesSwitch, Interrupt, NonePending, Trigger, ReadsKeepLevel}
-use Rattle.dev_serial.proofs.Facade.{WritesKeepLevel, BytesInKeepLevel, AdvancesKeepLevel, cond_both, first_asking, priorities, All-cons, All-nil, LoopsModem}
-use Rattle.dev_serial.proofs.Facade.{◌+◌, ◌*◌, ◌%◌, ◌<◌, bit_or, bits_where, msr_of, ReachesDivisor, ◌≤◌, length, append_assoc}
-use Rattle.dev_serial.proofs.Facade.{append-nil, common_steps, room_of, received, all_came, RoomIsHeld}
+use Rattle.dev_serial.proofs.Facade.{refl, NumbersAre, ◌≡◌, ℕ, Bool, true, false, not, List, [], ◌∷◌, ◌++◌, Option, Some, None, sym}
+use Rattle.dev_serial.proofs.Facade.{◌∙◌, arith, is_some, is_empty, switch_of, fcr_cleared, fcr_written, nat_tests, receiver_cleared, transmitter_cleared}
+use Rattle.dev_serial.proofs.Facade.{read_of, thr_written, ier_written, written, came_in, advanced, has, Port, asks, interrupt, is_pending, line_of}
+use Rattle.dev_serial.proofs.Facade.{IsFirstAsking, IdentifiesFirst, SomeAsks, LineTellsAsking, HasNoBytes, SwitchClearsBoth, IsResetBy, ResetsByBits, StaysOff}
+use Rattle.dev_serial.proofs.Facade.{IsSwitched, WritesSwitch, Interrupt, NonePending, Trigger, ReadsKeepLevel, WritesKeepLevel, BytesInKeepLevel}
+use Rattle.dev_serial.proofs.Facade.{AdvancesKeepLevel, cond_both, first_asking, priorities, All-cons, All-nil, LoopsModem, ◌+◌, ◌*◌, ◌%◌, ◌<◌}
+use Rattle.dev_serial.proofs.Facade.{bit_or, bits_where, msr_of, ReachesDivisor, ◌≤◌, length, append_assoc, append-nil, common_steps, room_of, received}
+use Rattle.dev_serial.proofs.Facade.{all_came, RoomIsHeld}
 
 -- ---- the numbers are the constants' by their definition
 
@@ -39,13 +39,9 @@ module _ (now : ℕ) (port : Port) where
         silent = All-cons Silent one rest.higher silent rest.silent;
       })
 
-  -- if one is requested, that of highest priority isn't NonePending
-  pending : (some : Interrupt) → Pending some → asks now port some ≡ true → Pending (first_asking now port priorities)
-  pending some p h = grind arith
-
   line : (line_of now port ≡ true → SomeAsks now port) × (SomeAsks now port → line_of now port ≡ true)
   unfolding line_of interrupt
-  line = (λ h. (interrupt now port, h, (first priorities).itself), λ s. pending s.0 s.1 s.2)
+  line = (λ h. (interrupt now port, h, (first priorities).itself), λ s. grind arith)
 
 pub identifies_first : IdentifiesFirst
 unfolding interrupt
@@ -61,40 +57,26 @@ switched_to value = grind (arith, has, is_some)
 module _ (value : ℕ) (port : Port) where
   both : (before after : Option Trigger) → is_some after ≡ not (is_some before) → HasNoBytes (record (fcr_cleared before after value port) { fifos = after })
   unfolding fcr_cleared
-  both None (Some after) e = search
-  both (Some before) None e = search
-  both _ _ e = cc
-
-  flags : (second first : Bool) (fifos : Option Trigger) → (second ≡ has value 2) → (first ≡ has value 1)
-      → IsResetBy value port (record (transmitter_cleared second (receiver_cleared first port)) { fifos = fifos })
-  flags second first fifos s f = grind arith
+  both before after e = grind arith
 
   reset : (before after : Option Trigger) → is_some before ≡ true → is_some after ≡ true
       → IsResetBy value port (record (fcr_cleared before after value port) { fifos = after })
   unfolding fcr_cleared
-  reset (Some before) (Some after) b a = flags (has value 2) (has value 1) (Some after) refl refl
+  reset (Some before) (Some after) b a = grind arith
   reset _ _ b a = cc
 
   off : (before after : Option Trigger) → port.fifos ≡ before → before ≡ None → is_some after ≡ false
       → record (fcr_cleared before after value port) { fifos = after } ≡ port
   unfolding fcr_cleared
-  off None None e b a = ap (λ fifos. record port { fifos = fifos }) (sym e)
-  off _ _ e b a = cc
-
-  latch_of : (second empty : Bool)
-      → cond second (cond empty port.thr_empty true) port.thr_empty ≡ cond (not empty && cond second true empty) true port.thr_empty
-  latch_of second empty = grind arith
+  off before after e b a = grind arith
 
   left : (second first : Bool) (fifos : Option Trigger) → fifos ≡ switch_of value
       → IsSwitched value port (record (transmitter_cleared second (receiver_cleared first port)) { fifos = fifos })
-  left second first fifos e = grind (arith, latch_of, is_empty)
+  left second first fifos e = grind (arith, is_empty)
 
   switched : (before after : Option Trigger) → after ≡ switch_of value → IsSwitched value port (record (fcr_cleared before after value port) { fifos = after })
   unfolding fcr_cleared
-  switched None None e = left false false None e
-  switched None (Some after) e = left true true (Some after) e
-  switched (Some before) None e = left true true None e
-  switched (Some before) (Some after) e = left (has value 2) (has value 1) (Some after) e
+  switched before after e = grind (arith, left, has)
 
 pub switch_clears_both : SwitchClearsBoth
 unfolding fcr_written
@@ -119,12 +101,9 @@ module _ (port : Port) where
   abbrev Stays : Port → Type 0
   Stays after = (after.level ≡ port.level) × (after.divisor ≡ port.divisor)
 
-  cleared : (second first : Bool) → Stays (transmitter_cleared second (receiver_cleared first port))
-  cleared second first = grind arith
-
   pub switch_stays : (value : ℕ) (before after : Option Trigger) → Stays (fcr_cleared before after value port)
   unfolding fcr_cleared
-  switch_stays value before after = grind (arith, cleared)
+  switch_stays value before after = grind arith
 
 pub reads_keep_level : ReadsKeepLevel
 unfolding read_of
@@ -144,13 +123,10 @@ advances_keep_level to port = refl
 
 -- ---- the divisor latch
 
-low_stays : (divisor low high : ℕ) → low < 256 → high * 256 + (divisor / 256 * 256 + low) % 256 ≡ 256 * high + low
-low_stays divisor low high byte = omega arith
-
 both_written : (low high now later : ℕ) (port : Port) → low < 256 → has port.lcr 7 ≡ true
     → written 1 high later (written 0 low now port) ≡ record port { divisor = 256 * high + low }
 unfolding written
-both_written low high now later port byte set = let e = low_stays port.divisor low high byte in grind (arith, nat_tests)
+both_written low high now later port byte set = grind arith
 
 hidden : (offset value now : ℕ) (port : Port) → has port.lcr 7 ≡ false → (written offset value now port).divisor ≡ port.divisor
 unfolding written thr_written ier_written fcr_written
@@ -173,15 +149,9 @@ record HasBits (rts dtr out1 out2 : Bool) (msr : ℕ) : Type 0 where
   dcd : has msr 7 ≡ out2
   changes : msr % 16 ≡ 0
 
-looped_of : (rts dtr out1 out2 : Bool) → HasBits rts dtr out1 out2 (status_by rts dtr out1 out2)
-looped_of rts dtr out1 out2 = search arith
-
 pub loops_modem : LoopsModem
 unfolding read_of msr_of
-loops_modem = record {
-  read = λ now port. refl;
-  looped = λ mcr loop. let bits = looped_of (has mcr 1) (has mcr 0) (has mcr 2) (has mcr 3) in rw loop (search);
-}
+loops_modem = search (arith, has)
 
 -- ---- bytes that come in while there is room
 
@@ -207,9 +177,6 @@ all_held now (byte ∷ bytes) port h =
     let rest = all_held now bytes (came_in byte now port) (omega arith) in
     record { held = rest.held ∙ rw (one.held, append_assoc); overrun = rest.overrun ∙ one.overrun }
 
-one_lost : (now byte : ℕ) (port : Port) → has port.mcr 4 ≡ false → room_of port ≡ 0 → (came_in byte now port).receiver.overrun ≡ true
-unfolding came_in received
-one_lost now byte port clear none = grind (arith, common_steps)
-
 pub room_is_held : RoomIsHeld
-room_is_held = search (arith, all_held, one_lost)
+unfolding came_in received
+room_is_held = search (arith, all_held, common_steps)

@@ -1,14 +1,13 @@
 -- A restored port is sound, and the rules hold of a sound port alone.
 use Rattle.dev_serial.proofs.{SavedLaws.runs-same, AlikeLaws.IsStatus, AlikeLaws.lsr-status, Facade.IsTold, Facade.IsByte, Facade.Shift}
 use Rattle.dev_serial.proofs.Facade.{◌≡◌, ℕ, true, Ok, ◌≤◌, Bool, List, [], ◌∷◌, length, Option, Some, refl, subst, ◌+◌, ◌<◌}
-use Rattle.dev_serial.proofs.Facade.{◌==◌, false, not, ◌&&◌, ◌||◌, cond, None, arith, ◌%◌, ℤ, leb-true, ltb-true, and_parts, not-true, nat_le}
+use Rattle.dev_serial.proofs.Facade.{◌==◌, false, not, ◌&&◌, ◌||◌, cond, arith, ◌%◌, ℤ, leb-true, ltb-true, and_parts, not-true, nat_le}
 use Rattle.dev_serial.proofs.Facade.{nat_lt, is_some, judged-ok, first_failing_is_first, hook-ok, Port, port_of, moment_of, shift_of, fifos_of, stored_bytes}
 use Rattle.dev_serial.proofs.Facade.{registers_hold, fcr_holds, status_holds, shift_holds, timeout_holds, latch_holds, rules, restored, unused_hold, id_holds}
-use Rattle.dev_serial.proofs.Facade.{once_holds, rings_hold, longest_timeout, is_unused, PortNumbers, first_failing, judged_by, IsFirstFailing, is_empty}
-use Rattle.dev_serial.proofs.Facade.{IsShort, same, has, AreBytes, IsShift, IsTimeout, IsSound, HasRegisters, IsReceiver, IsTransmitter, Trigger}
-use Rattle.dev_serial.proofs.Facade.{LONGEST_CHARACTER, NEVER, cell_at, IsLevel, U16, number-lt, IsPortCells, array_at, ring_at, numbers_of, IsSoundAt}
-use Rattle.dev_serial.proofs.Facade.{RestoredIsSound, DIVISOR, RX_COUNT, RX, TX_COUNT, TX, RX_DATA, TX_DATA, LAST_MOMENT, lsr_of, SoundMeetsRules, saved}
-use Rattle.dev_serial.proofs.Facade.{fcr_number, moment_number, due_number, IsHeld}
+use Rattle.dev_serial.proofs.Facade.{once_holds, rings_hold, longest_timeout, PortNumbers, first_failing, judged_by, IsFirstFailing, is_empty, IsShort, same}
+use Rattle.dev_serial.proofs.Facade.{has, AreBytes, IsShift, IsTimeout, IsSound, HasRegisters, IsReceiver, IsTransmitter, LONGEST_CHARACTER, NEVER, cell_at}
+use Rattle.dev_serial.proofs.Facade.{IsLevel, U16, number-lt, IsPortCells, array_at, ring_at, numbers_of, IsSoundAt, RestoredIsSound, DIVISOR, RX_COUNT, RX}
+use Rattle.dev_serial.proofs.Facade.{TX_COUNT, TX, RX_DATA, TX_DATA, LAST_MOMENT, lsr_of, SoundMeetsRules, saved, moment_number, due_number, IsHeld}
 use Rattle.dev_serial.proofs.SavedLaws.{unused-at, in_arrays, in_rings, bytes-in, stored-empty, stored-short, stored-bytes, byte-at, restored-saved, on}
 
 -- ---- every rule holds for numbers that are restored
@@ -44,17 +43,11 @@ rule_within rules rule e = let first : IsFirstFailing rules rule = rw e at (firs
 
 -- ---- each part of a restored port is sound
 
-switch : (off : Bool) (trigger : Trigger) → is_some (cond off None (Some trigger)) ≡ not off
-switch off trigger = grind arith
-
 pub is_on : (fcr : ℕ) → is_some (fifos_of fcr) ≡ not (fcr == 0)
-is_on fcr = switch (fcr == 0) _
-
-on_at : (off has_level bit : Bool) → (off || (has_level && bit)) ≡ true → not off ≡ true → has_level ≡ true
-on_at off has_level bit h n = grind (arith, and_parts)
+is_on fcr = grind arith
 
 pub level-on : (level fcr : ℕ) → ((fcr == 0) || (nat_le 2 level && (fcr % 64 == 1))) ≡ true → is_some (fifos_of fcr) ≡ true → 2 ≤ level
-level-on level fcr h n = grind (arith, on_at, is_on)
+level-on level fcr h n = grind (arith, and_parts, is_on)
 
 pub short : (off is_held : Bool) (byte : ℕ) (bytes : List ℕ) → length bytes ≤ 16 → IsShort (not off) (cond off (cond is_held (byte ∷ []) []) bytes)
 short off is_held byte bytes h = record { short = grind arith; one = λ e. grind arith }
@@ -62,15 +55,13 @@ short off is_held byte bytes h = record { short = grind arith; one = λ e. grind
 pub are_bytes : (off is_held : Bool) (byte : ℕ) (bytes : List ℕ) → byte < 256 → AreBytes bytes → AreBytes (cond off (cond is_held (byte ∷ []) []) bytes)
 are_bytes off is_held byte bytes b h = grind arith
 
-ends : (runs : Bool) (now t : ℕ) → cond runs (not (t == NEVER) && nat_le t (now + longest_timeout)) (t == NEVER) ≡ true → IsTimeout now runs (moment_of t)
-ends runs now t h = grind (arith, and_parts, not-true, leb-true)
-
 runs_at : (has_timeout off is_held : Bool) (byte : ℕ) (bytes : List ℕ)
     → (has_timeout && (not off && not (is_empty bytes))) ≡ (has_timeout && (not off && not (is_empty (cond off (cond is_held (byte ∷ []) []) bytes))))
 runs_at has_timeout off is_held byte bytes = grind arith
 
 pub timeout : (has_timeout off is_held unused : Bool) (byte : ℕ) (bytes : List ℕ) (now t : ℕ) → is_empty bytes ≡ unused → cond (has_timeout && (not off && not unused)) (not (t == NEVER) && nat_le t (now + longest_timeout)) (t == NEVER) ≡ true → IsTimeout now (has_timeout && (not off && not (is_empty (cond off (cond is_held (byte ∷ []) []) bytes)))) (moment_of t)
-timeout has_timeout off is_held unused byte bytes now t e h = rw (← runs_at has_timeout off is_held byte bytes, e) (ends _ now t h)
+timeout has_timeout off is_held unused byte bytes now t e h =
+    rw (← runs_at has_timeout off is_held byte bytes, e) (grind (arith, and_parts, not-true, leb-true))
 
 module _ (now tsr due : ℕ) (empty : Bool) where
   pub shift : (idle : Bool) → (same idle (due == NEVER) && cond idle (empty && (tsr == 0)) (nat_lt now due && nat_le due (now + LONGEST_CHARACTER))) ≡ true
@@ -79,9 +70,6 @@ module _ (now tsr due : ℕ) (empty : Bool) where
 
   pub idle-empty : (idle : Bool) → (same idle (due == NEVER) && cond idle (empty && (tsr == 0)) (nat_lt now due && nat_le due (now + LONGEST_CHARACTER))) ≡ true → is_some (shift_of tsr due) ≡ false → empty ≡ true
   idle-empty idle h n = grind (arith, and_parts)
-
-pub waiting-empty : (off ready empty unused : Bool) (byte : ℕ) (first second some : Bool) (tx : List ℕ) → is_empty tx ≡ unused → cond off (first && second) (same ready some && same empty unused) ≡ true → empty ≡ true → is_empty (cond off (cond (not empty) (byte ∷ []) []) tx) ≡ true
-waiting-empty off ready empty unused byte first second some tx u h e = grind (arith, same)
 
 -- ---- the whole port
 
@@ -106,17 +94,11 @@ module _ (level now : ℕ) (n : PortNumbers) (is_level : IsLevel level) (ranges 
 
   receiver : IsReceiver now level (is_some (fifos_of n.fcr)) (port_of level n).receiver
   unfolding port_of timeout_holds
-  receiver = rw (is_on n.fcr) (record {
-    short = short (n.fcr == 0) (has n.lsr 0) n.rbr (stored_bytes n.rx n.rx_ring) (stored-short n.rx n.rx_ring);
-    bytes = are_bytes (n.fcr == 0) (has n.lsr 0) n.rbr (stored_bytes n.rx n.rx_ring) ranges.rbr ranges.rx;
-    timeout = timeout (nat_le 3 level) (n.fcr == 0) (has n.lsr 0) (is_unused n.rx n.rx_ring) n.rbr (stored_bytes n.rx n.rx_ring) now n.timeout_at
-        (stored-empty n.rx n.rx_ring) rules.timeouts;
-  })
+  receiver = search (arith, is_on, has, stored-short, are_bytes, stored-empty)
 
   none_waits : has n.lsr 5 ≡ true → is_empty (port_of level n).transmitter.waiting ≡ true
   unfolding port_of status_holds
-  none_waits = waiting-empty (n.fcr == 0) (has n.lsr 0) (has n.lsr 5) (is_unused n.tx n.tx_ring) n.thr (has n.lsr 0 || (n.rbr == 0))
-      (not (has n.lsr 5) || (n.thr == 0)) (not (is_unused n.rx n.rx_ring)) (stored_bytes n.tx n.tx_ring) (stored-empty n.tx n.tx_ring) rules.status
+  none_waits = grind (arith, has, stored-empty, same)
 
   transmitter : IsTransmitter now (is_some (fifos_of n.fcr)) (port_of level n).transmitter (port_of level n).thr_empty
   unfolding port_of shift_holds latch_holds
@@ -155,22 +137,11 @@ restored_is_sound numbers cells port can e =
 
 -- ---- a port is sound exactly if a stream can describe it and the rules hold for what is saved
 
--- from sound to held
-told : (now : ℕ) (runs : Bool) (timeout : Option ℕ) → now ≤ LAST_MOMENT → IsTimeout now runs timeout → IsTold timeout
-told now runs timeout h t = grind arith
-
 is-byte : (now : ℕ) (shift : Option Shift) → IsShift now shift → IsByte shift
 is-byte now shift s = grind arith
 
 held : (now : ℕ) (port : Port) → now ≤ LAST_MOMENT → IsSound now port → IsHeld port
-held now port h s =
-    let timeout = told now _ port.receiver.timeout h s.receiver.timeout in
-    let shift = is-byte now port.transmitter.shift s.transmitter.shift in
-    search
-
--- and back, by the rules
-fifos-level : (level : ℕ) (fifos : Option Trigger) (rest : Bool) → ((fcr_number fifos == 0) || (nat_le 2 level && rest)) ≡ true → is_some fifos ≡ true → 2 ≤ level
-fifos-level level fifos rest h e = grind (arith, on)
+held now port h s = grind (arith, is-byte)
 
 shift-from : (now : ℕ) (shift : Option Shift) (idle empty five : Bool) → idle ≡ (empty && not (is_some shift)) → IsByte shift
     → (same idle (due_number shift == NEVER) && cond idle five (nat_lt now (due_number shift) && nat_le (due_number shift) (now + LONGEST_CHARACTER))) ≡ true
@@ -191,7 +162,7 @@ module _ (now : ℕ) (port : Port) (is : IsHeld port) (rules : Hold port.level n
 
   port-registers : HasRegisters port.level port.divisor port.ier port.lcr port.mcr port.scr (is_some port.fifos)
   unfolding registers_hold fcr_holds saved
-  port-registers = grind (arith, fifos-level)
+  port-registers = grind (arith, on)
 
   port-timeout : IsTimeout now (nat_le 3 port.level && (is_some port.fifos && not (is_empty port.receiver.held))) port.receiver.timeout
   unfolding timeout_holds saved

@@ -1,13 +1,13 @@
 -- The saved cells of a port, of its own set and carried to the newest one.
 use Rattle.dev_serial.proofs.AlikeLaws.{lsr-status}
-use Rattle.dev_serial.proofs.Facade.{PlacesAre, IsArray, ◌≡◌, ℕ, zero, suc, ◌+◌, ◌<◌, ◌≤◌, ◌^◌, Bool, true, false, cond, List}
-use Rattle.dev_serial.proofs.Facade.{◌∷◌, ◌++◌, map, replicate, ℤ, pos, refl, [], arith, append_assoc, length, take, drop, Option, None}
-use Rattle.dev_serial.proofs.Facade.{range_with_len, nat_le, is_some, get_or-append-add, get_or_append_left, get_or-map, get_or_past, and_le_r, nil_from_length}
-use Rattle.dev_serial.proofs.Facade.{serial_rows, InRange, U8, I8, of_none, of_more, byte, word, timer, AllHold, one_holds, of_rows, AreOf, firsts, cell_at}
-use Rattle.dev_serial.proofs.Facade.{since, named, field_cells, array_cells, ring_cells, cells_of, kinds, IsPortCells, FIFOS_SINCE, TIMEOUT_SINCE, RINGS_SINCE}
-use Rattle.dev_serial.proofs.Facade.{PortNumbers, Counted, Ring, NEWEST, LAST_MOMENT, lsr_of, AreSaved, SavedAreCells, IsShort, Port, interrupt, id_number}
-use Rattle.dev_serial.proofs.Facade.{saved, ipending_of, single_byte, fifo_bytes, in_array, in_ring, fcr_number, shift_number, due_number, moment_number}
-use Rattle.dev_serial.proofs.Facade.{IsSound, AreBytes, IsShift, IsTimeout, byte_of, padded, counted_of, ring_of, Interrupt, Shift, Trigger, RX, TX_COUNT, TX}
+use Rattle.dev_serial.proofs.Facade.{PlacesAre, IsArray, ◌≡◌, ℕ, zero, suc, ◌+◌, ◌<◌, ◌≤◌, ◌^◌, Bool, false, List, ◌∷◌}
+use Rattle.dev_serial.proofs.Facade.{◌++◌, map, replicate, ℤ, pos, refl, [], arith, append_assoc, length, take, drop, Option, None, range_with_len}
+use Rattle.dev_serial.proofs.Facade.{nat_le, is_some, get_or-append-add, get_or_append_left, get_or-map, get_or_past, and_le_r, nil_from_length, serial_rows}
+use Rattle.dev_serial.proofs.Facade.{InRange, U8, I8, of_none, of_more, byte, word, timer, AllHold, one_holds, of_rows, AreOf, firsts, cell_at, since, named}
+use Rattle.dev_serial.proofs.Facade.{field_cells, array_cells, ring_cells, cells_of, kinds, IsPortCells, FIFOS_SINCE, TIMEOUT_SINCE, RINGS_SINCE, PortNumbers}
+use Rattle.dev_serial.proofs.Facade.{Counted, Ring, NEWEST, LAST_MOMENT, lsr_of, AreSaved, SavedAreCells, IsShort, Port, interrupt, id_number, saved}
+use Rattle.dev_serial.proofs.Facade.{ipending_of, single_byte, fifo_bytes, in_array, in_ring, fcr_number, shift_number, due_number, moment_number, IsSound}
+use Rattle.dev_serial.proofs.Facade.{AreBytes, IsShift, IsTimeout, byte_of, padded, counted_of, ring_of, Interrupt, Shift, Trigger, RX, TX_COUNT, TX}
 use Rattle.dev_serial.proofs.Facade.{TIMEOUT_AT, number_at, RX_COUNT, cells_at, hook_restored, Ok, nat_tests, AllLack, none_lacks, carried_rows, carried}
 use Rattle.dev_serial.proofs.Facade.{numbers_of, SavedComesBack, Alike, Numbers, hook_result, CanSave, CanRestore}
 use Rattle.dev_serial.proofs.SavedLaws.{byte_of-lt, byte_of-padded, array-short, ring-short, restored-saved}
@@ -127,12 +127,6 @@ ipending-range enabled latch identified = grind (arith, nat_tests)
 lsr-range : (now : ℕ) (port : Port) → now ≤ LAST_MOMENT → IsSound now port → lsr_of port < 256
 lsr-range now port h s = let m = (lsr-status port).mask in omega (arith, and_le_r (lsr_of port) 0x63)
 
-array-bytes : (set : ℕ) (fifos : Option Trigger) (bytes : List ℕ) → AreBytes bytes → AreBytes (in_array set fifos bytes)
-array-bytes set fifos bytes b = elim (nat_le 4 set) as (λ is. AreBytes (cond is [] (fifo_bytes fifos bytes))) [ true ↦ tt | false ↦ fifo-range fifos bytes b ]
-
-ring-bytes : (set : ℕ) (fifos : Option Trigger) (bytes : List ℕ) → AreBytes bytes → AreBytes (in_ring set fifos bytes)
-ring-bytes set fifos bytes b = elim (nat_le 4 set) as (λ is. AreBytes (cond is (fifo_bytes fifos bytes) [])) [ true ↦ fifo-range fifos bytes b | false ↦ tt ]
-
 small : (n : ℕ) → n ≤ 16 → n < 256
 small n h = omega arith
 
@@ -144,10 +138,10 @@ ring-of bytes s b = record { elements = are_sixteen (byte_of bytes) (λ i l. byt
 
 module _ (set now : ℕ) (port : Port) (early : now ≤ LAST_MOMENT) (sound : IsSound now port) where
   array-part : (bytes : List ℕ) → IsShort (is_some port.fifos) bytes → AreBytes bytes → IsArrayOf (counted_of (in_array set port.fifos bytes))
-  array-part bytes s b = array-of _ (array-short set port.fifos bytes s) (array-bytes set port.fifos bytes b)
+  array-part bytes s b = grind (arith, array-of, array-short, fifo-range)
 
   ring-part : (bytes : List ℕ) → IsShort (is_some port.fifos) bytes → AreBytes bytes → IsRingOf (ring_of (in_ring set port.fifos bytes))
-  ring-part bytes s b = ring-of _ (ring-short set port.fifos bytes s) (ring-bytes set port.fifos bytes b)
+  ring-part bytes s b = grind (arith, ring-of, ring-short, fifo-range)
 
   -- what a set saves
   pub in-ranges : InRanges (saved set now port)
@@ -228,16 +222,12 @@ pub numbers-back : (set now : ℕ) (port : Port) → numbers_of (cells_of 4 (sav
 unfolding numbers_of cells_of saved
 numbers-back set now port = refl
 
--- a port of an early level lacks what an older set lacks
-off-early : (now : ℕ) (port : Port) → IsSound now port → port.level < 2 → port.fifos ≡ None
-off-early now port s early = grind (arith, is_some)
-
 no-timeout : (now : ℕ) (port : Port) → IsSound now port → port.level < 3 → port.receiver.timeout ≡ None
 no-timeout now port s early = let t = s.receiver.timeout in grind (arith, nat_tests)
 
 module _ (set now : ℕ) (port : Port) (early : now ≤ LAST_MOMENT) (s : IsSound now port) (le : port.level ≤ set) where
   off : nat_le 2 set ≡ false → port.fifos ≡ None
-  off e = grind (arith, off-early)
+  off e = grind (arith, is_some)
 
   empty : (bytes : List ℕ) → nat_le 2 set ≡ false → in_array set port.fifos bytes ≡ []
   empty bytes e = grind (arith, off)
@@ -256,8 +246,6 @@ module _ (set now : ℕ) (port : Port) (early : now ≤ LAST_MOMENT) (s : IsSoun
   unfolding saved
   lacks =
       let n = named (saved set now port) in
-      let held = port.receiver.held in
-      let waiting = port.transmitter.waiting in
       none_lacks n set (take 11 serial_rows) (drop 11 serial_rows) refl (
         λ e. rw (off e),
         none_lacks n set (take 1 (drop 12 serial_rows)) (drop 13 serial_rows) refl
@@ -279,10 +267,7 @@ module _ (numbers : Numbers) (port : Port) (can : CanSave numbers port) (sound :
   same = grind (arith, carried-saved)
 
   may : CanRestore newest (carried numbers.set (cells_at numbers port))
-  may = record {
-    pass = record { is_level = rw can.own_level can.is_level; newest_set = refl; moment = can.moment };
-    port_cells = rw same (newest-cells numbers.moment port can.moment sound numbers.set);
-  }
+  may = search (arith, same, newest-cells)
 
   back : (other : Port) × (hook_restored newest (carried numbers.set (cells_at numbers port)) ≡ Ok other) × Alike port other
   unfolding hook_result

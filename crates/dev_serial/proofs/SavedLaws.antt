@@ -39,12 +39,9 @@ byte_of-padded bytes i l = get_or-map-range_with_len (byte_of bytes) 0 16 i i 0 
 pub counted-back : (bytes : List ℕ) → length bytes ≤ 16 → counted_bytes (counted_of bytes) ≡ bytes
 counted-back bytes h = grind (arith, firsts-back, byte_of-padded)
 
-round : (i : ℕ) → i < 16 → (0 + i) % 16 ≡ i
-round i l = omega arith
-
 -- the ring of a list gives the list again
 pub ring-back : (bytes : List ℕ) → length bytes ≤ 16 → ring_bytes (ring_of bytes) ≡ bytes
-ring-back bytes h = grind (arith, firsts-back, round, byte_of-padded)
+ring-back bytes h = grind (arith, firsts-back, byte_of-padded)
 
 -- a test of a run of numbers
 all-range : (p : ℕ → Bool) (a n : ℕ) → ((k : ℕ) → a ≤ k → k < a + n → p k ≡ true) → list_all p (range_with_len a n) ≡ true
@@ -63,21 +60,14 @@ ring_of-holds bytes h =
     let all = all-range (is_held_or_zero (ring_of bytes)) 0 16 (λ k low high. held-or-zero bytes k (omega arith)) in
     grind (arith, nat_tests, and_from)
 
--- whether there are any
-none : (n : ℕ) → (min n 16 == 0) ≡ (n == 0)
-none n = grind (arith, nat_tests)
-
 firsts-empty : (n : ℕ) (f : ℕ → ℕ) → is_empty (firsts (min n 16) f) ≡ (n == 0)
-firsts-empty n f = cc (length-map-range_with_len f 0 (min n 16), none n)
+firsts-empty n f = grind arith
 
 pub stored-empty : (array : Counted) (ring : Ring) → is_empty (stored_bytes array ring) ≡ is_unused array ring
 stored-empty array ring = grind (arith, is_empty, firsts-empty)
 
-firsts-short : (n : ℕ) (f : ℕ → ℕ) → length (firsts (min n 16) f) ≤ 16
-firsts-short n f = grind (arith, length-map-range_with_len)
-
 pub stored-short : (array : Counted) (ring : Ring) → length (stored_bytes array ring) ≤ 16
-stored-short array ring = grind (arith, firsts-short)
+stored-short array ring = grind (arith, length-map-range_with_len)
 
 -- bytes
 pub byte_of-lt : (bytes : List ℕ) (i : ℕ) → AreBytes bytes → byte_of bytes i < 256
@@ -90,10 +80,7 @@ firsts-bytes f a zero h = tt
 firsts-bytes f a (suc n) h = (h a (omega arith) (omega arith), firsts-bytes f (a + 1) n (λ k l m. h k (omega arith) (omega arith)))
 
 pub stored-bytes : (array : Counted) (ring : Ring) → AreBytes array.bytes → AreBytes ring.elements → AreBytes (stored_bytes array ring)
-stored-bytes array ring a r =
-    cond_both (array.count == 0) (ring_bytes ring) (counted_bytes array) AreBytes
-    (λ _. firsts-bytes (λ i. byte_of ring.elements ((ring.head + i) % 16)) 0 (min ring.number 16) (λ k l m. byte_of-lt ring.elements ((ring.head + k) % 16) r))
-    (λ _. firsts-bytes (byte_of array.bytes) 0 (min array.count 16) (λ k l m. byte_of-lt array.bytes k a))
+stored-bytes array ring a r = grind (arith, cond_both, firsts-bytes, byte_of, byte_of-lt)
 
 -- the elements that a ring holds are those at (head + i) modulo 16 for i below its number
 held-place : (head i : ℕ) → head ≤ 15 → i < 16 → ((head + i) % 16 + 16 - head) % 16 ≡ i
@@ -142,15 +129,12 @@ bytes-in cells place are = firsts-bytes (λ i. number_at cells (place + i)) 0 16
 pub on : (trigger : Trigger) → (fcr_number (Some trigger) == 0) ≡ false
 on trigger = grind arith
 
-on_bit : (trigger : Trigger) → (fcr_number (Some trigger) % 64 == 1) ≡ true
-on_bit trigger = grind arith
-
 pub fifos-back : (fifos : Option Trigger) → fifos_of (fcr_number fifos) ≡ fifos
 fifos-back fifos = grind arith
 
 pub fcr-saved : (level : ℕ) (fifos : Option Trigger) → (is_some fifos ≡ true → 2 ≤ level)
     → ((fcr_number fifos == 0) || (nat_le 2 level && (fcr_number fifos % 64 == 1))) ≡ true
-fcr-saved level fifos h = grind (arith, or_right, and_from, on_bit)
+fcr-saved level fifos h = grind (arith, or_right, and_from)
 
 pub unused-saved : (fifos : Option Trigger) (held waiting : List ℕ) → cond (fcr_number fifos == 0) (is_empty (fifo_bytes fifos held) && is_empty (fifo_bytes fifos waiting)) ((single_byte fifos held == 0) && (single_byte fifos waiting == 0)) ≡ true
 unused-saved fifos held waiting = grind (arith, on)
@@ -162,16 +146,13 @@ bytes-back None (x ∷ (y ∷ bytes)) is_held s e = let h = s.one refl in absurd
 bytes-back (Some trigger) bytes is_held s e = rw (on trigger)
 bytes-back None _ is_held s e = rw e
 
-single-none : (fifos : Option Trigger) (bytes : List ℕ) → (not (is_empty bytes) || (single_byte fifos bytes == 0)) ≡ true
-single-none fifos bytes = grind (arith, not_empty)
-
 same-self : (b : Bool) → same b b ≡ true
 same-self b = grind arith
 
 pub status-saved : (fifos : Option Trigger) (held waiting : List ℕ) (ready empty : Bool) → ready ≡ not (is_empty held) → empty ≡ is_empty waiting
     → cond (fcr_number fifos == 0) ((ready || (single_byte fifos held == 0)) && (not empty || (single_byte fifos waiting == 0)))
     (same ready (not (is_empty (fifo_bytes fifos held))) && same empty (is_empty (fifo_bytes fifos waiting))) ≡ true
-status-saved fifos held waiting ready empty r e = grind (arith, on, and_from, single-none, same-self, is_empty)
+status-saved fifos held waiting ready empty r e = grind (arith, on, and_from, not_empty, same-self, is_empty)
 
 pub moment-back : (now : ℕ) (runs : Bool) (timeout : Option ℕ) → now ≤ LAST_MOMENT → IsTimeout now runs timeout → moment_of (moment_number timeout) ≡ timeout
 moment-back now runs timeout h t = grind (arith, nat_tests)
@@ -185,11 +166,6 @@ pub shift-saved : (now : ℕ) (shift : Option Shift) (idle empty : Bool) → now
     (nat_lt now (due_number shift) && nat_le (due_number shift) (now + LONGEST_CHARACTER))) ≡ true
 shift-saved now shift idle empty h s i e = grind (arith, and-false, and_from, nat_tests)
 
--- a timeout that runs exactly when it may
-timeout_at : (now : ℕ) (runs : Bool) (timeout : Option ℕ) → now ≤ LAST_MOMENT → IsTimeout now runs timeout
-    → cond runs (not (moment_number timeout == NEVER) && nat_le (moment_number timeout) (now + longest_timeout)) (moment_number timeout == NEVER) ≡ true
-timeout_at now runs timeout h t = grind (arith, nat_tests)
-
 pub runs-same : (fifos : Option Trigger) (held : List ℕ)
     → (not (fcr_number fifos == 0) && not (is_empty (fifo_bytes fifos held))) ≡ (is_some fifos && not (is_empty held))
 runs-same fifos held = grind (arith, on)
@@ -198,7 +174,7 @@ pub timeout-saved : (level now : ℕ) (fifos : Option Trigger) (held : List ℕ)
     → IsTimeout now (nat_le 3 level && (is_some fifos && not (is_empty held))) timeout
     → cond (nat_le 3 level && (not (fcr_number fifos == 0) && not (is_empty (fifo_bytes fifos held))))
     (not (moment_number timeout == NEVER) && nat_le (moment_number timeout) (now + longest_timeout)) (moment_number timeout == NEVER) ≡ true
-timeout-saved level now fifos held timeout h t = rw (runs-same fifos held) (timeout_at now _ timeout h t)
+timeout-saved level now fifos held timeout h t = rw (runs-same fifos held) (grind (arith, nat_tests))
 
 -- the FIFOs of a list, in the counted array or in the ring
 module _ (set : ℕ) (fifos : Option Trigger) (bytes : List ℕ) where
@@ -257,21 +233,13 @@ module _ (set now : ℕ) (port : Port) (early : now ≤ LAST_MOMENT) (sound : Is
     shift-back now port.transmitter.shift early sound.transmitter.shift,
   )
 
-  same_id : id_number (interrupt now port) ≡ id_number (interrupt now back)
-  unfolding interrupt back back_latch
-  same_id = ap id_number (sym tells.same_id)
-
   iir-saved : (saved set now port).iir ≡ id_number (interrupt now port)
   unfolding saved
   iir-saved = refl
 
   id : id_holds port.level now (saved set now port) ≡ true
-  unfolding id_holds
-  id = rw port-back (eq-eqb _ _ (iir-saved ∙ same_id))
-
-  alike : Alike port back
-  unfolding back back_latch
-  alike = record { same = refl; enabled = tells.while_enabled }
+  unfolding id_holds interrupt back back_latch
+  id = rw port-back (eq-eqb _ _ (iir-saved ∙ (ap id_number (sym tells.same_id))))
 
   all : (registers_hold (saved set now port) ≡ true) × (fcr_holds port.level (saved set now port) ≡ true) × (unused_hold (saved set now port) ≡ true) × (status_holds (saved set now port) ≡ true) × (shift_holds now (saved set now port) ≡ true) × (timeout_holds port.level now (saved set now port) ≡ true) × (latch_holds (saved set now port) ≡ true) × (id_holds port.level now (saved set now port) ≡ true) × (once_holds (saved set now port) ≡ true) × (rings_hold (saved set now port) ≡ true)
   unfolding registers_hold fcr_holds unused_hold status_holds shift_holds timeout_holds latch_holds once_holds rings_hold saved interrupt
@@ -296,4 +264,5 @@ module _ (set now : ℕ) (port : Port) (early : now ≤ LAST_MOMENT) (sound : Is
       (all.0, (all.1, (all.2, (all.3, (all.4, (all.5, (all.6, (all.7, (all.8, (all.9, tt))))))))))
 
   pub restored-saved : (other : Port) × (restored port.level now (saved set now port) ≡ Ok other) × Alike port other
-  restored-saved = (back, restored-there ∙ ap Ok port-back, alike)
+  unfolding back back_latch
+  restored-saved = search (arith, back, restored-there, port-back, tells)

@@ -4,7 +4,7 @@ use Rattle.dev_serial.proofs.Facade.{sym, ap, ◌∙◌, arith, [], append_assoc
 use Rattle.dev_serial.proofs.Facade.{nat_lt, is_some, not-false, map-append, length-map, ReceiverState, timetable, departures, gone, staying, holding, arrived}
 use Rattle.dev_serial.proofs.Facade.{on_line, looped_in, bytes_of, run_until, gone_by, pending_of, queued, loaded, Mode, Shift, is_empty, thr_written, advanced}
 use Rattle.dev_serial.proofs.Facade.{character_time, Port, Event, Writes, Advances, after, after_all, left_in, left_in_all, accepted_in, accepted_in_all}
-use Rattle.dev_serial.proofs.Facade.{replaces, pending, SendsInOrder, ReplacesOne, LeavesForLine, le-leb, lt-leb, length-map}
+use Rattle.dev_serial.proofs.Facade.{replaces, pending, SendsInOrder, ReplacesOne, LeavesForLine, le-leb, lt-leb}
 use Rattle.dev_serial.specs.Transmit.{byte_of}
 
 -- ---- one byte at a time
@@ -14,17 +14,6 @@ pub bytes_of-timetable : (character due : ℕ) (bytes : List ℕ) → bytes_of (
 unfolding timetable
 bytes_of-timetable character due [] = refl
 bytes_of-timetable character due (byte ∷ bytes) = rw (bytes_of-timetable character (due + character) bytes)
-
-bytes_on_line : (looped : Bool) (byte : ℕ) (bytes line : List ℕ)
-    → (line ++ cond looped [] (byte ∷ [])) ++ cond looped [] bytes ≡ line ++ cond looped [] (byte ∷ bytes)
-bytes_on_line looped byte bytes line = grind (arith, nat_tests, append-nil, append_assoc)
-
-none_on_line : (looped : Bool) (line : List ℕ) → line ++ cond looped [] [] ≡ line
-none_on_line looped line = grind (arith, nat_tests, append-nil)
-
-looped_more : (looped : Bool) (mode : Mode) (shift : Shift) (later : List Shift) (receiver : ReceiverState) → cond looped (arrived mode (shift ∷ later) receiver) receiver ≡ cond looped (arrived mode later (cond looped (arrived mode (shift ∷ []) receiver) receiver)) (cond looped (arrived mode (shift ∷ []) receiver) receiver)
-unfolding arrived
-looped_more looped mode shift later receiver = grind (arith, nat_tests)
 
 pub looped_none : (looped : Bool) (mode : Mode) (receiver : ReceiverState) → cond looped (arrived mode [] receiver) receiver ≡ receiver
 unfolding arrived
@@ -43,7 +32,7 @@ module _ (mode : Mode) (to : ℕ) (shift : Shift) where
     stays-left whole waiting e = rw (e, lt-leb shift.due to h, bytes_of-timetable mode.character (shift.due + mode.character) waiting)
 
     pub stays-line : (whole line waiting : List ℕ) → whole ≡ line ++ on_line mode (gone to (departures mode.character (Some shift) waiting)) → line ≡ whole
-    stays-line whole line waiting e = grind (arith, none-gone, none_on_line)
+    stays-line whole line waiting e = grind (arith, none-gone, nat_tests, append-nil)
 
     pub stays-looped : (whole receiver : ReceiverState) (waiting : List ℕ)
         → whole ≡ looped_in mode (gone to (departures mode.character (Some shift) waiting)) receiver → receiver ≡ whole
@@ -74,19 +63,18 @@ module _ (mode : Mode) (to : ℕ) (shift : Shift) where
     -- and a byte follows it
     gone-next : (waiting rest : List ℕ) (next : ℕ) → 0 < length waiting → next ≡ get_or waiting 0 next → rest ≡ remove waiting 0 → gone to (departures mode.character (Some shift) waiting) ≡ shift ∷ gone to (departures mode.character (Some (record { byte = next; due = shift.due + mode.character })) rest)
     unfolding departures timetable gone
-    gone-next [] rest next l n r = absurd (omega arith)
-    gone-next (x ∷ xs) rest next l n r = rw (le-leb shift.due to h, n, r)
+    gone-next waiting rest next l n r = grind arith
 
     pub moves-left : (whole : List Shift) (waiting rest : List ℕ) (next : ℕ) → next ≡ get_or waiting 0 next → rest ≡ remove waiting 0 → whole ≡ staying to (departures mode.character (Some shift) waiting) → 0 < length waiting → whole ≡ staying to (departures mode.character (Some (record { byte = next; due = shift.due + mode.character })) rest)
     unfolding departures timetable staying
-    moves-left whole [] rest next n r e l = absurd (omega arith)
-    moves-left whole (x ∷ xs) rest next n r e l = e ∙ rw (le-leb shift.due to h, n, r)
+    moves-left whole waiting rest next n r e l = grind arith
 
     pub moves-line : (whole line longer waiting rest : List ℕ) (next : ℕ) → next ≡ get_or waiting 0 next → rest ≡ remove waiting 0 → longer ≡ line ++ on_line mode (shift ∷ []) → whole ≡ line ++ on_line mode (gone to (departures mode.character (Some shift) waiting)) → 0 < length waiting → whole ≡ longer ++ on_line mode (gone to (departures mode.character (Some (record { byte = next; due = shift.due + mode.character })) rest))
-    moves-line whole line longer waiting rest next n r is e l = grind (arith, gone-next, bytes_on_line)
+    moves-line whole line longer waiting rest next n r is e l = grind (arith, gone-next, nat_tests, append-nil, append_assoc)
 
     pub moves-looped : (whole receiver after : ReceiverState) (waiting rest : List ℕ) (next : ℕ) → next ≡ get_or waiting 0 next → rest ≡ remove waiting 0 → after ≡ looped_in mode (shift ∷ []) receiver → whole ≡ looped_in mode (gone to (departures mode.character (Some shift) waiting)) receiver → 0 < length waiting → whole ≡ looped_in mode (gone to (departures mode.character (Some (record { byte = next; due = shift.due + mode.character })) rest)) after
-    moves-looped whole receiver after waiting rest next n r is e l = grind (arith, gone-next, looped_more)
+    unfolding arrived
+    moves-looped whole receiver after waiting rest next n r is e l = grind (arith, gone-next, nat_tests)
 
 -- ---- timetables, and what leaves by them
 
@@ -134,10 +122,7 @@ departures-holding character shifts t = grind (arith, departures-table)
 -- the bytes to send after a moment are the rest of the timetable
 pub departures-later : (character to : ℕ) (shift : Option Shift) (waiting : List ℕ) → departures character (run_until character to shift waiting).shift (run_until character to shift waiting).waiting ≡ staying to (departures character shift waiting)
 unfolding departures run_until staying
-departures-later character to None waiting = refl
-departures-later character to (Some shift) waiting =
-    departures-holding character (staying to (timetable character shift.due (shift.byte ∷ waiting)))
-    (staying-table character to shift.due (shift.byte ∷ waiting))
+departures-later character to shift waiting = grind (arith, departures-holding, staying-table)
 
 run-holding : (character to : ℕ) (shifts : List Shift) → IsTable character shifts
     → run_until character to (holding shifts).shift (holding shifts).waiting ≡ holding (staying to shifts)
@@ -148,9 +133,7 @@ run-holding character to shifts t = grind (arith, departures-holding)
 pub run-twice : (character a b : ℕ) (shift : Option Shift) (waiting : List ℕ) → a ≤ b
     → run_until character b (run_until character a shift waiting).shift (run_until character a shift waiting).waiting ≡ run_until character b shift waiting
 unfolding run_until departures
-run-twice character a b None waiting h = refl
-run-twice character a b (Some shift) waiting h =
-    cc (run-holding character b (staying a (timetable character shift.due (shift.byte ∷ waiting))) (staying-table character a shift.due (shift.byte ∷ waiting)), staying-twice a b (timetable character shift.due (shift.byte ∷ waiting)) h)
+run-twice character a b shift waiting h = grind (arith, run-holding, staying-table, staying-twice)
 
 pub gone_by-twice : (character a b : ℕ) (shift : Option Shift) (waiting : List ℕ) → a ≤ b → gone_by character a shift waiting ++ gone_by character b (run_until character a shift waiting).shift (run_until character a shift waiting).waiting ≡ gone_by character b shift waiting
 gone_by-twice character a b shift waiting h = grind (arith, departures-later, gone-twice)
@@ -197,9 +180,6 @@ pending-loaded : (due : ℕ) (shift : Option Shift) (waiting : List ℕ)
 unfolding loaded
 pending-loaded due shift waiting = grind arith
 
-pending-append : (shift : Option Shift) (xs ys : List ℕ) → pending_of shift (xs ++ ys) ≡ pending_of shift xs ++ ys
-pending-append shift xs ys = grind arith
-
 pub none_left : (bytes : List ℕ) → is_empty bytes ≡ true → bytes ≡ []
 none_left [] e = refl
 none_left (byte ∷ bytes) e = grind arith
@@ -213,8 +193,7 @@ queued-accepted false byte waiting e = rw (none_left waiting (not-false (is_empt
 one-event : (event : Event) (port : Port) → replaces event port ≡ false
     → left_in event port ++ pending (after event port) ≡ pending port ++ accepted_in event port
 unfolding thr_written advanced
-one-event (Writes byte now) port e =
-    cc (pending-loaded (now + character_time port.divisor port.lcr) port.transmitter.shift (queued (is_some port.fifos) byte port.transmitter.waiting), queued-accepted (is_some port.fifos) byte port.transmitter.waiting e, pending-append port.transmitter.shift port.transmitter.waiting _)
+one-event (Writes byte now) port e = grind (arith, pending-loaded, is_some, queued-accepted)
 one-event (Advances to) port e = cc (in-order (character_time port.divisor port.lcr) to port.transmitter.shift port.transmitter.waiting, append-nil _)
 
 pub sends_in_order : SendsInOrder

@@ -4,8 +4,8 @@ use Rattle.dev_serial.proofs.Facade.{◌≡◌, ℕ, ◌+◌, ◌*◌, ◌<◌, 
 use Rattle.dev_serial.proofs.Facade.{length, Option, Some, None, refl, arith, length-append, ◌⊎◌, mul-le-mul, nat_tests, ne_eqb, leb-true, nat_le, max}
 use Rattle.dev_serial.proofs.Facade.{is_some, is_empty, has, bits_where, character_time, character_bits, ReceiverState, TransmitterState, IsShort, [], received}
 use Rattle.dev_serial.proofs.Facade.{taken_at, emptied, longest_timeout, LongestCharacter, AreBytes, IsTimeout, IsReceiver, IsShift, IsTransmitter, queued}
-use Rattle.dev_serial.proofs.Facade.{loaded, timetable, departures, gone, staying, holding, arrived, run_until, gone_by, Mode, Shift, LONGEST_CHARACTER, ap}
-use Rattle.dev_serial.proofs.Facade.{◌∙◌, ◌||◌, thr_written, written, Port, queues, interrupt, line_of}
+use Rattle.dev_serial.proofs.Facade.{loaded, timetable, departures, gone, staying, holding, arrived, run_until, gone_by, Mode, Shift, LONGEST_CHARACTER}
+use Rattle.dev_serial.proofs.Facade.{◌||◌, thr_written, written, Port, queues, interrupt, line_of}
 
 -- ---- each step of a part
 
@@ -46,10 +46,6 @@ module _ (now at character byte : ℕ) (looped : Bool) (receiver : ReceiverState
   in_time : at + 4 * character ≤ now + longest_timeout
   in_time = omega arith
 
-  received-short : (on has_timeout : Bool) → IsShort on receiver.held → IsShort on (received (mode_at character on has_timeout looped) byte at receiver).held
-  unfolding received
-  received-short on has_timeout s = search (arith, nat_tests, length-append)
-
   received-bytes : (on has_timeout : Bool) → byte < 256 → AreBytes receiver.held
       → AreBytes (received (mode_at character on has_timeout looped) byte at receiver).held
   unfolding received
@@ -61,25 +57,19 @@ module _ (now at character byte : ℕ) (looped : Bool) (receiver : ReceiverState
 
   pub received-sound : (level : ℕ) (on : Bool) → byte < 256 → IsReceiver now level on receiver
       → IsReceiver now level on (received (mode_at character on (nat_le 3 level) looped) byte at receiver)
-  received-sound level on b s = search (received-short, received-bytes, received-timeout)
+  unfolding received
+  received-sound level on b s = search (arith, nat_tests, length-append, received-bytes, received-timeout)
 
 -- the first byte leaves
 module _ (now at character : ℕ) (looped : Bool) (early : at ≤ now) (quick : character ≤ LONGEST_CHARACTER) where
-  taken-timeout : (on has_timeout : Bool) (byte : ℕ) (rest : List ℕ) (timeout : Option ℕ) → IsTimeout now (has_timeout && (on && not (is_empty (byte ∷ rest)))) timeout → IsTimeout now (has_timeout && (on && not (is_empty rest))) (cond (has_timeout && on) (cond (is_empty rest) None (Some (at + 4 * character))) timeout)
-  taken-timeout on has_timeout byte rest timeout s = search (arith, nat_tests)
-
   pub taken-held : (level : ℕ) (on : Bool) (held : List ℕ) (receiver : ReceiverState) → receiver.held ≡ held → IsReceiver now level on receiver
       → IsReceiver now level on (taken_at (mode_at character on (nat_le 3 level) looped) at held receiver).1
   unfolding taken_at
-  taken-held level on held receiver e s = grind (arith, taken-timeout)
+  taken-held level on held receiver e s = grind (arith, nat_tests)
 
 -- the receiver without its bytes, with FIFOs or not
 pub emptied-sound : (now level : ℕ) (on : Bool) (receiver : ReceiverState) → IsReceiver now level on (emptied receiver)
 emptied-sound now level on receiver = search (arith, nat_tests)
-
--- a later moment
-pub later-timeout : (now to : ℕ) (runs : Bool) (timeout : Option ℕ) → now ≤ to → IsTimeout now runs timeout → IsTimeout to runs timeout
-later-timeout now to runs timeout h t = grind arith
 
 -- a byte is written
 queued-short : (on : Bool) (byte : ℕ) (waiting : List ℕ) → IsShort on waiting → IsShort on (queued on byte waiting)
@@ -104,8 +94,7 @@ thr-sound now character byte on latch transmitter p q b s =
 
 -- another latch
 pub latched-sound : (now : ℕ) (on first second : Bool) (transmitter : TransmitterState) → (second ≡ true → (first ≡ true) ⊎ (is_empty transmitter.waiting ≡ true)) → IsTransmitter now on transmitter first → IsTransmitter now on transmitter second
-latched-sound now on first second transmitter h s =
-    search arith
+latched-sound now on first second transmitter h s = grind arith
 
 -- no byte waits any more, with FIFOs or not
 pub cleared-sound : (now : ℕ) (on other latch new_latch : Bool) (transmitter : TransmitterState) → IsTransmitter now on transmitter latch
@@ -131,8 +120,7 @@ holding-sound character to due (byte ∷ bytes) q h b =
 run-sound : (character now to : ℕ) (shift : Option Shift) (waiting : List ℕ) → character ≤ LONGEST_CHARACTER → now ≤ to → IsShift now shift → AreBytes waiting
     → (is_some shift ≡ false → is_empty waiting ≡ true) → HoldsSound to (run_until character to shift waiting)
 unfolding run_until departures
-run-sound character now to None waiting q l s b i = record { shift = tt; bytes = b; idle = i }
-run-sound character now to (Some shift) waiting q l s b i = holding-sound character to shift.due (shift.byte ∷ waiting) q (omega arith) (s.byte, b)
+run-sound character now to shift waiting q l s b i = search (arith, holding-sound)
 
 latched : (end before latch : Bool) → (latch ≡ true → end ≡ true) → cond (end && not before) true latch ≡ true → end ≡ true
 latched end before latch h e = grind arith
@@ -166,7 +154,7 @@ arrived-sound character to level on looped (shift ∷ later) receiver q g s =
     arrived-sound character to level on looped later _ q g.2 (received-sound to shift.due character shift.byte looped receiver g.0 q level on g.1 s)
 
 later-receiver : (now to level : ℕ) (on : Bool) (receiver : ReceiverState) → now ≤ to → IsReceiver now level on receiver → IsReceiver to level on receiver
-later-receiver now to level on receiver l s = search (arith, later-timeout)
+later-receiver now to level on receiver l s = search arith
 
 pub advance-receiver : (character now to level : ℕ) (on looped : Bool) (shift : Option Shift) (waiting : List ℕ) (receiver : ReceiverState) → character ≤ LONGEST_CHARACTER → now ≤ to → IsShift now shift → AreBytes waiting → IsReceiver now level on receiver → IsReceiver to level on (cond looped (arrived (mode_at character on (nat_le 3 level) looped) (gone_by character to shift waiting) receiver) receiver)
 advance-receiver character now to level on true shift waiting receiver q l h b s =
@@ -183,8 +171,7 @@ queued-filled has_fifos byte waiting = grind (arith, nat_tests, length-append)
 loaded-busy : (due : ℕ) (shift : Option Shift) (waiting : List ℕ) → is_some shift ≡ true
     → loaded due shift waiting ≡ record { waiting = waiting; shift = shift }
 unfolding loaded
-loaded-busy due None waiting busy = cc
-loaded-busy due (Some shift) waiting busy = refl
+loaded-busy due shift waiting busy = grind arith
 
 -- what holds if a byte only waits
 parts : (divisor latch busy : Bool) → not (divisor || latch || not busy) ≡ true → (divisor ≡ false) × (latch ≡ false) × (busy ≡ true)
@@ -209,5 +196,4 @@ queue-line now transmitter port = refl
 pub queued-by : (byte now : ℕ) (port seen : Port) (transmitter : TransmitterState) (has_fifos : Bool) → port ≡ seen
     → queues seen ≡ true → has_fifos ≡ is_some port.fifos → transmitter ≡ record port.transmitter { waiting = queued has_fifos byte port.transmitter.waiting }
     → record port { transmitter = transmitter } ≡ written 0 byte now seen
-queued-by byte now port seen transmitter has_fifos view q fifos e =
-    rw (e, fifos) (queue-written byte now port (ap queues view ∙ q) ∙ ap (written 0 byte now) view)
+queued-by byte now port seen transmitter has_fifos view q fifos e = grind (arith, queue-written, written)

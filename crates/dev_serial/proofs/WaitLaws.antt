@@ -1,9 +1,8 @@
 -- A span in two parts, and a span in which no byte is due.
 use Rattle.dev_serial.proofs.Facade.{◌≡◌, ℕ, ◌+◌, ◌<◌, ◌≤◌, Bool, true, cond, List, ◌∷◌, ◌++◌, length, Some, None, refl, sym}
-use Rattle.dev_serial.proofs.Facade.{ap, ◌∙◌, arith, Option, [], not, ◌&&◌, le-leb, lt-leb, map-append, le-max_right, le-div, ReceiverState}
-use Rattle.dev_serial.proofs.Facade.{TransmitterState, timetable, departures, gone, staying, holding, arrived, on_line, bytes_of, run_until, gone_by}
-use Rattle.dev_serial.proofs.Facade.{IsSentAfter, Mode, Shift, is_empty, advanced, leaving, has, character_time, Port, mode_of, received, AdvancesInParts}
-use Rattle.dev_serial.proofs.Facade.{WaitsUntilDue, LoopsAtMoment}
+use Rattle.dev_serial.proofs.Facade.{arith, [], not, ◌&&◌, lt-leb, map-append, le-max_right, le-div, ReceiverState, TransmitterState, timetable, departures}
+use Rattle.dev_serial.proofs.Facade.{gone, staying, holding, arrived, bytes_of, run_until, gone_by, IsSentAfter, Mode, Shift, is_empty, advanced, leaving, has}
+use Rattle.dev_serial.proofs.Facade.{character_time, Port, mode_of, received, AdvancesInParts, WaitsUntilDue, LoopsAtMoment}
 use Rattle.dev_serial.proofs.SendingLaws.{bytes_of-timetable, looped_none, none-gone, run-twice, gone_by-twice, fewer}
 use Rattle.dev_serial.specs.Transmit.{byte_of}
 
@@ -19,11 +18,6 @@ arrived-append mode (shift ∷ xs) ys receiver = arrived-append mode xs ys (rece
 
 looped-append : (mode : Mode) (looped : Bool) (xs ys : List Shift) (receiver : ReceiverState) → cond looped (arrived mode (xs ++ ys) receiver) receiver ≡ cond looped (arrived mode ys (cond looped (arrived mode xs receiver) receiver)) (cond looped (arrived mode xs receiver) receiver)
 looped-append mode looped xs ys receiver = grind (arith, arrived-append)
-
--- the latch over two spans
-latch-twice : (before between end latch : Bool) → (before ≡ true → between ≡ true) → (between ≡ true → end ≡ true)
-    → cond (end && not between) true (cond (between && not before) true latch) ≡ cond (end && not before) true latch
-latch-twice before between end latch p q = grind arith
 
 pub stays_empty : (few many : List ℕ) → length few ≤ length many → is_empty many ≡ true → is_empty few ≡ true
 stays_empty few many h e = grind arith
@@ -55,16 +49,11 @@ module _ (first second : ℕ) (port : Port) (h : first ≤ second) where
 
   latch-same : cond (is_empty end.waiting && not (is_empty between.waiting)) true (cond (is_empty between.waiting && not (is_empty port.transmitter.waiting)) true port.thr_empty) ≡ cond (is_empty end.waiting && not (is_empty port.transmitter.waiting)) true port.thr_empty
   unfolding end between
-  latch-same =
-      latch-twice (is_empty port.transmitter.waiting) (is_empty between.waiting) (is_empty end.waiting) port.thr_empty
-      (stays_empty between.waiting port.transmitter.waiting (fewer character first port.transmitter.shift port.transmitter.waiting))
-      (stays_empty end.waiting between.waiting (fewer character second between.shift between.waiting))
+  latch-same = grind (arith, is_empty, between, end, stays_empty, fewer)
 
   in-parts : advanced second port ≡ ((advanced first port).0 ++ (advanced second (advanced first port).1).0, (advanced second (advanced first port).1).1)
   unfolding advanced outcome end between
-  in-parts =
-      same_outcome port _ _ _ _ _ _ _ _ (ap (on_line (mode_of port)) (sym gone-both) ∙ on_line-append (mode_of port) (has port.mcr 4) _ _)
-      (rw (sym gone-both) (looped-append (mode_of port) (has port.mcr 4) _ _ port.receiver)) (sym end-same) (rw (sym end-same) (sym latch-same))
+  in-parts = grind (arith, same_outcome, gone-both, on_line-append, has, looped-append, end-same, latch-same)
 
 pub advances_in_parts : AdvancesInParts
 advances_in_parts first second port h = in-parts first second port h
@@ -74,9 +63,6 @@ stays : (to : ℕ) (shift : Shift) (character : ℕ) (waiting : List ℕ) → to
 unfolding run_until departures timetable staying holding
 stays to shift character waiting h = rw (lt-leb shift.due to h, bytes_of-timetable character (shift.due + character) waiting)
 
-no_line : (looped : Bool) → cond {A = List ℕ} looped [] [] ≡ []
-no_line looped = grind arith
-
 no_change : (empty latch : Bool) → cond (empty && not empty) true latch ≡ latch
 no_change empty latch = grind arith
 
@@ -84,10 +70,7 @@ nothing-leaves : (to : ℕ) (port : Port) → leaving to port ≡ []
     → run_until (character_time port.divisor port.lcr) to port.transmitter.shift port.transmitter.waiting ≡ port.transmitter
     → advanced to port ≡ ([], port)
 unfolding advanced arrived outcome
-nothing-leaves to port none still =
-    same_outcome port _ [] _ port.receiver _ port.transmitter _ port.thr_empty (rw none (no_line (has port.mcr 4)))
-    (rw none (looped_none (has port.mcr 4) (mode_of port) port.receiver))
-    still (rw still (no_change (is_empty port.transmitter.waiting) port.thr_empty))
+nothing-leaves to port none still = grind (arith, same_outcome, has, looped_none, no_change, is_empty)
 
 pub waits_until_due : WaitsUntilDue
 waits_until_due to port shift e h =
@@ -97,13 +80,9 @@ idle : (to : ℕ) (port : Port) → port.transmitter.shift ≡ None → advanced
 unfolding departures gone run_until
 idle to port e = nothing-leaves to port (rw e) (rw (e, sym e))
 
-still-by : (shift : Option Shift) (to : ℕ) (port : Port) → port.transmitter.shift ≡ shift → IsSentAfter to shift → advanced to port ≡ ([], port)
-still-by None to port e h = idle to port e
-still-by (Some shift) to port e h = waits_until_due to port shift e h
-
 -- nothing leaves before it is due
 pub still : (to : ℕ) (port : Port) → IsSentAfter to port.transmitter.shift → advanced to port ≡ ([], port)
-still to port h = grind (arith, still-by)
+still to port h = grind (arith, idle, waits_until_due)
 
 pub character-positive : (divisor lcr : ℕ) → 1 ≤ character_time divisor lcr
 unfolding character_time
@@ -114,11 +93,6 @@ unfolding gone timetable
 next-waits character due [] h = refl
 next-waits character due (byte ∷ bytes) h = rw (lt-leb (due + character) due (omega arith))
 
-alone : (character : ℕ) (shift : Shift) (waiting : List ℕ) → 1 ≤ character → gone_by character shift.due (Some shift) waiting ≡ shift ∷ []
-unfolding departures timetable gone
-alone character shift waiting h = rw (le-leb shift.due shift.due (omega arith), next-waits character shift.due waiting h)
-
 pub loops_at_moment : LoopsAtMoment
-unfolding advanced arrived
-loops_at_moment port shift l e =
-    rw (l, e, alone (character_time port.divisor port.lcr) shift port.transmitter.waiting (character-positive port.divisor port.lcr)) (refl, refl)
+unfolding advanced arrived departures timetable gone
+loops_at_moment port shift l e = grind (arith, character-positive, next-waits)

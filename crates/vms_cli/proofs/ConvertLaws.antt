@@ -1,13 +1,12 @@
 -- What follows of a stream that `convert` writes.
-use Rattle.vms_cli.proofs.{Entries.target_gives, StreamCommands.newest_fit}
-use Rattle.vms_cli.proofs.Facade.{Traces, Unfit, ScriptLine, ◌≡◌, ℕ, List, Option, Some, None, refl, sym, ap, ◌∙◌, subst, arith, [], append-nil}
-use Rattle.vms_cli.proofs.Facade.{length, ◌-◌, Bool, true, false, ◌||◌, ◌∷◌, IfSome, ℤ, if◌then◌else◌, length-map, bytes_eq-Decides}
-use Rattle.vms_cli.proofs.Facade.{bytes_eq, Held, IsFit, Image, Set, Takes, one_stream_holds, taken_kept, Compatible, first_mismatch, Mismatch, IsStreamFor}
-use Rattle.vms_cli.proofs.Facade.{word_set, Outcome, done, SetWord, Step, Untold, Gives, Ends, next, FitStep, fit_word, ConvertsBy, Rewrites, WouldLose, agreed}
-use Rattle.vms_cli.proofs.Facade.{agrees, newest, Converts, described_text, AreRecastOf, converts_stand, ready, newest_kinds, PrintsAlike, ConvertAgainLaw}
-use Rattle.vms_cli.proofs.Facade.{ConvertThenAnalyzeLaw, StandsFor, ConvertThenLoadLaw, IsLevel, NEWEST, State, recast_restores, recast_cells, IsConfiguration}
-use Rattle.vms_cli.proofs.Facade.{is_one_of, recast_each, numbers_in, wants_arrays, lists_in, takes_under, isa, isa_stands, Back, Restores, Loads, LoadsBy}
-use Rattle.vms_cli.proofs.RoundTrips.{done_apart, fits_text, machine_of_set, same_text, written_prints}
+use Rattle.vms_cli.proofs.{Entries.target_gives, Entries.target_is, StreamCommands.newest_fit, Facade.Restores, Facade.Loads, Facade.LoadsBy}
+use Rattle.vms_cli.proofs.Facade.{target, Traces, Unfit, ScriptLine, ◌≡◌, ℕ, List, Option, Some, None, refl, sym, ap, ◌∙◌, subst, arith, []}
+use Rattle.vms_cli.proofs.Facade.{append-nil, length, ◌-◌, Bool, true, false, ◌∷◌, IfSome, ℤ, if◌then◌else◌, length-map, bytes_eq-Decides}
+use Rattle.vms_cli.proofs.Facade.{Held, IsFit, Image, Set, Takes, one_stream_holds, taken_kept, Compatible, IsStreamFor, word_set, Outcome, done, SetWord, Step}
+use Rattle.vms_cli.proofs.Facade.{Gives, ConvertsBy, Rewrites, WouldLose, newest, Converts, described_text, AreRecastOf, converts_stand, ready, newest_kinds}
+use Rattle.vms_cli.proofs.Facade.{PrintsAlike, ConvertAgainLaw, ConvertThenAnalyzeLaw, StandsFor, ConvertThenLoadLaw, IsLevel, NEWEST, State, recast_restores}
+use Rattle.vms_cli.proofs.Facade.{recast_cells, IsConfiguration, is_one_of, recast_each, numbers_in, wants_arrays, lists_in, takes_under, isa, isa_stands, Back}
+use Rattle.vms_cli.proofs.RoundTrips.{has_gives, done_apart, fits_text, machine_of_set, same_text, written_prints}
 use Rattle.vms_cli.specs.{Commands.ConvertCommand.Refuses, Commands.ShowCommand.Values as Printed}
 use Rattle.vms_convert.specs.Laws.{Converts as StaysSo}
 use Rattle.vms_check.proofs.SelfLaws.{is_among}
@@ -31,15 +30,11 @@ module _ (input stream : List ℕ) (held : Option Held) (n : ℕ) where
   by_outcome to fit compatible x same (WouldLose taken machine images section cell takes loses) = absurd (done_apart 11 _ stream held taken n (sym same))
   by_outcome to fit compatible x same (Refuses place section reason size fault) = absurd (done_apart 1 _ stream held _ n (sym same))
 
-  by_compared : (to : Set) → IsFit to → (m : Option Mismatch) → first_mismatch to newest ≡ m → ConvertsBy (agreed to m) (Some input) held (done stream held n)
-      → Written to
-  by_compared to fit None e has = by_outcome to fit e _ refl has
-  by_compared to fit (Some m) e has = absurd (done_apart 4 _ stream held 0 n has)
-
-  by_step : (s : Step Set) → FitStep s → ConvertsBy (next s agrees) (Some input) held (done stream held n) → (to : Set) × (s ≡ Gives to) × Written to
-  by_step Untold fit has = absurd has
-  by_step (Gives to) fit has = (to, refl, by_compared to fit _ refl has)
-  by_step (Ends status line) fit has = absurd (done_apart status line stream held 0 n has)
+  by_word : (word : SetWord) → ConvertsBy (target held word) (Some input) held (done stream held n) → (to : Set) × (word_set held word ≡ Gives to) × Written to
+  by_word word has =
+      let g = has_gives (λ to x. Converts to input held x) (target held word) stream held n has in
+      let is = target_is held word g.0 g.1 in
+      (g.0, is.0, by_outcome g.0 is.1 is.2 _ refl g.2)
 
   -- ---- the laws of what is converted
 
@@ -75,12 +70,12 @@ module _ (input stream : List ℕ) (held : Option Held) (n : ℕ) where
 
 pub convert_then_analyze : ConvertThenAnalyzeLaw
 convert_then_analyze word input stream held n has =
-    let w = by_step input stream held n _ (fit_word held word) has in
+    let w = by_word input stream held n word has in
     prints input stream held n w.0 w.2 word w.1
 
 pub convert_again : ConvertAgainLaw
 convert_again word input stream held n has =
-    let w = by_step input stream held n _ (fit_word held word) has in
+    let w = by_word input stream held n word has in
     stands_for input stream held n w.0 w.2 word w.1
 
 -- ---- Boards go on from what `convert` writes as from its input.
@@ -101,8 +96,7 @@ module _ (to : Set) (level : ℕ) where
 -- the machines that a stream of this machine or none may name
 named_in : (names : List (List ℕ)) (machine : Option (List ℕ)) (bytes : List ℕ) → IsConfiguration names machine bytes
     → IfSome machine (λ name. is_one_of names name ≡ true)
-named_in names None bytes c = tt
-named_in names (Some name) bytes c = c.0
+named_in names machine bytes c = grind arith
 
 of_level : (level : ℕ) → IsLevel level → is_one_of newest.machines (machine_of level) ≡ true
 of_level level is = is_among newest.machines (level - 1) (machine_of level) (isa_stands.named level NEWEST is.first is.last (omega arith))
@@ -110,11 +104,7 @@ of_level level is = is_among newest.machines (level - 1) (machine_of level) (isa
 known : (level : ℕ) → IsLevel level → (machine : Option (List ℕ)) → IfSome machine (λ name. is_one_of (machine_of level ∷ []) name ≡ true)
     → IfSome machine (λ name. is_one_of newest.machines name ≡ true)
 known level is None h = tt
-known level is (Some name) h = by (bytes_eq (machine_of level) name) refl h
-  where
-    by : (b : Bool) → bytes_eq (machine_of level) name ≡ b → b || false ≡ true → is_one_of newest.machines name ≡ true
-    by true e h = cc ((bytes_eq-Decides (machine_of level) name).0 e, of_level level is)
-    by false e h = cc
+known level is (Some name) h = rw (← (bytes_eq-Decides (machine_of level) name).0 (grind arith)) (of_level level is)
 
 -- ---- what is loaded
 
@@ -147,9 +137,9 @@ module _ (level : ℕ) (is : IsLevel level) (input stream : List ℕ) (held : Op
 
   by_script : {word : _} {n : ℕ} → StandsFor word input stream held n → (s : Step (List ScriptLine)) (trace : List ℕ) (k : ℕ)
       → LoadsBy isa level s (Some input) held (done trace held k) → LoadsBy isa level s (Some stream) held (done trace held (length stream))
-  by_script stands Untold trace k has = absurd has
-  by_script stands (Gives lines) trace k has = traced_too stands lines trace k _ refl has
-  by_script stands (Ends status line) trace k has = absurd (done_apart status line trace held 0 k has)
+  by_script stands s trace k has =
+      let g = has_gives (λ lines x. Loads isa level lines input held x) s trace held k has in
+      rw (g.1) (traced_too stands g.0 trace k _ refl g.2)
 
 pub convert_then_load : ConvertThenLoadLaw
 convert_then_load word level input stream script trace held n k is converted loaded =

@@ -1,6 +1,6 @@
 -- The kinds of boards, their sets and their words.
 use Rattle.std.proofs.Common.{◌≡◌, ℕ, suc, ◌+◌, ◌-◌, ◌≤◌, List, ℤ, refl, arith}
-use Rattle.dev_board.proofs.{SoundLaws.sound_stays_on}
+use Rattle.dev_board.proofs.SoundLaws.{sound_stays_on}
 use Rattle.dev_board.specs.{Laws.AreEvents, Sound.Alike, declared.event.Event.Event}
 use Rattle.dev_clock.proofs.StepLaws.{sound_stays_on as clock_stays_on}
 use Rattle.dev_clock.specs.Sound.{Alike as AlikeClocks}
@@ -9,12 +9,12 @@ use Rattle.vms_board_streams.proofs.BoardStreams.{clock_laws, isa_laws}
 use Rattle.vms_board_streams.specs.Streams.{BoardsGoOn, after_events}
 use Rattle.vms_commands.specs.Kinds.{first_set, newest_of, set_of}
 use Rattle.vms_commands.specs.declared.kinds.BoardKind.{BoardKind, TheVariants.Isa, TheVariants.Clock}
+use Rattle.std.proofs.lemmas.Bool.{cond_both}
 use Rattle.vms_cli.proofs.Facade.{compatible_text, verdict, ClockSetsLaw, Check, asked_of, of_both, pair_of, zero, ◌++◌, if◌then◌else◌, [], ◌∷◌}
 use Rattle.vms_cli.proofs.Facade.{Option, Some, None, codes, ap, sym, subst, option_map, bytes_eq, decimal_digit, sets_are_compatible, Mismatch, done, SetOf}
 use Rattle.vms_cli.proofs.Facade.{Shipped, first_kind, kinds, set_front, named_set, number_after, set_word, HasText, ◌<◌, Bool, true, false, IfSome}
-use Rattle.vms_cli.proofs.Facade.{◌∙◌, decimal, nat_tests, IsLevel, ReachesSet, or_else, ShippedSet, SetWord, is_set_of, is_shelf_name, Asked, BoardWord}
-use Rattle.vms_cli.proofs.Facade.{BoardOf, Save, board_word, ◌&&◌, board_front, drill_of, isa_level, save_of, save_on, with_file, CanBeAsked, IsBoard}
-use Rattle.vms_cli.proofs.Facade.{MaySaveOn}
+use Rattle.vms_cli.proofs.Facade.{decimal, nat_tests, IsLevel, ReachesSet, or_else, ShippedSet, SetWord, is_set_of, is_shelf_name, Asked, BoardWord, BoardOf}
+use Rattle.vms_cli.proofs.Facade.{Save, board_word, ◌&&◌, board_front, drill_of, isa_level, save_of, save_on, with_file, CanBeAsked, IsBoard, MaySaveOn}
 use Rattle.vms_cli.specs.Kinds.{IsSoundOf, StateOf, family_of}
 
 -- ---- the laws of the kinds of boards
@@ -101,18 +101,13 @@ IsThere board = IfSome board IsBoard
 -- a number that a word has is in its range
 after-range : (front word : List ℕ) (first count n : ℕ) → number_after front first count word ≡ Some n → (first ≤ n) × (n < first + count)
 after-range front word first zero n e = cc
-after-range front word first (suc count) n e = by (bytes_eq word (front ++ decimal first)) refl (after-range front word (suc first) count n) where
-  found : Bool → Option ℕ
-  found b = if b then Some first else number_after front (suc first) count word
-
-  by : (b : Bool) → bytes_eq word (front ++ decimal first) ≡ b
-      → (number_after front (suc first) count word ≡ Some n → (suc first ≤ n) × (n < suc first + count)) → (first ≤ n) × (n < first + suc count)
-  by true t next = let same : first ≡ n = cc in (omega arith, omega arith)
-  by false t next = let r = next (sym (ap found t) ∙ e) in (omega arith, omega arith)
+after-range front word first (suc count) n e =
+    cond_both (bytes_eq word (front ++ decimal first)) _ _ (λ (o : Option ℕ). o ≡ Some n → (first ≤ n) × (n < first + suc count))
+    (λ t e. let same : first ≡ n = cc in (omega arith, omega arith))
+    (λ t e. let r = after-range front word (suc first) count n e in (omega arith, omega arith)) e
 
 either-there : (x y : Option BoardWord) → IsThere x → IsThere y → IsThere (or_else x y)
-either-there None y p q = q
-either-there (Some board) y p q = p
+either-there x y p q = grind arith
 
 named : (kind : BoardKind) (word : List ℕ) (o : Option ℕ) → number_after (board_front kind) 1 (newest_of kind) word ≡ o
     → IsThere (option_map (BoardOf kind) o)
@@ -132,8 +127,7 @@ abbrev pub HasLevel : Option ℕ → Type 0
 HasLevel level = IfSome level IsLevel
 
 level-of : (board : Option BoardWord) → IsThere board → HasLevel (isa_level board)
-level-of (Some (BoardOf Isa level)) is = is
-level-of _ is = tt
+level-of board is = grind arith
 
 pub word-level : (word : List ℕ) → HasLevel (isa_level (board_word word))
 word-level word = level-of _ (word-board word)
@@ -141,8 +135,7 @@ word-level word = level-of _ (word-board word)
 -- ---- commands
 
 pub either-asked : (b : Bool) (x y : Option Asked) → CanBeAsked x → CanBeAsked y → CanBeAsked (if b then x else y)
-either-asked true x y p q = p
-either-asked false x y p q = q
+either-asked b x y p q = grind arith
 
 -- of a word with others, where each of the commands can be asked
 pub mapped-asked : {A : Type 0} (ask : A → Asked) (what : Option A) → ((a : A) → CanBeAsked (Some (ask a))) → CanBeAsked (option_map ask what)
@@ -177,5 +170,4 @@ pub save-asked : (board : Option BoardWord) (set : Option ShippedSet) (script : 
 save-asked board set script is = either-asked (is_shelf_name script) (save_on script board set) None (on-asked script board set is) tt
 
 pub drill-asked : (level seed count : Option ℕ) → HasLevel level → CanBeAsked (drill_of level seed count)
-drill-asked (Some level) (Some seed) (Some count) is = is
-drill-asked _ _ _ is = tt
+drill-asked level seed count is = grind arith

@@ -1,26 +1,26 @@
 -- One command after the other: what was written is read again.
-use Rattle.vms_cli.proofs.{Entries.fits_of, Entries.words_ask, RowLemmas.caused_so, RowLemmas.row_so, TextCommands.verdict_so, StreamCommands.pack_gives}
-use Rattle.vms_cli.proofs.Facade.{ℕ, List, length, Option, None, Some, subst, ◌≡◌, [], append-nil, refl, ap, ◌∙◌, IfSome, Family, LoadsBy, Traces}
-use Rattle.vms_cli.proofs.Facade.{stream_with, BoardsGoOn, Outcome, Outside, DoesOrStops, Step, Gives, Both, both, next, ScriptLine, events_of, HasOutcome}
-use Rattle.vms_cli.proofs.Facade.{Asked, BoardOf, Load, Show, asked_of, Continuation, ContinuesBy, goes_on, Held, HoldsAll, Image, Set, written, WellFormed}
-use Rattle.vms_cli.proofs.Facade.{Compatible, carried, Takes, upgrade_stands, SetText, named_sets, set_in, sets_in, word_set, SetWord, FitStep, fit_word}
-use Rattle.vms_cli.proofs.Facade.{AreCompatible, CheckThenShowLaw, ShowsBy, IsWritten, Upgrade, UpgradesTo, shown_newer, Intake, Outlet, Stock, Serves, Ending}
-use Rattle.vms_cli.proofs.Facade.{Tells, around, outcome_so, Runs, moment, task_of, machine_known, Answers, AlwaysNamedLaw, Prints, RefusesSo, StateLaw}
-use Rattle.vms_cli.proofs.Facade.{◌≤◌, Bool, true, false, if◌then◌else◌, ◌∷◌, sym, arith, ◌-◌, ℤ, ◌++◌, LONGEST_TEXT, AreReady}
-use Rattle.vms_cli.proofs.Facade.{is_one_of, configuration, end_mark, optional, stream_head, trailer, written_sections, values_text, ValuesRead, Values, Bad}
-use Rattle.vms_cli.proofs.Facade.{values_read, IsFit, IsMachineOf, ShowsAs, accepted_holds, packed_holds, shown_holds, written_only, printed_holds}
-use Rattle.vms_cli.proofs.Facade.{described_text, short_holds, Listing, Text, Lists, IsTooLong, HasNone, HasNoShape, IsRead, longest_input, fetched_set}
-use Rattle.vms_cli.proofs.Facade.{longest_file, too_large_line, Part, done, ended, Untold, Ends, HasText, fetched_gives, IsListing, PackThenAnalyzeLaw}
-use Rattle.vms_cli.proofs.Facade.{ShowThenAnalyzeLaw, PrintsAlike, SaveThenAnalyzeLaw, PackThenShowLaw, ShowThenPackLaw, CanBeAsked, described_stream}
-use Rattle.vms_cli.proofs.Facade.{packed_by, packed_parts, packs, with_values, Shows, Refuses, ReachesSet, AreEvents, Event, IsNumber, images_saved}
-use Rattle.vms_cli.proofs.Facade.{saved_stream, AreStepLines, scripted_lines, saved_after, after_events, after_number, lines_are_events, Fault, further_holds}
-use Rattle.vms_cli.proofs.Facade.{Mismatch, Counters, Finds, always_holds, named_holds}
+use Rattle.vms_cli.proofs.{RowLemmas.fits_of, Entries.words_ask, RowLemmas.next_gives, RowLemmas.caused_so, RowLemmas.row_so, TextCommands.verdict_so, StreamCommands.pack_gives}
+use Rattle.vms_cli.proofs.Facade.{fetched, named_parts, scripted, HasBy, ℕ, List, length, Option, None, Some, subst, ◌≡◌, [], append-nil, refl, ap}
+use Rattle.vms_cli.proofs.Facade.{◌∙◌, IfSome, Family, LoadsBy, Traces, stream_with, BoardsGoOn, Outcome, Outside, DoesOrStops, Step, Gives, Both, both}
+use Rattle.vms_cli.proofs.Facade.{next, ScriptLine, events_of, HasOutcome, Asked, BoardOf, Load, Show, asked_of, Continuation, ContinuesBy, goes_on, Held}
+use Rattle.vms_cli.proofs.Facade.{HoldsAll, Image, Set, written, WellFormed, Compatible, carried, Takes, upgrade_stands, named_sets, set_in, sets_in, word_set}
+use Rattle.vms_cli.proofs.Facade.{SetWord, FitStep, fit_word, AreCompatible, CheckThenShowLaw, ShowsBy, IsWritten, Upgrade, UpgradesTo, shown_newer, Intake}
+use Rattle.vms_cli.proofs.Facade.{Outlet, Stock, Serves, Ending, Tells, around, outcome_so, Runs, moment, task_of, machine_known, Answers, AlwaysNamedLaw}
+use Rattle.vms_cli.proofs.Facade.{Prints, RefusesSo, StateLaw, ◌≤◌, Bool, true, if◌then◌else◌, ◌∷◌, sym, arith, ◌-◌, ℤ, ◌++◌}
+use Rattle.vms_cli.proofs.Facade.{LONGEST_TEXT, AreReady, is_one_of, configuration, end_mark, optional, stream_head, trailer, written_sections, values_text}
+use Rattle.vms_cli.proofs.Facade.{ValuesRead, Values, Bad, values_read, IsFit, IsMachineOf, accepted_holds, written_only, printed_holds, described_text}
+use Rattle.vms_cli.proofs.Facade.{short_holds, Listing, Text, Lists, IsTooLong, HasNone, HasNoShape, IsRead, longest_input, fetched_set, longest_file, Part}
+use Rattle.vms_cli.proofs.Facade.{done, ended, Untold, Ends, HasText, fetched_gives, IsListing, PackThenAnalyzeLaw, ShowThenAnalyzeLaw, PrintsAlike}
+use Rattle.vms_cli.proofs.Facade.{SaveThenAnalyzeLaw, PackThenShowLaw, ShowThenPackLaw, CanBeAsked, described_stream, packed_by, packed_parts, packs}
+use Rattle.vms_cli.proofs.Facade.{with_values, Shows, Refuses, ReachesSet, AreEvents, Event, IsNumber, images_saved, saved_stream, scripted_lines, saved_after}
+use Rattle.vms_cli.proofs.Facade.{after_events, after_number, lines_are_events, Fault, further_holds, Mismatch, Counters, Finds, always_holds, named_holds}
 use Rattle.vms_cli.proofs.KindLaws.{goes_on_of, numbers_of, sound_of, stands_of}
 use Rattle.vms_cli.specs.{Answers.Answers as CallAnswers, Commands.ShowCommand.Values as Printed}
 use Rattle.vms_analyze.proofs.Shown.{shown_holds as shown_listing}
 use Rattle.vms_board.specs.Family.{Stands}
 use Rattle.vms_check.proofs.SelfLaws.{is_among}
 use Rattle.vms_counter_laws.specs.Counters.{Refusal, State}
+use Rattle.vms_commands.specs.Fetching.{text_under}
 
 -- ---- A stream that a board wrote is loaded as that board going on.
 
@@ -63,22 +63,21 @@ upgrade_so asked status old new all = tt
 
 -- ---- check, and then show
 
--- what two words give
-module _ (sets : Both Set) where
-  read_both : (one other : Step Set) → both one other ≡ Gives sets → (one ≡ Gives sets.old) × (other ≡ Gives sets.new)
-  read_both (Gives x) (Gives y) e = (ap Gives (ap (λ b. b.old) (same e)), ap Gives (ap (λ b. b.new) (same e))) where
-    same : Gives (record { old = x; new = y }) ≡ Gives sets → record { old = x; new = y } ≡ sets
-    same e = cc
-  read_both _ _ e = cc
-
-  fetched_both : (one other : Step SetText) → next (both one other) sets_in ≡ Gives sets
-      → (next one set_in ≡ Gives sets.old) × (next other set_in ≡ Gives sets.new)
-  fetched_both (Gives x) (Gives y) e = read_both _ _ e
-  fetched_both _ _ e = cc
+-- what two steps gave
+both_give : {A : Type 0} (s r : Step A) (c : Both A) → both s r ≡ Gives c → (s ≡ Gives c.old) × (r ≡ Gives c.new)
+both_give {A} s r c e =
+    let one = next_gives s (λ a. next r (λ b. Gives (record { old = a; new = b }))) c e in
+    let other = next_gives r (λ b. Gives (record { old = one.0; new = b })) c one.2 in
+    let same : record { old = one.0; new = other.0 } ≡ c = cc in
+    (one.1 ∙ ap (λ (x : Both A). Gives x.old) same, other.1 ∙ ap (λ (x : Both A). Gives x.new) same)
 
 pub named_both : (sets : Both Set) (held : Option Held) (old new : SetWord) → named_sets held old new ≡ Gives sets
     → (word_set held old ≡ Gives sets.old) × (word_set held new ≡ Gives sets.new)
-named_both sets held old new gives = fetched_both sets _ _ gives
+named_both sets held old new gives =
+    let texts = next_gives (both (fetched_set held old) (fetched_set held new)) sets_in sets gives in
+    let fetched = both_give (fetched_set held old) (fetched_set held new) texts.0 texts.1 in
+    let read = both_give (set_in texts.0.old) (set_in texts.0.new) sets texts.2 in
+    (rw (fetched.0) (read.0), rw (fetched.1) (read.1))
 
 pub check_then_show : CheckThenShowLaw
 check_then_show one other old new sets a b c d status checks shows gives checked held shown machine text images w left =
@@ -125,6 +124,13 @@ done_apart s note text held k n e = parts_apart _ _ (ap (λ o. o.parts) e)
     parts_apart : (part : Part) (parts : List Part) → part ∷ parts ≡ [] → ⊥
     parts_apart part parts e = cc
 
+-- what succeeds by a step has the value of that step
+pub has_gives : {A : Type 0} (P : A → Outcome → Type 0) (s : Step A) (text : List ℕ) (held : Option Held) (n : ℕ) → HasBy P s (done text held n)
+    → (a : A) × (s ≡ Gives a) × P a (done text held n)
+has_gives P Untold text held n has = absurd has
+has_gives P (Gives a) text held n has = (a, refl, has)
+has_gives P (Ends status line) text held n has = absurd (done_apart status line text held 0 n has)
+
 -- ---- packing and then showing
 
 -- an input that has a listing has few bytes
@@ -137,131 +143,106 @@ lists_few input text _ (IsRead p devices few last tells) e = few
 pub lists_all : (input text : List ℕ) (held : Option Held) → Lists input (Text text) → IsListing held input (done text held (length input))
 lists_all input text held lists = search (arith, lists_few)
 
-module _ (set : Set) (fit : IsFit set) (machine : Option (List ℕ)) (images : List Image) (named : IsMachineOf set machine) (ready : AreReady set images) where
-  pub shown_listed : Lists (described_stream set machine images) (Text (values_text set machine images))
-  shown_listed = shown_listing set fit.well fit.heads machine named images ready
-
 -- a description is short enough for a stream
 pub fits_text : (set : Set) → IsFit set → (images : List Image) → length (described_text set images) ≤ LONGEST_TEXT
 fits_text set fit images = omega (arith, short_holds.short set fit.well fit.heads images)
 
-module _ (map : Held) (text stream : List ℕ) where
-  abbrev is_packed : Step (List ℕ) → Type 0
-  is_packed s = HasText (Some map) s (done stream (Some map) 0)
-
-  abbrev outcome : Outcome
-  outcome = done text (Some map) (length stream)
-
-  -- `show` with the set that the step gives and `analyze` have this outcome
-  abbrev is_shown : Step Set → Type 0
-  is_shown s = ShowsBy s (Some stream) (Some map) outcome × IsListing (Some map) stream outcome
-
-  shown_of : (set : Set) → IsFit set → (r : ValuesRead) → values_read set text ≡ r → is_packed (packed_by set r) → is_shown (Gives set)
-  shown_of set fit (Values machine images) e has =
-      let bytes = described_stream set machine images in
-      let shown = packed_holds set text machine (Some (described_text set images)) images fit (fits_text set fit images) e in
-      let shows : Shows set bytes (Some map) (done (values_text set shown.machine shown.images) (Some map) (length bytes)) =
-      Printed (length bytes) shown.machine shown.images shown.whole in
-      let is = accepted_holds set text machine images fit e in
-      let lists : Lists bytes (Text text) = subst (λ t. Lists bytes (Text t)) (sym is.printed) (shown_listed set fit machine images is.named is.ready) in
-      let written_is : bytes ≡ stream = sym (same_text _ _ has) in (
-        subst (λ (l : List ℕ). Shows set l (Some map) (done text (Some map) (length l))) written_is
-            (subst (λ (t : List ℕ). Shows set bytes (Some map) (done t (Some map) (length bytes))) shown.printed shows),
-        subst (λ l. IsListing (Some map) l (done text (Some map) (length l))) written_is (lists_all bytes text _ lists),
-      )
-  shown_of set fit (Bad line reason) e has = absurd (done_apart 3 _ stream _ 0 0 has)
-
-  set_shown : (s : Step Set) → FitStep s → is_packed (next (next s (λ set. Gives (record { set = set; values = text }))) packed_parts) → is_shown s
-  set_shown Untold fit has = absurd has
-  set_shown (Gives set) fit has = shown_of set fit _ refl has
-  set_shown (Ends status line) fit has = absurd (done_apart status _ stream _ 0 0 has)
-
-  within_shown : (name : List ℕ) (t : SetText) (b : Bool) → FitStep (set_in t)
-      → is_packed (next (next (if b then Gives text else Ends 9 (too_large_line name))
-      (λ v. next (set_in t) (λ set. Gives (record { set = set; values = v })))) packed_parts)
-      → is_shown (set_in t)
-  within_shown name t true fit has = set_shown _ fit has
-  within_shown name t false fit has = absurd (done_apart 9 _ stream _ 0 0 has)
-
-  text_shown : (name : List ℕ) (t : Step SetText) → map name ≡ Some text → FitStep (next t set_in)
-      → is_packed (next (next t (with_values (Some map) name)) packed_parts) → is_shown (next t set_in)
-  text_shown name Untold under fit has = absurd has
-  text_shown name (Gives t) under fit has = within_shown name t _ fit (rw under at has)
-  text_shown name (Ends status line) under fit has = absurd (done_apart status _ stream _ 0 0 has)
-
-pub pack_then_show : PackThenShowLaw
-pack_then_show word name text stream input map under has =
-    (text_shown map text stream name (fetched_set (Some map) word) under (fit_word (Some map) word) has).0
-
-pub pack_then_analyze : PackThenAnalyzeLaw
-pack_then_analyze word name text stream input map under has =
-    (text_shown map text stream name (fetched_set (Some map) word) under (fit_word (Some map) word) has).1
-
--- ---- showing and then analyzing
-
 pub machine_of_set : (set : Set) (machine : Option (List ℕ)) → IfSome machine (λ m. is_one_of set.machines m ≡ true) → IsMachineOf set machine
-machine_of_set set None h = tt
-machine_of_set set (Some name) h = h
+machine_of_set set machine h = grind arith
 
-module _ (set : Set) (fit : IsFit set) (machine : Option (List ℕ)) (images : List Image) (named : IsMachineOf set machine) (ready : AreReady set images)
-    (text : List ℕ) (held : Option Held) (n : ℕ) where
-  -- the text that is shown of a stream that was written is the one that it lists
-  listed_too : (x : Outcome) → x ≡ done text held n → Shows set (described_stream set machine images) held x
-      → IsListing held (described_stream set machine images) x
-  listed_too x same (Printed taken other others whole) =
-      let bytes = described_stream set machine images in
+-- ---- What was written of a machine and images with its description.
+
+module _ (held : Option Held) (word : SetWord) (set : Set) (there : word_set held word ≡ Gives set) (machine : Option (List ℕ)) (images : List Image)
+    (named : IsMachineOf set machine) (ready : AreReady set images) where
+  fit : IsFit set
+  fit = subst FitStep there (fit_word held word)
+
+  abbrev stream : List ℕ
+  stream = described_stream set machine images
+
+  -- `show` and `analyze` print its text
+  shown_written : HasOutcome (Some (Show word)) (Some stream) held (done (values_text set machine images) held (length stream))
+      × IsListing held stream (done (values_text set machine images) held (length stream))
+  shown_written = (
+    rw there (Printed (length stream) machine images (written_only set machine (Some (described_text set images)) images fit named (fits_text set fit images) ready).whole),
+    lists_all stream _ held (shown_listing set fit.well fit.heads machine named images ready),
+  )
+
+  pub written_prints : PrintsAlike word stream held
+  written_prints = record { text = values_text set machine images; shown = shown_written.0; listed = shown_written.1 }
+
+  -- and `show` prints nothing else
+  shown_is : (text : List ℕ) (n : ℕ) (x : Outcome) → x ≡ done text held n → Shows set stream held x → (text ≡ values_text set machine images) × (n ≡ length stream)
+  shown_is text n x same (Printed taken other others whole) =
       let all = (written_only set machine (Some (described_text set images)) images fit named (fits_text set fit images) ready).only taken other others whole in
       let printed : values_text set machine images ≡ values_text set other others = cc in
-      rw all.0 (lists_all bytes _ held
-      (subst (λ t. Lists bytes (Text t)) printed (shown_listed set fit machine images named ready)))
-  listed_too x same (Refuses place section reason size fault) = absurd (done_apart 1 _ text held _ n (sym same))
-
-  -- the text that is shown of a stream that was written is read as what was written
-  reads_back : (x : Outcome) → x ≡ done text held n → Shows set (described_stream set machine images) held x → values_read set text ≡ Values machine images
-  reads_back x same (Printed taken other others whole) =
-      let described : Option (List ℕ) = Some (described_text set images) in
-      let fits = fits_text set fit images in
-      let said : ShowsAs set (described_stream set machine images) text = record {
-        machine = other;
-        images = others;
-        whole = rw ((written_only set machine described images fit named fits ready).only taken other others whole).0 at whole;
-        printed = same_text _ _ same;
-      } in
-      shown_holds set machine described images fit named fits ready text said
-  reads_back x same (Refuses place section reason size fault) = absurd (done_apart 1 _ text held _ n (sym same))
+      (sym (printed ∙ same_text _ _ same), ap (λ o. o.taken) (sym same) ∙ all.0)
+  shown_is text n x same (Refuses place section reason size fault) = absurd (done_apart 1 _ text held _ n (sym same))
 
 pub show_then_analyze : ShowThenAnalyzeLaw
 show_then_analyze word set machine images text held there ready named n shows =
-    let outcome = done text held n in
-    listed_too set (subst FitStep there (fit_word held word)) _ images (machine_of_set set machine named) ready text held n _ refl (rw there at shows)
+    let of = machine_of_set set machine named in
+    let is = shown_is held word set there machine images of ready text n _ refl (rw there at shows) in
+    rw (is.0, is.1) (shown_written held word set there machine images of ready).1
 
 -- showing and then packing
 pub show_then_pack : ShowThenPackLaw
 show_then_pack word set machine images name text input map there ready named under short n shows =
-    let fit : IsFit set = subst FitStep there (fit_word (Some map) word) in
-    let stream = described_stream set machine images in
-    let outcome = done text (Some map) n in
-    let reads = reads_back set fit machine images (machine_of_set set machine named) ready text (Some map) n outcome refl (rw there at shows) in
-    rw (pack_gives (Some map) word name set text stream there (fetched_gives longest_file map name text under short) (ap (packed_by set) reads)) refl
+    let of = machine_of_set set machine named in
+    let is = shown_is (Some map) word set there machine images of ready text n _ refl (rw there at shows) in
+    let reads : values_read set text ≡ Values machine images = rw (is.0) (printed_holds set machine images (subst FitStep there (fit_word (Some map) word)) of ready) in
+    rw (pack_gives (Some map) word name set text _ there (fetched_gives longest_file map name text under short) (ap (packed_by set) reads)) refl
+
+-- ---- packing and then showing
+
+text_gives : (held : Option Held) (s : Step (List ℕ)) (text : List ℕ) → HasText held s (done text held 0) → s ≡ Gives text
+text_gives held Untold text has = absurd has
+text_gives held (Gives given) text has = ap Gives (sym (same_text _ _ has))
+text_gives held (Ends status line) text has = absurd (done_apart status line text held 0 0 has)
+
+packed_gives : (set : Set) (stream : List ℕ) (r : ValuesRead) → packed_by set r ≡ Gives stream
+    → (machine : Option (List ℕ)) × (images : List Image) × (r ≡ Values machine images) × (described_stream set machine images ≡ stream)
+packed_gives set stream (Values machine images) e = (machine, images, refl, cc)
+packed_gives set stream (Bad line reason) e = cc
+
+under_gives : (b : Bool) (text v line : List ℕ) → (if b then Gives text else Ends 9 line) ≡ Gives v → v ≡ text
+under_gives b text v line e = grind arith
+
+-- `show` and `analyze` print this text of a stream
+abbrev PrintsText : SetWord → Held → (stream text : List ℕ) → Type 0
+PrintsText word map stream text =
+    HasOutcome (Some (Show word)) (Some stream) (Some map) (done text (Some map) (length stream))
+    × IsListing (Some map) stream (done text (Some map) (length stream))
+
+read_prints : (word : SetWord) (set : Set) (machine : Option (List ℕ)) (images : List Image) (text : List ℕ) (map : Held)
+    → word_set (Some map) word ≡ Gives set → values_read set text ≡ Values machine images
+    → PrintsText word map (described_stream set machine images) text
+read_prints word set machine images text map there reads =
+    let is = accepted_holds set text machine images (subst FitStep there (fit_word (Some map) word)) reads in
+    rw is.printed (shown_written (Some map) word set there machine images is.named is.ready)
+
+-- that of which it was packed
+packed_prints : (word : SetWord) (name text stream : List ℕ) (map : Held) → map name ≡ Some text
+    → HasText (Some map) (packs (Some map) word name) (done stream (Some map) 0) → PrintsText word map stream text
+packed_prints word name text stream map under has =
+    let parts = next_gives (named_parts (Some map) word name) packed_parts stream (text_gives _ _ stream has) in
+    let t = next_gives (fetched_set (Some map) word) (with_values (Some map) name) parts.0 parts.1 in
+    let values = next_gives (fetched longest_file (Some map) name) (λ v. next (set_in t.0) (λ set. Gives (record { set = set; values = v }))) parts.0 t.2 in
+    let set = next_gives (set_in t.0) (λ set. Gives (record { set = set; values = values.0 })) parts.0 values.2 in
+    let of : record { set = set.0; values = values.0 } ≡ parts.0 = cc in
+    let same : values.0 ≡ text = under_gives _ text values.0 _ (subst (λ o. text_under longest_file name o ≡ Gives values.0) under values.1) in
+    let there : word_set (Some map) word ≡ Gives set.0 = ap (λ s. next s set_in) t.1 ∙ set.1 in
+    let read = packed_gives set.0 stream (values_read set.0 text)
+    (subst (λ v. packed_by set.0 (values_read set.0 v) ≡ Gives stream) same (subst (λ p. packed_parts p ≡ Gives stream) (sym of) parts.2)) in
+    subst (λ s. PrintsText word map s text) read.3 (read_prints word set.0 read.0 read.1 text map there read.2)
+
+pub pack_then_show : PackThenShowLaw
+pack_then_show word name text stream input map under has = (packed_prints word name text stream map under has).0
+
+pub pack_then_analyze : PackThenAnalyzeLaw
+pack_then_analyze word name text stream input map under has = (packed_prints word name text stream map under has).1
 
 -- ---- What `save` writes, `show` and `analyze` print alike.
-
-module _ (held : Option Held) (word : SetWord) (set : Set) (there : word_set held word ≡ Gives set) where
-  fit : IsFit set
-  fit = subst FitStep there (fit_word held word)
-
-  -- a stream that is written of images that may be written, with its description
-  pub written_prints : (machine : Option (List ℕ)) (images : List Image) → IsMachineOf set machine → AreReady set images
-      → PrintsAlike word (described_stream set machine images) held
-  written_prints machine images named ready =
-      let bytes = described_stream set machine images in
-      let text = values_text set machine images in
-      let whole = (written_only set machine (Some (described_text set images)) images fit named (fits_text set fit images) ready).whole in
-      record {
-        text = text;
-        shown = rw there (Printed (length bytes) machine images whole);
-        listed = lists_all bytes text held (shown_listed set fit machine images named ready);
-      }
 
 -- boards of a kind, which are sound at power on and remain so, after a script
 module _ {S : Type 0} (f : Family S) {IsSound : S → Type 0} {AreTold : List (List ℤ) → Type 0} (stands : Stands f IsSound AreTold)
@@ -288,15 +269,12 @@ module _ {S : Type 0} (f : Family S) {IsSound : S → Type 0} {AreTold : List (L
       let events = events_of lines in
       sound_prints _ (stays events (f.power_on number) are (begins number is)) (after_number f stands.stays events _ ∙ stands.begun number)
 
-  by_step : (s : Step (List ScriptLine)) (stream : List ℕ) → AreStepLines None s
-      → HasText held (next s (λ lines. Gives (saved_stream f set (after_events f (events_of lines) (f.power_on number))))) (done stream held 0)
-      → PrintsAlike word stream held
-  by_step Untold stream are has = absurd has
-  by_step (Gives lines) stream are has = rw (same_text _ _ has) (lines_print lines (lines_are_events None lines are))
-  by_step (Ends status line) stream are has = absurd (done_apart status line stream held 0 0 has)
-
   saved_prints : (script stream : List ℕ) → HasText held (saved_after f number set held script) (done stream held 0) → PrintsAlike word stream held
-  saved_prints script stream has = by_step _ stream (scripted_lines None held script) has
+  saved_prints script stream has =
+      let of : List ScriptLine → Step (List ℕ) = λ lines. Gives (saved_stream f set (after_events f (events_of lines) (f.power_on number))) in
+      let g = next_gives (scripted None held script) of stream (text_gives held _ stream has) in
+      let is : saved_stream f set (after_events f (events_of g.0) (f.power_on number)) ≡ stream = cc in
+      rw (← is) (lines_print g.0 (lines_are_events None g.0 (rw (g.1) at (scripted_lines None held script))))
 
 pub save_then_analyze : SaveThenAnalyzeLaw
 save_then_analyze words (BoardOf kind number) set script stream input held asked has =

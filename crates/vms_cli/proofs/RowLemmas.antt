@@ -1,32 +1,32 @@
 -- From how a command ends, and why, to what is proved of its row.
-use Rattle.vms_cli.proofs.Facade.{◌≡◌, ◌⊎◌, ℕ, true, false, List, [], ◌∷◌, Option, Some, refl, IfSome, IsBytes, Held, HoldsAll, Outcome}
-use Rattle.vms_cli.proofs.Facade.{is_among, Task, Entry, HasOne, arith, nat_tests, inl, inr, none-some, sym, Ends, Gives, HasBy, IsSound, Step, Untold, done}
-use Rattle.vms_cli.proofs.Facade.{ended, one_text, None, ◌∙◌, Bool, ◌++◌, ap, Keeps, Appends, EndsSo, Risen, of_shelf, text_course, wrong, draws_none}
-use Rattle.vms_cli.proofs.Facade.{writes_serve, Asked, check_course, counter_course, course_of, Looks, looks_reaches, Intake, Outlet, Stock, Serves}
-use Rattle.vms_cli.proofs.Facade.{save_course, Ending, BadText, NotCompatible, ReadFault, WriteFault, NoMemory, BadWords, Caused, WritesAs, status_of, Tells}
-use Rattle.vms_cli.proofs.Facade.{line_of, among_left, shelf_has, WriteCause, WritesBy, Rose, SeenAs, Does, DoesOrStops, Outside, around, kept_none, outcome_so}
-use Rattle.vms_cli.proofs.Facade.{same_keeps, Runs, moment, task_of, CanAnswer, ComesSeen, DoesSeen, HasCause, bad_words, out_of_memory, read_fault}
-use Rattle.vms_cli.proofs.Facade.{shelf_fault, write_fault}
+use Rattle.vms_cli.proofs.Facade.{cond, subst, Play, ◌==◌, next, ◌≡◌, ◌⊎◌, ℕ, true, false, List, [], ◌∷◌, Option, Some, refl, IfSome, IsBytes}
+use Rattle.vms_cli.proofs.Facade.{Held, HoldsAll, Outcome, is_among, Task, Entry, HasOne, arith, nat_tests, inl, inr, none-some, sym, Ends, Gives, HasBy}
+use Rattle.vms_cli.proofs.Facade.{IsSound, Step, Untold, done, ended, one_text, None, ◌∙◌, Bool, ◌++◌, ap, Keeps, Appends, EndsSo, Risen, of_shelf}
+use Rattle.vms_cli.proofs.Facade.{text_course, wrong, draws_none, Asked, course_of, Looks, looks_reaches, Intake, Outlet, Stock, Ending, BadText, NotCompatible}
+use Rattle.vms_cli.proofs.Facade.{ReadFault, WriteFault, NoMemory, BadWords, Caused, status_of, Tells, line_of, among_left, shelf_has, WriteCause, WritesBy}
+use Rattle.vms_cli.proofs.Facade.{Rose, SeenAs, Does, DoesOrStops, Outside, around, kept_none, outcome_so, same_keeps, Runs, moment, task_of, CanAnswer}
+use Rattle.vms_cli.proofs.Facade.{ComesSeen, DoesSeen, HasCause, bad_words, out_of_memory, read_fault, shelf_fault, write_fault}
 use Rattle.vms_board_commands.specs.Runs.{text_task}
 use Rattle.vms_commands.specs.{Courses.Course, declared.ending.Ending.TheVariants.ShelfFault}
 
 -- ---- the lists of a course
 
 -- 6 is in the list, or the list has none
-abbrev pub HasSix : List ℕ → Type 0
-HasSix l = (is_among l 6 ≡ true) ⊎ (l ≡ [])
+abbrev HasSix : List ℕ → Type 0
+HasSix [] = Unit {0}
+HasSix l = is_among l 6 ≡ true
 
 -- a list without the statuses at which nothing is written or stored
-abbrev pub Spares : List ℕ → Type 0
+abbrev Spares : List ℕ → Type 0
 Spares l = (k : ℕ) → is_among (1 ∷ 2 ∷ 3 ∷ 4 ∷ 5 ∷ 8 ∷ 9 ∷ 11 ∷ []) k ≡ true → is_among l k ≡ false
 
-pub spares_none : Spares []
+spares_none : Spares []
 spares_none k is = refl
 
-pub spares_text : Spares (0 ∷ 6 ∷ [])
+spares_text : Spares (0 ∷ 6 ∷ [])
 spares_text k is = grind (arith, nat_tests, is)
 
-pub spares_play : Spares (0 ∷ 6 ∷ 7 ∷ 10 ∷ [])
+spares_play : Spares (0 ∷ 6 ∷ 7 ∷ 10 ∷ [])
 spares_play k is = grind (arith, nat_tests, is)
 
 -- the lists of a course, as each answer wants them
@@ -38,19 +38,35 @@ pub record Fits (course : Course) : Type 0 where
   pub unwritten : Spares course.writes
   pub unstored : Spares course.stores
 
+pub fits_of : (asked : Option Asked) → Fits (course_of asked)
+fits_of None = record { statuses = refl; writes = tt; takes = tt; stores = tt; unwritten = spares_none; unstored = spares_none }
+fits_of (Some (Play level script)) =
+    record { statuses = refl; writes = refl; takes = tt; stores = refl; unwritten = spares_play; unstored = spares_play }
+fits_of (Some asked) = record { statuses = refl; writes = refl; takes = search; stores = tt; unwritten = spares_text; unstored = spares_none }
+
 -- what can be done has an outcome of status 0
 pub record IsDone (task : Task) (input : Option (List ℕ)) (held : Option Held) : Type 0 where
   pub outcome : Outcome
   pub is : task.has input held outcome
   pub status : outcome.status ≡ 0
 
--- its course fits; it has one outcome; and if all that it needs is there, that has status 0
+-- it has one outcome; and if all that it needs is there, that has status 0
 pub record IsRow (entry : Entry) : Type 0 where
-  pub fits : Fits entry.task.course
   pub one : (input : List ℕ) (held : Held) → IsBytes input → HoldsAll held → entry.words → HasOne (λ o. entry.task.has (Some input) (Some held) o)
   pub done : (input : Option (List ℕ)) (held : Option Held) → IfSome held HoldsAll → entry.words → entry.needs input held → IsDone entry.task input held
 
+-- ---- one outcome
+
+-- what has this outcome has no other
+pub one_of : {P : Outcome → Type 0} {x : Outcome} → ((a b : Outcome) → P a → P b → b ≡ a) → P x → HasOne P
+one_of {x = x} same is = record { outcome = x; is = is; only = λ other p. same x other is p }
+
 -- ---- by the steps of a command
+
+-- what a step and the one after it gave
+pub next_gives : {A B : Type 0} (s : Step A) (f : A → Step B) (b : B) → next s f ≡ Gives b → (a : A) × (s ≡ Gives a) × (f a ≡ Gives b)
+next_gives (Gives a) f b e = (a, refl, e)
+next_gives _ f b e = cc
 
 -- there is one outcome of a step that is known, if there is one of what it gives
 pub one_by : {A : Type 0} (P : A → Outcome → Type 0) (held : Held) (step : Step A) → IsSound (Some held) step → ((a : A) → step ≡ Gives a → HasOne (P a))
@@ -59,16 +75,11 @@ one_by P held Untold sound each = absurd (none-some {A = Held} held (sym sound))
 one_by P held (Gives a) sound each = each a refl
 one_by P held (Ends status line) sound each = record { outcome = ended status line 0; is = refl; only = λ other e. e }
 
--- a command that writes one text and stores nothing
-pub text_fits : (course : Course) → is_among course.statuses 6 ≡ true → HasSix course.takes → course.writes ≡ 0 ∷ 6 ∷ [] → course.stores ≡ [] → Fits course
-text_fits course six takes writes stores = search (arith, spares_text, spares_none)
-
 -- if its steps give the text wherever all that it needs is there
-pub text_row : (step : Option Held → Step (List ℕ)) {course : Course} {words : Type 0} {needs : Option (List ℕ) → Option Held → Type 0} → Fits course
+pub text_row : (step : Option Held → Step (List ℕ)) {course : Course} {words : Type 0} {needs : Option (List ℕ) → Option Held → Type 0}
     → ((held : Option Held) → IsSound held (step held)) → ((input : Option (List ℕ)) (held : Option Held) → needs input held → (text : List ℕ) × (step held ≡ Gives text))
     → IsRow (record { task = text_task step course; words = words; needs = needs })
-text_row step fits sound gives = record {
-  fits = fits;
+text_row step sound gives = record {
   one = λ input held ok holds words.
       let one = one_text held (step (Some held)) (sound (Some held)) in
       record { outcome = one.outcome; is = one.is; only = one.only };
@@ -77,30 +88,7 @@ text_row step fits sound gives = record {
       record { outcome = done text.0 held 0; is = rw text.1 refl; status = refl };
 }
 
--- what holds but at the statuses of such a list holds too where notes failed
-pub at_six : (l : List ℕ) → HasSix l → (k status : ℕ) → status ≡ 6 → (P : Type 0) → (is_among l k ≡ false → P) → is_among l status ≡ false → P
-at_six l (inl has) k status six P h none = absurd (wrong (sym (rw six has) ∙ none))
-at_six l (inr is) k status six P h none = h (rw is refl)
-
--- ---- Each ending of a command, by what it touches.
-
--- a text was written
-pub written_by : (asks compares : Bool) (text : List ℕ) (o o' : Outlet) (e : Option Ending) → WritesAs text o o' e → WritesBy asks compares o o' e
-written_by asks compares text o o' None w = record { cause = tt; serves = writes_serve text o o' None w }
-written_by asks compares text o o' (Some WriteFault) w = record { cause = w.rose; serves = writes_serve text o o' (Some WriteFault) w }
-written_by asks compares text o o' e w = absurd w
-
--- ---- a text
-
--- a list of own statuses has those of each text, and that of sets that are compared
-record HasOwn (own : List ℕ) (compares : Bool) : Type 0 where
-  none : is_among own 0 ≡ true
-  six : is_among own 6 ≡ true
-  ten : is_among own 10 ≡ true
-  four : compares ≡ true → is_among own 4 ≡ true
-
-compares_none : (own : List ℕ) → is_among own 0 ≡ true → is_among own 6 ≡ true → is_among own 10 ≡ true → HasOwn own false
-compares_none own none six ten = record { none = none; six = six; ten = ten; four = λ f. absurd (wrong (sym f)) }
+-- ---- each ending of a command, by what it touches
 
 module _ (i i' : Intake) (o o' : Outlet) (s s' : Stock) where
   -- the cause of an ending, as the outcome wants it
@@ -112,69 +100,35 @@ module _ (i i' : Intake) (o o' : Outlet) (s s' : Stock) where
   caused_so course fits (Some ShelfFault) h = h.risen
   caused_so course fits e h = (h.out (fits.unwritten (status_of e) refl), h.held (fits.unstored (status_of e) refl))
 
--- of a command that reads nothing of the input
-module _ (i : Intake) (o o' : Outlet) (s s' : Stock) where
+-- the statuses of a command that writes a text, and that of sets that are compared
+abbrev own_of : Bool → List ℕ
+own_of true = 0 ∷ 4 ∷ 6 ∷ 10 ∷ []
+own_of false = 0 ∷ 6 ∷ 10 ∷ []
+
+own_has : (compares asks : Bool) (k : ℕ) → is_among (0 ∷ 6 ∷ 10 ∷ []) k ≡ true → is_among (own_of compares ++ of_shelf asks) k ≡ true
+own_has true asks k is = among_left (0 ∷ 4 ∷ 6 ∷ 10 ∷ []) _ k (grind (arith, nat_tests, is))
+own_has false asks k is = among_left (0 ∷ 6 ∷ 10 ∷ []) _ k is
+
+-- Of a command that reads nothing of the input. `refuses` is whether the call inside may refuse a text, `asks` whether the shelf is read.
+module _ (i : Intake) (o o' : Outlet) (s s' : Stock) (refuses asks compares : Bool) (so : refuses ≡ true → asks ≡ true) where
   -- which ending it is, by the lists of a command
   abbrev IsOf : List ℕ → Option Ending → Type 0
   IsOf all e = (is_among all (status_of e) ≡ true) × Risen i i o o' s s' e × (is_among (0 ∷ 6 ∷ []) (status_of e) ≡ false → Keeps o.written o'.written)
 
-  module _ (own : List ℕ) (asks compares : Bool) (has : HasOwn own compares) where
-    own_has : (k : ℕ) → is_among own k ≡ true → is_among (own ++ of_shelf asks) k ≡ true
-    own_has k is = among_left own _ k is
+  text_so : (e : Option Ending) → WriteCause refuses compares o o' e → IsOf (own_of compares ++ of_shelf asks) e
+  text_so None c = (own_has compares asks 0 refl, tt, λ f. absurd (wrong f))
+  text_so (Some (BadText line)) c = (shelf_has (own_of compares) asks 3 (so c.0) refl, tt, λ f. c.1)
+  text_so (Some (NotCompatible line)) c = (rw c.0 refl, tt, λ f. c.1)
+  text_so (Some WriteFault) c = (own_has compares asks 6 refl, c, λ f. absurd (wrong f))
+  text_so (Some NoMemory) c = (own_has compares asks 10 refl, tt, λ f. c)
+  text_so e c = absurd c
 
-    text_so : (e : Option Ending) → WriteCause asks compares o o' e → IsOf (own ++ of_shelf asks) e
-    text_so None c = (own_has 0 has.none, tt, λ f. absurd (wrong f))
-    text_so (Some (BadText line)) c = (shelf_has own asks 3 c.0 refl, tt, λ f. c.1)
-    text_so (Some (NotCompatible line)) c = (own_has 4 (has.four c.0), tt, λ f. c.1)
-    text_so (Some WriteFault) c = (own_has 6 has.six, c, λ f. absurd (wrong f))
-    text_so (Some NoMemory) c = (own_has 10 has.ten, tt, λ f. c)
-    text_so e c = absurd c
+  -- if the shelf was only read
+  pub text_ends : (e : Option Ending) → WritesBy refuses compares o o' e → Looks s s' → (asks ≡ false → s' ≡ s)
+      → EndsSo i i o o' s s' (text_course (own_of compares) [] asks) e
+  text_ends e w looks unasked = search (arith, text_so, draws_none, looks_reaches)
 
-    -- if the shelf was only read
-    text_by : (e : Option Ending) → WriteCause asks compares o o' e → Serves o o' → Looks s s' → (asks ≡ false → s' ≡ s)
-        → EndsSo i i o o' s s' (text_course own [] asks) e
-    text_by e c serves looks unasked = search (arith, text_so, draws_none, looks_reaches)
-
-  pub pack_ends : (e : Option Ending) → WritesBy true false o o' e → Looks s s' → EndsSo i i o o' s s' save_course e
-  pack_ends e w looks = text_by (0 ∷ 6 ∷ 10 ∷ []) true false (compares_none (0 ∷ 6 ∷ 10 ∷ []) refl refl refl) e w.cause w.serves looks (λ f. absurd (wrong f))
-
-  -- once all sets are there, no text is bad
-  written_so : (asks compares : Bool) (e : Option Ending) → WriteCause false compares o o' e → WriteCause asks compares o o' e
-  written_so asks compares (Some (BadText line)) c = absurd (wrong (sym c.0))
-  written_so asks compares e c = c
-
-  pub check_ends : (b : Bool) (e : Option Ending) → WritesBy false true o o' e → Looks s s' → (b ≡ false → s' ≡ s) → EndsSo i i o o' s s' (check_course b) e
-  check_ends b e w looks unasked =
-      text_by (0 ∷ 4 ∷ 6 ∷ 10 ∷ []) b true (record { none = refl; six = refl; ten = refl; four = λ f. refl }) e
-      (written_so b true e w.cause) w.serves looks unasked
-
-  pub counter_ends : (b : Bool) (e : Option Ending) → WritesBy false false o o' e → Looks s s' → (b ≡ false → s' ≡ s)
-      → EndsSo i i o o' s s' (counter_course b) e
-  counter_ends b e w looks unasked =
-      text_by (0 ∷ 6 ∷ 10 ∷ []) b false (compares_none (0 ∷ 6 ∷ 10 ∷ []) refl refl refl) e (written_so b false e w.cause) w.serves looks unasked
-
--- ---- From how a command ends and why to its row.
-
--- the statuses of refusals, of texts, of sets and of what would be lost
-abbrev is_own : ℕ → Bool
-is_own k = is_among (1 ∷ 3 ∷ 4 ∷ 8 ∷ 9 ∷ 11 ∷ []) k
-
--- why a status of no command's own was answered
-data Why : Type 0 where
-  Well : Why
-  Words : Why
-  Input : Why
-  Sink : Why
-  Shelf : Why
-  Memory : Why
-
-abbrev status_at : Why → ℕ
-status_at Well = 0
-status_at Words = 2
-status_at Input = 5
-status_at Sink = 6
-status_at Shelf = 7
-status_at Memory = 10
+-- ---- from how a command ends and why to its row
 
 module _ (i i' : Intake) (o o' n n' : Outlet) (s s' : Stock) where
   abbrev old : Outside
@@ -192,56 +146,41 @@ module _ (i i' : Intake) (o o' n n' : Outlet) (s s' : Stock) where
   told e status (inl t) = inl t
   told e status (inr t) = inr (t.0, t.1)
 
-  -- ---- causes
+  -- why a status was answered
+  abbrev Holds : ℕ → Type 0
+  Holds k =
+      cond (k == 0) (n' ≡ n) (cond (k == 2) (Appends n.written n'.written bad_words)
+      (cond (k == 5) (Rose i.faults i'.faults × Appends n.written n'.written read_fault)
+      (cond (k == 6) ((Rose o.faults o'.faults × Appends n.written n'.written write_fault) ⊎ Rose n.faults n'.faults)
+      (cond (k == 7) (Rose s.faults s'.faults × Appends n.written n'.written shelf_fault)
+      (cond (k == 10) (Appends n.written n'.written out_of_memory) (Unit {0}))))))
 
-  -- a status of its own says nothing of a cause
-  own_cause : (k status : ℕ) → status ≡ k → is_own k ≡ true → HasCause status old new
-  own_cause k status is own = record {
-    done = λ e. absurd (never 0 e refl);
-    words = λ e. absurd (never 2 e refl);
-    input = λ e. absurd (never 5 e refl);
-    sink = λ e. absurd (never 6 e refl);
-    shelf = λ e. absurd (never 7 e refl);
-    memory = λ e. absurd (never 10 e refl);
-  } where
-    never : (m : ℕ) → status ≡ m → is_own m ≡ false → ⊥
-    never m e other = wrong (sym own ∙ ap is_own (sym is ∙ e) ∙ other)
+  holds : (course : Course) (e : Option Ending) (status : ℕ) → EndsSo i i' o o' s s' course e → Tells n n' e status → Holds status
+  holds course None status h t = rw t.0 t.1
+  holds course (Some BadWords) status h (inl t) = rw t.0 t.1
+  holds course (Some ReadFault) status h (inl t) = rw t.0 (h.risen, t.1)
+  holds course (Some WriteFault) status h (inl t) = rw t.0 (inl (h.risen, t.1))
+  holds course (Some ShelfFault) status h (inl t) = rw t.0 (h.risen, t.1)
+  holds course (Some NoMemory) status h (inl t) = rw t.0 t.1
+  holds course e status h (inl t) = rw t.0 tt
+  holds course e status h (inr t) = rw t.0 (inr t.1)
 
-  abbrev Holds : Why → Type 0
-  Holds Well = new.notes ≡ old.notes
-  Holds Words = Appends old.notes.written new.notes.written bad_words
-  Holds Input = Rose old.input.faults new.input.faults × Appends old.notes.written new.notes.written read_fault
-  Holds Sink = (Rose old.out.faults new.out.faults × Appends old.notes.written new.notes.written write_fault) ⊎ Rose old.notes.faults new.notes.faults
-  Holds Shelf = Rose old.shelf.faults new.shelf.faults × Appends old.notes.written new.notes.written shelf_fault
-  Holds Memory = Appends old.notes.written new.notes.written out_of_memory
-
-  same_why : (a b : Why) → status_at a ≡ status_at b → Holds a → Holds b
-  same_why Well Well e h = h
-  same_why Words Words e h = h
-  same_why Input Input e h = h
-  same_why Sink Sink e h = h
-  same_why Shelf Shelf e h = h
-  same_why Memory Memory e h = h
-  same_why _ _ e h = absurd (omega arith)
-
-  why_cause : (why : Why) (status : ℕ) → status ≡ status_at why → Holds why → HasCause status old new
-  why_cause why status is h = search (arith, same_why)
-
-  has_cause : (course : Course) (e : Option Ending) (status : ℕ) → EndsSo i i' o o' s s' course e → Tells n n' e status → HasCause status old new
-  has_cause course None status h t = why_cause Well status t.0 t.1
-  has_cause course (Some BadWords) status h (inl t) = why_cause Words status t.0 t.1
-  has_cause course (Some ReadFault) status h (inl t) = why_cause Input status t.0 (h.risen, t.1)
-  has_cause course (Some WriteFault) status h (inl t) = why_cause Sink status t.0 (inl (h.risen, t.1))
-  has_cause course (Some ShelfFault) status h (inl t) = why_cause Shelf status t.0 (h.risen, t.1)
-  has_cause course (Some NoMemory) status h (inl t) = why_cause Memory status t.0 t.1
-  has_cause course e status h (inl t) = own_cause _ status t.0 refl
-  has_cause course e status h (inr t) = why_cause Sink status t.0 (inr t.1)
+  has_cause : (status : ℕ) → Holds status → HasCause status old new
+  has_cause status h = record {
+    done = λ is. rw is at h;
+    words = λ is. rw is at h;
+    input = λ is. rw is at h;
+    sink = λ is. rw is at h;
+    shelf = λ is. rw is at h;
+    memory = λ is. rw is at h;
+  }
 
   -- what holds at the status of an ending, but at those of a list, holds at the status that was answered
   but_at : (l : List ℕ) → HasSix l → (e : Option Ending) (status : ℕ) → Told e status → (P : Type 0) → (is_among l (status_of e) ≡ false → P)
       → is_among l status ≡ false → P
-  but_at l six e status (inl t) P h none = h (rw t.0 at none)
-  but_at l six e status (inr t) P h none = at_six l six _ status t.0 P h none
+  but_at [] six e status t P h none = h refl
+  but_at (k ∷ l) six e status (inl t) P h none = h (subst (λ s. is_among (k ∷ l) s ≡ false) t.0 none)
+  but_at (k ∷ l) six e status (inr t) P h none = absurd (wrong (sym six ∙ subst (λ s. is_among (k ∷ l) s ≡ false) t.0 none))
 
   can_be : (statuses : List ℕ) → is_among statuses 6 ≡ true → (e : Option Ending) (status : ℕ) → Told e status → is_among statuses (status_of e) ≡ true
       → is_among statuses status ≡ true
@@ -254,18 +193,11 @@ module _ (i i' : Intake) (o o' n n' : Outlet) (s s' : Stock) where
   abbrev IsSeen : ℕ → Type 0
   IsSeen status = (status ≡ 0) ⊎ (status ≡ 1) ⊎ (status ≡ 11)
 
-  seen_among : (status : ℕ) → IsSeen status → (l : List ℕ) → is_among l 0 ≡ true → is_among l 1 ≡ true → is_among l 11 ≡ true → is_among l status ≡ true
-  seen_among status (inl e) l none one eleven = cc
-  seen_among status (inr (inl e)) l none one eleven = ap (is_among l) e ∙ one
-  seen_among status (inr (inr e)) l none one eleven = ap (is_among l) e ∙ eleven
-
   ended_among : (e : Option Ending) (status : ℕ) → Told e status → IsSeen status → is_among (0 ∷ 1 ∷ 6 ∷ 11 ∷ []) (status_of e) ≡ true
-  ended_among e status (inl t) which = cc (seen_among status which (0 ∷ 1 ∷ 6 ∷ 11 ∷ []) refl refl refl)
-  ended_among e status (inr t) which = absurd (omega (arith, t.0, which))
+  ended_among e status said which = grind arith
 
   does_so : (status : ℕ) (x : Outcome) → DoesOrStops status old new x → IsSeen status → Does status old new x
-  does_so status x (inl does) which = does
-  does_so status x (inr stops) which = absurd (omega arith)
+  does_so status x does which = grind arith
 
   seen_so : (P : List ℕ → Outcome → Type 0) (e : Option Ending) (status : ℕ) → SeenAs P i i' o o' s s' e → Caused i i' o o' s s' e → Tells n n' e status
       → IsSeen status → DoesSeen P status old new
@@ -292,7 +224,7 @@ module _ (i i' : Intake) (o o' n n' : Outlet) (s s' : Stock) where
       let caused = caused_so i i' o o' s s' _ fits e h in
       record {
         can = can_be _ fits.statuses e status said h.can;
-        cause = has_cause _ e status h t;
+        cause = has_cause status (holds _ e status h t);
         out = but_at _ fits.writes e status said _ h.out;
         input = but_at _ fits.takes e status said _ h.input;
         held = but_at _ fits.stores e status said _ h.held;

@@ -62,8 +62,7 @@ module _ (held : Option Held) (word : SetWord) (name : List ℕ) (set : Set) (te
   pack_gives there values reads = gives_by _ there values reads
 
 sound_read : (held : Option Held) (set : Set) (r : ValuesRead) → IsSound held (packed_by set r)
-sound_read held set (Values machine images) = tt
-sound_read held set (Bad line reason) = omega arith
+sound_read held set r = grind arith
 
 pub sound_pack : (held : Option Held) (word : SetWord) (name : List ℕ) → IsSound held (packs held word name)
 sound_pack held word name =
@@ -96,8 +95,7 @@ converts_after input held to x = ConvertsBy (agrees to) input held x
 -- the outcome after both steps is that after the second one, by the first
 pub converts_next : (input : Option (List ℕ)) (held : Option Held) (s : Step Set) (x : Outcome) → ConvertsBy (next s agrees) input held x
     → HasBy (converts_after input held) s x
-converts_next input held Untold x h = h
-converts_next input held _ x h = h
+converts_next input held s x h = grind arith
 
 module _ {A B T : Type 0} (m : T → A) (f : A → Step B) where
   -- what the second step gave, both gave

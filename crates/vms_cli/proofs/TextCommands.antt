@@ -1,19 +1,19 @@
 -- The commands that write a text: `show`, `counter`, `analyze` and `check`.
 use Rattle.vms_cli.proofs.Facade.{◌≡◌, ℕ, suc, ◌+◌, ◌<◌, ◌≤◌, true, List, ◌∷◌, length, get_or, map, inl, inr, Option, Some, None}
-use Rattle.vms_cli.proofs.Facade.{Ok, Err, IsSomeAnd, refl, sym, ap, ◌∙◌, subst, arith, [], ◌++◌, length-map, get_or-map, ForSome, Global, Vec}
+use Rattle.vms_cli.proofs.Facade.{Ok, Err, IsSomeAnd, refl, sym, ap, ◌∙◌, subst, arith, [], ◌++◌, length-map, get_or-map, Global, Vec}
 use Rattle.vms_cli.proofs.Facade.{slice_get-get_or, ArrayVec, reads_as, Held, Intake, Outlet, Stock, Reason, IsBytes, no_desc, Device, Set, Image, values_text}
-use Rattle.vms_cli.proofs.Facade.{WellFormed, IsFit, Fault, Takes, one_stream_holds, never_both_holds, one_fault_holds, Refusal, LoadReads, IsMachine}
-use Rattle.vms_cli.proofs.Facade.{AreShaped, no_image, name_of, accepted_of, most_given, device_at, is_well_formed, few_cells, Typed, state_of, AreImagesOf}
-use Rattle.vms_cli.proofs.Facade.{AreOf, IsOf, machine_of, Ending, Refused, WritesAs, refused_line, Outcome, done, ended, StepAs, Step, Untold, Gives, Ends}
-use Rattle.vms_cli.proofs.Facade.{Both, HasText, both, next, Seen, load_seen, seen_written, GivesWithin, Shows, Refuses, at_option, Mismatch, Counters}
-use Rattle.vms_cli.proofs.Facade.{computed, one_answer_holds, computed_holds, Finding, answer_of, fetched_set, named_sets, SetText, sets_in, mismatch_line}
-use Rattle.vms_cli.proofs.Facade.{SetWord, FitStep, fit_text, IsSound, sound_next, sound_sets, Answers, CountersBy, counted, counter_text, no_state}
-use Rattle.vms_cli.proofs.Facade.{length-append, Result, IfSome, IsErrAnd, draws_took, drop_at, MatchResult, Reads, Course, Last, MayFollow, nothing_follows}
-use Rattle.vms_cli.proofs.Facade.{Analyzes, IsListed, IsTooMuch, ListsTaken, HasListing, Listing, Text, Lists, longest_input, AnalyzeFault, AnalyzeReason}
-use Rattle.vms_cli.proofs.Facade.{one_holds, total_holds, wrong, EndsSo, EndsAs, ending_of, comes_to_nothing, same_keeps, SeenAs, Sees, TakesSo, content_seen}
-use Rattle.vms_cli.proofs.Facade.{other_seen, reads_all, seen_refused, analyze_course, EndsLike, IsRefused, FailsReading, FailsWriting, GivesListed, IsListing}
-use Rattle.vms_cli.proofs.Facade.{bytes_taken, listing_outcome, unlisted_line, kept_so, wrote_so, checked, compared, verdict, AreCompatible, Verdict}
-use Rattle.vms_cli.proofs.Facade.{HasOutcome, Asked, Check, Outside, DoesOrStops}
+use Rattle.vms_cli.proofs.Facade.{WellFormed, IsFit, Fault, Takes, one_stream_holds, never_both_holds, one_fault_holds, Refusal, LoadReads, AreShaped, no_image}
+use Rattle.vms_cli.proofs.Facade.{name_of, accepted_of, most_given, device_at, is_well_formed, few_cells, Typed, state_of, AreImagesOf, AreOf, IsOf, machine_of}
+use Rattle.vms_cli.proofs.Facade.{Ending, Refused, WritesAs, refused_line, Outcome, done, ended, StepAs, Step, Untold, Gives, Ends, Both, HasText, both, next}
+use Rattle.vms_cli.proofs.Facade.{Seen, load_seen, seen_written, GivesWithin, Shows, Refuses, at_option, Mismatch, Counters, computed, one_answer_holds}
+use Rattle.vms_cli.proofs.Facade.{computed_holds, Finding, answer_of, fetched_set, named_sets, SetText, sets_in, mismatch_line, SetWord, FitStep, fit_text}
+use Rattle.vms_cli.proofs.Facade.{IsSound, sound_next, sound_sets, Answers, CountersBy, counted, counter_text, no_state, length-append, Result, IfSome}
+use Rattle.vms_cli.proofs.Facade.{IsErrAnd, draws_took, drop_at, MatchResult, Reads, Course, Last, MayFollow, nothing_follows, Analyzes, IsListed, IsTooMuch}
+use Rattle.vms_cli.proofs.Facade.{ListsTaken, HasListing, Listing, Text, Lists, longest_input, AnalyzeFault, AnalyzeReason, one_holds, total_holds, wrong}
+use Rattle.vms_cli.proofs.Facade.{EndsSo, EndsAs, ending_of, comes_to_nothing, same_keeps, SeenAs, Sees, TakesSo, content_seen, other_seen, reads_all}
+use Rattle.vms_cli.proofs.Facade.{seen_refused, analyze_course, EndsLike, IsRefused, FailsReading, FailsWriting, GivesListed, IsListing, bytes_taken}
+use Rattle.vms_cli.proofs.Facade.{listing_outcome, unlisted_line, kept_so, wrote_so, checked, compared, verdict, AreCompatible, Verdict, HasOutcome, Asked}
+use Rattle.vms_cli.proofs.Facade.{Check, Outside, DoesOrStops}
 use Rattle.vms_cli.specs.{Commands.ShowCommand.Values, Commands.AnalyzeCommand.IsDone, Commands.AnalyzeCommand.LacksMemory}
 use Rattle.vms_frames.specs.declared.fault.Refusal.{Refusal as RefusedAt}
 use Rattle.vms_counter_laws.specs.Counters.{Answer}
@@ -31,8 +31,7 @@ abbrev no_device : Device
 no_device = record { instance = 0; desc = no_desc; subs = [] }
 
 same_machine : (set : Set) (machine : Option ℕ) → name_of set machine ≡ machine_of set machine
-same_machine set None = refl
-same_machine set (Some m) = refl
+same_machine set machine = grind arith
 
 -- the outcome under a set, if the input is known
 abbrev pub shows_under : Option (List ℕ) → Option Held → Set → Outcome → Type 0
@@ -101,12 +100,6 @@ module _ (set : Set) where
 
 -- ---- what is printed
 
-pub machine_for : (machines : List (List ℕ)) (machine : Option ℕ) → IsMachine machines machine → ForSome machine (λ m. m < length machines)
-machine_for machines None h = λ m e. cc
-machine_for machines (Some n) h = λ m e. within m (cc) where
-  within : (m : ℕ) → n ≡ m → m < length machines
-  within m same = omega arith
-
 module _ (set : Set) where
   are_from : (devices : List Device) (images : List Image) → length images ≡ length devices
       → ((k : ℕ) → k < length devices → IsOf set (get_or devices k no_device) (get_or images k (state_of no_image))) → AreOf set devices images
@@ -145,8 +138,7 @@ fit_second old (Gives new) a b = (a, b)
 fit_second old _ a b = tt
 
 fit_both : (s r : Step Set) → FitStep s → FitStep r → AreFit (both s r)
-fit_both (Gives old) r a b = fit_second old r a b
-fit_both _ r a b = tt
+fit_both s r a b = grind (arith, fit_second)
 
 fit_after : (s : Step (Both SetText)) → AreFit (next s sets_in)
 fit_after (Gives texts) = fit_both _ _ (fit_text texts.old) (fit_text texts.new)
@@ -316,13 +308,10 @@ module _ (i i' : Intake) (o o' : Outlet) where
   list_so _ _ FailsWriting a s = wrote_so s _ _ refl (draws_took (listed_took a.listed).takes) a.text a.written a.written.rose refl (λ f. absurd (wrong f))
   list_so _ _ LacksMemory a s = kept_so s _ _ refl (draws_took a.0.takes) a.1 tt (λ f. absurd (wrong f))
 
--- ---- of `check`: its steps are known, and where it is done the two sets are compatible
-
--- ---- The steps of `check` are known where the shelf is.
+-- ---- of `check`: its steps are known where the shelf is, and where it is done the two sets are compatible
 
 sound_verdict : (held : Option Held) (m : Option Mismatch) → IsSound held (verdict m)
-sound_verdict held None = tt
-sound_verdict held (Some m) = omega arith
+sound_verdict held m = grind arith
 
 pub sound_check : (held : Option Held) (old new : SetWord) → IsSound held (checked held old new)
 sound_check held old new = sound_next held (named_sets held old new) _ (sound_sets held old new) (λ sets. sound_verdict held _)
@@ -332,8 +321,7 @@ sound_check held old new = sound_next held (named_sets held old new) _ (sound_se
 module _ (status : ℕ) (old new : Outside) (zero : status ≡ 0) where
   -- an outcome that is done or stopped at has the status 0 where the answer has
   none_else : (o : Outcome) → 0 < o.status → DoesOrStops status old new o → ⊥
-  none_else o some (inl does) = omega arith
-  none_else o some (inr stops) = omega arith
+  none_else o some e = grind arith
 
   none_fails : (held : Option Held) (m : Option Mismatch) → ((o : Outcome) → HasText held (verdict m) o → DoesOrStops status old new o) → m ≡ None
   none_fails held None all = refl

@@ -210,6 +210,4 @@ told chip s = record { version = s.version; count = s.count; cells = of-set NEWE
 
 pub sound_meets_rules : SoundMeetsRules
 unfolding saved_cells
-sound_meets_rules = record {
-  chip = λ chip. ((λ s. (told chip s, none_failing (rules chip.version (newest chip)) (met chip s))), (λ h. told-sound chip h.0 h.1));
-}
+sound_meets_rules = search (arith, told, none_failing, met, told-sound)

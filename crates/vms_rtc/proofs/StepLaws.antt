@@ -3,10 +3,10 @@ use Rattle.vms_rtc.proofs.Facade.{refl, arith, line_of, read_of, written, ticks,
 use Rattle.vms_rtc.proofs.Facade.{◌<◌, ◌≤◌, ◌==◌, Bool, true, false, ◌||◌, Option, Some, None, ◌⊎◌, inl, inr, ⊎_elim, ◌↔◌, sym}
 use Rattle.vms_rtc.proofs.Facade.{ltb-true, nat_tests, div-mul-le_self, le-div, pow_pos, either, grown, quotient_mono, register, period_of_rate, period_of}
 use Rattle.vms_rtc.proofs.Facade.{ends_within, passed, PartsAreWhole, HasMultiple, FlagIsSetAtMultiples, REGISTER_A, Rtc, div-lt_iff_lt-mul, false≢true}
-use Rattle.vms_rtc.proofs.Facade.{◌+◌, ◌∙◌, cases_lt, le-leb, lt-leb, div-add-mod', nat_lt, IsNextEnd, moment_of, ◌≢◌, eqb-true, eq-eqb}
-use Rattle.vms_rtc.proofs.Facade.{cond_both, get_or-set_other, power_on, data_read, index_written, data_written, ReadsClearFlag, FlagsAreKept, VersionStays}
-use Rattle.vms_rtc.proofs.Facade.{REGISTER_C, REGISTER_D, INDEX_PORT, if◌then◌else◌, List, length, replicate, set, get_or, subst, cases_Bool}
-use Rattle.vms_rtc.proofs.Facade.{get_or-replicate, get_or-set_same, length-set, cases_eq, has_mask, has, CallsKeepSound, IsSound}
+use Rattle.vms_rtc.proofs.Facade.{◌+◌, ◌∙◌, div-add-mod', nat_lt, IsNextEnd, moment_of, ◌≢◌, eqb-true, eq-eqb, cond_both, get_or-set_other}
+use Rattle.vms_rtc.proofs.Facade.{power_on, data_read, index_written, data_written, ReadsClearFlag, FlagsAreKept, VersionStays, REGISTER_C, REGISTER_D}
+use Rattle.vms_rtc.proofs.Facade.{INDEX_PORT, if◌then◌else◌, List, length, replicate, set, get_or, subst, cases_Bool, get_or-replicate, get_or-set_same}
+use Rattle.vms_rtc.proofs.Facade.{length-set, cases_eq, has, CallsKeepSound, IsSound}
 
 -- ---- the numbers of the data sheet
 
@@ -40,18 +40,14 @@ period-positive a = either IsPositive (a / 16 % 8 == 2) (period_of_rate (a % 16)
 
 within-parts : (period : Option ℕ) (first middle last : ℕ) → IsPositive period → first ≤ middle → middle ≤ last
     → ends_within period first last ≡ (ends_within period first middle || ends_within period middle last)
-within-parts None first middle last p h l = refl
-within-parts (Some period) first middle last p h l = grind (arith, grown, quotient_mono, ticks-mono)
+within-parts period first middle last p h l = grind (arith, grown, quotient_mono, ticks-mono)
 
 set-either : (flag first second whole : Bool) → whole ≡ (first || second) → ((flag || first) || second) ≡ (flag || whole)
 set-either flag first second whole e = grind (arith, nat_tests)
 
 parts : (first middle last : ℕ) (chip : Rtc) → first ≤ middle → middle ≤ last → passed middle last (passed first middle chip) ≡ passed first last chip
 unfolding passed
-parts first middle last chip h l =
-    let period = period_of (register REGISTER_A chip) in
-    rw (set-either chip.pf (ends_within period first middle) (ends_within period middle last) (ends_within period first last)
-    (within-parts period first middle last (period-positive (register REGISTER_A chip)) h l))
+parts first middle last chip h l = grind (arith, set-either, within-parts, period-positive)
 
 pub parts_are_whole : PartsAreWhole
 parts_are_whole = record { passed = parts }
@@ -65,18 +61,14 @@ ends-at : (period from to : ℕ) → 0 < period → (k : ℕ) × (ticks from < k
 ends-at period from to p m = grind (arith, le-div)
 
 ends-means : (period : Option ℕ) (from to : ℕ) → IsPositive period → (ends_within period from to ≡ true) ↔ HasMultiple period from to
-ends-means None from to p = (λ e. false≢true e, λ none. absurd none)
-ends-means (Some period) from to p = (multiple-of period from to p, ends-at period from to p)
+ends-means period from to p = search (arith, multiple-of, ends-at)
 
 or-means : {A : Type 0} (was ends : Bool) → (ends ≡ true) ↔ A → ((was || ends) ≡ true) ↔ ((was ≡ true) ⊎ A)
-or-means true ends h = (λ e. inl refl, λ e. refl)
-or-means false ends h = (λ e. inr (h.0 e), ⊎_elim (λ f. cc) h.1)
+or-means was ends h = search arith
 
 set-at : (from to : ℕ) (chip : Rtc) → ((passed from to chip).pf ≡ true) ↔ ((chip.pf ≡ true) ⊎ HasMultiple (period_of (register REGISTER_A chip)) from to)
 unfolding passed
-set-at from to chip =
-    let period = period_of (register REGISTER_A chip) in
-    or-means chip.pf (ends_within period from to) (ends-means period from to (period-positive (register REGISTER_A chip)))
+set-at from to chip = grind (arith, or-means, ends-means, period-positive)
 
 pub set_at_multiples : FlagIsSetAtMultiples
 set_at_multiples = record { flag = set-at }
@@ -110,11 +102,7 @@ not_ended period from to p h =
     grind (arith, nat_tests)
 
 pub end_is_next : (period from : ℕ) → 0 < period → IsNextEnd (Some period) from (Some (end_after period from))
-end_is_next period from p = record {
-  ends = λ to h. ⊎_elim
-      (λ (f : to < end_after period from). not_ended period from to p f ∙ sym (lt-leb (end_after period from) to f))
-      (λ (f : end_after period from ≤ to). ended period from to p f ∙ sym (le-leb (end_after period from) to f)) (cases_lt to (end_after period from));
-}
+end_is_next period from p = search (arith, not_ended, ended)
 
 pub none_ends : (from : ℕ) → IsNextEnd None from None
 none_ends from = record { ends = λ to h. refl }
@@ -171,10 +159,7 @@ read-sound port chip s = search (arith, nat_tests)
 
 index-sound : (value : ℕ) (chip : Rtc) → IsSound chip → IsSound (index_written value chip)
 unfolding index_written
-index-sound value chip s =
-    let index : value % 64 ≤ 63 = omega arith in
-    let mask : has_mask chip ≡ false → (if has_mask chip then has value 7 else chip.nmi_mask) ≡ false = λ none. rw none (s.mask none) in
-    search
+index-sound value chip s = grind (arith, has)
 
 -- a register of a written chip
 byte-kept : (xs : List ℕ) (i v k : ℕ) → i < length xs → v < 256 → get_or xs k 0 < 256 → get_or (set xs i v) k 0 < 256

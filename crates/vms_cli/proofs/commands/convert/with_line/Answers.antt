@@ -1,5 +1,5 @@
-use Rattle.vms_cli.proofs.Facade.{◌≡◌, Err, Result, ap, ◌∙◌, Option, ConvertFault, ending_passed, refused_line, Ending, IsDone, IsLost}
-use Rattle.vms_cli.proofs.Facade.{IsMismatch, LacksLine, LacksMemory}
+use Rattle.vms_cli.proofs.Facade.{◌≡◌, Err, Result, ap, ◌∙◌, Option, ConvertFault, ending_passed, refused_line, Ending, IsDone, IsLost, IsMismatch}
+use Rattle.vms_cli.proofs.Facade.{LacksLine, LacksMemory}
 use Rattle.vms_cli.specs.Commands.ConvertCommand.{EndsLike, FailsReading, FailsWriting, IsRefused}
 use Rattle.vms_cli.proofs.commands.convert.with_line.Goals as goal
 

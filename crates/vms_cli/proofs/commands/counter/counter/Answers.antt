@@ -1,5 +1,5 @@
-use Rattle.vms_cli.proofs.{RowLemmas.counter_ends, TextCommands.counters_text}
-use Rattle.vms_cli.proofs.Facade.{lacks_text, text_asks, then_runs, [], ◌∷◌, refl, set_asked, named_sets, asks_shelf, sets_of, counted, ending_passed}
+use Rattle.vms_cli.proofs.{RowLemmas.text_ends, TextCommands.counters_text, Facade.ending_passed}
+use Rattle.vms_cli.proofs.Facade.{false, sym, wrong, lacks_text, text_asks, then_runs, [], ◌∷◌, refl, set_asked, named_sets, asks_shelf, sets_of, counted}
 use Rattle.vms_cli.proofs.commands.counter.counter.Goals as goal
 
 pub returns : goal.returns
@@ -9,7 +9,7 @@ returns g c = λ input few.
     let new = set_asked c.args.new in
     let had = c.in_ok-sets.ensures in
     then_runs sets_of counted (named_sets held old new) c.in_ok-sets.sets few had.asks.looks.held had.had c.find.ensures.ends
-    (counter_ends input _ _ _ _ _ _ c.find.ensures.so had.asks.looks had.asks.unasked) (refl, refl) (counters_text held old new)
+    (text_ends input _ _ _ _ false _ false (λ f. absurd (wrong (sym f))) _ c.find.ensures.so had.asks.looks had.asks.unasked) (refl, refl) (counters_text held old new)
 
 pub returns-in_err-sets : goal.returns-in_err-sets
 returns-in_err-sets g c = rw (ending_passed c.from_residual.result c.from_residual.ensures.1) (λ input few.

@@ -1,5 +1,4 @@
-use Rattle.vms_cli.proofs.Facade.{rules, outlet, described, fit_of, ending_of}
-use Rattle.vms_cli.proofs.StreamCommands.{packs_read, read_ready}
+use Rattle.vms_cli.proofs.{Facade.rules, Facade.outlet, Facade.described, Facade.fit_of, Facade.ending_of, StreamCommands.packs_read, StreamCommands.read_ready}
 use Rattle.vms_cli.proofs.commands.pack.pack_text.Goals as goal
 
 pub write-requires : goal.write-requires
