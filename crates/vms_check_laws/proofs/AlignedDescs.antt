@@ -5,10 +5,10 @@
 use Rattle.vms_check_laws.proofs.FieldsRead.{pair_meets, named_pair}
 use Rattle.vms_check_laws.proofs.Facade.{◌≡◌, inl, inr, ℕ, zero, suc, ◌+◌, ◌<◌, ◌≤◌, Bool, true, List, ◌∷◌, ◌++◌, length}
 use Rattle.vms_check_laws.proofs.Facade.{get_or, Some, None, sym, ap, ◌∙◌, code_read, big_number, arith, ℤ, pos, if◌then◌else◌, ◌⊎◌, nat_lt}
-use Rattle.vms_check_laws.proofs.Facade.{take, refl, slice_get, and_parts, ltb-true, eq-or-lt_of_le, [], Kind, Item, Num, Equal, width, residue, code, Count}
-use Rattle.vms_check_laws.proofs.Facade.{One, is_steady_in, is_num, is_one, is_earlier_in, Slot, Number, times, counted, elements_of, item_slots, kind_of}
-use Rattle.vms_check_laws.proofs.Facade.{Spells, zeroed, length-code, Entry, same_count, same_item, FitsAt, Aligns, desc_cells, AllZip, cases_lt, eq-eqb}
-use Rattle.vms_check_laws.proofs.Facade.{position_from, same_place}
+use Rattle.vms_check_laws.proofs.Facade.{take, refl, slice_get, and_parts, ltb-true, eq-or-lt_of_le, [], Kind, Item, Equal, width, residue, code, Count, One}
+use Rattle.vms_check_laws.proofs.Facade.{is_steady_in, is_num, is_one, is_earlier_in, Slot, Number, times, counted, elements_of, item_slots, kind_of, Spells}
+use Rattle.vms_check_laws.proofs.Facade.{zeroed, length-code, Entry, same_count, same_item, FitsAt, Aligns, desc_cells, AllZip, eq-eqb, position_from}
+use Rattle.vms_check_laws.proofs.Facade.{same_place}
 use Rattle.vms_check_laws.proofs.Premises.{olds, older, newer, kinds_same, slots_at, IsKnown, entries_slots, AreKnown, known_there, Two, PairGood, Sides}
 use Rattle.vms_check_laws.proofs.Premises.{IsSingle, NamesEarlier, OldFields, Met}
 use Rattle.vms_check_laws.proofs.Presence.{spells_split, behind_first, same_some, at_or_later, Above, none_before}
@@ -53,19 +53,16 @@ module _ (sides : Sides) where
   one_same : (k l : Kind) (caps caps' : List ℕ) (x y : ℕ) → k ≡ l → (body r r' : List ℕ) → Spells numbers' (Number y l caps' ∷ []) body
       → body ++ r' ≡ zeroed numbers (Number x k caps ∷ []) ++ r → residue (width k) (get_or numbers x (pos 0)) ≡ residue (width l) (get_or numbers' y (pos 0))
   one_same k l caps caps' x y e body r r' s h =
-      let z = get_or numbers x (pos 0) in
-      let u = get_or numbers' y (pos 0) in
       let same = same_bytes numbers _ numbers' _ (aligns_number _ _ x y k l caps caps' e) body r r' s h in
-      let codes = (apart (code l u) (code k z) [] s.0 (rw (length-code, length-code, e)) (sym s.1 ∙ same)).0 in
-      rw (← e) (sym (code_read k z) ∙ ap (big_number (width k)) (rw (← codes, e)) ∙ code_read k u)
+      let codes = (apart (code l _) (code k _) [] s.0 (rw (length-code, length-code, e)) (sym s.1 ∙ same)).0 in
+      rw (← e) (sym (code_read k _) ∙ ap (big_number (width k)) (rw (← codes, e)) ∙ code_read k _)
 
   number_same : (j i : Item) (d c : Count) (t t' : Bool) (caps caps' : List ℕ) (x y step step' : ℕ) → is_num j ≡ true → is_one d ≡ true → same_item i j ≡ true
       → same_count o n c d ≡ true → t ≡ true → t' ≡ true
       → (body r r' : List ℕ) → Spells numbers' (if t' then times (elements_of d (newer sides)) (item_slots ns j caps' numbers') y step' else []) body
       → body ++ r' ≡ zeroed numbers (if t then times (elements_of c (older sides)) (item_slots ms i caps numbers) x step else []) ++ r
       → residue (width (kind_of i)) (get_or numbers x (pos 0)) ≡ residue (width (kind_of j)) (get_or numbers' y (pos 0))
-  number_same (Num l) (Num k) One One true true caps caps' x y step step' num one same counts is is' body r r' s h = grind (arith, one_same, kinds_same)
-  number_same _ _ _ _ _ _ caps caps' x y step step' num one same counts is is' body r r' s h = absurd (cc)
+  number_same j i d c t t' caps caps' x y step step' num one same counts is is' body r r' s h = grind (arith, one_same, kinds_same)
 
   pair_same : (e f : Entry) → Met sides e f → is_steady_in b f.index ≡ true
       → (body r r' : List ℕ) → Spells numbers' (NewSlots f) body → body ++ r' ≡ zeroed numbers (OldSlots e) ++ r → older sides e.index ≡ newer sides f.index
@@ -93,13 +90,7 @@ module _ (sides : Sides) where
     pub same : Same i
 
   earlier_same : (p i : ℕ) (e f : Entry) (es fs : List Entry) → State p i (e ∷ es) (f ∷ fs) → Same f.index
-  earlier_same p i e f es fs st k j lt named place = elim (cases_lt j i) [
-    | inl less ↦ st.same k j less named place
-    | inr le ↦ elim (at_or_later k j p e f es fs (st.later k j le place)) [
-      | inl here ↦ absurd (omega arith)
-      | inr more ↦ let s = same_some _ _ more.1 in absurd (none_before (suc p) j s.0 (suc f.index) fs st.above.1 (omega arith) s.2)
-    ]
-  ]
+  earlier_same p i e f es fs st k j lt named place = grind (arith, at_or_later, same_some, none_before)
 
   same_next : (p i : ℕ) (e f : Entry) (es fs : List Entry) → State p i (e ∷ es) (f ∷ fs)
       → (is_steady_in b f.index ≡ true → older sides e.index ≡ newer sides f.index)

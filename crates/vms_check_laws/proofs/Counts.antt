@@ -1,15 +1,15 @@
 -- Numbers that count fit all capacities, and what well-formedness gives to the laws on pairs of
 -- sets.
-use Rattle.vms_check_laws.proofs.Facade.{absent_hold, bound, least_of, greatest, has_room, AllZip, ◌≤ℤ◌, ◌≡◌, inl, inr, ℕ, zero, suc, ◌+◌}
-use Rattle.vms_check_laws.proofs.Facade.{◌≤◌, true, List, ◌∷◌, ◌++◌, length, get_or, Some, refl, arith, ℤ, pos, if◌then◌else◌}
-use Rattle.vms_check_laws.proofs.Facade.{AllByRecursion, slice_get, eq-eqb, ints, ◌<◌, [], min, Bool, false, Option, None, sym, nat_le, and_parts, eqb-true}
-use Rattle.vms_check_laws.proofs.Facade.{leb-true, Kind, U8, U16, U32, Item, Num, width, residue, Count, Counted, Field, Cell, times, counted, capacity_of}
-use Rattle.vms_check_laws.proofs.Facade.{item_cells, field_cells, cells_from, place_of, no_field, kind_of, FitsCell, is_num, is_one, ItemBelow, FitsAt, Desc}
-use Rattle.vms_check_laws.proofs.Facade.{is_steady_in, no_desc, highest, Formula, presence, Entry, entry_of, present_from, position_from, same_place}
-use Rattle.vms_check_laws.proofs.Facade.{same_count, holds_as_much, defaults, and_from, slice_get-get_or, Own, Parent, Not, And, Or, Sub, Device, Set}
-use Rattle.vms_check_laws.proofs.Facade.{names_well, nobody, is_steady, is_earlier_in, ◌&&◌, test_names_well, count_names_well, is_counting, defaults_well}
-use Rattle.vms_check_laws.proofs.Facade.{counts_well, has_good_count, validation_rules, WellFormed, AllTrue, item_below, Clean, within, struct_clean}
-use Rattle.vms_check_laws.proofs.Facade.{device_parts, sub_clean}
+use Rattle.vms_check_laws.proofs.Facade.{absent_hold, bound, least_of, has_room, AllZip, ◌≤ℤ◌, ◌≡◌, inl, inr, ℕ, zero, suc, ◌+◌, ◌≤◌}
+use Rattle.vms_check_laws.proofs.Facade.{true, List, ◌∷◌, ◌++◌, length, get_or, Some, refl, arith, ℤ, pos, if◌then◌else◌, AllByRecursion}
+use Rattle.vms_check_laws.proofs.Facade.{slice_get, eq-eqb, ints, ◌<◌, [], min, Bool, false, Option, None, sym, nat_le, and_parts, eqb-true, leb-true, Kind}
+use Rattle.vms_check_laws.proofs.Facade.{U8, U16, U32, Item, Num, width, residue, Count, Counted, Field, Cell, times, counted, capacity_of, item_cells}
+use Rattle.vms_check_laws.proofs.Facade.{field_cells, cells_from, place_of, no_field, kind_of, FitsCell, is_num, is_one, ItemBelow, FitsAt, Desc, is_steady_in}
+use Rattle.vms_check_laws.proofs.Facade.{no_desc, highest, Formula, presence, Entry, entry_of, present_from, position_from, same_place, same_count}
+use Rattle.vms_check_laws.proofs.Facade.{holds_as_much, defaults, and_from, slice_get-get_or, Own, Parent, Not, And, Or, Sub, Device, Set, names_well, nobody}
+use Rattle.vms_check_laws.proofs.Facade.{is_steady, is_earlier_in, ◌&&◌, test_names_well, count_names_well, is_counting, defaults_well, counts_well}
+use Rattle.vms_check_laws.proofs.Facade.{has_good_count, validation_rules, WellFormed, AllTrue, item_below, Clean, within, struct_clean, device_parts}
+use Rattle.vms_check_laws.proofs.Facade.{sub_clean}
 use Rattle.vms_check_laws.proofs.Premises.{Met, NewGood, news, IsSingle, CountFits, OldFields, DefaultsGood, NamesEarlier, NewFields, RulesNamed, Sides}
 use Rattle.vms_check_laws.proofs.Premises.{Matched}
 use Rattle.vms_check_laws.proofs.Premises.{decoded, CountNamed, ItemDefault}
@@ -41,8 +41,7 @@ single_at cs all (f ∷ fs) i zero numbers at g e s fits =
     let same : f ≡ g = cc in
     let z : i + 0 ≡ i = omega arith in
     let at_f : Steady f = rw same s in
-    let fits_at = first_fits cs f.item _ _ _ _ _ at at_f.item at_f.count fits in
-    rw (← same, z) (record { number = get_or numbers at (pos 0); fits = fits_at; is = refl })
+    rw (← same, z) (record { number = get_or numbers at (pos 0); fits = first_fits cs f.item _ _ _ _ _ at at_f.item at_f.count fits; is = refl })
 single_at cs all (f ∷ fs) i (suc k) numbers at g e s fits =
     let z : suc i + k ≡ i + suc k = omega arith in
     rw (← z) (single_at cs all fs (suc i) k numbers (at + length (field_cells cs all i f)) g e s (fits_right _ fits))
@@ -53,12 +52,9 @@ IsCounting (Num U16) = Unit {0}
 IsCounting (Num U32) = Unit {0}
 IsCounting _ = ⊥
 
-below_cap : (w : ℕ) (z : ℤ) (most : ℕ) → pos 0 ≤ℤ z → z ≤ℤ pos most → residue w z ≤ most
-below_cap w z most low high = grind arith
-
 counting_below : (item : Item) (caps : List ℕ) (d z : ℤ) (most : ℕ) → IsCounting item
     → FitsCell (record { kind = kind_of item; capacities = caps; default = d }) z → z ≤ℤ pos most → residue (width (kind_of item)) z ≤ most
-counting_below item caps d z most c fits high = grind (arith, below_cap)
+counting_below item caps d z most c fits high = grind arith
 
 -- field `by` may count
 pub record Counter (all : List Field) (by : ℕ) : Type 0 where
@@ -138,11 +134,8 @@ at_most_least : (z : ℤ) (m : ℕ) (ms : List ℕ) → z ≤ℤ pos m → AllBy
 at_most_least z m [] h all = h
 at_most_least z m (k ∷ ms) h all = at_most_least z (min m k) ms (omega (arith, ints)) all.1
 
-greatest_kind : (kind : Kind) → highest kind ≡ pos (greatest (Num kind))
-greatest_kind kind = grind arith
-
 pub at_most_bound : (kind : Kind) (caps : List ℕ) (z : ℤ) → z ≤ℤ highest kind → AllByRecursion (λ k. z ≤ℤ pos k) caps → z ≤ℤ pos (bound (Num kind) caps)
-at_most_bound kind caps z h all = grind (arith, greatest_kind, at_most_least)
+at_most_bound kind caps z h all = grind (arith, at_most_least)
 
 pub at_most_more : (z : ℤ) (m k : ℕ) → z ≤ℤ pos m → m ≤ k → z ≤ℤ pos k
 at_most_more _ m k h le = omega (arith, ints)
@@ -241,8 +234,7 @@ counting : (g : Field) (i : Item) → is_counting (Some (record g { item = i }))
 counting g i h = grind arith
 
 counter : (all : List Field) (by minimum : ℕ) (o : Option Field) → slice_get all by ≡ o → is_steady minimum o ≡ true → is_counting o ≡ true → Counter all by
-counter all by minimum None e h k = absurd (cc)
-counter all by minimum (Some g) e h k = record { field = g; stands = e; steady = steady minimum (Some g) g refl h; kind = counting g g.item k }
+counter all by minimum o e h k = search (arith, counting)
 
 count_known : (d : Desc) (k : ℕ) (c : Count) → count_names_well d k c ≡ true → CountKnown d.fields c
 count_known d k c h = grind (arith, counter, earlier_steady)

@@ -8,7 +8,7 @@ use Rattle.vms_check_laws.proofs.Facade.{◌<◌, Bool, true, List, ◌∷◌, �
 use Rattle.vms_check_laws.proofs.Facade.{Field, Cell, counted, item_cells, field_cells, cells_from, Entry, defaults, carry_field, carry_from, FitsAt, ItemBelow}
 use Rattle.vms_check_laws.proofs.Facade.{FieldsBelow, desc_cells, is_steady_in, present, AllZip, sym, ◌∙◌, and_from, and_parts, list_all, list_any, Desc}
 use Rattle.vms_check_laws.proofs.Facade.{Rule, Meaning, slots_from, desc_slots, all_hold, Part, position_from, Comparer, compare_desc, Carrier, carry_desc}
-use Rattle.vms_check_laws.proofs.Facade.{Holds, Aligns, or_else_none, Spells, zeroed, Carries, Known, Reduced, compare_validations, here, is_kept}
+use Rattle.vms_check_laws.proofs.Facade.{Holds, Aligns, or_else_none, Spells, zeroed, Carries, Known, Reduced, compare_validations, is_kept}
 use Rattle.vms_check_laws.proofs.FieldsRead.{linked, agree_from, fields_settle, fields_carry, by_fields, field_sized, matched, covered_cells, there}
 use Rattle.vms_check_laws.proofs.PairLists.{settled_more}
 use Rattle.vms_check_laws.proofs.Premises.{olds, news, older, newer, decoded, OldFields, NewFields, DefaultsGood, ItemDefault, Sides}
@@ -51,8 +51,7 @@ module _ (sides : Sides) where
         → FitCells (desc_cells (news sides) b) (carry_from cs (olds sides) (news sides) numbers (older sides) v w at b.fields 0 b.fields all)
     fields_fit good h = by_fields sides _ (λ i p gs es fs zs. DefaultsGood b.fields i gs → FitCells (cells_from (news sides) b.fields i gs) zs) (λ i p good. tt)
         (λ i p g gs es fs zs lt more good.
-        let here = good_item _ below' g.item _ _ (λ j l. (table.rows j l).good) lt good.0 in
-        fit_append _ _ _ _ (fit_defaults _ (good_times _ _ 0 0 here)) (more good.1))
+        fit_append _ _ _ _ (fit_defaults _ (good_times _ _ 0 0 (good_item _ below' g.item _ _ (λ j l. (table.rows j l).good) lt good.0))) (more good.1))
         (λ i p g gs rest e es fs zs lt h more good.
         fit_append _ _ _ _ (fit_pair e _ h (good_item _ below' g.item _ _ (λ j l. (table.rows j l).good) lt good.0)) (more good.1))
         0 0 _ all (fields_below _ _ (λ j f e. (new j f e).item)) h good

@@ -4,7 +4,8 @@ pub use Rattle.std.proofs.Common.{Bool, IfSome, List, None, Option, Some, [], ap
 pub use Rattle.std.proofs.Common.{map, min, nat_le, nat_lt, negsuc, pos, refl, replicate, slice_set, suc, sym, take, true, zero, ℕ, ℤ, ◌&&◌, ◌*◌}
 pub use Rattle.std.proofs.Common.{◌++◌, ◌+◌, ◌-◌, ◌<◌, ◌==◌, ◌||◌, ◌∙◌, ◌∷◌, ◌≡◌, ◌≤ℤ◌, ◌≤◌, ◌⊎◌}
 pub use Rattle.std.proofs.Math.Seq.{drop-append_seam, take-append_seam}
-pub use Rattle.std.proofs.lemmas.Bool.{and_from, and_parts, cases_eq, cases_lt, eq-eqb, eqb-true, false_from_ne_true, leb-true, ltb-true, or_parts}
+pub use Rattle.std.proofs.lemmas.Bool.{and_from, and_parts, cases_eq, cases_lt, eq-eqb, eqb-true, false_from_ne_true, leb-true, ltb-true}
+pub use Rattle.std.proofs.lemmas.Bool.{or_cases, or_parts}
 pub use Rattle.std.proofs.lemmas.List.{append-nil, ext_get_or, get_or-append-add, get_or_append_left, get_or_past, length-append, length-map, length-replicate}
 pub use Rattle.std.proofs.lemmas.Option.{get_or_from_slice_get, slice_get-get_or, slice_get-map, slice_get_within}
 pub use Rattle.std.specs.{List.AllByRecursion, List.AllZip, List.flat_map, List.list_all, List.list_any, List.slice_get, Option.option_and_then}

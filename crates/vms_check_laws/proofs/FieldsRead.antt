@@ -3,13 +3,13 @@
 use Rattle.vms_check_laws.proofs.Presence.{carries_nil, carries_append, carries_filler, aligns_nil, aligns_append, aligns_number, aligns_constant}
 use Rattle.vms_check_laws.proofs.Presence.{aligns_filler}
 use Rattle.vms_check_laws.proofs.Facade.{◌≡◌, inl, inr, ℕ, zero, suc, ◌+◌, ◌*◌, ◌≤◌, Bool, true, false, List, ◌∷◌, length, get_or}
-use Rattle.vms_check_laws.proofs.Facade.{Option, None, refl, sym, eq-eqb, ◌∙◌, arith, ℤ, pos, if◌then◌else◌, ◌++◌, Some, eqb-true, slice_get}
-use Rattle.vms_check_laws.proofs.Facade.{ap, [], length-append, Kind, Item, Num, Equal, Unused, Struct, width, Count, Formula, Field, is_there, Slot, no_parent}
-use Rattle.vms_check_laws.proofs.Facade.{times, counted, capacity_of, item_cells, field_cells, elements_of, item_slots, Entry, same_rest, same_count}
-use Rattle.vms_check_laws.proofs.Facade.{same_constant, holds_as_much, entry_of, present_from, defaults, carry_item, carry_items, carry_field, Holds, FitsAt}
-use Rattle.vms_check_laws.proofs.Facade.{Carries, size_same, elements_fit, ItemBelow, same_number_is, here, Aligns, FitsCell, AllByRecursion, highest}
-use Rattle.vms_check_laws.proofs.Facade.{◌≤ℤ◌, presence, Cell, cells_from, slots_from, kind_of, is_steady_in, is_num, is_one, same_item, position_from}
-use Rattle.vms_check_laws.proofs.Facade.{same_place, carry_next, carry_from, entries_left, field_size, FieldsBelow, residue, desc_cells, AllZip}
+use Rattle.vms_check_laws.proofs.Facade.{Option, None, refl, sym, eq-eqb, ◌∙◌, arith, ℤ, pos, if◌then◌else◌, ◌++◌, Some, eqb-true, ap, []}
+use Rattle.vms_check_laws.proofs.Facade.{length-append, Kind, Item, Num, Equal, Unused, Struct, Count, Formula, Field, is_there, Slot, no_parent, times}
+use Rattle.vms_check_laws.proofs.Facade.{counted, capacity_of, item_cells, field_cells, elements_of, item_slots, Entry, same_rest, same_count, same_constant}
+use Rattle.vms_check_laws.proofs.Facade.{holds_as_much, entry_of, present_from, defaults, carry_item, carry_items, carry_field, Holds, FitsAt, Carries}
+use Rattle.vms_check_laws.proofs.Facade.{size_same, elements_fit, ItemBelow, same_number_is, here, Aligns, FitsCell, AllByRecursion, highest, ◌≤ℤ◌}
+use Rattle.vms_check_laws.proofs.Facade.{presence, Cell, cells_from, slots_from, is_steady_in, is_num, position_from, same_place, carry_next, carry_from}
+use Rattle.vms_check_laws.proofs.Facade.{entries_left, field_size, FieldsBelow, desc_cells, AllZip}
 use Rattle.vms_check_laws.proofs.PairLists.{when_there, defaults_size, Settled, settled_defaults, settled_empty, settled_append, same_defaults, if_least}
 use Rattle.vms_check_laws.proofs.Premises.{olds, news, older, newer, kinds_same, slots_at, entries_slots, known_there, Pairs, decoded, CoveredBy, Matched}
 use Rattle.vms_check_laws.proofs.Premises.{Sides, CountFits, CountNamed, OldGood, NewGood, OldFields, NewFields, Reads, covered_slots, Met, PairGood, GoodCells}
@@ -127,28 +127,11 @@ module _ (sides : Sides) where
     pub rest : f.rest ≡ None
 
   pub named_pair : (e f : Entry) → Met sides e f → is_steady_in b f.index ≡ true → NamedPair e f
-  named_pair e f met is =
-      let s = steady b.minimum (slice_get b.fields f.index) f.field met.known'.field is in
-      let m : Matched two e f = elim (decoded two e f met.good) [
-        | inl c ↦ absurd (not_covered _ _ _ c.covers s.item)
-        | inr m ↦ m
-      ] in
-      let rest : f.rest ≡ None = steady_rest w _ _ f.rest s.test met.known'.left in
-      record {
-        plain = s;
-        matched = m;
-        there_is = known_there ms a.fields v numbers at e met.known (rest_none o n e.rest f.rest rest m.rest) _ _;
-        rest = rest;
-      }
-
-  number_pair : (j i : Item) (d c : Count) (z : ℤ) (t : Bool) (x y : ℕ) → is_num j ≡ true → is_one d ≡ true → same_item i j ≡ true → same_count o n c d ≡ true
-      → t ≡ true → Holds numbers' y (some_items i j z (if t then elements_of c (older sides) else 0) (capacity_of d) x)
-      → residue (width (kind_of i)) (get_or numbers x (pos 0)) ≡ residue (width (kind_of j)) (get_or numbers' y (pos 0))
-  number_pair j i d c z t x y num one same counts there_is held = grind (arith, kinds_same, one_number)
+  named_pair e f met is = search (arith, steady, decoded, not_covered, steady_rest, known_there, rest_none)
 
   pair_agrees : (e f : Entry) → Met sides e f → Holds numbers' (at' + f.place) (one_field e f.field) → is_steady_in b f.index ≡ true
       → older sides e.index ≡ newer sides f.index
-  pair_agrees e f met held is = grind (arith, named_pair, number_pair)
+  pair_agrees e f met held is = grind (arith, named_pair, kinds_same, one_number)
 
   pub agree_from : (i j p : ℕ) (es fs : List Entry) → Linked es fs → is_steady_in b j ≡ true
       → same_place (position_from p es i) (position_from p fs j) ≡ true → older sides i ≡ newer sides j
@@ -185,11 +168,7 @@ module _ (sides : Sides) where
               settled = record { each = λ c lt. let q : y ≡ y + c = omega arith in inl (rw (← q, eq-eqb y y refl)) };
             };
       })
-  item_meets (Equal k z) (Equal l u) caps caps' d d' x pair fits = record {
-    fits = λ good follow. tt;
-    aligned = λ y. aligns_constant _ _ k l z u (kinds_same k l pair.same);
-    reads = λ constant y held. search (arith, same_number_is, kinds_same, settled_empty);
-  }
+  item_meets (Equal k z) (Equal l u) caps caps' d d' x pair fits = search (arith, aligns_constant, kinds_same, same_number_is, settled_empty)
   item_meets (Unused m) (Unused r) caps caps' d d' x pair fits =
       let e = filler_length numbers m ∙ eqb-true m r pair.same in
       record {
@@ -206,11 +185,7 @@ module _ (sides : Sides) where
       → FitsAt (times most (λ _. item_cells (olds sides) i caps d) p step) numbers x
       → Elements i j caps caps' d' (times m (item_slots ms i caps numbers) x (old_size i)) (λ y. times m (item_slots ns j caps' numbers') y (new_size j))
       (times most' (λ _. item_cells (news sides) j caps' d') p' step') (some_items i j d' m most' x)
-  items_meet i j caps caps' d d' zero most zero p p' step step' x pair le le' fits = record {
-    fits = λ good follow. tt;
-    aligned = λ y. aligns_nil _ _;
-    reads = λ constant y held. record { carries = carries_nil; settled = settled_empty [] y [] [] refl };
-  }
+  items_meet i j caps caps' d d' zero most zero p p' step step' x pair le le' fits = search (arith, aligns_nil, carries_nil, settled_empty)
   items_meet i j caps caps' d d' zero most (suc most') p p' step step' x pair le le' fits =
       let more = items_meet i j caps caps' d d' zero most most' p (p' + step') step step' x pair (omega arith) (omega arith) fits in
       let same = same_defaults (news sides) j [] caps' d' in
@@ -326,11 +301,9 @@ module _ (sides : Sides) where
         ∙ same_there o n ok (older sides) (newer sides) no_parent no_parent v w p.agree e.rest f.rest
         (presence_named ok w f.field.test f.field.since f.rest p.new.test p.known'.left) h
         ∙ sym (there_here w f.field.test f.field.since f.rest (newer sides) no_parent p.known'.left) in
-        let xs = old_slots (elements_of e.field.count (older sides)) e in
-        let ys = new_slots (elements_of f.field.count (newer sides)) f (at' + f.place) in
         elim (decoded two e f p.good) [
-          | inl c ↦ when_there (PairMeets e f) _ _ xs ys (same c.rest) (λ is. (covers e f p c).0) (λ is. (covers e f p c).1)
-          | inr m ↦ when_there (PairMeets e f) _ _ xs ys (same m.rest) (items e f p m false)
+          | inl c ↦ when_there (PairMeets e f) _ _ _ _ (same c.rest) (λ is. (covers e f p c).0) (λ is. (covers e f p c).1)
+          | inr m ↦ when_there (PairMeets e f) _ _ _ _ (same m.rest) (items e f p m false)
               (λ is. rw (← (same_elements _ _ p.agree p.old.count p.new.count m.count m.room)) (items e f p m true is))
         ]
 

@@ -81,10 +81,9 @@ module _ (old new : Set) (good_old : WellFormed old) (good_new : WellFormed new)
   taken_in : (c r : ℕ) (w : StandsIn old (named_partners old new e) (own_cells old d) d.subs c (Some (own_cells new e + r)))
       → has_come (own_cells old d + c) ≡ true → get_or rest r (pos 0) ≡ get_or numbers (own_cells old d + c) (pos 0)
   taken_in c r w come =
-      let x = own_cells old d + c in
-      let h = has_part old d numbers _ d.subs image.came x come in
-      let range = its_in old h.sub.desc h.version _ _ x h.has in
-      let same : h.j ≡ w.m = one_part old _ d.subs h.j w.m x h.sub w.sub h.there w.there range.0 range.1 (omega arith) (omega arith) in
+      let h = has_part old d numbers _ d.subs image.came _ come in
+      let range = its_in old h.sub.desc h.version _ _ _ h.has in
+      let same : h.j ≡ w.m = one_part old _ d.subs h.j w.m _ h.sub w.sub h.there w.there range.0 range.1 (omega arith) (omega arith) in
       let sub_same : h.sub ≡ w.sub = cc in
       let is_come : slice_get image.came w.m ≡ Some (Some h.version) = rw same at h.is_come in
       let p = paired_sub w.sub w.c _ w.here in

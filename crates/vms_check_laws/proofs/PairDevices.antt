@@ -1,11 +1,11 @@
 -- The subsections of a device, and the partners of its cells.
-use Rattle.vms_check_laws.proofs.Facade.{places_apart, IsCellOf, ◌≡◌, ◌⊎◌, inl, inr, ℕ, zero, suc, ◌+◌, ◌<◌, ◌≤◌, Bool, true, false}
-use Rattle.vms_check_laws.proofs.Facade.{◌||◌, List, ◌∷◌, length, get_or, Option, Some, None, ℤ, refl, sym, ◌∙◌, arith, flat_map, sub_is}
-use Rattle.vms_check_laws.proofs.Facade.{Image, carried_sub, carrying, defaults, sub_came, index, slice_get, length-append, bytes_eq-Decides, cases_lt, []}
-use Rattle.vms_check_laws.proofs.Facade.{slice_get-get_or, Sub, Device, Set, Cell, desc_cells, device_cells, struct_cells, has_cell, own_cells, came_slots}
-use Rattle.vms_check_laws.proofs.Facade.{sub_slots, sub_place, find_sub, names_append, sub_size, ◌*◌, ap, length-replicate, WellFormed, part_partners}
-use Rattle.vms_check_laws.proofs.Facade.{no_cell, sub_place_up, device_parts, sub_clean, sub_found, ArePartners, named_partners, device_partners}
-use Rattle.vms_check_laws.proofs.Facade.{get_or_from_slice_get, cells_of_sub, ◌-◌}
+use Rattle.vms_check_laws.proofs.Facade.{places_apart, IsCellOf, ◌≡◌, ◌⊎◌, inl, inr, ℕ, zero, suc, ◌+◌, ◌<◌, ◌≤◌, true, List}
+use Rattle.vms_check_laws.proofs.Facade.{◌∷◌, length, get_or, Option, Some, None, ℤ, refl, sym, ◌∙◌, arith, flat_map, sub_is, Image, carried_sub}
+use Rattle.vms_check_laws.proofs.Facade.{carrying, defaults, sub_came, index, slice_get, length-append, bytes_eq-Decides, cases_lt, [], slice_get-get_or, Sub}
+use Rattle.vms_check_laws.proofs.Facade.{Device, Set, Cell, desc_cells, device_cells, struct_cells, has_cell, own_cells, came_slots, sub_slots, sub_place}
+use Rattle.vms_check_laws.proofs.Facade.{find_sub, names_append, sub_size, ◌*◌, ap, length-replicate, WellFormed, part_partners, no_cell, sub_place_up}
+use Rattle.vms_check_laws.proofs.Facade.{device_parts, sub_clean, sub_found, ArePartners, named_partners, device_partners, get_or_from_slice_get, cells_of_sub}
+use Rattle.vms_check_laws.proofs.Facade.{◌-◌, or_cases}
 use Rattle.vms_check_laws.proofs.GoesFields.{part_goes, below_of}
 use Rattle.vms_check_laws.proofs.PairLists.{IsBehind, at_left, at_right, before_or_behind, behind_at, AreFrom, at_none, IsOnce, IsPair, paired_append}
 
@@ -89,8 +89,7 @@ module _ {A : Type 0} (set : Set) (f : Sub → List A) where
 
   pub number_at : (from : ℕ) (subs : List Sub) (m : ℕ) (s : Sub) → Sized subs → slice_get subs m ≡ Some s → (z : A) (b c : ℕ) → c < sub_size set s
       → from + b ≡ sub_place set from subs m + c → get_or (flat_map f subs) b z ≡ get_or (f s) c z
-  number_at from subs m s size e z b c lt is =
-      get_or_from_slice_get (flat_map f subs) b _ z (at_place from subs m s size e b c lt is ∙ slice_get-get_or (f s) c z (omega (arith, size m s e)))
+  number_at from subs m s size e z b c lt is = grind (arith, get_or_from_slice_get, at_place, slice_get-get_or)
 
   pub all_long : (subs : List Sub) → Sized subs → length (flat_map f subs) ≡ length (flat_map (λ s. desc_cells (struct_cells set) s.desc) subs)
   all_long [] size = refl
@@ -113,9 +112,6 @@ pub record HasPart (set : Set) (d : Device) (numbers : List ℤ) (from : ℕ) (s
   pub is_come : slice_get came j ≡ Some (Some version)
   pub has : has_cell (sub_slots set sub version numbers (sub_place set from subs j)) c ≡ true
 
-pub or_split : (a b : Bool) → (a || b) ≡ true → (a ≡ true) ⊎ ((a ≡ false) × (b ≡ true))
-or_split a b h = grind arith
-
 pub has_part : (set : Set) (d : Device) (numbers : List ℤ) (from : ℕ) (subs : List Sub) (came : List (Option ℕ)) (c : ℕ)
     → has_cell (came_slots set d numbers from subs came) c ≡ true → HasPart set d numbers from subs came c
 has_part set d numbers from (s ∷ subs) (None ∷ came) c e =
@@ -123,10 +119,10 @@ has_part set d numbers from (s ∷ subs) (None ∷ came) c e =
     record { j = suc h.j; sub = h.sub; version = h.version; there = h.there; is_come = h.is_come; has = h.has }
 has_part set d numbers from (s ∷ subs) (Some v ∷ came) c e =
     let next = from + sub_size set s in
-    elim (or_split _ _ (sym (names_append (sub_slots set s v numbers from) (came_slots set d numbers next subs came) c) ∙ e)) [
+    elim (or_cases _ _ (sym (names_append (sub_slots set s v numbers from) (came_slots set d numbers next subs came) c) ∙ e)) [
       | inl f ↦ record { j = 0; sub = s; version = v; there = refl; is_come = refl; has = f }
       | inr f ↦
-          let h = has_part set d numbers next subs came c f.1 in
+          let h = has_part set d numbers next subs came c f in
           record { j = suc h.j; sub = h.sub; version = h.version; there = h.there; is_come = h.is_come; has = h.has }
     ]
 has_part set d numbers from _ _ c e = cc

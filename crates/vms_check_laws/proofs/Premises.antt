@@ -304,9 +304,7 @@ module _ (structs : List Meaning) (all : List Field) (v : ℕ) (numbers : List �
       (λ whole. fits_at (omega arith) (fits_right (field_cells (cells_in structs) all i f) (fits whole))))
 
   pub all_known : AreKnown (present_from (cells_in structs) all v 0 0 all)
-  all_known =
-      let z : base ≡ base + 0 = omega arith in
-      entries_known 0 0 all (from_zero (slice_get all)) (λ k. from_zero place k ∙ rw (← z)) (λ whole. fits_at z whole)
+  all_known = grind (arith, entries_known, from_zero, fits_at)
 
 -- ---- the pairs of two descriptions at which no rule fails
 

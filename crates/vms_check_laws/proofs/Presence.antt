@@ -2,14 +2,13 @@
 -- have.
 use Rattle.vms_check_laws.proofs.Facade.{◌≡◌, ◌⊎◌, inl, inr, ℕ, suc, ◌+◌, ◌<◌, ◌≤◌, Bool, true, false, ◌==◌, List, ◌∷◌}
 use Rattle.vms_check_laws.proofs.Facade.{◌++◌, length, Option, Some, None, refl, sym, ap, arith, if◌then◌else◌, eqb-true, eq-eqb, [], Formula, Field}
-use Rattle.vms_check_laws.proofs.Facade.{Cell, field_cells, Entry, entry_of, present_from, position_from, same_place, nat_le, ◌&&◌, and_parts, and_from}
-use Rattle.vms_check_laws.proofs.Facade.{zero, ◌*◌, get_or, ℤ, pos, length-append, length-replicate, truth, is_there, Reduced, reduced, left_of, presence}
-use Rattle.vms_check_laws.proofs.Facade.{truth_of, reduced_holds, Rel, Own, Not, And, Or, names_well, nobody, same_test, same_rest, same_reduced, IfOpen}
-use Rattle.vms_check_laws.proofs.Facade.{open_reduced, Kind, Item, Unused, width, Count, Number, Constant, times, zeroed, is_steady, is_num, is_one}
-use Rattle.vms_check_laws.proofs.Facade.{has_no_test, length-code, is_covered, Holds, Filler, ◌∙◌, append_assoc, get_or_append_left, get_or-append-add}
-use Rattle.vms_check_laws.proofs.Facade.{append-nil, slice_get, no_cell, Slot, Rule, FitsAt, Carries, rules_append, spells_append, code, Spells, Aligns}
-use Rattle.vms_check_laws.proofs.Facade.{rules_split, drop-append_seam, take-append_seam}
-use Rattle.vms_check.specs.Comparing.{same_rel}
+use Rattle.vms_check_laws.proofs.Facade.{Cell, field_cells, Entry, entry_of, present_from, position_from, same_place, and_parts, and_from, zero, ◌*◌}
+use Rattle.vms_check_laws.proofs.Facade.{get_or, ℤ, pos, length-append, length-replicate, truth, is_there, Reduced, reduced, left_of, presence, truth_of}
+use Rattle.vms_check_laws.proofs.Facade.{reduced_holds, Own, Not, And, Or, names_well, nobody, same_test, same_rest, same_reduced, IfOpen, open_reduced, Kind}
+use Rattle.vms_check_laws.proofs.Facade.{Item, Unused, width, Count, Number, Constant, times, zeroed, is_steady, is_num, is_one, has_no_test, length-code}
+use Rattle.vms_check_laws.proofs.Facade.{is_covered, Holds, Filler, ◌∙◌, append_assoc, get_or_append_left, get_or-append-add, append-nil, slice_get}
+use Rattle.vms_check_laws.proofs.Facade.{no_cell, Slot, Rule, FitsAt, Carries, rules_append, spells_append, code, Spells, Aligns, rules_split, drop-append_seam}
+use Rattle.vms_check_laws.proofs.Facade.{take-append_seam}
 use Rattle.vms_spec.specs.contracts.Rel.{the_type as rel_type}
 use denote.Enum.Bare.{same_true}
 use Rattle.vms_spec.specs.Sets as sets
@@ -32,16 +31,13 @@ position_least q j r [] h = absurd (cc)
 position_least q j r (f ∷ fs) h =
     elim (position_is q j f fs h) [ inl now ↦ let e : q ≡ r = cc (now.1) in omega arith | inr later ↦ omega (arith, position_least (suc q) j r fs later.1) ]
 
-same_of : (r s : Option ℕ) (q : ℕ) → r ≡ Some q → s ≡ Some q → same_place r s ≡ true
-same_of r s q e f = rw (e, f) (eq-eqb q q refl)
-
 later_not : (k p : ℕ) (es : List Entry) → position_from (suc p) es k ≡ Some p → ⊥
 later_not k p es h = omega (arith, position_least _ k p es h)
 
 -- two at one position are the first of both sides, or later ones
 pub at_or_later : (i j p : ℕ) (e f : Entry) (es fs : List Entry) → same_place (position_from p (e ∷ es) i) (position_from p (f ∷ fs) j) ≡ true
     → ((e.index ≡ i) × (f.index ≡ j)) ⊎ (((f.index == j) ≡ false) × (same_place (position_from (suc p) es i) (position_from (suc p) fs j) ≡ true))
-at_or_later i j p e f es fs h = grind (arith, same_some, position_is, later_not, same_of)
+at_or_later i j p e f es fs h = grind (arith, same_some, position_is, later_not, eq-eqb)
 
 -- each has a greater number than the one before, the first at least i
 abbrev pub Above : ℕ → List Entry → Type 0
@@ -53,8 +49,7 @@ above_less i j [] le h = tt
 above_less i j (e ∷ es) le h = (omega arith, h.1)
 
 entry_above : (i p : ℕ) (f : Field) (pr : Option (Option Formula)) (es : List Entry) → Above (suc i) es → Above i (entry_of i p f pr ++ es)
-entry_above i p f None es h = above_less i _ es (omega arith) h
-entry_above i p f (Some rest) es h = (omega arith, h)
+entry_above i p f pr es h = grind (arith, above_less)
 
 pub present_above : (y : List (List Cell)) (all : List Field) (w i p : ℕ) (fs : List Field) → Above i (present_from y all w i p fs)
 present_above y all w i p [] = tt
@@ -81,9 +76,6 @@ left_there r v own parent = grind arith
 pub presence_there : (test : Option Formula) (since v : ℕ) (own parent : ℕ → ℕ) → is_there test since v own parent ≡ there (presence v test since) v own parent
 presence_there test since v own parent = grind (arith, left_there, reduced_holds)
 
-rels_same : (r s : Rel) → same_rel r s ≡ true → r ≡ s
-rels_same = same_true rel_type tt
-
 -- numbers that may be named are the same where their positions are
 abbrev pub Agree : (o n : ℕ → Option ℕ) → (ok : ℕ → Bool) → (own own' : ℕ → ℕ) → Type 0
 Agree o n ok own own' = (i j : ℕ) → ok j ≡ true → same_place (o i) (n j) ≡ true → own i ≡ own' j
@@ -97,27 +89,22 @@ module _ (ok : ℕ → Bool) where
 
   -- the rest of a test names what the test names
   pub named_left : (u : ℕ) (t : Formula) → names_well ok nobody t ≡ true → Named (reduced u t)
-  named_left u t h =
-      open_reduced IsNamed (record { of_not = λ t h. h; of_and = λ s t h g. and_from _ _ h g; of_or = λ s t h g. and_from _ _ h g }) ok
-      (λ field mask rel value e. e) u t h
+  named_left u t h = search (arith, open_reduced, and_from)
 
   abbrev pub NamedRest : Option Formula → Type 0
   NamedRest None = Unit {0}
   NamedRest (Some t) = names_well ok nobody t ≡ true
-
-  left_named : (r : Reduced) (rest : Option Formula) → Named r → left_of r ≡ Some rest → NamedRest rest
-  left_named r rest named h = grind arith
 
   since_named : (b : Bool) (rest : Option Formula) → (if b then Some None else None) ≡ Some rest → NamedRest rest
   since_named b rest h = grind arith
 
   -- the rest of a field's test names what its test names
   pub presence_named : (w : ℕ) (test : Option Formula) (since : ℕ) (rest : Option Formula) → NamedRest test → presence w test since ≡ Some rest → NamedRest rest
-  presence_named w test since rest named h = grind (arith, since_named, left_named, named_left)
+  presence_named w test since rest named h = grind (arith, since_named, named_left)
 
 module _ (o n : ℕ → Option ℕ) (ok : ℕ → Bool) (own own' parent parent' : ℕ → ℕ) (v w : ℕ) (agree : Agree o n ok own own') where
   pub same_truth : (s t : Formula) → names_well ok nobody t ≡ true → same_test o n s t ≡ true → truth s v own parent ≡ truth t w own' parent'
-  same_truth (sets.Cell Own i mask rel value) (sets.Cell Own j mask' rel' value') good h = grind (arith, rels_same, eqb-true)
+  same_truth (sets.Cell Own i mask rel value) (sets.Cell Own j mask' rel' value') good h = grind (arith, same_true, rel_type, eqb-true)
   same_truth (Not s) (Not t) good h = rw (same_truth s t good h)
   same_truth (And s s') (And t t') good h = grind (arith, and_parts, same_truth s t, same_truth s' t')
   same_truth (Or s s') (Or t t') good h = grind (arith, and_parts, same_truth s t, same_truth s' t')
@@ -156,13 +143,7 @@ pub record Steady (f : Field) : Type 0 where
   pub test : has_no_test f.test ≡ true
 
 pub steady : (minimum : ℕ) (o : Option Field) (f : Field) → o ≡ Some f → is_steady minimum o ≡ true → Steady f
-steady minimum None f e h = absurd (cc)
-steady minimum (Some g) f e h =
-    let same : g ≡ f = cc in
-    let p = and_parts (is_num g.item && is_one g.count && has_no_test g.test) (nat_le g.since minimum) h in
-    let q = and_parts (is_num g.item && is_one g.count) (has_no_test g.test) p.0 in
-    let r = and_parts (is_num g.item) (is_one g.count) q.0 in
-    rw (← same) (record { item = r.0; count = r.1; test = q.1 })
+steady minimum o f e h = search (arith)
 
 pub steady_rest : (w : ℕ) (test : Option Formula) (since : ℕ) (rest : Option Formula) → has_no_test test ≡ true → presence w test since ≡ Some rest
     → rest ≡ None

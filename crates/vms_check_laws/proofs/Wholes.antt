@@ -1,12 +1,12 @@
 -- A device with subsections: what the older set writes is a section of the newer with the carried image. An order that names each remaining
 -- one, and none twice, takes each once.
 use Rattle.vms_check_laws.proofs.{PairDevices.Found, PairDevices.look_up, PairDevices.comes, PairLists.Settled, PairLists.settled_append, Counts.device_good}
-use Rattle.vms_check_laws.proofs.{Counts.sub_good}
+use Rattle.vms_check_laws.proofs.Counts.{sub_good}
 use Rattle.vms_check_laws.proofs.Facade.{◌≡◌, ◌⊎◌, inl, inr, ℕ, zero, suc, Bool, true, false, cases_eq, slice_get-map, List, ◌∷◌, slice_set}
 use Rattle.vms_check_laws.proofs.Facade.{Option, Some, None, refl, sym, ap, ◌∙◌, slice_get, [], ◌+◌, ◌<◌, ◌++◌, length, map, arith, ℤ}
 use Rattle.vms_check_laws.proofs.Facade.{flat_map, slice_get_within, AreAll, ComesOnce, AllCame, at_other, Part, first_answer, Sub, Device, Set, struct_cells}
 use Rattle.vms_check_laws.proofs.Facade.{desc_cells, device_cells, Image, zeroed, own_slots, own_cells, sub_slots, sub_place, came_slots, IsSection, SubSpells}
-use Rattle.vms_check_laws.proofs.Facade.{SubsSpell, sub_head, written_subs, written_section, find_sub, index, is_version_of, WellFormed, comparing, compare_sub}
+use Rattle.vms_check_laws.proofs.Facade.{SubsSpell, sub_head, written_subs, written_section, find_sub, index, is_version_of, WellFormed, comparing}
 use Rattle.vms_check_laws.proofs.Facade.{compare_subs, carrying, carried_sub, carried_device, defaults, sub_came, sub_found, defaults_at, version_decides}
 use Rattle.vms_check_laws.proofs.Facade.{rules_append, IsSaved, Holds, FitsAt, answers_none, at_set, rules_split, sub_size, ◌≤◌, option_and_then, Cell}
 use Rattle.vms_check_laws.proofs.Facade.{FitCells, RulesHold, IsReady, ComeAsNeeded, or_else_none, part_apart, cells_of_sub}
@@ -29,9 +29,7 @@ module _ {A : Type 0} (Open : A → Type 0) (done : A) (back : ℕ → Option �
 
   rises_set : (xs : List A) (k m j : ℕ) (order : List ℕ) → back k ≡ Some m → m < j → Rises xs j order → Rises (slice_set xs k done) j order
   rises_set xs k m j [] is lt h = tt
-  rises_set xs k m j (l ∷ order) is lt h =
-      let other : l ≡ k → ⊥ = λ e. (let same : h.0 ≡ m = cc (h.3) in omega arith) in
-      (h.0, h.1, h.2, h.3, at_other xs k l done other ∙ h.4, h.5, rises_set xs k m (suc h.0) order is (omega arith) h.6)
+  rises_set xs k m j (l ∷ order) is lt h = grind (arith, at_other, rises_set xs k m (suc h.0) order is (omega arith) h.6)
 
   module _ (closed : Open done → ⊥) where
     -- what is still open after one is done is among the rest
@@ -103,10 +101,7 @@ module _ (old new : Set) (good_old : WellFormed old) (good_new : WellFormed new)
     (at_k : slice_get new.devices k ≡ Some e)
     (none : first_answer (compare_subs old new i k e) 0 d.subs ≡ None) (image : Image) (ready : IsSaved old d image) where
   sub_pair : (j : ℕ) (s : Sub) → slice_get d.subs j ≡ Some s → Found e.subs s.desc.name
-  sub_pair j s at_j = elim (look_up e.subs s.desc.name) [
-    | inl h ↦ let bad : compare_sub old new i k (0 + j) s None (slice_get e.subs 0) ≡ None = rw h at (answers_none _ 0 d.subs none j s at_j) in absurd (cc)
-    | inr f ↦ f
-  ]
+  sub_pair j s at_j = grind (arith, look_up, answers_none)
 
   abbrev own : List ℤ
   own = carrying old new image.numbers image.version d.desc e.desc 0
