@@ -134,22 +134,19 @@ later x y ys (k, lt, e) = (suc k, omega (arith, lt), e)
 has_new : (lent : List File) (es : List Pair) (name bytes : List ℕ) → held_in es name ≡ Some bytes → file_of name lent ≢ Some bytes
     → Contains (news lent es) (entry name bytes)
 has_new lent [] name bytes there differs = cc
-has_new lent (e ∷ es) name bytes there differs = by (is_eq (slice_cmp nat_cmp name (name_in e))) refl there
+has_new lent (e ∷ es) name bytes there differs =
+    by (is_eq (slice_cmp nat_cmp name (name_in e))) refl there (λ found. has_new lent es name bytes found differs)
   where
-    by : (b : Bool) → is_eq (slice_cmp nat_cmp name (name_in e)) ≡ b
-        → option_map (λ content. content.bytes.items) (cond b (Some e.1) (lookup (is_at (λ k. slice_cmp nat_cmp name (string_bytes k))) es)) ≡ Some bytes
-        → Contains (news lent (e ∷ es)) (entry name bytes)
-    by true q found =
-        let same = (bytes_eq-Decides name (name_in e)).0 (sym (is_eq-slice_cmp name (name_in e)) ∙ q) in
-        here (is_lent lent (name_in e) (bytes_in e)) refl same (some_is found)
-    by false q found =
-        let rest = has_new lent es name bytes found differs in
-        by_news (λ files. Contains files (entry name bytes)) lent e es rest (λ q. later _ _ _ rest)
-
     here : (b : Bool) → is_lent lent (name_in e) (bytes_in e) ≡ b → name ≡ name_in e → bytes_in e ≡ bytes
         → Contains (if b then news lent es else entry (name_in e) (bytes_in e) ∷ news lent es) (entry name bytes)
     here true q same found = absurd (differs (ap (λ n. file_of n lent) same ∙ (is_just-Decides (file_of (name_in e) lent) (bytes_in e)).0 q ∙ ap Some found))
     here false q same found = (zero, omega arith, ap (λ n. entry n (bytes_in e)) (sym same) ∙ ap (entry name) found)
+
+    by : (b : Bool) → is_eq (slice_cmp nat_cmp name (name_in e)) ≡ b
+        → option_map (λ content. content.bytes.items) (cond b (Some e.1) (lookup (is_at (λ k. slice_cmp nat_cmp name (string_bytes k))) es)) ≡ Some bytes
+        → (held_in es name ≡ Some bytes → Contains (news lent es) (entry name bytes)) → Contains (news lent (e ∷ es)) (entry name bytes)
+    by true q found rest = here _ refl ((bytes_eq-Decides name (name_in e)).0 (sym (is_eq-slice_cmp name (name_in e)) ∙ q)) (some_is found)
+    by false q found rest = by_news (λ files. Contains files (entry name bytes)) lent e es (rest found) (λ q. later _ _ _ (rest found))
 
 -- ---- in which order
 
