@@ -8,13 +8,12 @@ use Rattle.vms_bodies.proofs.Facade.{same_number, Slot, Number, Constant, Filler
 use Rattle.vms_bodies.proofs.Facade.{Progress, Refusal, take_value, take_slot, take_desc, takers, IsSound, AreSound, AreCells, length-code, value_code}
 use Rattle.vms_bodies.proofs.Facade.{good_code, same_number_itself, not_exceeds, IsNormal, IsValid, IsVersionOf, sub_head, IsGood, zero, suc, map, Option, Some}
 use Rattle.vms_bodies.proofs.Facade.{None, ◌||◌, slice_get, get_or-eq_default, cases_lt, slice_get_within, Device, Set, Sub, no_cell, device_cells, Image}
-use Rattle.vms_bodies.proofs.Facade.{default_image, own_slots, own_cells, sub_slots, came_slots}
-use Rattle.vms_bodies.proofs.PartLaws.{part_place, sub_size, sub_are, sub_place_up, parts_apart, parts_together, part_apart, names_next, none_of, none_came}
-use Rattle.vms_bodies.proofs.Places.{IsAbove, desc_above, meanings_above, names_append, none_in_both, none_joined}
 use Rattle.vms_bodies.proofs.SettledLaws.{its_below, its_outside, fit_slots, own_are, defaults_at, defaults_long, SameIn, own_constants, part_constants}
-use Rattle.vms_bodies.proofs.SettledLaws.{its_same, its_spelled, its_fit, its_hold}
-use Rattle.vms_bodies.proofs.SpellLaws.{FitSlots, cell_in, set_other, at_set}
-use Rattle.vms_bodies.proofs.WalkLaws.{Left, Gives, IsOther, Keeping, ComesTo, set_desc_comes}
+use Rattle.vms_bodies.proofs.{SpellLaws.FitSlots, SpellLaws.cell_in, SpellLaws.set_other, SpellLaws.at_set, SettledLaws.its_same, SettledLaws.its_spelled}
+use Rattle.vms_bodies.proofs.{SettledLaws.its_fit, SettledLaws.its_hold, WalkLaws.Left, WalkLaws.Gives, WalkLaws.IsOther, WalkLaws.Keeping, WalkLaws.ComesTo}
+use Rattle.vms_bodies.proofs.{WalkLaws.set_desc_comes, Facade.default_image, Facade.own_slots, Facade.own_cells, Facade.sub_slots, Facade.came_slots}
+use Rattle.vms_bodies.proofs.Places.{IsAbove, desc_above, meanings_above, names_append, none_in_both, none_joined}
+use Rattle.vms_bodies.proofs.PartLaws.{part_place, sub_size, sub_are, sub_place_up, parts_apart, parts_together, part_apart, names_next, none_of, none_came}
 use Rattle.vms_spec.specs.declared.Reason.TheVariants as reasons
 use Rattle.vms_spec.specs.Streams
 
@@ -122,8 +121,7 @@ module _ (all : List Cell) (total : List ℤ → List Slot) (n : List ℤ) (end 
   unchanged : {slot : Slot} {left : List Slot} {p : Progress} (size : ℕ) (bytes : List ℕ) → Rest n end tail (slot ∷ left) p
       → p.place + size + length bytes ≡ end → Spells n left bytes → FitSlots n left → RulesHold left → ((c : ℕ) → has_cell (slot ∷ left) c ≡ has_cell left c)
       → Rest n end tail left (record { numbers = p.numbers; place = p.place + size; rest = bytes ++ tail })
-  unchanged size bytes r long spells fits rules none =
-      record { bytes = bytes; front = refl; place = long; spells = spells; fits = fits; rules = rules; same = λ c e. r.same c (none c ∙ e); long = r.long }
+  unchanged size bytes r long spells fits rules none = search arith
 
   other_spelling : (cell : ℕ) (slot : Slot) (done : List Slot) (left : List ℤ → List Slot) (p : Progress) → IsOther total (Spelling total n end tail) Never slot
       → ((m : List ℤ) → IsAbove cell (left m)) → Here cell p done (λ m. slot ∷ left m)
@@ -239,9 +237,7 @@ pub record IsSub (set : Set) (d : Device) (image : Image) (j w : ℕ) (front : L
 pub sub_so : (set : Set) (d : Device) (image : Image) (j w : ℕ) (front : List ℕ) (s : Sub) → slice_get d.subs j ≡ Some s → IsVersionOf s.desc w
     → slice_get image.came j ≡ Some (Some w)
     → Streams.SubSpells set d image j (slice_get d.subs j) (slice_get image.came j) front → IsSub set d image j w front
-sub_so set d image j w front s e version f h =
-    let x : Streams.SubSpells set d image j (Some s) (Some (Some w)) front = rw (e, f) at h in
-    record { sub = s; there = e; version = version; body = x.0; spells = x.1; is = x.2 }
+sub_so set d image j w front s e version f h = search arith
 
 module _ (set : Set) (d : Device) (image : Image) where
   abbrev own : List Slot

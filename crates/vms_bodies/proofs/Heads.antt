@@ -15,8 +15,7 @@ pub four_low : (xs : List ℕ) → IsBytes xs → big_number 4 xs < 4294967296
 four_low xs ok = omega (arith, ok 0, ok 1, ok 2, ok 3)
 
 pub split_one : (xs : List ℕ) → 1 ≤ length xs → xs ≡ get_or xs 0 0 ∷ drop 1 xs
-split_one [] h = absurd (omega arith)
-split_one (x ∷ xs) h = refl
+split_one xs h = grind arith
 
 big_from_take : (i k : ℕ) (xs : List ℕ) (m : ℕ) → i + k ≤ m → big_from i k (take m xs) ≡ big_from i k xs
 big_from_take i zero xs m le = refl
@@ -118,9 +117,7 @@ raw_take Truth bytes len ok = plain_take U8 bytes refl len ok (λ b. let e = b.0
 raw_take kind bytes len ok = value_taken kind bytes len ok (λ b. let e = b.0 in cc)
 
 pub raw_same : (kind : Kind) (bytes : List ℕ) → value_of (raw kind) bytes ≡ value_of kind bytes
-raw_same Truth bytes = refl
-raw_same _ bytes = refl
+raw_same kind bytes = grind arith
 
 pub bad_same : (kind : Kind) (bytes : List ℕ) → (is_truth kind && is_above (value_of (raw kind) bytes) 1) ≡ is_bad_bool kind bytes
-bad_same Truth bytes = refl
-bad_same _ bytes = refl
+bad_same kind bytes = grind arith

@@ -29,9 +29,8 @@ at_other _ _ _ x ne = refl
 -- ---- places
 
 pub sub_place_up : (set : Set) (from : ℕ) (subs : List Sub) (j : ℕ) → from ≤ sub_place set from subs j
-sub_place_up set from [] j = omega arith
-sub_place_up set from (s ∷ subs) zero = omega arith
 sub_place_up set from (s ∷ subs) (suc j) = omega (arith, sub_place_up set (from + sub_size set s) subs j)
+sub_place_up set from _ j = omega arith
 
 pub places_apart : (set : Set) (from : ℕ) (subs : List Sub) (i j : ℕ) (s : Sub) → slice_get subs i ≡ Some s → i < j
     → sub_place set from subs i + sub_size set s ≤ sub_place set from subs j
@@ -84,10 +83,7 @@ module _ (set : Set) (d : Device) (n : List ℤ) (P : List Slot → Type 0) wher
       → P (came_slots set d n from subs came)
       → (j : ℕ) (s : Sub) (v : ℕ) → slice_get subs j ≡ Some s → slice_get came j ≡ Some (Some v) → P (sub_slots set s v n (sub_place set from subs j))
   part_apart split from (t ∷ subs) (None ∷ came) h (suc j) s v e f = part_apart split (from + sub_size set t) subs came h j s v e f
-  part_apart split from (t ∷ subs) (Some w ∷ came) h zero s v e f =
-      let a : t ≡ s = cc in
-      let b : w ≡ v = cc in
-      rw (← a, ← b) (split (sub_slots set t w n from) (came_slots set d n _ subs came) h).0
+  part_apart split from (t ∷ subs) (Some w ∷ came) h zero s v e f = grind arith
   part_apart split from (t ∷ subs) (Some w ∷ came) h (suc j) s v e f =
       part_apart split (from + sub_size set t) subs came (split (sub_slots set t w n from) (came_slots set d n _ subs came) h).1 j s v e f
   part_apart split from _ _ h _ s v e f = cc
@@ -155,9 +151,7 @@ beside_start _ _ _ b = absurd b
 pub beside_next : (came left all : List (Option ℕ)) (j v : ℕ) → Beside came left all → slice_get left j ≡ Some (Some v)
     → (slice_get came j ≡ Some None) × (slice_get all j ≡ Some (Some v)) × Beside (slice_set came j (Some v)) (slice_set left j None) all
 beside_next [] [] [] j v b e = cc
-beside_next (None ∷ came) (x ∷ left) (y ∷ all) zero v b e =
-    let f : y ≡ Some v = sym b.0 ∙ cc in
-    (refl, ap Some f, (refl, f, b.1))
+beside_next (None ∷ came) (x ∷ left) (y ∷ all) zero v b e = grind arith
 beside_next (Some w ∷ came) (x ∷ left) (y ∷ all) zero v b e = let f = b.0 in cc
 beside_next (None ∷ came) (x ∷ left) (y ∷ all) (suc j) v b e = let h = beside_next came left all j v b.1 e in (h.0, h.1, (b.0, h.2))
 beside_next (Some w ∷ came) (x ∷ left) (y ∷ all) (suc j) v b e = let h = beside_next came left all j v b.2 e in (h.0, h.1, (b.0, b.1, h.2))
@@ -224,15 +218,11 @@ stays_refl set d came n = record { own = in_refl 0 _ n; parts = λ i s x e f. in
 other_part : (came : List (Option ℕ)) (i j x : ℕ) → slice_get came i ≡ Some (Some x) → slice_get came j ≡ Some None → i ≡ j → ⊥
 other_part came i j x e f same = cc
 
-pub came_still : (came : List (Option ℕ)) (i j x w : ℕ) → slice_get came i ≡ Some (Some x) → slice_get came j ≡ Some None
-    → slice_get (slice_set came j (Some w)) i ≡ Some (Some x)
-came_still came i j x w e f = grind (arith, at_other)
-
 pub stays_on : (set : Set) (d : Device) (came : List (Option ℕ)) (j w : ℕ) (n m k : List ℤ) → slice_get came j ≡ Some None → Stays set d came n m
     → Stays set d (slice_set came j (Some w)) m k → Stays set d came n k
 stays_on set d came j w n m k f a b = record {
   own = in_trans _ _ n m k a.own b.own;
-  parts = λ i s x e g. in_trans _ _ n m k (a.parts i s x e g) (b.parts i s x e (came_still came i j x w g f));
+  parts = λ i s x e g. in_trans _ _ n m k (a.parts i s x e g) (b.parts i s x e (grind (arith, at_other)));
 }
 
 -- a part's body changes its own cells alone
@@ -354,12 +344,11 @@ came_at (false ∷ came) k h lt = absurd h
 
 pub same_lists : {A : Type 0} (xs ys : List A) → length xs ≡ length ys → ((k : ℕ) → k < length xs → slice_get xs k ≡ slice_get ys k) → xs ≡ ys
 same_lists [] [] e h = refl
-same_lists [] (y ∷ ys) e h = absurd (omega arith)
-same_lists (x ∷ xs) [] e h = absurd (omega arith)
 same_lists (x ∷ xs) (y ∷ ys) e h =
     let a : Some x ≡ Some y = h 0 (omega arith) in
     let c = same_lists xs ys (omega arith) (λ k lt. h (suc k) (omega arith)) in
     cc
+same_lists _ _ e h = absurd (omega arith)
 
 pub agrees : (images now : List Image) (came : List Bool) (k j : ℕ) (image : Image) → k < length now → slice_get images k ≡ Some image
     → (slice_get came j ≡ Some true → slice_get now j ≡ slice_get images j) → slice_get (slice_set came k true) j ≡ Some true

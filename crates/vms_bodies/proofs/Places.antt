@@ -1,12 +1,12 @@
 -- Where the slots of a description begin, and which cells they name.
 use Rattle.vms_bodies.proofs.Facade.{◌≡◌, ℕ, List, ◌∷◌, ◌++◌, refl, sym, ◌∙◌, true, false, [], ◌||◌, if◌then◌else◌, or_parts}
 use Rattle.vms_bodies.proofs.Facade.{or_right, or_assoc, Slot, Number, has_cell, zero, suc, ◌+◌, ◌*◌, ◌<◌, ◌≤◌, length, get_or, drop, Option}
-use Rattle.vms_bodies.proofs.Facade.{ℤ, pos, ap, arith, length-append, not, AllByRecursion, Item, Num, Count, One, Own, Formula, Not, And, Or, Field, Desc}
-use Rattle.vms_bodies.proofs.Facade.{truth, is_there, place_of, field_cells, item_size, capacity_of, cells_from, numbers_of, no_field, no_parent, all_hold}
-use Rattle.vms_bodies.proofs.Facade.{elements_of, field_size, IsNumber, IsOne, IsEarlier, NamesEarlier, IsSoundTest, IsSoundCount, ne_eqb, Struct, Meaning}
-use Rattle.vms_bodies.proofs.Facade.{no_meaning, no_desc, item_slots, times, field_slots, slots_from, desc_slots, counted, first, meaning, meanings, one_more}
-use Rattle.vms_bodies.proofs.Facade.{first_cells, drop_on, map, append_assoc, get_or-map, Cell, no_cell, item_cells, desc_cells, AreCells, size_same}
-use Rattle.vms_bodies.proofs.Facade.{elements_fit, Kind, width}
+use Rattle.vms_bodies.proofs.Facade.{ℤ, pos, ap, arith, length-append, not, AllByRecursion, Item, Num, Count, Own, Formula, Not, And, Or, Field, Desc, truth}
+use Rattle.vms_bodies.proofs.Facade.{is_there, place_of, field_cells, item_size, capacity_of, cells_from, numbers_of, no_field, no_parent, all_hold}
+use Rattle.vms_bodies.proofs.Facade.{elements_of, field_size, IsNumber, IsOne, IsEarlier, NamesEarlier, IsSoundTest, IsSoundCount, Struct, Meaning, no_meaning}
+use Rattle.vms_bodies.proofs.Facade.{no_desc, item_slots, times, field_slots, slots_from, desc_slots, counted, first, meaning, meanings, one_more, first_cells}
+use Rattle.vms_bodies.proofs.Facade.{drop_on, map, append_assoc, get_or-map, Cell, no_cell, item_cells, desc_cells, AreCells, size_same, elements_fit, Kind}
+use Rattle.vms_bodies.proofs.Facade.{width}
 use Rattle.std.proofs.Common.{Bool as Truth}
 use Rattle.vms_spec.specs.Layout.{Cell as OneCell}
 use Rattle.vms_spec.specs.Sets as sets
@@ -32,10 +32,10 @@ has_right s t c h = names_append s t c ∙ or_right _ _ h
 
 -- a property of both values, or of each where the test says so
 pub if_both : {A : Type 0} (P : A → Type 0) (b : Truth) (x y : A) → P x → P y → P (if b then x else y)
-if_both P b x y f g = grind (arith)
+if_both P b x y f g = grind arith
 
 pub if_so : {A : Type 0} (P : A → Type 0) (b : Truth) (x y : A) → (b ≡ true → P x) → (b ≡ false → P y) → P (if b then x else y)
-if_so P b x y f g = grind (arith)
+if_so P b x y f g = grind arith
 
 pub if_there : (P : List Slot → Type 0) → P [] → (b : Truth) (xs : List Slot) → P xs → P (if b then xs else [])
 if_there P none b xs x = if_both P b xs [] x none
@@ -58,26 +58,22 @@ same_trans cell n m k s t = record { same = λ c h. t.same c h ∙ s.same c h }
 -- ---- places
 
 one_cell : (cs : List (List OneCell)) (item : Item) (c : Count) → IsNumber item → IsOne c → capacity_of c * item_size cs item ≡ 1
-one_cell cs (Num kind) One p q = refl
-one_cell cs (Num kind) _ p q = absurd q
-one_cell cs _ c p q = absurd p
+one_cell cs item c p q = grind arith
 
 pub place_first : (cs : List (List OneCell)) (fields : List Field) (i at : ℕ) (fs : List Field) → place_of cs fields i at fs 0 ≡ at
 place_first cs fields i at [] = refl
 place_first cs fields i at (f ∷ fs) = refl
 
 pub place_up : (cs : List (List OneCell)) (fields : List Field) (i at : ℕ) (fs : List Field) (k : ℕ) → at ≤ place_of cs fields i at fs k
-place_up cs fields i at [] k = omega arith
-place_up cs fields i at (f ∷ fs) zero = omega arith
 place_up cs fields i at (f ∷ fs) (suc k) = omega (arith, place_up cs fields (suc i) (at + length (field_cells cs fields i f)) fs k)
+place_up cs fields i at _ k = omega arith
 
 pub place_below : (cs : List (List OneCell)) (fields : List Field) (i at : ℕ) (fs : List Field) (j k : ℕ) → j < k → j < length fs
     → IsNumber (get_or fs j no_field).item → IsOne (get_or fs j no_field).count → place_of cs fields i at fs j < place_of cs fields i at fs k
-place_below cs fields i at [] j k lt there p q = absurd (omega arith)
-place_below cs fields i at (f ∷ fs) j zero lt there p q = absurd (omega arith)
 place_below cs fields i at (f ∷ fs) zero (suc k) lt there p q = grind (arith, place_up, field_size, one_cell)
 place_below cs fields i at (f ∷ fs) (suc j) (suc k) lt there p q =
     place_below cs fields (suc i) (at + length (field_cells cs fields i f)) fs j k (omega arith) (omega arith) p q
+place_below cs fields i at _ j k lt there p q = absurd (omega arith)
 
 pub place_next : (cs : List (List OneCell)) (fields : List Field) (i at : ℕ) (fs : List Field) (k : ℕ) (f : Field) (more : List Field) → drop k fs ≡ f ∷ more
     → place_of cs fields i at fs (suc k) ≡ place_of cs fields i at fs k + length (field_cells cs fields (i + k) f)
@@ -121,7 +117,7 @@ there_same fields i v since own now h t x = grind (arith, truth_same)
 
 pub elements_same : (fields : List Field) (i : ℕ) (own now : ℕ → ℕ) → ((j : ℕ) → IsEarlier fields i j → now j ≡ own j) → (c : Count)
     → IsSoundCount fields i c → elements_of c now ≡ elements_of c own
-elements_same fields i own now h c x = grind (arith)
+elements_same fields i own now h c x = grind arith
 
 -- ---- the numbers of a description's slots are at its place or above
 
@@ -146,14 +142,11 @@ MeanAbove ms = (j : ℕ) → MeansAbove (get_or ms j no_meaning)
 
 module _ (ms : List Meaning) (h : MeanAbove ms) where
   pub item_above : (item : Item) (caps : List ℕ) (numbers : List ℤ) (at : ℕ) → IsAbove at (item_slots ms item caps numbers at)
-  item_above (Num kind) caps numbers at = record { below = λ c lt. rw (ne_eqb at c (λ e. omega arith)) refl }
-  item_above (Struct j) caps numbers at = (h j).means at numbers
-  item_above _ caps numbers at = record { below = λ c lt. refl }
+  item_above item caps numbers at = search arith
 
   pub items_above : (item : Item) (caps : List ℕ) (numbers : List ℤ) (n at step : ℕ) → IsAbove at (times n (item_slots ms item caps numbers) at step)
   items_above item caps numbers zero at step = above_none at
-  items_above item caps numbers (suc n) at step =
-      above_append at _ _ (item_above item caps _ at) (above_less at _ _ (omega arith) (items_above item caps numbers n (at + step) step))
+  items_above item caps numbers (suc n) at step = grind (arith, above_append, item_above, above_less, items_above item caps numbers n (at + step) step)
 
   module _ (fields : List Field) (v : ℕ) (own : ℕ → ℕ) (numbers : List ℤ) where
     pub field_above : (i at : ℕ) (f : Field) → IsAbove at (field_slots ms fields v own numbers i at f)
@@ -210,9 +203,7 @@ cells_in ms = map (λ m. m.cells) ms
 module _ (ms : List Meaning) (h : MeanCells ms) where
   pub item_are : (item : Item) (caps : List ℕ) (z : ℤ) (all : List Cell) (at : ℕ) (numbers : List ℤ)
       → Stands all at (item_cells (cells_in ms) item caps z) → AreCells all (item_slots ms item caps numbers at)
-  item_are (Num kind) caps z all at numbers s =
-      let x = first_is all at _ s.more s.is in
-      (record { within = x.0; kind = rw (x.1); capacities = rw (x.1) }, tt)
+  item_are (Num kind) caps z all at numbers s = search (arith, first_is)
   item_are (Struct j) caps z all at numbers s = (h j).means all at numbers (rw (get_or-map (λ (m : Meaning). m.cells) ms j no_meaning) at s)
   item_are _ caps z all at numbers s = tt
 
@@ -258,4 +249,4 @@ cells_first ds k = grind (arith, first_cells)
 -- ---- each kind has at least one byte
 
 pub width_positive : (kind : Kind) → 0 < width kind
-width_positive kind = grind (arith)
+width_positive kind = grind arith

@@ -235,14 +235,11 @@ pub record MeansConstants (m : Meaning) : Type 0 where
   pub means : (at : ℕ) (numbers : List ℤ) → AreConstants (m.slots numbers at)
 
 module _ (ms : List Meaning) (h : (j : ℕ) → MeansConstants (get_or ms j no_meaning)) where
-  item_constants : (item : Item) → ConstantFits item → (caps : List ℕ) (numbers : List ℤ) (at : ℕ) → AreConstants (item_slots ms item caps numbers at)
-  item_constants item f caps numbers at = grind (arith)
-
   items_constants : (item : Item) → ConstantFits item → (caps : List ℕ) (numbers : List ℤ) (n at step : ℕ)
       → AreConstants (times n (item_slots ms item caps numbers) at step)
   items_constants item f caps numbers zero at step = tt
   items_constants item f caps numbers (suc n) at step =
-      constants_append (item_slots ms item caps numbers at) _ (item_constants item f caps numbers at) (items_constants item f caps numbers n _ step)
+      constants_append (item_slots ms item caps numbers at) _ (grind arith) (items_constants item f caps numbers n _ step)
 
   fields_constants : (fields : List Field) (v : ℕ) (own : ℕ → ℕ) (numbers : List ℤ) (i at : ℕ) (fs : List Field) → ConstantsFit fs
       → AreConstants (slots_from ms fields v own numbers i at fs)
@@ -253,8 +250,7 @@ module _ (ms : List Meaning) (h : (j : ℕ) → MeansConstants (get_or ms j no_m
       (items_constants f.item a.0 (counted i fields) numbers (elements_of f.count own) at _)) (fields_constants fields v own numbers (suc i) _ fs a.1)
 
   pub desc_constants : (d : Desc) → ConstantsFit d.fields → (v : ℕ) (numbers : List ℤ) (at : ℕ) → AreConstants (desc_slots ms d v numbers at)
-  desc_constants d a v numbers at =
-      constants_append (slots_from ms d.fields v _ numbers 0 at d.fields) _ (fields_constants d.fields v _ numbers 0 at d.fields a) tt
+  desc_constants d a v numbers at = grind (arith, constants_append, fields_constants)
 
 pub meanings_constants : (ds : List Desc) → ((j : ℕ) → ConstantsFit (get_or ds j no_desc).fields) → (k j : ℕ)
     → MeansConstants (get_or (meanings ds k) j no_meaning)

@@ -117,16 +117,7 @@ module _ (all : List Cell) (total : List ℤ → List Slot) (start : Progress) w
       })
 
   pub spelled_less : (cell further : ℕ) (done : List Slot) (p : Progress) → cell ≤ further → Spelled start cell done p → Spelled start further done p
-  spelled_less cell further done p le h = record {
-    bytes = h.bytes;
-    front = h.front;
-    place = h.place;
-    spells = λ m s. h.spells m (same_less cell _ _ m le s);
-    fits = λ m s. h.fits m (same_less cell _ _ m le s);
-    rules = h.rules;
-    long = h.long;
-    kept = h.kept;
-  }
+  spelled_less cell further done p le h = search (arith, same_less)
 
   module _ (ok : IsBytes start.rest) where
     -- the next unit is the code of its number
@@ -296,16 +287,15 @@ set_twice _ _ x y = refl
 after_same : {S : Type 0} (go on : S → ℕ → List ℕ → Option (Reading S)) (at : ℕ) (rest : List ℕ) (v : Verdict S)
     → ((n : ℕ) (next : S) → v ≡ Goes n next → go next (at + n) (drop n rest) ≡ on next (at + n) (drop n rest))
     → reading_after go at rest v ≡ reading_after on at rest v
-after_same go on at rest v h = grind (arith)
+after_same go on at rest v h = grind arith
 
 pub enough : {S : Type 0} (judge : S → List ℕ → Verdict S) → Advances judge → (m k : ℕ) (state : S) (at : ℕ) (rest : List ℕ)
     → length rest < m → length rest < k → reading_from judge m state at rest ≡ reading_from judge k state at rest
-enough judge a zero k state at rest h i = absurd (omega arith)
-enough judge a (suc m) zero state at rest h i = absurd (omega arith)
 enough judge a (suc m) (suc k) state at rest h i =
     after_same (reading_from judge m) (reading_from judge k) at rest (judge state rest) (λ n next e.
     let b = a.goes state rest n next e in
     enough judge a m k next (at + n) (drop n rest) (omega (arith, length-drop n rest)) (omega (arith, length-drop n rest)))
+enough judge a _ k state at rest h i = absurd (omega arith)
 
 -- one unit, and the rest
 pub one_unit : {S : Type 0} (judge : S → List ℕ → Verdict S) → Advances judge → (state : S) (at : ℕ) (rest : List ℕ)

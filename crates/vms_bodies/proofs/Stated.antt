@@ -9,9 +9,9 @@ use Rattle.vms_bodies.proofs.Facade.{device_cells, sub_place, own_cells, item_at
 use Rattle.vms_bodies.proofs.Facade.{◌≤ℤ◌, ap, not, ◌&&◌, ◌==◌, nat_le, ◌||◌, AllByRecursion, and_parts, not-true, leb-true, le-leb}
 use Rattle.vms_bodies.proofs.Facade.{eqb-true, and_from, not_from_false, Kind, lowest, InRange, same_number, no_cell, Slot, Rule, Image, has_cell, image_slots}
 use Rattle.vms_bodies.proofs.Facade.{IsVersionOf, AreVersionsOf, FitsCell, FitCells, IsNormal, RulesHold, is_needed, ComeAsNeeded, IsReady, int_le, in_range}
-use Rattle.vms_bodies.proofs.Facade.{counts_well, is_version_of, are_versions_of, fits_cell, fit_cells, are_settled, is_normal, rules_are_true, come_as_needed}
-use Rattle.vms_bodies.proofs.Facade.{is_ready, ranges, within, same_number_itself, same_number_is, Decides-and, Decides-like, Decides, replicate}
-use Rattle.vms_bodies.proofs.Facade.{length-replicate, Filler, Spells, zeroed, GoodLaw, ShippedLaw, well_good, shipped_stands}
+use Rattle.vms_bodies.proofs.Facade.{counts_well, is_version_of, are_versions_of, fit_cells, are_settled, is_normal, rules_are_true, come_as_needed, is_ready}
+use Rattle.vms_bodies.proofs.Facade.{ranges, within, same_number_itself, same_number_is, Decides-and, Decides-like, Decides, replicate, length-replicate}
+use Rattle.vms_bodies.proofs.Facade.{Filler, Spells, zeroed, GoodLaw, ShippedLaw, well_good, shipped_stands}
 
 -- ---- places
 
@@ -38,7 +38,7 @@ record Within (base size c : ℕ) : Type 0 where
   pub high : c < base + size
 
 some_if : (b : Bool) (o : Option ℕ) (c : ℕ) → (if b then o else None) ≡ Some c → (b ≡ true) × (o ≡ Some c)
-some_if b o c h = grind (arith)
+some_if b o c h = grind arith
 
 module _ (set : Set) where
   abbrev size_below : ℕ → Desc → ℕ
@@ -114,7 +114,7 @@ module _ (set : Set) where
 -- ---- the tests of readiness are the relations: numbers
 
 below_int : (z u : ℤ) → z ≤ℤ u → int_le z u ≡ true
-below_int z u h = grind (arith)
+below_int z u h = grind arith
 
 pub is_same : (z u : ℤ) → z ≡ u → same_number z u ≡ true
 is_same z u e = rw (← e) (same_number_itself z)
@@ -145,9 +145,6 @@ versions_decide _ _ = (λ e. cc, λ h. absurd h)
 
 -- ---- cells
 
-fits_decides : (cell : Cell) (z : ℤ) → Decides (fits_cell cell z) (FitsCell cell z)
-fits_decides cell z = Decides-and _ _ (ranges _ z, ranged _ z) (within cell.capacities z, counted_well _ z)
-
 cells_decide : (cells : List Cell) (numbers : List ℤ) → Decides (fit_cells cells numbers) (FitCells cells numbers)
 cells_decide [] [] = (λ e. record { long = refl; fits = λ c lt. absurd (omega arith) }, λ h. refl)
 cells_decide [] (z ∷ numbers) = (λ e. cc, λ h. absurd (omega arith))
@@ -155,7 +152,7 @@ cells_decide (cell ∷ cells) [] = (λ e. cc, λ h. absurd (omega arith))
 cells_decide (cell ∷ cells) (z ∷ numbers) =
     Decides-like _ (λ h. record { long = ap suc h.1.long; fits = by_place h.0 h.1.fits })
     (λ h. (h.fits 0 (omega arith), record { long = omega arith; fits = λ c lt. h.fits (suc c) (omega arith) }))
-    (Decides-and _ _ (fits_decides cell z) (cells_decide cells numbers))
+    (Decides-and _ _ (Decides-and _ _ (ranges _ z, ranged _ z) (within cell.capacities z, counted_well _ z)) (cells_decide cells numbers))
   where
     by_place : FitsCell cell z → ((c : ℕ) → c < length cells → FitsCell (get_or cells c no_cell) (get_or numbers c (pos 0)))
         → (c : ℕ) → c < length (cell ∷ cells) → FitsCell (get_or (cell ∷ cells) c no_cell) (get_or (z ∷ numbers) c (pos 0))
@@ -169,7 +166,7 @@ Settled slots from cells numbers =
     → get_or numbers c (pos 0) ≡ (get_or cells c no_cell).default
 
 unless : {P : Type 0} (b c : Bool) → Decides c P → Decides (b || c) (b ≡ false → P)
-unless b c d = grind (arith)
+unless b c d = grind arith
 
 settled_decides : (slots : List Slot) (from : ℕ) (cells : List Cell) (numbers : List ℤ)
     → Decides (are_settled slots from cells numbers) (Settled slots from cells numbers)

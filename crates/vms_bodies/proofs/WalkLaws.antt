@@ -49,9 +49,7 @@ sets_from cell _ old new le s = rw s (same_refl cell old)
 
 -- the numbers below its cell are final
 pub slot_keeps : (cell : ℕ) (slot : Slot) (p : Progress) → IsFrom cell slot → Keeps cell p.numbers (take_slot slot p)
-slot_keeps cell slot p from =
-    slot_gives (Keeps cell p.numbers) p (λ reason n. record { kept = tt }) slot (λ n numbers s. record { kept = sets_from cell slot _ _ from s })
-    (record { kept = same_refl cell _ })
+slot_keeps cell slot p from = search (arith, slot_gives, sets_from, same_refl)
 
 -- ---- tools
 
@@ -107,8 +105,7 @@ module _ (total : List ℤ → List Slot) (Holds : ℕ → List Slot → Progres
 
   then_comes : {cell further : ℕ} {left left' : List ℤ → List Slot} (t : Taken) (f : Progress → Taken) → Comes cell left t
       → ((q : Progress) (done : List Slot) → Left cell q done left → Comes further left' (f q)) → Comes further left' (t >>= f)
-  then_comes (Err e) f c h = record { comes = c.comes }
-  then_comes (Ok q) f c h = h q _ c.comes.1
+  then_comes t f c h = search arith
 
   slot_comes : {cell further : ℕ} {slot : Slot} {done : List Slot} {left : List ℤ → List Slot} {p : Progress} (t : Taken) → cell ≤ further
       → Left cell p done (λ m. slot ∷ left m) → Keeps cell p.numbers t → Gives further (done ++ slot ∷ []) t → Comes further left t
@@ -117,8 +114,7 @@ module _ (total : List ℤ → List Slot) (Holds : ℕ → List Slot → Progres
       record { comes = (_, record { split = λ m s. rw append_assoc (l.split m (same_trans _ _ _ m k.kept (same_less _ _ _ m le s))); holds = x }) }
 
   other_from : (cell : ℕ) (slot : Slot) → IsOther slot → IsFrom cell slot
-  other_from cell (Number c kind capacities) o = absurd o
-  other_from cell _ o = tt
+  other_from cell slot o = grind arith
 
   -- ---- structures
 
@@ -316,8 +312,7 @@ module _ (at : ℕ) (input : List ℕ) where
 
   module _ (total : List ℤ → List Slot) where
     gives : (cell : ℕ) (done : List Slot) (t : Taken) → Leaves t → Gives total Holds Fails cell done t
-    gives cell done (Ok q) h = h
-    gives cell done (Err e) h = h
+    gives cell done t h = grind arith
 
     keeping : Keeping total Holds Fails
     keeping = record {
@@ -327,8 +322,7 @@ module _ (at : ℕ) (input : List ℕ) where
     }
 
     leaves : (cell : ℕ) (left : List ℤ → List Slot) (t : Taken) → ComesTo total Holds Fails cell left t → Leaves t
-    leaves cell left (Ok q) c = c.1.holds
-    leaves cell left (Err e) c = c
+    leaves cell left t c = grind arith
 
 -- from the front of the input on
 pub desc_leaves : (structs : List Desc) (sound : AreSound structs) (d : Desc) (v base : ℕ) (p : Progress)

@@ -103,8 +103,7 @@ pub sub_next : (set : Set) (at' : ℕ) (subs : List Sub) (j : ℕ) (x : Sub) →
     → sub_place set at' subs (j + 1) ≡ sub_place set at' subs j + length (desc_cells (struct_cells set) (get_or subs j x).desc)
 sub_next set at' [] j x lt = absurd (omega arith)
 sub_next set at' (s ∷ subs) zero x lt = sub_first set (at' + length (desc_cells (struct_cells set) s.desc)) subs
-sub_next set at' (s ∷ subs) (suc j) x lt =
-    let one : suc j + 1 ≡ suc (j + 1) = omega arith in rw one (sub_next set (at' + length (desc_cells (struct_cells set) s.desc)) subs j x (omega arith))
+sub_next set at' (s ∷ subs) (suc j) x lt = grind (arith, sub_next set (at' + length (desc_cells (struct_cells set) s.desc)) subs j x (omega arith))
 
 pub sub_within : (set : Set) (at' : ℕ) (subs : List Sub) (j : ℕ) (x : Sub) → j < length subs
     → sub_place set at' subs j + length (desc_cells (struct_cells set) (get_or subs j x).desc) ≤ at' + length
@@ -120,9 +119,7 @@ all_long set d = length-append (desc_cells (struct_cells set) d.desc) (flat_map 
 -- a subsection's cells are among its device's
 pub sub_inside : (set : Set) (i j : ℕ) → j < length (device_at set i).subs → sub_place set (own_cells set (device_at set i)) (device_at set i).subs j + length
     (desc_cells (struct_cells set) (sub_at (device_at set i) j).desc) ≤ length (device_cells set (device_at set i))
-sub_inside set i j lt =
-    let d = device_at set i in
-    omega (arith, all_long set d, sub_within set (own_cells set d) d.subs j (record { desc = no_desc; needed = AtLeast 0 }) lt)
+sub_inside set i j lt = search (arith, all_long, sub_within)
 
 pub own_inside_device : (set : Set) (i : ℕ) → length (desc_cells (struct_cells set) (device_at set i).desc) ≤ length (device_cells set (device_at set i))
 own_inside_device set i = omega (arith, all_long set (device_at set i))

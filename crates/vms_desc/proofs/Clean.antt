@@ -1,15 +1,15 @@
 -- Well-formed sets: their limits, their properties part by part, and that the shipped sets are.
 use Rattle.vms_desc.proofs.{Facade.nat_tests, Facade.newest_set, EvalLaws.cells_size, EvalLaws.struct_sizes}
-use Rattle.vms_desc.proofs.Facade.{shipped_set, clock_set, heads_fit, clock_1, clock_2, items_are, items_to, is_well_formed, ◌≡◌, ℕ, zero, suc, ◌*◌}
-use Rattle.vms_desc.proofs.Facade.{◌≤◌, List, ◌∷◌, ◌++◌, length, length-append, get_or, map, sym, ap, ◌∙◌, arith, true, ◌&&◌, nat_le}
-use Rattle.vms_desc.proofs.Facade.{[], flat_map, and_parts, leb-true, length-map, map-map, Item, Struct, MOST_ITEMS, Field, Desc, Sub, Device, Set, first}
-use Rattle.vms_desc.proofs.Facade.{no_desc, capacity_of, desc_cells, struct_cells, device_cells, first_fault, items_in, struct_items, subs_items, devices_items}
-use Rattle.vms_desc.proofs.Facade.{IsFit, IsGood, FitsHeads, first_long, well_good, Cells, Items, in_u32, size_of, fields_size, sizes_to, form_of, layout_of}
-use Rattle.vms_desc.proofs.Facade.{◌<◌, Some, refl, Bool, list_all, slice_get, slice_get-get_or, Equal, Unused, Count, One, Fixed, Counted, Part, Formula}
-use Rattle.vms_desc.proofs.Facade.{AtLeast, no_field, is_name, is_name_byte, is_steady_in, names_well, nobody, test_names_well, count_names_well, uses_below}
-use Rattle.vms_desc.proofs.Facade.{has_good_count, field_rules, validation_rules, has_few, struct_rules, sub_rules, device_rules, WellFormed, device_at, mul-le}
-use Rattle.vms_desc.proofs.Facade.{HasPart, desc_at, sub_at, AllTrue, Clean, device_parts, ◌+◌, ltb-true, lt-ltb, ◌-◌, drop, get_or_default, get_or-map}
-use Rattle.vms_desc.proofs.Facade.{get_or-drop, get_or-map-range_with_len, range_with_len, NEWEST_SET, shipped_sets, all_fit, device_fits, each, fit, is_fit}
+use Rattle.vms_desc.proofs.Facade.{shipped_set, clock_set, heads_fit, items_are, items_to, is_well_formed, ◌≡◌, ℕ, zero, suc, ◌*◌, ◌≤◌, List}
+use Rattle.vms_desc.proofs.Facade.{◌∷◌, ◌++◌, length, length-append, get_or, map, sym, ap, ◌∙◌, arith, true, ◌&&◌, nat_le, [], flat_map}
+use Rattle.vms_desc.proofs.Facade.{and_parts, leb-true, length-map, map-map, Item, Struct, MOST_ITEMS, Field, Desc, Sub, Device, Set, first, no_desc}
+use Rattle.vms_desc.proofs.Facade.{capacity_of, desc_cells, struct_cells, device_cells, first_fault, items_in, struct_items, subs_items, devices_items, IsFit}
+use Rattle.vms_desc.proofs.Facade.{IsGood, FitsHeads, first_long, well_good, Cells, Items, in_u32, size_of, fields_size, sizes_to, form_of, layout_of, ◌<◌}
+use Rattle.vms_desc.proofs.Facade.{Some, refl, Bool, list_all, slice_get, slice_get-get_or, Count, Part, Formula, AtLeast, no_field, is_name, is_steady_in}
+use Rattle.vms_desc.proofs.Facade.{names_well, nobody, test_names_well, count_names_well, uses_below, has_good_count, field_rules, validation_rules, has_few}
+use Rattle.vms_desc.proofs.Facade.{struct_rules, sub_rules, device_rules, WellFormed, device_at, mul-le, HasPart, desc_at, sub_at, AllTrue, Clean, device_parts}
+use Rattle.vms_desc.proofs.Facade.{◌+◌, ◌-◌, drop, get_or_default, get_or-map, get_or-drop, get_or-map-range_with_len, range_with_len, NEWEST_SET}
+use Rattle.vms_desc.proofs.Facade.{shipped_sets, all_fit, device_fits, each, fit, is_fit}
 pub use Rattle.vms_spec.proofs.ShippedSets.{none_is}
 use Rattle.vms_spec.proofs.WellFormedLaws.{set_clean, struct_clean as struct_at, sub_clean as sub_of}
 use Rattle.vms_spec.specs.declared.Part.TheVariants as parts
@@ -51,8 +51,7 @@ less_append (c ∷ xs) (d ∷ ys) a b e h le (suc j) = less_append xs ys a b (om
 less_append xs ys a b e h le j = absurd (omega arith)
 
 less_item : (xs ys : List ℕ) (item : Item) → ((j : ℕ) → get_or xs j 0 ≤ get_or ys j 0) → size_of Cells xs item ≤ size_of Items ys item
-less_item xs ys (Struct j) h = h j
-less_item xs ys item h = omega arith
+less_item xs ys item h = grind arith
 
 less_fields : (xs ys : List ℕ) (fs : List Field) → ((j : ℕ) → get_or xs j 0 ≤ get_or ys j 0) → fields_size Cells xs fs ≤ fields_size Items ys fs
 less_fields xs ys [] h = omega arith
@@ -64,10 +63,7 @@ less_fields xs ys (f ∷ fs) h =
 less_structs : (ds : List Desc) (k j : ℕ) → get_or (sizes_to Cells ds k) j 0 ≤ get_or (sizes_to Items ds k) j 0
 unfolding first
 less_structs ds zero j = omega arith
-less_structs ds (suc k) j =
-    let long = first_long (λ sizes d. fields_size Cells sizes d.fields) ds k ∙ sym (first_long (λ sizes d. fields_size Items sizes d.fields) ds k) in
-    less_append (sizes_to Cells ds k) (sizes_to Items ds k) _ _ long (less_structs ds k)
-    (less_fields (sizes_to Cells ds k) (sizes_to Items ds k) (get_or ds k no_desc).fields (less_structs ds k)) j
+less_structs ds (suc k) j = grind (arith, first_long, less_append, less_fields, less_structs ds k)
 
 -- the cells of a description of the set
 desc_less : (set : Set) (d : Desc) → length (desc_cells (struct_cells set) d) ≤ items_in (struct_items set.structs) d.fields
@@ -109,23 +105,13 @@ pub record IsClean (k : ℕ) (d : Desc) (rules : List Bool) : Type 0 where
   pub validate : list_all (names_well (is_steady_in d) nobody) d.validate ≡ true
 
 some_elements : (item : Item) (count : Count) → has_good_count item count ≡ true → 1 ≤ capacity_of count
-some_elements item One e = omega arith
-some_elements (Equal kind z) count e = cc
-some_elements (Unused b) count e = cc
-some_elements item (Fixed n) e = leb-true 1 n e
-some_elements item (Counted by most) e = leb-true 1 most e
+some_elements item count e = grind arith
 
 short_name : (most : ℕ) (name : List ℕ) (others : Bool) → is_name most name && others ≡ true → length name ≤ most
-short_name most name others e =
-    let rules = (and_parts (is_name most name) others e).0 in
-    let long = (and_parts (nat_le 1 (length name) && nat_le (length name) most) (list_all is_name_byte name) rules).0 in
-    leb-true (length name) most (and_parts (nat_le 1 (length name)) (nat_le (length name) most) long).1
+short_name most name others e = grind arith
 
 clean_field : (k : ℕ) (d : Desc) (i : ℕ) (f : Field) → AllTrue (field_rules k d i f) → IsCleanField k d i f
-clean_field k d i f rules =
-    let names = and_parts (test_names_well d i f.test) (count_names_well d i f.count) rules.1.1.1.0 in
-    let some = some_elements f.item f.count rules.1.1.1.1.1.1.1.0 in
-    record { test = names.0; count = names.1; uses = rules.1.1.1.1.0; some = some; name = short_name 32 f.name (list_all (is_name 32) f.former) rules.0 }
+clean_field k d i f rules = search (arith, some_elements, short_name)
 
 clean_validations : (d : Desc) (ts : List Formula) → ((i : ℕ) (t : Formula) → slice_get ts i ≡ Some t → AllTrue (validation_rules d t))
     → list_all (names_well (is_steady_in d) nobody) ts ≡ true
@@ -224,16 +210,13 @@ abbrev pub part_rank : Set → Part → ℕ
 part_rank set part = 5 * reach set part
 
 pub reach_whole : (set : Set) (part : Part) → HasPart set part → reach set part ≤ length set.structs
-reach_whole set parts.Set h = absurd h
-reach_whole set part h = omega arith
+reach_whole set part h = grind arith
 
 pub uses_more : (j k : ℕ) (item : Item) → j ≤ k → uses_below j item ≡ true → uses_below k item ≡ true
-uses_more j k (Struct i) le e = let lt : i < j = ltb-true i j e in lt-ltb i k (omega arith)
-uses_more j k item le e = refl
+uses_more j k item le e = grind arith
 
 pub rank_below : (r : ℕ) (item : Item) → uses_below r item ≡ true → item_rank item + 2 < 5 * r + 3
-rank_below r (Struct i) e = let lt : i < r = ltb-true i r e in omega arith
-rank_below r item e = omega arith
+rank_below r item e = grind arith
 
 -- ---- the shipped sets and the clock sets are well formed
 
@@ -270,13 +253,9 @@ formed s = (and_parts (is_well_formed (shipped_set s)) (list_all device_fits (sh
 
 pub clock_formed : (c : ℕ) → is_well_formed (clock_set c) ≡ true
 unfolding first_fault first
-clock_formed zero = refl
-clock_formed (suc zero) = refl
-clock_formed (suc (suc c)) = refl
+clock_formed c = grind arith
 
 -- ---- the numbers of the clock sets fit their heads
 
 pub clock_heads : (c : ℕ) → FitsHeads (clock_set c)
-clock_heads zero = heads_fit clock_1 refl
-clock_heads (suc zero) = heads_fit clock_1 refl
-clock_heads (suc (suc c)) = heads_fit clock_2 refl
+clock_heads c = grind (arith, heads_fit)

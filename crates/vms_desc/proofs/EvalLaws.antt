@@ -4,19 +4,18 @@ use Rattle.vms_desc.proofs.Facade.{◌≡◌, ℕ, zero, suc, ◌+◌, ◌*◌, 
 use Rattle.vms_desc.proofs.Facade.{take, map, ◌∙◌, arith, Some, inl, inr, [], slice_get, get_or-map, cases_lt, get_or_append_left, length-map, map-append}
 use Rattle.vms_desc.proofs.Facade.{map_more, get_or_default, FitsHeads, capacity_of, no_field, no_desc, Field, Sub, Device, AtLeast, get_or_push, Cells, Parts}
 use Rattle.vms_desc.proofs.Facade.{in_u32, size_of, fields_size, set_of, field_of, device_of, get_map_at, Table, HeadsFit, sub_at, IsTable, no_table, AreTables}
-use Rattle.vms_desc.proofs.Facade.{device_fields, AreDeviceTables, ◌≤◌, min, refl, sym, ap, true, ◌&&◌, Option, None, ℤ, pos, flat_map, and_parts}
-use Rattle.vms_desc.proofs.Facade.{take_min, map-map, Item, Num, Struct, Count, One, Part, MOST_ITEMS, Own, Parent, first, times, counted, item_cells}
-use Rattle.vms_desc.proofs.Facade.{item_size, field_cells, cells_from, desc_cells, struct_cells, device_cells, numbers_of, place_of, is_num, is_one, names_well}
-use Rattle.vms_desc.proofs.Facade.{Formula, Below, Cell, Not, And, Or, Desc, Set, truth, field_size, sizes_to, form_of, capped_fields, Scope, item_forms}
-use Rattle.vms_desc.proofs.Facade.{fields_forms, subs_forms, device_forms, forms_to, sizes_of, place_in, number_of, number_of_parent, desc_at}
-use Rattle.vms_desc.proofs.Facade.{is_number, is_number_in, is_number_of_parent, is_placed, parent_of, HasParentCells, may_ask, may_ask_parent, IsInside}
-use Rattle.vms_desc.proofs.Facade.{IsInsideParent, IsScope, IsParent, AreStarts, slice_get-map, slice_get_within, slice_get-get_or}
+use Rattle.vms_desc.proofs.Facade.{device_fields, AreDeviceTables, ◌≤◌, min, refl, sym, ap, true, ◌&&◌, Option, None, ℤ, flat_map, and_parts}
+use Rattle.vms_desc.proofs.Facade.{take_min, map-map, Item, Struct, Count, Part, MOST_ITEMS, Own, Parent, first, times, counted, item_cells, item_size}
+use Rattle.vms_desc.proofs.Facade.{field_cells, cells_from, desc_cells, struct_cells, device_cells, numbers_of, place_of, is_num, is_one, names_well, Formula}
+use Rattle.vms_desc.proofs.Facade.{Below, Cell, Not, And, Or, Desc, Set, truth, field_size, sizes_to, form_of, capped_fields, Scope, item_forms, fields_forms}
+use Rattle.vms_desc.proofs.Facade.{subs_forms, device_forms, forms_to, sizes_of, place_in, number_of, number_of_parent, desc_at, is_number, is_number_in}
+use Rattle.vms_desc.proofs.Facade.{is_number_of_parent, is_placed, parent_of, HasParentCells, may_ask, may_ask_parent, IsInside, IsInsideParent, IsScope}
+use Rattle.vms_desc.proofs.Facade.{IsParent, AreStarts, slice_get-map, slice_get_within, slice_get-get_or}
 use Rattle.vms_parts.specs.{declared.types.Device.Device as CodeDevice, declared.types.Field.Field as CodeField}
-use Rattle.std.proofs.Common.{negsuc, ◌%◌, ◌^◌}
+use Rattle.std.proofs.Common.{◌%◌, ◌^◌}
 use Rattle.vms_kinds.specs.{Codes.residue, Codes.width, declared.Kind.Kind}
 use Rattle.vms_spec.specs.Layout.{Cell as OneCell}
 use Rattle.vms_spec.specs.declared.Part.TheVariants as parts
-use Rattle.vms_kinds.specs.declared.Kind.TheVariants as kinds
 
 -- ---- numbers of heads, device by device
 
@@ -26,12 +25,7 @@ at_mapped f xs i x y is e = let lt = slice_get_within (map f xs) i y e in cc (sl
 
 -- the property of the code's devices, for the set
 pub heads_of : (parts : Parts) (devices : List CodeDevice) → devices ≡ parts.devices → HeadsFit (map device_of devices) → FitsHeads (set_of parts)
-heads_of parts devices is h =
-    let all : HeadsFit (map device_of parts.devices) = rw is at h in
-    record {
-      instance = λ k d e. ((all.each k d e).instance, (all.each k d e).version);
-      sub_version = λ k j d s e f. ((all.each k d e).subs j s f).version;
-    }
+heads_of parts devices is h = search arith
 
 -- ---- one more row
 
@@ -125,8 +119,7 @@ sub_table sizes d tables j t h lt is =
 -- ---- numbers by sizes, and the numbers of cells: those of the definition: the cells of the fields' numbers
 
 one_size : (sizes : List ℕ) (item : Item) (c : Count) → is_num item && is_one c ≡ true → capacity_of c * size_of Cells sizes item ≡ 1
-one_size sizes (Num kind) One h = refl
-one_size sizes item c h = cc
+one_size sizes item c h = grind arith
 
 number_below : (sizes : List ℕ) (fs : List Field) (k : ℕ) → is_number (slice_get fs k) ≡ true → fields_size Cells sizes (take k fs) < fields_size Cells sizes fs
 number_below sizes [] k h = cc
@@ -214,10 +207,7 @@ place_is cs fields i base (f ∷ fs) zero = omega arith
 pub place_after : (cs : List (List OneCell)) (fields : List Field) (i base : ℕ) (fs : List Field) (k : ℕ) → k < length fs
     → place_of cs fields i base fs (k + 1)
     ≡ place_of cs fields i base fs k + capacity_of (get_or fs k no_field).count * item_size cs (get_or fs k no_field).item
-place_after cs fields i base fs k lt =
-    let next : k + 1 ≡ suc k = omega arith in
-    let size = size_taken (map length cs) fs k lt in
-    rw (next, item_sizes cs (get_or fs k no_field).item) (omega (arith, size, place_is cs fields i base fs k, place_is cs fields i base fs (suc k)))
+place_after cs fields i base fs k lt = grind (arith, size_taken, item_sizes, place_is)
 
 pub take_less : (sizes : List ℕ) (fs : List Field) (k : ℕ) → fields_size Cells sizes (take k fs) ≤ fields_size Cells sizes fs
 take_less sizes (f ∷ fs) (suc k) = omega (arith, take_less sizes fs k)
@@ -243,9 +233,7 @@ module _ (set : Set) (d : Desc) (few : length (desc_cells (struct_cells set) d) 
 
   module _ (starts : List ℕ) (h : AreStarts (sizes_of set) d.fields starts) where
     start_is : (k : ℕ) → get_or starts (min k (length d.fields)) 0 ≡ fields_size Cells (sizes_of set) (take k d.fields)
-    start_is k =
-        let m = min k (length d.fields) in
-        rw (← take_min k d.fields) (omega (arith, h.start m (omega arith), take_less (sizes_of set) d.fields m, inside_is))
+    start_is k = grind (arith, take_min, take_less, inside_is)
 
     place_in_is : (base k : ℕ) → place_in starts d.fields base k ≡ place_of (struct_cells set) d.fields 0 base d.fields k
     place_in_is base k =
@@ -255,9 +243,7 @@ module _ (set : Set) (d : Desc) (few : length (desc_cells (struct_cells set) d) 
 
     -- the first cell of a field
     pub start_at : (base k : ℕ) → k < length d.fields → base + get_or starts k 0 ≡ place_of (struct_cells set) d.fields 0 base d.fields k
-    start_at base k lt =
-        let same : k ≡ min k (length d.fields) = omega arith in
-        ap (λ m. base + get_or starts m 0) same ∙ place_in_is base k
+    start_at base k lt = grind (arith, place_in_is)
 
     -- the cells of the fields that may be named are among n cells
     cells_inside : (base n : ℕ) → base + length (desc_cells (struct_cells set) d) ≤ n → (k : ℕ) → is_number_in d.fields k ≡ true
@@ -272,10 +258,7 @@ capped_cells set d =
 -- ---- the fields of a part and of its device that a test names
 
 parent_asked : (set : Set) (part : Part) (parent : Option Scope) → IsParent set part parent → may_ask_parent parent ≡ is_number_of_parent set part
-parent_asked set (parts.Sub i j) None p = absurd p
-parent_asked set (parts.Sub i j) (Some s) p = ap is_number_in p.fields
-parent_asked set part None p = refl
-parent_asked set part (Some s) p = absurd p
+parent_asked set part parent p = grind arith
 
 pub placed : (set : Set) (part : Part) (base : ℕ) (own : Scope) (parent : Option Scope) (t : Formula) → IsScope set (desc_at set part) base own
     → IsParent set part parent → is_placed set part t ≡ true → names_well (may_ask own) (may_ask_parent parent) t ≡ true
@@ -311,7 +294,4 @@ parent_is set part (Some s) numbers p few h = absurd p
 
 -- the low bytes of the low eight are the number modulo 2 ^ (8 w)
 pub residue_cut : (kind : Kind) (z : ℤ) → residue 8 z % 2 ^ (8 * width kind) ≡ residue (width kind) z
-residue_cut kinds.U8 (pos n) = omega arith
-residue_cut kinds.U8 (negsuc n) = omega arith
-residue_cut _ (pos n) = omega arith
-residue_cut _ (negsuc n) = omega arith
+residue_cut kind z = grind arith

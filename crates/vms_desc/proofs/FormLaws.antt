@@ -38,10 +38,7 @@ more_put g from here next part rest after all parts put left = cc (append_assoc 
 
 pub left_goes : {from here next : Forms} (part rest after all : List CellForm) → rest ≡ part ++ after → Puts here next part → Left from here rest all
     → Left from next after all
-left_goes part rest after all parts put left = record {
-  kinds = more_put (λ form. form.kind) _ _ _ part rest after all parts put.kinds left.kinds;
-  defaults = more_put (λ form. form.default) _ _ _ part rest after all parts put.defaults left.defaults;
-}
+left_goes part rest after all parts put left = search (arith, more_put)
 
 pub left_none : {from here : Forms} {rest all : List CellForm} → rest ≡ [] → Left from here rest all → Puts from here all
 left_none none left = record {
@@ -114,9 +111,7 @@ struct_forms structs j d lt is =
     (ap (λ (x : sets.Desc). fields_forms (forms_to ds j) x.fields) (sym here) ∙ sym made)
 
 pub no_struct_forms : (structs : List Desc) (j : ℕ) → length structs ≤ j → get_or (forms_to (map desc_of structs) (length structs)) j [] ≡ []
-no_struct_forms structs j le =
-    get_or_past (forms_to (map desc_of structs) (length structs)) j []
-    (omega (arith, first_long (λ forms x. fields_forms forms x.fields) (map desc_of structs) (length structs)))
+no_struct_forms structs j le = grind (arith, get_or_past, first_long)
 
 -- the forms of a device's cells
 abbrev pub forms_in : Parts → Device → List CellForm

@@ -1,13 +1,13 @@
 -- The cell of a path, given the numbers of cells of the structures, and the first cell of a path.
 use Rattle.vms_desc.proofs.Facade.{◌≡◌, ℕ, zero, suc, ◌+◌, ◌*◌, ◌<◌, ◌≤◌, List, ◌∷◌, length, length-append, length-take-le}
-use Rattle.vms_desc.proofs.Facade.{get_or, take, map, refl, sym, ap, cases_Bool, ◌∙◌, arith, inl, inr, Option, Some, None, [], nat_lt}
-use Rattle.vms_desc.proofs.Facade.{if◌then◌else◌, flat_map, slice_get, ltb-true, lt-ltb, cases_lt, length-map, take_all, take-append-le, take-map}
-use Rattle.vms_desc.proofs.Facade.{map-map, get_or-map, Kind, Item, Num, Struct, MOST_ITEMS, first, no_desc, no_field, capacity_of, place_of, item_size}
-use Rattle.vms_desc.proofs.Facade.{desc_cells, struct_cells, device_cells, sub_place, own_cells, item_at, element_at, path_at, cell_in, desc_of_sub}
-use Rattle.vms_desc.proofs.Facade.{element_room, first_long, first_at, Cells, in_u32, size_of, fields_size, subs_size, field_of, desc_of, form_of, layout_of}
-use Rattle.vms_desc.proofs.Facade.{capped_fields, capped_subs, Placed, Element, sizes_of, element_in, element_of, begin_desc, begin_base, Begins, Enters}
+use Rattle.vms_desc.proofs.Facade.{get_or, take, map, refl, ap, cases_Bool, ◌∙◌, arith, inl, inr, Option, Some, None, [], nat_lt, if◌then◌else◌}
+use Rattle.vms_desc.proofs.Facade.{flat_map, slice_get, ltb-true, lt-ltb, cases_lt, length-map, take_all, take-append-le, take-map, map-map, get_or-map, Kind}
+use Rattle.vms_desc.proofs.Facade.{Item, Num, Struct, MOST_ITEMS, first, no_desc, no_field, capacity_of, place_of, item_size, desc_cells, struct_cells}
+use Rattle.vms_desc.proofs.Facade.{device_cells, sub_place, own_cells, item_at, element_at, path_at, cell_in, element_room, first_long, first_at, Cells, in_u32}
+use Rattle.vms_desc.proofs.Facade.{size_of, fields_size, subs_size, field_of, desc_of, form_of, layout_of, capped_fields, capped_subs, Placed, Element}
+use Rattle.vms_desc.proofs.Facade.{sizes_of, element_in, element_of, begin_desc, begin_base, Begins, Enters, IsPlaced, slice_get-map, slice_get_within}
+use Rattle.vms_desc.proofs.Facade.{slice_get-get_or, get_or_from_slice_get}
 use Rattle.vms_desc.proofs.EvalLaws.{cells_size, place_is, size_taken, take_less, exact}
-use Rattle.vms_desc.proofs.Facade.{IsPlaced, slice_get-map, slice_get_within, slice_get-get_or, get_or_from_slice_get}
 use Rattle.vms_spec.specs.Layout.{Cell}
 use Rattle.vms_parts.specs.declared.types.Field.{Field}
 use Rattle.std.proofs.lemmas.List.{get_or-map as map_at}
@@ -105,11 +105,7 @@ module _ (set : sets.Set) (p : Placed) (placed : IsPlaced set p) where
 
   after_is : (path : List (ℕ × ℕ)) (step : ℕ × ℕ) (o : Option sets.Field) → slice_get fields step.0 ≡ o
       → element_at cells (desc_of p.desc.now) p.base step.0 step.1 o (goes path) ≡ after path (element_in p.sizes.now (desc_of p.desc.now) p.base step o)
-  after_is path step None there = refl
-  after_is path step (Some f) there = elim (cases_Bool (nat_lt step.1 (capacity_of f.count))) [
-    | inl t ↦ rw t (ap (goes path f.item) (sym (same_cell step.0 step.1 f there (ltb-true step.1 (capacity_of f.count) t))))
-    | inr t ↦ rw t refl
-  ]
+  after_is path step o there = grind (arith, same_cell)
 
   pub path_is : (path : List (ℕ × ℕ)) (step : ℕ × ℕ)
       → path_at set (step ∷ path) (length p.sizes.now) (Some (desc_of p.desc.now)) p.base ≡ after path (element_of p.sizes.now (desc_of p.desc.now) p.base step)
@@ -139,8 +135,7 @@ module _ (set : sets.Set) (p : Placed) (placed : IsPlaced set p) where
 pub in_struct : (set : sets.Set) (below : ℕ) (path : List (ℕ × ℕ)) (j cell : ℕ) (d : sets.Desc) → j < below → slice_get set.structs j ≡ Some d
     → item_at (λ j cell. if nat_lt j below then path_at set path j (slice_get set.structs j) cell else None) path (Struct j) cell ≡ path_at set path j
     (Some d) cell
-in_struct set below [] j cell d lt there = refl
-in_struct set below (step ∷ path) j cell d lt there = rw (lt-ltb j below lt, there)
+in_struct set below path j cell d lt there = grind arith
 
 -- at a number
 pub at_number : (inside : ℕ → ℕ → Option ℕ) (path : List (ℕ × ℕ)) (kind : Kind) (cell : ℕ) → path ≡ [] → item_at inside path (Num kind) cell ≡ Some cell
@@ -165,8 +160,7 @@ sub_room sizes (r ∷ subs) (suc j) s e = omega (arith, sub_room sizes subs j s 
 
 place_of_sub : (set : sets.Set) (base : ℕ) (subs : List sets.Sub) (j : ℕ)
     → sub_place set base subs j ≡ base + subs_size Cells (map length (struct_cells set)) (take j subs)
-place_of_sub set base (s ∷ subs) (suc j) =
-    omega (arith, cells_size (struct_cells set) s.desc.fields 0 s.desc.fields, place_of_sub set (base + length (desc_cells (struct_cells set) s.desc)) subs j)
+place_of_sub set base (s ∷ subs) (suc j) = grind (arith, cells_size, place_of_sub set (base + length (desc_cells (struct_cells set) s.desc)) subs j)
 place_of_sub set base [] (suc j) = omega arith
 place_of_sub set base [] zero = omega arith
 place_of_sub set base (s ∷ subs) zero = omega arith
@@ -183,8 +177,7 @@ base_of set d (Some j) = sub_place set (own_cells set d) d.subs j
 
 pub begins_at : (set : sets.Set) (d : sets.Device) (part : Option ℕ) (path : List (ℕ × ℕ))
     → cell_in set (Some d) part path ≡ path_at set path (length set.structs) (begin_desc d part) (base_of set d part)
-begins_at set d None path = refl
-begins_at set d (Some j) path = refl
+begins_at set d part path = grind arith
 
 pub nowhere : (set : sets.Set) (path : List (ℕ × ℕ)) (below base : ℕ) → path_at set path below None base ≡ None
 nowhere set [] below base = refl
@@ -210,16 +203,7 @@ module _ (set : sets.Set) (d : sets.Device) (few : length (device_cells set d) �
       omega (arith, own, before, all_few, subs_less lengths d.subs j, place_of_sub set (own_cells set d) d.subs j, own_size)
 
   has_room : (part : Option ℕ) (e : sets.Desc) → begin_desc d part ≡ Some e → base_of set d part + length (desc_cells (struct_cells set) e) ≤ MOST_ITEMS
-  has_room None e is = let same : e ≡ d.desc = cc in rw same (omega (arith, all_few, own_size))
-  has_room (Some j) e is = by_sub (slice_get d.subs j) refl is
-    where
-      by_sub : (o : Option sets.Sub) → slice_get d.subs j ≡ o → desc_of_sub o ≡ Some e
-          → base_of set d (Some j) + length (desc_cells (struct_cells set) e) ≤ MOST_ITEMS
-      by_sub None there is = cc
-      by_sub (Some s) there is =
-          let same : e ≡ s.desc = cc in
-          let size = cells_size (struct_cells set) s.desc.fields 0 s.desc.fields in
-          rw same (omega (arith, all_few, sub_room lengths d.subs j s there, place_of_sub set (own_cells set d) d.subs j, own_size, size))
+  has_room part e is = grind (arith, all_few, own_size, cells_size, sub_room, place_of_sub)
 
   pub begins_placed : (part : Option ℕ) (p : Placed) → Begins (sizes_of set) d part p → IsPlaced set p
   begins_placed part p begins =

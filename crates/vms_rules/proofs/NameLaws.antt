@@ -1,11 +1,11 @@
 -- Names that are distinct, and the earlier fields that a field may name.
 use Rattle.vms_rules.proofs.Facade.{◌≡◌, ℕ, ◌+◌, ◌<◌, ◌≤◌, List, ◌∷◌, ◌++◌, length, length-take, length-append, get_or, drop}
-use Rattle.vms_rules.proofs.Facade.{take, map, Bool, true, false, Ordering, Equal, refl, sym, ◌∙◌, arith, [], ◌&&◌, not, nat_eq, ◌||◌}
-use Rattle.vms_rules.proofs.Facade.{BTreeSet, UpdatesBy, KeepsOthers, IsKeyTest, AreApart, IsTotalOrder, then_total, on_total, nat_cmp_total, unequal}
-use Rattle.vms_rules.proofs.Facade.{slice_cmp, nat_list_cmp_total, nat_cmp, is_eq, eq_by_cmp, ordering_then, list_any, bytes_eq, length-map, map-append}
-use Rattle.vms_rules.proofs.Facade.{take_more, is_eq-slice_cmp, bytes_eq-Decides, and-true, or-false, and_assoc, or_assoc, or_comm, Bor, is_name, is_sub_name}
-use Rattle.vms_rules.proofs.Facade.{is_one_of, or_turned, drop_is, get_map_at, key, by_key, has_name, with_name, are_new_to, one_of_both, Field, field_of, zero}
-use Rattle.vms_rules.proofs.Facade.{suc, append_assoc, nat_lt, slice_get, nat_tests, take-map, and-false, Formula, is_steady, names_well, all_names, are_new}
+use Rattle.vms_rules.proofs.Facade.{take, map, Bool, true, false, Ordering, refl, sym, ◌∙◌, arith, [], ◌&&◌, not, nat_eq, ◌||◌, BTreeSet}
+use Rattle.vms_rules.proofs.Facade.{UpdatesBy, KeepsOthers, IsKeyTest, AreApart, IsTotalOrder, then_total, on_total, nat_cmp_total, unequal, slice_cmp}
+use Rattle.vms_rules.proofs.Facade.{nat_list_cmp_total, nat_cmp, is_eq, eq_by_cmp, ordering_then, list_any, bytes_eq, length-map, map-append, take_more}
+use Rattle.vms_rules.proofs.Facade.{is_eq-slice_cmp, bytes_eq-Decides, and-true, or-false, and_assoc, or_assoc, or_comm, Bor, is_name, is_sub_name, is_one_of}
+use Rattle.vms_rules.proofs.Facade.{or_turned, drop_is, get_map_at, key, by_key, has_name, with_name, are_new_to, one_of_both, Field, field_of, zero, suc}
+use Rattle.vms_rules.proofs.Facade.{append_assoc, nat_lt, slice_get, nat_tests, take-map, and-false, Formula, is_steady, names_well, all_names, are_new}
 use Rattle.vms_rules.proofs.Facade.{append-nil, IsDistinct, AllByRecursion, IsStrictlyIncreasing, IsPermutation, eq_by_cmp_equiv, take-append-drop}
 use Rattle.vms_rules.proofs.Facade.{IsPermutation-sym, IsDistinct-IsPermutation, IsDistinct-from_sorted, sorted_from_strictly_increasing, all_right, either_of}
 use Rattle.vms_rules.proofs.WalkLaws.{needed_names}
@@ -18,8 +18,7 @@ in_order : IsTotalOrder by_key
 in_order = then_total (on_total (λ (t : ℕ × List ℕ). t.0) nat_cmp_total) (on_total (λ (t : ℕ × List ℕ). t.1) nat_list_cmp_total)
 
 second_differs : (a b : Ordering) → is_eq b ≡ false → is_eq (ordering_then a b) ≡ false
-second_differs Equal b e = e
-second_differs _ b e = refl
+second_differs a b e = grind arith
 
 apart_in_order : (name n : List ℕ) (k : ℕ × List ℕ) → bytes_eq name n ≡ false → eq_by_cmp by_key (key name, name) k ≡ true
     → eq_by_cmp by_key (key n, n) k ≡ false
@@ -35,8 +34,7 @@ unfolding KeepsOthers
 other_keys eq test old new h = h
 
 or_is : (b c r : Bool) → (b ≡ true → r ≡ true) → (b ≡ false → r ≡ c) → r ≡ (b || c)
-or_is true c r left right = left refl
-or_is false c r left right = right refl
+or_is b c r left right = grind arith
 
 abbrev pub seen : ℕ × Bor (List ℕ) → ℕ × List ℕ
 seen k = (k.0, k.1.now)

@@ -3,19 +3,18 @@ use Rattle.vms_rules.proofs.Facade.{arith, ◌≡◌, ℕ, ◌<◌, List, ◌∷
 use Rattle.vms_rules.proofs.Facade.{◌&&◌, and_assoc, counted, int_le, counts_well, both_below, lesser, least_from, AreLeast, fits, ◌+◌, ◌≤◌, drop}
 use Rattle.vms_rules.proofs.Facade.{false, ap, ◌∙◌, add-one, drop_all, drop_more, Place, failing, map, nat_le, nat_tests, MOST_ITEMS, items_in}
 use Rattle.vms_rules.proofs.Facade.{struct_items, subs_items, devices_items, Items, in_u32, subs_size, sizes_to, capped_fields, capped_subs, items_are}
-use Rattle.vms_rules.proofs.Facade.{items_to, Result, sym, IsErrAnd, err_from_is_err_and, or_else, first_answer, SetFault, DescFault, IllFormed, NoMemory}
-use Rattle.vms_rules.proofs.Facade.{IsFirst, Judges, take, ◌==◌, list_any, bytes_eq, take-map, Own, Parent, names_well, Formula, Cell, Not, And, Or}
-use Rattle.vms_rules.proofs.Facade.{is_same_device, Device, device_of, zero, suc, ◌++◌, length-map, Item, Struct, first, item_depth, deepest, struct_depths}
-use Rattle.vms_rules.proofs.Facade.{Desc, field_of, desc_of, get_map_at, first_long, are_new_to, not, ◌||◌, is_at, BTreeSet, nat_list_eq_equiv, Bor}
-use Rattle.vms_rules.proofs.Facade.{is_one_of, are_distinct, and_swap, key, by_key, has_name, with_name, get_or_default}
+use Rattle.vms_rules.proofs.Facade.{items_to, Result, sym, IsErrAnd, err_from_is_err_and, or_else, first_answer, SetFault, DescFault, IsFirst, Judges, take}
+use Rattle.vms_rules.proofs.Facade.{◌==◌, list_any, bytes_eq, take-map, Own, Parent, names_well, Formula, Cell, Not, And, Or, is_same_device, Device}
+use Rattle.vms_rules.proofs.Facade.{device_of, zero, suc, ◌++◌, length-map, Item, first, item_depth, deepest, struct_depths, Desc, field_of, desc_of}
+use Rattle.vms_rules.proofs.Facade.{get_map_at, first_long, are_new_to, not, ◌||◌, is_at, BTreeSet, nat_list_eq_equiv, Bor, is_one_of, are_distinct}
+use Rattle.vms_rules.proofs.Facade.{and_swap, key, by_key, has_name, with_name, get_or_default}
 use Rattle.vms_spec.specs.Sets.{Field}
 use Rattle.vms_spec.specs.Sets as sets
 
 -- ---- the least capacity decides for all capacities that a number counts
 
 fits_lesser : (o : Option ℕ) (most : ℕ) (z : ℤ) → fits (lesser o most) z ≡ (fits o z && int_le z (pos most))
-fits_lesser (Some least) most (pos n) = both_below n least most
-fits_lesser _ most _ = refl
+fits_lesser o most z = grind (arith, both_below)
 
 fits_all : (o : Option ℕ) (capacities : List ℕ) (z : ℤ) → fits (least_from o capacities) z ≡ (fits o z && counts_well capacities z)
 fits_all o [] z = grind arith
@@ -77,8 +76,7 @@ stops_by x r e is_err h = let p = err_from_is_err_and r is_err in rw (p.1, p.2) 
 
 -- a fault of the first is the fault of both
 pub first_stops : (x y : Option SetFault) (e : DescFault) → IsFirst x e → IsFirst (or_else x y) e
-first_stops x y (IllFormed rule place) h = rw h
-first_stops x y NoMemory h = tt
+first_stops x y e h = grind arith
 
 -- if the first has none, the others decide
 pub judged_after : {X : Type 0} (x y : Option SetFault) (r : Result X DescFault) → x ≡ None → Judges y r → Judges (or_else x y) r
@@ -130,8 +128,7 @@ needed_names own known parent device _ same alike = refl
 -- ---- structures: their depths and their names: depths
 
 item_small : (depths : List ℕ) (most : ℕ) (item : Item) → ((j : ℕ) → get_or depths j 0 ≤ most) → item_depth depths item ≤ most
-item_small depths most (Struct j) small = small j
-item_small depths most item small = omega arith
+item_small depths most item small = grind arith
 
 pub deepest_small : (depths : List ℕ) (most : ℕ) (fs : List sets.Field) → ((j : ℕ) → get_or depths j 0 ≤ most) → deepest depths fs ≤ most
 deepest_small depths most [] small = omega arith

@@ -1,8 +1,8 @@
+use Rattle.vms_desc.proofs.Facade.{rules, ◌≡◌, ◌<◌, get_or, length, map, arith, length-map, map_more, device_at, set_of, device_of, form_of}
+use Rattle.vms_desc.proofs.Facade.{device_cells, Held, device_forms, structs_forms, form_numbers}
 use Rattle.vms_desc.proofs.{AskLaws.few_cells, defaults.device_defaults.Goals.In_ok-forms}
-use Rattle.vms_desc.proofs.Facade.{◌≡◌, ◌<◌, ap, get_or, length, map, arith, refl, length-map, map_more, device_at, set_of}
-use Rattle.vms_desc.proofs.Facade.{device_of, form_of, device_cells, Held, device_forms, structs_forms, form_numbers}
 use Rattle.vms_desc.proofs.FormLaws.{forms_are, forms_in, form_count, kinds_long, defaults_long, numbers_seen, kept_fit, defaults_made}
-use Rattle.vms_parts.specs.{declared.types.Device.Device}
+use Rattle.vms_parts.specs.declared.types.Device.{Device}
 use Rattle.vms_desc.proofs.defaults.device_defaults.Goals as goal
 
 -- the device of this number, and the forms that are made of it
@@ -13,12 +13,7 @@ record IsHere (c : In_ok-forms) : Type 0 where
       ≡ map form_of (device_cells (set_of c.args.parts.now) (device_at (set_of c.args.parts.now) c.loop-device.device-index))
 
 is_here : (c : In_ok-forms) → IsHere c
-is_here c =
-    let i = c.loop-device.device-index in
-    let d = c.device-item.result in
-    let lt : i < length c.args.parts.now.devices = omega (arith, c.loop-device-test.true, ap length c.as_slice-device-items.ensures) in
-    let is : d ≡ get_or c.args.parts.now.devices i d = cc (c.device-item.is, c.as_slice-device-items.ensures) in
-    record { lt = lt; is = is; laid = forms_are c.args.parts.now i d _ lt is c.as_slice.ensures refl }
+is_here c = search (rules, forms_are)
 
 pub numbers_of-requires : goal.numbers_of-requires
 numbers_of-requires c =
@@ -43,6 +38,4 @@ loop-device-preserved c =
     cc (c.in_ok-push.ensures.items, c.loop-device.invariant, here.is, map_more made ds i c.device-item.result here.lt)
 
 pub returns : goal.returns
-returns c =
-    defaults_made c.args.parts.now c.loop-device.defaults.items c.loop-device.device-index
-    (omega (arith, ap length c.as_slice-device-items.ensures, c.loop-device-test.false)) c.loop-device.invariant
+returns c = search (rules, defaults_made)

@@ -1,4 +1,4 @@
-use Rattle.vms_desc.proofs.Facade.{drop_is, drop_all, rules, ◌≡◌, ap, ◌∙◌, map, take, Item, item_forms, fields_forms, structs_forms, field_of}
+use Rattle.vms_desc.proofs.Facade.{drop_is, drop_all, rules, item_forms, structs_forms}
 use Rattle.vms_desc.proofs.FormLaws.{puts_none, left_all, left_goes, left_none, repeated_put, struct_forms, no_struct_forms}
 use Rattle.vms_desc.proofs.forms.+forms.Goals as goal
 
@@ -25,18 +25,7 @@ put_field-returns t c =
     })
 
 pub put_element-returns-in_ok-put_fields-in-Struct : goal.put_element-returns-in_ok-put_fields-in-Struct
-put_element-returns-in_ok-put_fields-in-Struct t c =
-    let ts = structs_forms c.args.structs.now in
-    let j = c.in-Struct.number in
-    let d = c.index-structs-number.result in
-    let earlier = structs_forms (take j c.args.structs.now) in
-    let made = struct_forms c.args.structs.now j d c.if-number-structs.true c.index-structs-number.is in
-    let part : fields_forms earlier (map field_of c.as_slice.result.now) ≡ item_forms ts c.args.field.now.item c.args.field.now.default =
-    cc (c.as_slice.ensures, c.index-structs-number.is, made, c.in-Struct.is) in
-    rw part at c.in_ok-put_fields-in-Struct.ensures
+put_element-returns-in_ok-put_fields-in-Struct t c = search (rules, struct_forms)
 
 pub put_element-returns-else-number-structs : goal.put_element-returns-else-number-structs
-put_element-returns-else-number-structs t c =
-    let ts = structs_forms c.args.structs.now in
-    puts_none c.args.forms.now _ (ap (λ (i : Item). item_forms ts i c.args.field.now.default) c.in-Struct.is
-    ∙ no_struct_forms c.args.structs.now c.in-Struct.number c.if-number-structs.false)
+put_element-returns-else-number-structs t c = search (rules, puts_none, no_struct_forms)

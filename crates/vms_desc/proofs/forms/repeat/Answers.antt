@@ -28,15 +28,4 @@ pub append_again-requires-clause-within : goal.append_again-requires-clause-with
 append_again-requires-clause-within g c = search (rules, room g (goal.at.append_again-requires-clause-within g c).After-min-more)
 
 pub loop-done-preserved : goal.loop-done-preserved
-loop-done-preserved g c =
-    let old = c.args.list.now.items in
-    let at = at_place old c.len.result c.args.start (search rules) c.requires.within in
-    record {
-      items =
-          repeats_more (drop c.args.start old)
-          (take c.args.start old) c.loop-done.list.items c.append_again.new.list.items c.loop-done.done c.min-more.result c.args.start
-          (c.len.result - c.args.start)
-          at.0 at.1 c.loop-done.invariant.items (search rules) c.in_ok-append_again.ensures;
-      some = omega (arith, c.loop-done.invariant.some);
-      within = search rules;
-    }
+loop-done-preserved g c = search (rules, at_place, repeats_more)

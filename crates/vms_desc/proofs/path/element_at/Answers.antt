@@ -1,5 +1,5 @@
-use Rattle.vms_desc.proofs.{Facade.desc_of, Facade.Placed, path.element_at.Goals.After-size_of_fields-before}
 use Rattle.vms_desc.proofs.Facade.{◌≡◌, ◌+◌, ◌*◌, ◌≤◌, ℕ, Some, take, arith, slice_get, MOST_ITEMS, Cells, size_of, fields_size, field_of}
+use Rattle.vms_desc.proofs.{Facade.desc_of, Facade.Placed, path.element_at.Goals.After-size_of_fields-before}
 use Rattle.vms_desc.proofs.PathLaws.{at_there, element_fits, element_is, before_fits}
 use Rattle.vms_parts.specs.declared.types.Field.{Field}
 use Rattle.vms_desc.proofs.path.element_at.Goals as goal

@@ -1,5 +1,5 @@
-use Rattle.vms_desc.proofs.{Facade.begin_base, PathLaws.at_there}
 use Rattle.vms_desc.proofs.Facade.{◌≡◌, take, refl, sym, ap, ◌∙◌, take-map, desc_of_sub, Cells, in_u32, fields_size, subs_size, sub_of, device_of}
+use Rattle.vms_desc.proofs.{Facade.begin_base, PathLaws.at_there}
 use Rattle.vms_desc.proofs.path.placed_at.Goals as goal
 
 pub returns-in_ok-sub-in-Some : goal.returns-in_ok-sub-in-Some

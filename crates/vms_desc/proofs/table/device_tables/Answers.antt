@@ -1,5 +1,5 @@
-use Rattle.vms_desc.proofs.EvalLaws.{at_mapped, devices_next}
 use Rattle.vms_desc.proofs.Facade.{◌≡◌, map, ℕ, Some, arith, below_more, slice_get, length-map, slice_get_within, device_of, FitsHead}
+use Rattle.vms_desc.proofs.EvalLaws.{at_mapped, devices_next}
 use Rattle.vms_spec.specs.Sets as sets
 use Rattle.vms_desc.proofs.table.device_tables.Goals as goal
 

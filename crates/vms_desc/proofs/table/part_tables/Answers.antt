@@ -1,5 +1,5 @@
-use Rattle.vms_desc.proofs.{Facade.length-map, Facade.slice_get_within, Facade.sub_of, EvalLaws.at_mapped, EvalLaws.tables_next}
 use Rattle.vms_desc.proofs.Facade.{device_of, FitsSub, ◌≡◌, ap, map, ◌∷◌, ◌<◌, length, get_or, arith, ℕ, Some, below_more, [], slice_get}
+use Rattle.vms_desc.proofs.{Facade.length-map, Facade.slice_get_within, Facade.sub_of, EvalLaws.at_mapped, EvalLaws.tables_next}
 use Rattle.vms_spec.specs.Sets as sets
 use Rattle.vms_desc.proofs.table.part_tables.Goals as goal
 

@@ -1,5 +1,5 @@
-use Rattle.vms_desc.proofs.EvalLaws.{starts_more}
 use Rattle.vms_desc.proofs.Facade.{◌≡◌, ◌+◌, ◌*◌, arith, capacity_of, Cells, in_u32, size_of}
+use Rattle.vms_desc.proofs.EvalLaws.{starts_more}
 use Rattle.vms_desc.proofs.table.starts.Goals as goal
 
 pub loop-field-preserved : goal.loop-field-preserved

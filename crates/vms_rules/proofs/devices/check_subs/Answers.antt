@@ -1,6 +1,7 @@
+use Rattle.std.proofs.Common.{rules}
 use Rattle.vms_rules.proofs.{NameLaws.names_so_far, devices.check_subs.Goals.After-sub-item, WalkLaws.stops_by, WalkLaws.goes_on, WalkLaws.stops_here}
-use Rattle.vms_rules.proofs.Facade.{device_of, get_map_at, has_name, sub_at, Within, ◌≡◌, ◌<◌, ℕ, None, length, get_or, ap, arith, no_desc, AtLeast}
-use Rattle.vms_rules.proofs.Facade.{sub_fault, Sub, sub_of, map, drop_is}
+use Rattle.vms_rules.proofs.Facade.{device_of, get_map_at, has_name, sub_at, Within, ◌≡◌, ◌<◌, ℕ, None, length, get_or, ap, sub_fault, Sub, sub_of}
+use Rattle.vms_rules.proofs.Facade.{map, drop_is}
 use Rattle.vms_rules.proofs.devices.check_subs.Goals as goal
 
 -- the subsection of this number
@@ -10,13 +11,7 @@ record IsSub (w : Within) (i : ℕ) (s : Sub) : Type 0 where
   at : sub_at (device_of w.device.now) i ≡ sub_of s
 
 sub_is : (c : After-sub-item) → IsSub c.args.within c.loop-number.number c.sub-item.result
-sub_is c =
-    let subs = c.args.within.device.now.subs in
-    let s = c.sub-item.result in
-    let i = c.loop-number.number in
-    let lt : i < length subs = omega (arith, ap length c.as_slice-sub-items.ensures) in
-    let is : s ≡ get_or subs i s = cc (c.sub-item.is, c.as_slice-sub-items.ensures) in
-    record { lt = lt; is = is; at = get_map_at sub_of subs i s (record { desc = no_desc; needed = AtLeast 0 }) lt is }
+sub_is c = search (rules, get_map_at)
 
 pub returns-in_err-check_sub : goal.returns-in_err-check_sub
 returns-in_err-check_sub c =

@@ -1,5 +1,6 @@
+use Rattle.std.proofs.Common.{rules}
 use Rattle.vms_rules.proofs.{NameLaws.names_more, NameLaws.names_known, fields.check_fields.Goals.After-index-fields-number}
-use Rattle.vms_rules.proofs.Facade.{◌≡◌, ◌<◌, None, length, get_or, ap, arith, field_of, desc_of, IsFirst, has_name, at_field, map, drop_is}
+use Rattle.vms_rules.proofs.Facade.{◌≡◌, ◌<◌, None, length, get_or, ap, arith, field_of, desc_of, has_name, at_field, map, drop_is}
 use Rattle.vms_rules.proofs.WalkLaws.{stops_by, goes_on, stops_here}
 use Rattle.vms_rules.proofs.fields.check_fields.Goals as goal
 
@@ -25,13 +26,7 @@ field_rules-rules-requires-clause-names c =
     c.in_ok-are_new.are_new of.0 of.1 (rw c.as_slice-fields.ensures at c.in_ok-differ.ensures) c.loop-number.invariant.names c.in_ok-are_new.ensures.new
 
 pub returns-in_err-lowest : goal.returns-in_err-lowest
-returns-in_err-lowest c =
-    let at = at_field c.args.usable (desc_of c.args.desc.now) c.args.part in
-    let of = field_is (goal.at.returns-in_err-lowest c).After-index-fields-number in
-    let first : IsFirst (at c.loop-number.number (field_of c.index-fields-number.result)) c.in_err-lowest.field-0.0 =
-    rw c.field_rules-rules.ensures at c.in_err-lowest.ensures in
-    stops_by _ _ _ c.from_residual-in_err-lowest.ensures.1
-    (stops_here at _ _ _ _ _ (ap (map field_of) (drop_is c.args.desc.now.fields _ _ of.0 of.1)) c.loop-number.invariant.good _ first)
+returns-in_err-lowest c = search (rules, field_is, stops_by, stops_here, drop_is)
 
 pub loop-number-preserved : goal.loop-number-preserved
 loop-number-preserved c =

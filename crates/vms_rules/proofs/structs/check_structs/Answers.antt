@@ -1,3 +1,4 @@
+use Rattle.std.proofs.Common.{rules}
 use Rattle.vms_rules.proofs.{NameLaws.names_so_far, structs.check_structs.Goals.After-index-structs-number}
 use Rattle.vms_rules.proofs.Facade.{◌≡◌, None, map, arith, no_desc, struct_fault, desc_of, get_map_at, has_name, desc_at, ap, drop_is}
 use Rattle.vms_rules.proofs.WalkLaws.{depths_long, depth_at, stops_by, goes_on, stops_here}
@@ -14,11 +15,7 @@ desc_is : (c : After-index-structs-number) → desc_at (map desc_of c.args.struc
 desc_is c = get_map_at desc_of c.args.structs.now c.loop-number.number c.index-structs-number.result no_desc c.loop-number-test.true c.index-structs-number.is
 
 pub returns-in_err-check_struct : goal.returns-in_err-check_struct
-returns-in_err-check_struct c =
-    let here = desc_is (goal.at.returns-in_err-check_struct c).After-index-structs-number in
-    stops_by _ _ _ c.from_residual-in_err-check_struct.ensures.1
-    (stops_here _ _ _ _ _ _ (ap (map desc_of) (drop_is c.args.structs.now _ _ c.loop-number-test.true c.index-structs-number.is)) c.loop-number.invariant.good _
-    (rw here at c.in_err-check_struct.ensures))
+returns-in_err-check_struct c = search (rules, desc_is, stops_by, stops_here, drop_is)
 
 pub loop-number-preserved : goal.loop-number-preserved
 loop-number-preserved c =

@@ -1,20 +1,14 @@
+use Rattle.std.proofs.Common.{rules}
 use Rattle.vms_rules.proofs.Facade.{◌≡◌, ◌+◌, ◌≤◌, ℕ, map, ap, arith, first, deepest, field_of}
 use Rattle.vms_rules.proofs.WalkLaws.{deepest_small, depths_more, depths_small, none_small}
 use Rattle.vms_rules.proofs.structs.struct_depths.Goals as goal
 
 pub loop-desc-init : goal.loop-desc-init
 unfolding first
-loop-desc-init c = record {
-  depths = c.in_ok-depths.ensures.items;
-  small = λ j. none_small c.in_ok-depths.depths.items j c.in_ok-depths.ensures.items;
-}
+loop-desc-init c = search (rules, none_small)
 
 pub overflow_add-deepest : goal.overflow_add-deepest
-overflow_add-deepest c =
-    let depths = c.loop-desc.depths.items in
-    let fields = map field_of c.as_slice.result.now in
-    let is : c.deepest.result ≡ deepest depths fields = cc (c.deepest.ensures, c.deref.ensures.value) in
-    omega (arith, deepest_small depths c.loop-desc.desc-index fields c.loop-desc.invariant.small)
+overflow_add-deepest c = search (rules, deepest_small)
 
 pub loop-desc-preserved : goal.loop-desc-preserved
 loop-desc-preserved c =

@@ -1,5 +1,5 @@
-use Rattle.vms_desc.proofs.{Clean.few_devices, Clean.sizes_are, EvalLaws.heads_of}
 use Rattle.vms_desc.proofs.Facade.{◌≡◌, ◌∙◌, arith, length-map, set_of, desc_of, device_of, sizes_of}
+use Rattle.vms_desc.proofs.{Clean.few_devices, Clean.sizes_are, EvalLaws.heads_of}
 use Rattle.vms_desc.proofs.set.DescSet.assemble.Goals as goal
 
 pub device_defaults-requires : goal.device_defaults-requires

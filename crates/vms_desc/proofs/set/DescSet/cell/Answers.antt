@@ -1,5 +1,5 @@
-use Rattle.vms_desc.proofs.{Clean.small_layout, set.DescSet.cell.Goals.In_ok-device, Facade.Begins}
 use Rattle.vms_desc.proofs.Facade.{◌≡◌, ◌≤◌, Some, length, sym, ap, ◌∙◌, slice_get, MOST_ITEMS, device_cells, device_of, described, sizes_of}
+use Rattle.vms_desc.proofs.{Clean.small_layout, set.DescSet.cell.Goals.In_ok-device, Facade.Begins}
 use Rattle.vms_desc.proofs.PathLaws.{at_there, base_of, begins_placed, same_base, begins_at, nowhere, few_of_device, long_sizes}
 use Rattle.vms_spec.specs.Sets as sets
 use Rattle.vms_desc.proofs.set.DescSet.cell.Goals as goal

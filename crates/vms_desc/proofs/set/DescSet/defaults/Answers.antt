@@ -1,6 +1,6 @@
-use Rattle.vms_desc.proofs.{AskLaws.few_cells, FormLaws.entry_is}
 use Rattle.vms_desc.proofs.Facade.{◌≡◌, length, map, ◌≤◌, arith, length-map, MOST_ITEMS, device_cells, described, defaults_at}
-use Rattle.vms_desc.specs.{Described.device_at}
+use Rattle.vms_desc.proofs.{AskLaws.few_cells, FormLaws.entry_is}
+use Rattle.vms_desc.specs.Described.{device_at}
 use Rattle.vms_desc.proofs.set.DescSet.defaults.Goals as goal
 
 are : (c : goal.After-index-as_slice-device) → c.index-as_slice-device.result ≡ defaults_at (described c.args.self.now) c.args.device

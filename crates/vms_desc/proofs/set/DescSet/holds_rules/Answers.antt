@@ -1,5 +1,5 @@
-use Rattle.vms_desc.proofs.{EvalLaws.seen, AskLaws.rules_name, AskLaws.all_hold_same}
 use Rattle.vms_desc.proofs.Facade.{◌≡◌, ap, map, Desc, formula, described, desc_at}
+use Rattle.vms_desc.proofs.{EvalLaws.seen, AskLaws.rules_name, AskLaws.all_hold_same}
 use Rattle.vms_desc.proofs.set.DescSet.holds_rules.Goals as goal
 
 pub all_hold-requires : goal.all_hold-requires

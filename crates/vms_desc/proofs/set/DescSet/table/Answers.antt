@@ -1,5 +1,5 @@
 use Rattle.vms_desc.proofs.{Facade.described, Facade.sizes_of, Facade.HasPart, EvalLaws.sub_table}
-use Rattle.vms_desc.specs.{Described.device_at}
+use Rattle.vms_desc.specs.Described.{device_at}
 use Rattle.vms_spec.specs.declared.Part.TheVariants as parts
 use Rattle.vms_desc.proofs.set.DescSet.table.Goals as goal
 
