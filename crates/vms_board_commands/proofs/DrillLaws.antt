@@ -5,11 +5,10 @@ use Rattle.vms_board_commands.proofs.Facade.{event_of, events_after, is_save_due
 use Rattle.vms_board_commands.proofs.Facade.{IsSound, State, back_of, came_back, saved_is_carried, isa, Back, Restores, saved_stream, isa_laws, Reason, suc}
 use Rattle.vms_board_commands.proofs.Facade.{◌+◌, ◌-◌, ◌/◌, ◌≤◌, eqb-true, arith, step, Answer, Event, BETWEEN_SAVES, Counts, counted}
 use Rattle.vms_board_commands.proofs.Facade.{saves_of, after_save, Drill, bytes_after, taken_after, drill_on, drilled_on, with_drill_event, zero, ◌<◌}
-use Rattle.vms_board_commands.proofs.Facade.{◌%◌, IsTrue, get_or, mod-add-mod, IsEvent, AreEvents, names, names_wire, is_wire, wires, EventsAreGood}
-use Rattle.vms_board_commands.proofs.Facade.{IsAsUnsaved, SavesLeaveCounts, NEWEST, IsLevel, alike_stays, likeness, clock_goes_on, restored_is_sound}
-use Rattle.vms_board_commands.proofs.Facade.{saved_comes_back, sound_stays_on, saved, carried, Alike, power_on, observe, after_all, after_by, answers_by}
-use Rattle.vms_board_commands.proofs.Facade.{Progress, counted_all, with_event, drilled, NumbersAre, ◌*◌, streams_are_short, STREAM_ROOM, drill_begun}
-use Rattle.vms_board_commands.proofs.Facade.{ProgressIsSame, SizesAreSmall}
+use Rattle.vms_board_commands.proofs.Facade.{◌%◌, IsTrue, mod-add-mod, IsEvent, AreEvents, names, names_wire, EventsAreGood, SavesLeaveCounts, NEWEST}
+use Rattle.vms_board_commands.proofs.Facade.{alike_stays, likeness, clock_goes_on, restored_is_sound, saved_comes_back, sound_stays_on, saved, carried, Alike}
+use Rattle.vms_board_commands.proofs.Facade.{power_on, observe, after_all, after_by, answers_by, Progress, counted_all, with_event, drilled, NumbersAre}
+use Rattle.vms_board_commands.proofs.Facade.{◌*◌, streams_are_short, STREAM_ROOM, ProgressIsSame, SizesAreSmall}
 use Rattle.vms_board.specs.Restoring.{Refused}
 
 -- ---- worked drills: the events that seeds give, and the sets of saves
@@ -89,16 +88,12 @@ none_more left drill whole e goes = cc
 pub sum_rest : (n k m : ℕ) → (n % m + k) % m ≡ (n + k) % m
 sum_rest n k m = mod-add-mod n m k
 
-pub wire-is : (n : ℕ) → n < 13 → is_wire (get_or wires n 0) ≡ true
-wire-is (suc (suc (suc (suc (suc (suc (suc (suc (suc (suc (suc (suc (suc n))))))))))))) l = absurd (omega arith)
-wire-is _ l = refl
-
 by-is : (what value place : ℕ) → value < 256 → IsEvent (event_by what value place)
 unfolding event_by
 by-is (suc (suc zero)) value place v = v
 by-is (suc (suc (suc zero))) value place v = v
 by-is (suc (suc (suc (suc zero)))) value place v = v
-by-is (suc (suc (suc (suc (suc (suc (suc what))))))) value place v = wire-is (place % 13) (omega arith)
+by-is (suc (suc (suc (suc (suc (suc (suc what))))))) value place v = grind arith
 by-is _ value place v = tt
 
 pub event-is : (x : ℕ) → IsEvent (event_of x)
@@ -169,14 +164,13 @@ goes (suc count) progress m a s =
       sound = on.sound;
     }
 
-same : (level seed count : ℕ) → IsLevel level → IsAsUnsaved level seed count
-unfolding power_on
-same level seed count l =
-    let all = goes count _ _ (likeness.itself (power_on level)) (sound_stays_on.power_on level l) in
-    record { counts = all.counts; alike = all.alike; events = omega arith; same_level = all.level; sound = all.sound }
-
 pub saves_leave_counts : SavesLeaveCounts
-saves_leave_counts = record { same = same }
+unfolding power_on
+saves_leave_counts = record {
+  same = λ level seed count l.
+      let all = goes count _ _ (likeness.itself (power_on level)) (sound_stays_on.power_on level l) in
+      record { counts = all.counts; alike = all.alike; events = omega arith; same_level = all.level; sound = all.sound };
+}
 
 -- ---- a drill with its streams, and its progress without them
 
@@ -215,10 +209,7 @@ small (suc count) drill s =
     omega (arith, after-small (drill.progress.events + 1) (step (event_of (next_number drill.progress.number)) drill.progress.board).1 drill.bytes stepped)
 
 pub sizes_are_small : SizesAreSmall
-sizes_are_small = record {
-  bytes = λ level seed count l.
-      omega (arith, small count (drill_begun level seed) (sound_stays_on.power_on level l));
-}
+sizes_are_small = search (arith, small, sound_stays_on)
 
 -- ---- numbers
 

@@ -1,8 +1,8 @@
 -- The names of other crates, and of this crate's `specs`, that the proofs use.
 pub use Rattle.std.proofs.{KnownBytes.Keeps-refl, Math.Nat.mod-add-mod, lemmas.Bool.or_right, lemmas.Option.same_Some, lemmas.Result.err_from_is_err_and}
 pub use Rattle.std.proofs.Common.{Bool, Err, IfOk, IfSome, IsErrAnd, IsTrue, List, None, Ok, Option, Result, Some, [], ap, arith, drop, drop_at, eqb-true}
-pub use Rattle.std.proofs.Common.{false, get_or, if◌then◌else◌, inl, inr, length, length-append, length-drop, map, refl, subst, suc, sym, take, true, zero, ℕ}
-pub use Rattle.std.proofs.Common.{◌%◌, ◌*◌, ◌++◌, ◌+◌, ◌-◌, ◌/◌, ◌<◌, ◌^◌, ◌||◌, ◌∙◌, ◌∷◌, ◌≡◌, ◌≤◌}
+pub use Rattle.std.proofs.Common.{false, get_or, inl, inr, length, length-append, length-drop, map, refl, subst, suc, sym, take, true, zero, ℕ, ◌%◌}
+pub use Rattle.std.proofs.Common.{◌*◌, ◌++◌, ◌+◌, ◌-◌, ◌/◌, ◌<◌, ◌^◌, ◌||◌, ◌∙◌, ◌∷◌, ◌≡◌, ◌≤◌}
 pub use Rattle.std.specs.{Io.KnownBytes.Appends, Io.KnownBytes.Consumes, Prelude.IsSomeAnd, declared.alloc.Global.Global, declared.vec.Vec.Vec}
 pub use Rattle.vms_kinds.specs.Bytes.{IsBytes}
 pub use Rattle.vms_spec.specs.{Heads.FitsHeads, Images.Image, Sets.Set, WellFormed.WellFormed, declared.Reason.Reason}
@@ -10,8 +10,7 @@ pub use Rattle.vms_stream.proofs.Stated.{one_fault_holds}
 pub use Rattle.vms_stream.specs.Faults.{Fault}
 pub use Rattle.vms_board.proofs.Restoring.{within}
 pub use Rattle.vms_board.specs.{Family.Family, Isa.isa, Standing.Standing, declared.save.SaveFault.SaveFault, Comes.IsRefused, Comes.RestoreReads}
-pub use Rattle.vms_board.specs.Restoring.{Back, IsFaultAt, IsMisfitAt, Restore, Restores}
-pub use Rattle.vms_board.specs.Saving.{Saves, saved_stream}
+pub use Rattle.vms_board.specs.{Restoring.Back, Restoring.Restore, Restoring.Restores, Saving.Saves, Saving.saved_stream}
 pub use Rattle.vms_board_commands.specs.{Drill.drill_line, DrillEvents.events_after, DrillEvents.wires, DrillViews.IsInProgress, DrillViews.progress_view}
 pub use Rattle.vms_board_commands.specs.{Play.PlaysAll, Play.ending_by, Save.saved_after, Scripts.longest_script, Scripts.said_lines, Scripts.scripted}
 pub use Rattle.vms_board_commands.specs.{Seen.IsGiven, Seen.Seen, Seen.SeenAs, Seen.Sees, Seen.WithGiven, declared.drills.schedule.TheConstants.BETWEEN_SAVES}
@@ -41,7 +40,7 @@ pub use Rattle.vms_frames.specs.declared.fault.Refusal.{Refusal}
 pub use Rattle.vms_io.proofs.{ReadingLemmas.reads_as, ReadingLemmas.reads_told, WritingLemmas.serves_none, WritingLemmas.stops_prefix}
 pub use Rattle.vms_io.specs.{Causes.Rose, Reading.Last, Reading.Reads, Reading.Takes, Shelves.Held, Shelves.HoldsAll, Shelving.Looks}
 pub use Rattle.vms_io.specs.Told.{Intake, Outlet, Stock, intake, outlet, stock}
-pub use Rattle.vms_load.proofs.{ExactLoads.fault_within}
+pub use Rattle.vms_load.proofs.ExactLoads.{fault_within}
 pub use Rattle.vms_load.specs.{Going.LoadReads, Staging.most_given}
 pub use Rattle.vms_script.proofs.GrammarLaws.{reads_exactly}
 pub use Rattle.vms_script.specs.{Grammar.AreLines, Lines.ScriptLine, Script.Reading, Script.script_read, Views.ReadsLines, Views.event_lines, Views.lines_view}

@@ -3,16 +3,15 @@
 use Rattle.vms_board_commands.proofs.Facade.{◌≡◌, ℕ, Bool, true, false, ◌||◌, List, [], ◌∷◌, ◌++◌, Result, Ok, Err, refl, Option, Some}
 use Rattle.vms_board_commands.proofs.Facade.{None, or_right, ArrayVec, Saves, SaveFault, Rose, Looks, Intake, Outlet, Stock, serves_none, Goes, PlayFault}
 use Rattle.vms_board_commands.proofs.Facade.{asked, draws_none, looked_so, same_so, unshelved_so, writes_serve, wrong, mapped_by, Course, Draws, EndsSo, Risen}
-use Rattle.vms_board_commands.proofs.Facade.{is_among, of_shelf, text_course, SetCause, WritesAs, status_of, Ending, Refused, BadText, ReadFault, WriteFault}
-use Rattle.vms_board_commands.proofs.Facade.{ShelfFault, NotThere, TooLarge, NoMemory, drill_course, play_course, save_course, stream_course, ending_by}
-use Rattle.vms_board_commands.proofs.Facade.{◌+◌, ◌≤◌, length, drop, drop_at, IfSome, sym, ap, ◌∙◌, arith, length-append, length-drop, Consumes}
-use Rattle.vms_board_commands.proofs.Facade.{IsSomeAnd, same_Some, reads_as, reads_told, Last, Reads, Takes, IsBytes, Image, Set, Fault, Refusal, LoadReads}
-use Rattle.vms_board_commands.proofs.Facade.{fault_within, text_written, EndsAs, EndsWith, Outcome, TakesBytes, done, ended, StepAs, Step, WouldLose, IsGiven}
-use Rattle.vms_board_commands.proofs.Facade.{Seen, SeenAs, Sees, WithGiven, ◌<◌, ◌^◌, subst, Keeps-refl, Held, TextEnds, next, comes_to_nothing}
-use Rattle.vms_board_commands.proofs.Facade.{ended_by, quiet_same, so_since, text_ends, then_text}
+use Rattle.vms_board_commands.proofs.Facade.{is_among, of_shelf, text_course, SetCause, WritesAs, status_of, Ending, Refused, ReadFault, drill_course}
+use Rattle.vms_board_commands.proofs.Facade.{play_course, save_course, stream_course, ending_by, ◌+◌, ◌≤◌, length, drop, drop_at, IfSome, sym, ap}
+use Rattle.vms_board_commands.proofs.Facade.{◌∙◌, arith, length-append, length-drop, Consumes, IsSomeAnd, same_Some, reads_as, reads_told, Last, Reads}
+use Rattle.vms_board_commands.proofs.Facade.{Takes, IsBytes, Image, Set, Fault, Refusal, LoadReads, fault_within, text_written, EndsAs, EndsWith, Outcome}
+use Rattle.vms_board_commands.proofs.Facade.{TakesBytes, done, ended, StepAs, Step, WouldLose, Seen, SeenAs, Sees, WithGiven, ◌<◌, ◌^◌, subst, Held}
+use Rattle.vms_board_commands.proofs.Facade.{TextEnds, next, comes_to_nothing, ended_by, quiet_same, so_since, text_ends, then_text}
 use Rattle.vms_board_commands.specs.{Save.ending_by as save_ending, Runs.Runs, Runs.RunsBehind, Runs.Task, Runs.moment, Runs.unread_task}
 use Rattle.vms_commands.proofs.EndLemmas.{same_keeps}
-use Rattle.vms_commands.specs.{Endings.Quiet, Steps.HasBy, Steps.HasText}
+use Rattle.vms_commands.specs.{Steps.HasBy, Steps.HasText}
 use Rattle.vms_board.specs.declared.save.SaveFault.TheVariants as saves
 use Rattle.vms_session.specs.declared.line.PlayFault.TheVariants as plays
 use Rattle.vms_load.specs.declared.fault.LoadFault.TheVariants as loads
@@ -59,14 +58,6 @@ module _ (course : Course) (asks : Bool) (may : MayAsk course asks) (i : Intake)
   untouched : (e : Option Ending) → is_among course.statuses (status_of e) ≡ true → Risen i i o o s s' e → EndsSo i i o o s s' course e
   untouched e can risen = looked_so i o course e looks same can risen
 
-  pub unset_so : (e : Option Ending) → SetCause asks s s' e → EndsSo i i o o s s' course e
-  unset_so (Some (BadText line)) c = untouched _ (may.held 3 c refl) tt
-  unset_so (Some ShelfFault) c = untouched _ (may.held 7 c.0 refl) c.1
-  unset_so (Some (NotThere line)) c = untouched _ (may.held 8 c refl) tt
-  unset_so (Some (TooLarge line)) c = untouched _ (may.held 9 c refl) tt
-  unset_so (Some NoMemory) c = untouched _ may.memory tt
-  unset_so e c = absurd c
-
 -- ---- a text is written, or nothing
 
 -- whether or not the input was read, the shelf isn't used any more
@@ -81,23 +72,17 @@ module _ {i i' : Intake} {o o' : Outlet} (s : Stock) (course : Course) (e : Opti
 
 module _ (i : Intake) (s : Stock) (o o' : Outlet) where
   pub saved_so : (bytes : List ℕ) (r : Result Unit SaveFault) → Saves bytes o o' r → EndsSo i i o o' s s save_course (mapped_by save_ending r)
-  saved_so bytes (Ok u) h = wrote_so s save_course None refl (draws_none i) bytes h tt refl (λ f. refl)
-  saved_so bytes (Err saves.WriteFault) h = wrote_so s save_course (Some WriteFault) refl (draws_none i) bytes h h.rose refl (λ f. refl)
-  saved_so bytes (Err saves.NoMemory) h = rw h (same_so i o s _ _ refl tt)
+  saved_so bytes r h = grind (arith, wrote_so, draws_none, same_so)
 
   pub drilled_so : (text : List ℕ) (e : Option Ending) → WritesAs text o o' e → EndsSo i i o o' s s drill_course e
-  drilled_so text None w = wrote_so s drill_course None refl (draws_none i) text w tt refl (λ f. refl)
-  drilled_so text (Some WriteFault) w = wrote_so s drill_course (Some WriteFault) refl (draws_none i) text w w.rose refl (λ f. refl)
-  drilled_so text e w = absurd w
+  drilled_so text e w = grind (arith, wrote_so, draws_none)
 
 -- ---- a stream is read
 
 -- whether or not the command reads the shelf
 module _ {asks : Bool} {i i' : Intake} (s : Stock) (draws : Draws i i') where
   pub traced_so : (text : List ℕ) (o o' : Outlet) (e : Option Ending) → WritesAs text o o' e → EndsSo i i' o o' s s (stream_course asks) e
-  traced_so text o o' None w = wrote_so s (stream_course asks) None refl draws text w tt refl (λ f. absurd (wrong f))
-  traced_so text o o' (Some WriteFault) w = wrote_so s (stream_course asks) (Some WriteFault) refl draws text w w.rose refl (λ f. absurd (wrong f))
-  traced_so text o o' e w = absurd w
+  traced_so text o o' e w = grind (arith, wrote_so, wrong)
 
   pub refused_so : (o : Outlet) (line : ArrayVec ℕ) → EndsSo i i' o o s s (stream_course asks) (Some (Refused line))
   refused_so o line = kept_so s (stream_course asks) (Some (Refused line)) refl draws refl tt (λ f. absurd (wrong f))
@@ -110,22 +95,10 @@ module _ {asks : Bool} {i i' : Intake} (s : Stock) (draws : Draws i i') where
 module _ (i : Intake) {o o' : Outlet} {s s' : Stock} where
   played : {r : Result Unit PlayFault} (e : Option Ending) → is_among play_course.statuses (status_of e) ≡ true → Risen i i o o' s s' e → is_among play_course.writes (status_of e) ≡ true
       → Goes o o' s s' r → EndsSo i i o o' s s' play_course e
-  played e can risen does g = record {
-    can = can;
-    risen = risen;
-    out = λ f. absurd (asked (is_among play_course.writes (status_of e)) does f);
-    input = λ f. refl;
-    held = λ f. absurd (asked (is_among play_course.stores (status_of e)) does f);
-    shelf = λ f. absurd (wrong f);
-    draws = draws_none i;
-    serves = g.serves;
-    reaches = g.reaches;
-  }
+  played e can risen does g = search (arith, asked, is_among, wrong, draws_none)
 
   pub played_so : (r : Result Unit PlayFault) → Goes o o' s s' r → EndsSo i i o o' s s' play_course (mapped_by ending_by r)
-  played_so (Ok u) g = played None refl tt refl g
-  played_so (Err plays.NoMemory) g = played _ refl tt refl g
-  played_so _ g = played _ refl g.cause refl g
+  played_so r g = grind (arith, played)
 
 -- ---- what can be said of an input: from the calls that read it to the ending of a command: what is read
 
@@ -137,17 +110,17 @@ takes_bytes {i} {i'} {bytes} n t all = record { left = rest i.left i'.left t.tol
     rest (Some input) None took = absurd took
     rest (Some input) (Some more) took = rw (sym (ap (drop n) took ∙ drop_at bytes more n all))
 
--- if a number of bytes is read and this is left, they are the bytes that were read
-same_length : (bytes more : List ℕ) (n : ℕ) → n ≤ length (bytes ++ more) → Some more ≡ Some (drop n (bytes ++ more)) → n ≡ length bytes
-same_length bytes more n within left =
-    omega (arith, ap length (same_Some more (drop n (bytes ++ more)) left), length-append bytes more, length-drop n (bytes ++ more))
-
 -- so many bytes are read from an input, and this is left
 pub record TakesSo (Says : List ℕ → ℕ → Type 0) (input left : List ℕ) : Type 0 where
   pub taken : ℕ
   pub says : Says input taken
   pub within : taken ≤ length input
   pub rest : Some left ≡ Some (drop taken input)
+
+-- if a number of bytes is read and this is left, they are the bytes that were read
+same_length : (bytes more : List ℕ) (n : ℕ) → n ≤ length (bytes ++ more) → Some more ≡ Some (drop n (bytes ++ more)) → n ≡ length bytes
+same_length bytes more n within left =
+    omega (arith, ap length (same_Some more (drop n (bytes ++ more)) left), length-append bytes more, length-drop n (bytes ++ more))
 
 pub reads_all : {i i' : Intake} {L : ℕ → Type 0} {P : List ℕ → List ℕ → Type 0} (Says : List ℕ → ℕ → Type 0) (r : Reads Last i i' L P) → ((input left : List ℕ) → P input left → TakesSo Says input left)
     → Reads Last i i' (λ n. n ≡ length r.bytes) (λ input left. Says input (length r.bytes))
@@ -160,9 +133,6 @@ reads_all Says r so = record {
 }
 
 -- ---- steps before
-
-pub given_so : {A T : Type 0} (m : T → A) (step : Step A) (t : T) → StepAs m step (Ok t) → IsGiven step (m t)
-given_so m step t h = grind arith
 
 -- nothing is seen of what wasn't fetched
 pub set_other : (asks : Bool) (s s' : Stock) (e : Option Ending) → SetCause asks s s' e → is_among (0 ∷ 1 ∷ 6 ∷ 11 ∷ []) (status_of e) ≡ false
@@ -178,26 +148,18 @@ module _ {i i' : Intake} {o o' : Outlet} {s s' : Stock} where
 
   -- an outcome by one meaning is one by another
   pub sees_as : {P Q : List ℕ → Outcome → Type 0} {e : Option Ending} → ((bytes : List ℕ) (x : Outcome) → P bytes x → Q bytes x) → Seen P i i' o o' s s' e → Seen Q i i' o o' s s' e
-  sees_as {P} {Q} {e} h v = record {
-    outcome = v.outcome;
-    sees = reads_as {M = λ n. n ≡ v.outcome.taken} {Q = λ input left. Q input v.outcome} (λ n l. l) (λ rest more p. h rest v.outcome p) v.sees;
-    ends = v.ends;
-  }
+  sees_as {P} {Q} {e} h v = search (arith, reads_as)
 
   -- with what the step before gave
   pub seen_given : {A T : Type 0} {P : A → List ℕ → Outcome → Type 0} (m : T → A) (step : Step A) (t : T) (e : Option Ending) → StepAs m step (Ok t) → SeenAs (P (m t)) i i' o o' s s' e
       → SeenAs (WithGiven step P) i i' o o' s s' e
-  seen_given {A} {T} {P} m step t e h seen = λ among. sees_as {P = P (m t)} {Q = WithGiven step P} (λ bytes x p. (m t, given_so m step t h, p)) (seen among)
+  seen_given {A} {T} {P} m step t e h seen = λ among. sees_as {P = P (m t)} {Q = WithGiven step P} (λ bytes x p. (m t, grind arith, p)) (seen among)
 
   -- ---- what is done
 
   -- a text was written, or some of it
   pub seen_written : {P : List ℕ → Outcome → Type 0} (text : List ℕ) (taken : ℕ) (e : Option Ending) → s'.held ≡ s.held → Sees P i i' (done text s.held taken) → WritesAs text o o' e → Seen P i i' o o' s s' e
-  seen_written text taken e held sees w = record {
-    outcome = done text s.held taken;
-    sees = sees;
-    ends = text_written text i i' o o' s s' taken e w held (takes_bytes taken sees.takes sees.long);
-  }
+  seen_written text taken e held sees w = search (arith, done, text_written, takes_bytes)
 
   pub seen_refused : {P : List ℕ → Outcome → Type 0} (line : ArrayVec ℕ) (taken : ℕ) → Sees P i i' (ended 1 line.items taken) → Seen P i i' o o' s s' (Some (Refused line))
   seen_refused {P} line taken sees = record { outcome = ended 1 line.items taken; sees = sees; ends = ended-as P 1 _ taken sees }
@@ -230,53 +192,30 @@ module _ {i i' : Intake} {o o' : Outlet} {s s' : Stock} where
       same None ok told has = absurd has
       same (Some bytes) ok told has = one bytes v.outcome ok has told
 
--- ---- the run of a command, from the steps before its work and from the work itself
-
--- ---- a step before the work ended the command
+-- ---- the run of a command, if a step before its work ended it
 
 pub lacks_runs : {A T : Type 0} (m : T → A) (P : A → Outcome → Type 0) (step : Step A) {t : Task} {asks : Bool} {i : Intake} {o : Outlet} {s s' : Stock}
     {e : Ending}
     → MayAsk t.course asks → i.given < 2 ^ 64 → Looks s s' → (t.course.asks ≡ false → s' ≡ s) → SetCause asks s s' (Some e)
     → StepAs {A = A} {T = T} m step (Err e)
     → ((x : Outcome) → t.has i.left s.held x → HasBy P step x) → t.gives s.held i i → Runs t (moment i o s) (moment i o s') (Some e)
-lacks_runs m P step {t} {asks} {i} {o} {s} {s'} {e} may few looks same cause had has gives = record {
-  content = λ x h. ended_by m P step i o o s s' e x few looks.held (quiet_same o (Some e)) had (has x h);
-  so = unset_so t.course asks may i o looks same (Some e) cause;
-  given = gives;
-  seen = λ reads. other_seen (Some e) (set_other asks s s' (Some e) cause);
-}
-
--- what two steps give is what the second gives, by the first
-by_first : {A : Type 0} (held : Option Held) (f : A → Step (List ℕ)) (step : Step A) (x : Outcome) → HasText held (next step f) x
-    → HasBy (λ a y. HasText held (f a) y) step x
-by_first held f step x has = grind arith
+lacks_runs m P step {t} {asks} {i} {o} {s} {s'} {e} may few looks same cause had has gives =
+    search (arith, ended_by, quiet_same, other_seen, set_other, untouched)
 
 pub lacks_text : {A T : Type 0} (m : T → A) (f : A → Step (List ℕ)) (step : Step A) {Has : Option Held → Outcome → Type 0} {course : Course} {asks : Bool}
     {i : Intake} {o : Outlet} {s s' : Stock} {e : Ending}
     → MayAsk course asks → i.given < 2 ^ 64 → Looks s s' → (course.asks ≡ false → s' ≡ s) → SetCause asks s s' (Some e) → StepAs {A = A} {T = T} m step (Err e)
     → ((x : Outcome) → Has s.held x → HasText s.held (next step f) x) → Runs (unread_task Has course) (moment i o s) (moment i o s') (Some e)
 lacks_text m f step {Has} {course} {asks} {i} {o} {s} may few looks same cause had has =
-    lacks_runs m (λ a x. HasText s.held (f a) x) step {t = unread_task Has course} may few looks same cause had (λ x h. by_first s.held f step x (has x h)) tt
+    lacks_runs m (λ a x. HasText s.held (f a) x) step {t = unread_task Has course} may few looks same cause had (λ x h. grind arith) tt
 
 -- ---- a text is written
-
--- standard output is unchanged unless the command succeeded or it failed
-quiet_by : {i i' : Intake} {o o' : Outlet} {s s' : Stock} {course : Course} (e : Option Ending) → course.writes ≡ 0 ∷ 6 ∷ []
-    → EndsSo i i' o o' s s' course e → Quiet o o' e
-quiet_by None writes so = tt
-quiet_by (Some WriteFault) writes so = tt
-quiet_by e writes so = so.out (ap (λ l. is_among l (status_of e)) writes)
 
 -- by a course that writes only then and reads nothing
 pub text_runs : (text : Step (List ℕ)) {Has : Option Held → Outcome → Type 0} {course : Course} {i : Intake} {o o' : Outlet} {s s' : Stock} {e : Option Ending}
     → i.given < 2 ^ 64 → s'.held ≡ s.held → TextEnds text o o' e → EndsSo i i o o' s s' course e → (course.writes ≡ 0 ∷ 6 ∷ []) × (course.takes ≡ [])
     → ((x : Outcome) → Has s.held x → HasText s.held text x) → Runs (unread_task Has course) (moment i o s) (moment i o' s') e
-text_runs text {Has} {course} {i} {o} {o'} {s} {s'} {e} few held ends so lists has = record {
-  content = λ x h. text_ends text i o o' s s' e x few held (quiet_by e lists.0 so) ends (has x h);
-  so = so;
-  given = tt;
-  seen = λ reads. absurd (wrong (sym reads ∙ ap (λ l. is_among l 0) lists.1));
-}
+text_runs text {Has} {course} {i} {o} {o'} {s} {s'} {e} few held ends so lists has = search (arith, text_ends, wrong, is_among)
 
 -- after a step that gave something
 pub then_runs : {A T : Type 0} (m : T → A) (f : A → Step (List ℕ)) (step : Step A) (t : T) {Has : Option Held → Outcome → Type 0} {course : Course}
@@ -328,8 +267,4 @@ seen_runs Has {Sees} {course} {i} {i'} {o} {o'} {e} one well octets seen so = re
 pub unread_runs : {HasIt : Option (List ℕ) → Option Held → Outcome → Type 0} {SeesIt : Option Held → List ℕ → Outcome → Type 0} {i i' : Intake} (o : Outlet)
     → Draws i i' → Rose i.faults i'.faults
     → RunsBehind HasIt SeesIt stream_course i i' o o (Some ReadFault)
-unread_runs o draws rose = record {
-  content = λ s s' x held has. comes_to_nothing o o s s' x.parts (Keeps-refl o.written) held;
-  so = λ s asks. unread_so s draws o rose;
-  seen = λ s s' held. other_seen (Some ReadFault) refl;
-}
+unread_runs o draws rose = search (arith, comes_to_nothing, unread_so, other_seen)

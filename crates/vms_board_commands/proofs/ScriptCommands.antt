@@ -1,22 +1,20 @@
 -- The commands that play a script: `save`, `play` and `load`.
-use Rattle.vms_board_commands.proofs.Facade.{Appends, AreEvents, AreLines, ArrayVec, Asks, Back, Bool, ComesTo, DoesSome, DoneAs, Ending, Ends, EndsAs, Err}
-use Rattle.vms_board_commands.proofs.Facade.{Event, FailsToStore, Family, Faulty, FetchCause, FitsHeads, Gives, Global, HadCause, Held, HoldsAll, IfOk, Intake}
-use Rattle.vms_board_commands.proofs.Facade.{IsBytes, IsErrAnd, IsLevel, IsRefused, IsSomeAnd, Line, LinesEnd, List, LoadGives, Loads, Looks, NoMemory, None}
-use Rattle.vms_board_commands.proofs.Facade.{Ok, Option, Outcome, Outlet, Part, PlayFault, Plays, PlaysAll, ReadCause, ReadFault, Reading, ReadsLines, Refusal}
-use Rattle.vms_board_commands.proofs.Facade.{Restore, RestoreReads, Restores, Result, SaveFault, Saves, ScriptFault, ScriptLine, Seen, Session, SetCause}
-use Rattle.vms_board_commands.proofs.Facade.{ShelfFault, Some, Standing, State, Step, StepAs, Stock, TextEnds, Traces, Unfit, Untold, Vec, WellFormed}
-use Rattle.vms_board_commands.proofs.Facade.{WriteFault, WritesAs, [], after_events, answers_to, ap, are_events, arith, begun_whole, bytes_come, done, ended}
-use Rattle.vms_board_commands.proofs.Facade.{ending_by, event_lines, events_back, events_of, fault_within, fetched_gives, held_after, inl, inr, length}
-use Rattle.vms_board_commands.proofs.Facade.{length-append, lines_view, longest_script, mapped_by, most_given, next, no_fault, one_fault_holds, one_restore}
-use Rattle.vms_board_commands.proofs.Facade.{power_on, power_on-sound, reads_as, reads_exactly, refl, refused_line, rose_since, said_lines, saved_after}
-use Rattle.vms_board_commands.proofs.Facade.{saved_stream, script_read, scripted, session_of, sessions_are_one, sessions_end, sound_fetch, sound_next}
-use Rattle.vms_board_commands.proofs.Facade.{stops_prefix, subst, sym, take, takes_nothing, text_of, trace_from, trace_of, true, ℕ, ◌+◌, ◌<◌, ◌^◌}
-use Rattle.vms_board_commands.proofs.Facade.{◌∙◌, ◌∷◌, ◌≡◌, ◌≤◌}
+use Rattle.vms_board_commands.proofs.Facade.{Appends, AreEvents, AreLines, ArrayVec, Asks, Back, Bool, ComesTo, DoesSome, Ending, Ends, EndsAs, Err, Event}
+use Rattle.vms_board_commands.proofs.Facade.{Family, Faulty, FetchCause, FitsHeads, Gives, Global, HadCause, Held, HoldsAll, IfOk, Intake, IsBytes, IsErrAnd}
+use Rattle.vms_board_commands.proofs.Facade.{IsLevel, IsRefused, IsSomeAnd, Line, LinesEnd, List, LoadGives, Loads, Looks, NoMemory, None, Ok, Option, Outcome}
+use Rattle.vms_board_commands.proofs.Facade.{Outlet, Part, PlayFault, Plays, PlaysAll, ReadCause, ReadFault, ReadsLines, Refusal, Restore, RestoreReads}
+use Rattle.vms_board_commands.proofs.Facade.{Restores, Result, SaveFault, Saves, ScriptFault, ScriptLine, Seen, Session, SetCause, ShelfFault, Some, Standing}
+use Rattle.vms_board_commands.proofs.Facade.{State, Step, StepAs, Stock, TextEnds, Traces, Unfit, Untold, Vec, WellFormed, WriteFault, WritesAs, []}
+use Rattle.vms_board_commands.proofs.Facade.{after_events, answers_to, ap, are_events, arith, begun_whole, bytes_come, done, ended, ending_by, event_lines}
+use Rattle.vms_board_commands.proofs.Facade.{events_back, events_of, fault_within, fetched_gives, inl, inr, length, length-append, lines_view, longest_script}
+use Rattle.vms_board_commands.proofs.Facade.{mapped_by, most_given, next, no_fault, one_fault_holds, one_restore, power_on, power_on-sound, reads_as}
+use Rattle.vms_board_commands.proofs.Facade.{reads_exactly, refl, refused_line, rose_since, said_lines, saved_after, saved_stream, script_read, scripted}
+use Rattle.vms_board_commands.proofs.Facade.{session_of, sessions_are_one, sessions_end, sound_fetch, sound_next, stops_prefix, subst, sym, takes_nothing}
+use Rattle.vms_board_commands.proofs.Facade.{text_of, trace_from, trace_of, true, ℕ, ◌+◌, ◌<◌, ◌^◌, ◌∙◌, ◌∷◌, ◌≡◌, ◌≤◌}
 use Rattle.vms_board_commands.proofs.RunLemmas.{TakesSo, reads_all, seen_refused, seen_written}
 use Rattle.vms_board_commands.specs.Save.{ending_by as save_ending}
 use Rattle.vms_commands.proofs.StepLemmas.{IsSound}
 use Rattle.vms_board.specs.Restoring.{Refused}
-use Rattle.vms_board.specs.declared.save.SaveFault.TheVariants.{WriteFault as SaveFails, NoMemory as SaveLacksMemory}
 use Rattle.vms_session.specs.Session.{begun}
 use Rattle.vms_session.specs.declared.line.PlayFault.TheVariants as faults
 use Rattle.vms_board.specs.declared.restore.RestoreFault.TheVariants as restores
@@ -25,23 +23,11 @@ use Rattle.vms_commands.specs.declared.ending.Ending.TheVariants as endings
 -- ---- a script that is fetched and read, as a step
 
 module _ {T : Type 0} (lines : T → List ScriptLine) where
-  -- lines that are read may be in a script
-  pub good_lines : (play : Option ℕ) (text : List ℕ) (t : T) → ReadsLines lines (script_read play text) (Ok t) → AreLines play (lines t)
-  good_lines play text t h = by _ refl h
-    where
-      by : (r : Reading) → script_read play text ≡ r → ReadsLines lines r (Ok t) → AreLines play (lines t)
-      by (Ok said) e h = rw h ((reads_exactly.only play text said e).0)
-      by (Err fault) e h = absurd h
-
   -- and so are those that are obtained from it
   pub had_lines : (play : Option ℕ) (text : List ℕ) (read : Result T ScriptFault) (r : Result T Ending) → ReadsLines lines (script_read play text) read → IfOk r (λ t. read ≡ Ok t)
       → IfOk r (λ t. AreLines play (lines t))
-  had_lines play text read (Ok t) h same = good_lines play text t (rw same at h)
+  had_lines play text read (Ok t) h same = grind (arith, reads_exactly)
   had_lines play text read (Err e) h same = tt
-
--- a text that isn't fetched or isn't read isn't available
-pub unfetched : (T : Type 0) (asks : Bool) (s s' : Stock) (e : Ending) → asks ≡ true → FetchCause {T = T} s s' (Err e) → SetCause asks s s' (Some e)
-unfetched T asks s s' e is c = grind arith
 
 pub unread : (T : Type 0) (asks : Bool) (s s' : Stock) (e : Ending) → ReadCause {T = T} asks (Err e) → SetCause asks s s' (Some e)
 unread T asks s s' e c = grind arith
@@ -53,7 +39,7 @@ read_asks {T} {s} {s'} (Err e) looks h = record { looks = looks; cause = unread 
 
 pub unfetched_asks : {T U : Type 0} {s s' : Stock} {e : Ending} (r : Result U Ending) → IsErrAnd r (λ x. x ≡ e) → Asks (FetchCause {T = T}) s s' (Err e) → Asks (HadCause true) s s' r
 unfetched_asks (Ok v) h a = absurd h
-unfetched_asks {T} {U} {s} {s'} {e} (Err x) h a = rw h (record { looks = a.looks; cause = unfetched T true s s' e refl a.cause })
+unfetched_asks {T} {U} {s} {s'} {e} (Err x) h a = rw h (record { looks = a.looks; cause = grind arith })
 
 -- the lines of events, and of a script
 abbrev pub event_view : Vec Event Global → List ScriptLine
@@ -70,11 +56,8 @@ had_events text read (Err e) h same = tt
 
 -- ---- the step that gives a script. It is known if the shelf is, never ends with the status 0, and gives lines that may be in a script.
 
-sound_said : (held : Option Held) (r : Reading) → IsSound held (said_lines r)
-sound_said held r = grind arith
-
 pub sound_script : (play : Option ℕ) (held : Option Held) (name : List ℕ) → IsSound held (scripted play held name)
-sound_script play held name = sound_next held _ (λ text. said_lines (script_read play text)) (sound_fetch held _ name) (λ text. sound_said held _)
+sound_script play held name = sound_next held _ (λ text. said_lines (script_read play text)) (sound_fetch held _ name) (λ text. grind arith)
 
 pub sound_saved : {S : Type 0} (f : Family S) (number set : ℕ) (held : Option Held) (name : List ℕ) → IsSound held (saved_after f number set held name)
 sound_saved f number set held name =
@@ -86,12 +69,8 @@ AreStepLines play Untold = Unit {0}
 AreStepLines play (Gives lines) = AreLines play lines
 AreStepLines play (Ends status line) = Unit {0}
 
-said-script : (play : Option ℕ) (text : List ℕ) (r : Reading) → script_read play text ≡ r → AreStepLines play (said_lines r)
-said-script play text (Ok lines) e = (reads_exactly.only play text lines e).0
-said-script play text (Err fault) e = tt
-
 step-lines : (play : Option ℕ) (s : Step (List ℕ)) → AreStepLines play (next s (λ text. said_lines (script_read play text)))
-step-lines play s = grind (arith, said-script)
+step-lines play s = grind (arith, reads_exactly)
 
 pub scripted_lines : (play : Option ℕ) (held : Option Held) (name : List ℕ) → AreStepLines play (scripted play held name)
 scripted_lines play held name = step-lines play _
@@ -104,9 +83,7 @@ script_gives play map name text lines held short reads = rw (fetched_gives _ map
 -- ---- the ending of `save`, from the result of saving a board
 
 pub saved_ends : (bytes text : List ℕ) (o o' : Outlet) (r : Result Unit SaveFault) → bytes ≡ text → Saves bytes o o' r → TextEnds (Gives text) o o' (mapped_by save_ending r)
-saved_ends bytes text o o' (Ok u) e h = rw e at h.told
-saved_ends bytes text o o' (Err SaveFails) e h = rw e at (stops_prefix h)
-saved_ends bytes text o o' (Err SaveLacksMemory) e h = tt
+saved_ends bytes text o o' r e h = grind (arith, stops_prefix)
 
 pub at_level : (level : ℕ) → (power_on level).level ≡ level
 unfolding power_on
@@ -153,26 +130,15 @@ module _ (level : ℕ) (lines : List ScriptLine) (i : Intake) (o o' : Outlet) (s
 -- ---- from before the script was fetched
 
 module _ (i i' : Intake) (o o' : Outlet) (a b s' : Stock) (held : b.held ≡ a.held) (le : a.faults ≤ b.faults) (x : Outcome) where
-  done-since : DoneAs i i' o o' b s' x → DoneAs i i' o o' a s' x
-  done-since d = record { status_is = d.status_is; text = d.text; note = d.note; held = cc; taken = d.taken }
-
   comes-since : ComesTo o o' b s' x.parts → ComesTo o o' a s' x.parts
   comes-since c = record { begun = c.begun; bytes = c.bytes; text = c.text; held = cc (c.held) }
 
-  fails-since : FailsToStore o o' b s' x.parts → FailsToStore o o' a s' x.parts
-  fails-since c = record {
-    done = c.done;
-    text = c.text;
-    rose = rose_since _ _ _ le c.rose;
-    held = rw (ap (λ (h : Option Held). held_after h (take c.done x.parts)) held) at c.held;
-  }
-
   pub ends_since : (e : Option Ending) → EndsAs i i' o o' b s' e x → EndsAs i i' o o' a s' e x
-  ends_since None h = done-since h
+  ends_since None h = record { status_is = h.status_is; text = h.text; note = h.note; held = cc; taken = h.taken }
   ends_since (Some ReadFault) h = comes-since h
   ends_since (Some WriteFault) h = comes-since h
   ends_since (Some ShelfFault) (inl h) = inl (comes-since h)
-  ends_since (Some ShelfFault) (inr h) = inr (fails-since h)
+  ends_since (Some ShelfFault) (inr h) = grind (arith, done, rose_since)
   ends_since (Some NoMemory) h = comes-since h
   ends_since e h = h
 
@@ -267,11 +233,6 @@ module _ {S : Type 0} (kind : Family S) (well : WellFormed (kind.set kind.newest
   said (Refused place section reason) (inl f) = ended 1 (refused_line (kind.set kind.newest) place section reason) (place + f.0)
   said (Refused place section reason) (inr f) = ended 1 (refused_line (kind.set kind.newest) place section reason) place
 
-  is_said : (r : Restore S) (p : Restores kind level bytes r) → Loads kind level lines bytes held (said r p)
-  is_said (Back m taken) p = Traces m taken p
-  is_said (Refused place section reason) (inl f) = Faulty place section reason f.0 f.1
-  is_said (Refused place section reason) (inr f) = Unfit place section reason f
-
   said_of : (x : Outcome) → Loads kind level lines bytes held x → (r : Restore S) × (p : Restores kind level bytes r) × (x ≡ said r p)
   said_of _ (Traces board long p) = (Back board long, p, refl)
   said_of _ (Faulty place section reason size f) = (Refused place section reason, inl (size, f), refl)
@@ -292,6 +253,11 @@ module _ {S : Type 0} (kind : Family S) (well : WellFormed (kind.set kind.newest
       let b = said_of y q in
       let same : a.0 ≡ b.0 = one_restore kind well heads level bytes ok a.0 b.0 a.1 b.1 in
       b.2 ∙ subst (λ (r : Restore S). (p : Restores kind level bytes r) → said b.0 b.1 ≡ said r p) (sym same) (λ p. one_said b.0 p b.1) a.1 ∙ sym a.2
+
+  is_said : (r : Restore S) (p : Restores kind level bytes r) → Loads kind level lines bytes held (said r p)
+  is_said (Back m taken) p = Traces m taken p
+  is_said (Refused place section reason) (inl f) = Faulty place section reason f.0 f.1
+  is_said (Refused place section reason) (inr f) = Unfit place section reason f
 
   pub loads_one : OneLoad kind level lines bytes held
   loads_one =

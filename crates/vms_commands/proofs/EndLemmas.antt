@@ -1,7 +1,6 @@
 -- How a command ends, and what the call then does.
-use Rattle.std.proofs.{KnownBytes.Keeps-refl}
-use Rattle.std.proofs.Common.{◌≡◌, ℕ, Bool, true, false, List, refl, ◌∙◌, arith, Option, Some, None, append-nil, ◌⊎◌, ◌<◌, ◌^◌}
-use Rattle.std.proofs.Common.{drop, IfSome, sym, inl, inr, []}
+use Rattle.std.proofs.{KnownBytes.Keeps-refl, Common.inl, Common.inr, Common.[]}
+use Rattle.std.proofs.Common.{◌≡◌, ℕ, Bool, true, false, List, refl, ◌∙◌, arith, Option, Some, None, append-nil, ◌⊎◌, ◌<◌, ◌^◌, sym}
 use Rattle.std.specs.{Io.KnownBytes.Keeps, Io.KnownBytes.Appends, Prelude.string_bytes}
 use Rattle.vms_io.proofs.ShelvingLemmas.{looks_reaches, reaches_both, reaches_none}
 use Rattle.vms_io.proofs.WritingLemmas.{serves_none, stops_prefix}
@@ -27,17 +26,7 @@ draws_took t = record { later = t.later; promise = t.promise }
 -- the shelf wasn't touched
 pub unshelved_so : {i i' : Intake} {o o' : Outlet} (s : Stock) (course : Course) (e : Option Ending) → is_among course.statuses (status_of e) ≡ true → Risen i i' o o' s s e → (is_among course.writes (status_of e) ≡ false → Keeps o.written o'.written)
     → (is_among course.takes (status_of e) ≡ false → i' ≡ i) → Draws i i' → Serves o o' → EndsSo i i' o o' s s course e
-unshelved_so s course e can risen out input draws serves = record {
-  can = can;
-  risen = risen;
-  out = out;
-  input = input;
-  held = λ f. refl;
-  shelf = λ f. refl;
-  draws = draws;
-  serves = serves;
-  reaches = reaches_none s;
-}
+unshelved_so s course e can risen out input draws serves = search (arith, reaches_none)
 
 -- nothing was touched
 pub same_so : (i : Intake) (o : Outlet) (s : Stock) (course : Course) (e : Option Ending) → is_among course.statuses (status_of e) ≡ true → Risen i i o o s s e → EndsSo i i o o s s course e
@@ -45,17 +34,7 @@ same_so i o s course e can risen = unshelved_so s course e can risen (λ f. Keep
 
 -- the shelf was only read
 pub looked_so : (i : Intake) (o : Outlet) {s s' : Stock} (course : Course) (e : Option Ending) → Looks s s' → (course.asks ≡ false → s' ≡ s) → is_among course.statuses (status_of e) ≡ true → Risen i i o o s s' e → EndsSo i i o o s s' course e
-looked_so i o course e looks same can risen = record {
-  can = can;
-  risen = risen;
-  out = λ f. Keeps-refl o.written;
-  input = λ f. refl;
-  held = λ f. looks.held;
-  shelf = same;
-  draws = draws_none i;
-  serves = serves_none o;
-  reaches = looks_reaches looks;
-}
+looked_so i o course e looks same can risen = search (arith, draws_none, serves_none, looks_reaches)
 
 -- the shelf was used before
 risen_since : (i i' : Intake) (o o' : Outlet) (a s s' : Stock) (e : Option Ending) → Looks a s → Risen i i' o o' s s' e → Risen i i' o o' a s' e
@@ -65,28 +44,14 @@ pub asked : (b : Bool) → b ≡ true → b ≡ false → ⊥
 asked b is f = cc
 
 pub so_since : {i i' : Intake} {o o' : Outlet} {a s s' : Stock} {course : Course} (e : Option Ending) → course.asks ≡ true → Looks a s → EndsSo i i' o o' s s' course e → EndsSo i i' o o' a s' course e
-so_since {i} {i'} {o} {o'} {a} {s} {s'} {course} e asks p g = record {
-  can = g.can;
-  risen = risen_since i i' o o' a s s' e p g.risen;
-  out = g.out;
-  input = g.input;
-  held = λ f. g.held f ∙ p.held;
-  shelf = λ f. absurd (asked course.asks asks f);
-  draws = g.draws;
-  serves = g.serves;
-  reaches = reaches_both (looks_reaches p) g.reaches;
-}
+so_since {i} {i'} {o} {o'} {a} {s} {s'} {course} e asks p g = search (arith, risen_since, asked, reaches_both, looks_reaches)
 
 -- a text was written
 pub writes_serve : (text : List ℕ) (o o' : Outlet) (e : Option Ending) → WritesAs text o o' e → Serves o o'
-writes_serve text o o' None w = record { later = w.later; promise = w.promise }
-writes_serve text o o' (Some WriteFault) w = record { later = w.puts.later; promise = w.puts.promise }
-writes_serve text o o' e w = absurd w
+writes_serve text o o' e w = search arith
 
 pub writes_end : (text : List ℕ) (o o' : Outlet) (e : Option Ending) → WritesAs text o o' e → TextEnds (Gives text) o o' e
-writes_end text o o' None w = w.told
-writes_end text o o' (Some WriteFault) w = stops_prefix w
-writes_end text o o' e w = absurd w
+writes_end text o o' e w = grind (arith, stops_prefix)
 
 -- ---- from how a command ends and why to what the call does
 
@@ -107,12 +72,8 @@ comes_to_nothing o o' s s' parts keeps held = record { begun = 0; bytes = 0; tex
 pub quiet_same : (o : Outlet) (e : Option Ending) → Quiet o o e
 quiet_same o e = grind arith
 
--- nothing is taken of an input
-nothing_left : (left : Option (List ℕ)) → IfSome left (λ bytes. left ≡ Some (drop 0 bytes))
-nothing_left left = grind arith
-
 pub takes_nothing : (i : Intake) → i.given < 2 ^ 64 → TakesBytes i i 0
-takes_nothing i few = record { left = nothing_left i.left; given = omega (arith, few) }
+takes_nothing i few = record { left = grind arith; given = omega (arith, few) }
 
 -- an outcome of a status of its own, and nothing taken
 pub ends_with : (k : ℕ) (line : List ℕ) (i : Intake) (x : Outcome) → i.given < 2 ^ 64 → x ≡ ended k line 0 → EndsWith k line i i x
@@ -157,7 +118,7 @@ module _ (i i' : Intake) (o o' n n' : Outlet) (s s' : Stock) where
   -- how far it got, if the line of a failure of the shelf was written
   at_fault : (status : ℕ) (x : Outcome) → ComesToFault o o' s s' x.parts → TellsShelfFault status (around i o n s) (around i' o' n' s')
       → ComesTo o o' s s' x.parts ⊎ (TellsShelfFault status (around i o n s) (around i' o' n' s') × FailsToStore o o' s s' x.parts)
-  at_fault status x h2 told = grind arith
+  at_fault status x comes told = grind arith
 
   -- how the call ended, by the outcome and by the cause: it does the outcome, or it stops on the way
   pub outcome_so : (e : Option Ending) (status : ℕ) (x : Outcome) → EndsAs i i' o o' s s' e x → Caused i i' o o' s s' e → Tells n n' e status

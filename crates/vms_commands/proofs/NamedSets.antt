@@ -1,8 +1,7 @@
 -- Words with numbers, and the sets that words name.
 use Rattle.std.proofs.{lemmas.Fmt.length-decimal-le, lemmas.Fmt.decimal_injective, lemmas.List.append_cancel_left, lemmas.Slice.Eq.bytes_eq-Decides}
-use Rattle.std.proofs.Common.{ℕ, ◌<◌, ◌≤◌, length, arith, ◌≡◌, zero, suc, ◌+◌, ◌-◌, ◌^◌, ◌++◌, Bool, true, false}
-use Rattle.std.proofs.Common.{List, Option, Some, None, Result, Ok, Err, ℤ, pos, negsuc, refl, sym, ap, ◌∙◌, Fits, w8}
-use Rattle.std.proofs.Common.{nat_le, [], ◌∷◌, codes, subst}
+use Rattle.std.proofs.Common.{ℕ, ◌<◌, ◌≤◌, length, arith, ◌≡◌, zero, suc, ◌+◌, ◌-◌, ◌^◌, ◌++◌, Bool, true, false, List}
+use Rattle.std.proofs.Common.{Option, Some, None, Result, Ok, Err, ℤ, pos, negsuc, refl, sym, ap, ◌∙◌, Fits, w8, nat_le, [], ◌∷◌, codes, subst}
 use Rattle.std.proofs.lemmas.Bool.{cond_both, lt-ltb, leb-true, Decides.nat_tests}
 use Rattle.std.specs.{Fmt.decimal, Str.bytes_eq, List.slice_get, Option.option_and_then}
 use Rattle.vms_spec.specs.{Spelling.number_spelled, Good.IsFit, WellFormed.first_fault, WellFormed.SetFault, Sets.Desc, Sets.Sub, Sets.Device, Sets.Set}
@@ -14,11 +13,11 @@ use Rattle.vms_commands.specs.Steps.{Step, Untold, Gives, Ends, next as after}
 use Rattle.vms_commands.specs.declared.kinds.BoardKind.TheVariants.{Isa, Clock}
 use Rattle.vms_desc.proofs.Clean.{none_is, clock_heads, clock_formed, fit_number}
 use Rattle.vms_desc.specs.Formed.{clock_set}
-use Rattle.serde_json.specs.{Data.Data, Data.Items, Data.no_items, Data.item, Find.get, Find.as_array, Find.as_number, Find.as_u64}
+use Rattle.serde_json.specs.{Data.Data, Data.Items, Data.no_items, Data.item, Find.as_array, Find.as_number, Find.as_u64}
 use Rattle.vms_io.specs.Shelves.{Held}
 use Rattle.vms_json.specs.{Keys.fits, Names.Names, Names.Scope, Names.names_if}
 use Rattle.vms_json.specs.Answers.{Answer, good, bad, under, next, changed, each_from, each_of, list_of}
-use Rattle.vms_json.specs.Members.{judged, at as member_at, at_or, member_of, member_or, text_of, up_to, u32_of}
+use Rattle.vms_json.specs.Members.{judged, at as member_at, at_or, text_of, up_to, u32_of}
 use Rattle.vms_descfile.specs.{Descs.sub_of, Descs.whole_in, Descs.whole_of, Descs.device_in, Tests.test_of}
 use Rattle.vms_descfile.specs.Descs.{device_of, set_in as set_said, set_of, parts_of, Head, Whole, desc_needs, desc_allows, head_of, rest_of, struct_of, sub_in}
 use Rattle.vms_descfile.specs.Files.{Said, Parts, judged_said, parts_said, value_said, value_in, file_said}
@@ -136,17 +135,11 @@ module _ {A : Type 0} (P : A → Type 0) where
   says_under : (key : List ℕ) (x : Answer A) → Says P x → Says P (under key x)
   says_under key x h = grind arith
 
-  says_member : (says : Data → Answer A) (key : List ℕ) (o : Option Data) → ((e : Data) → Says P (says e)) → Says P (member_of says key o)
-  says_member says key o h = grind (arith, says_under)
-
   says_at : (says : Data → Answer A) (key : List ℕ) (d : Data) → ((e : Data) → Says P (says e)) → Says P (member_at says key d)
-  says_at says key d h = says_member says key (get key d) h
-
-  says_or : (default : A) (says : Data → Answer A) (key : List ℕ) (o : Option Data) → P default → ((e : Data) → Says P (says e)) → Says P (member_or default says key o)
-  says_or default says key o p h = grind (arith, says_under)
+  says_at says key d h = grind (arith, says_under)
 
   says_at_or : (default : A) (says : Data → Answer A) (key : List ℕ) (d : Data) → P default → ((e : Data) → Says P (says e)) → Says P (at_or default says key d)
-  says_at_or default says key d p h = says_or default says key (get key d) p h
+  says_at_or default says key d p h = grind (arith, says_under)
 
   each_cons : (x : A) (xs : List A) → P x → Each P xs → Each P (x ∷ xs)
   each_cons x xs p h zero y e = let same : x ≡ y = cc in subst P same p

@@ -1,13 +1,12 @@
 -- Steps that a command takes before its work: how they end it, and what it does where they give something.
-use Rattle.std.proofs.{lemmas.Bool.cond_both, lemmas.Bool.le-leb, lemmas.Option.none-some}
-use Rattle.std.proofs.Common.{append-nil, ◌≡◌, ℕ, ◌<◌, ◌^◌, nat_le, ◌≤◌, List, length, Option}
-use Rattle.std.proofs.Common.{Some, None, Result, Ok, Err, refl, sym, arith, inl}
+use Rattle.std.proofs.{lemmas.Bool.cond_both, lemmas.Bool.le-leb, lemmas.Option.none-some, Common.arith, Common.inl}
+use Rattle.std.proofs.Common.{append-nil, ◌≡◌, ℕ, ◌<◌, ◌^◌, nat_le, ◌≤◌, List, length, Option, Some, None, Result, Ok, Err, refl, sym}
 use Rattle.std.specs.{Prelude.string_bytes, Result.IsErrAnd, Result.MatchResult}
 use Rattle.vms_io.specs.{Shelves.Held, Told.Intake, Told.Outlet, Told.Stock}
 use Rattle.vms_descfile.specs.Files.{Said}
 use Rattle.vms_commands.proofs.EndLemmas.{comes_to_nothing, ends_with, takes_nothing}
-use Rattle.vms_commands.specs.{declared.ending.Ending.Ending, Endings.EndsAs, Endings.Quiet, Endings.ending_of, Outcomes.Outcome}
-use Rattle.vms_commands.specs.{Outcomes.done, Outcomes.ended, SetWords.SetWord, SetWords.Shipped, SetWords.OnShelf}
+use Rattle.vms_commands.specs.{declared.ending.Ending.Ending, Endings.EndsAs, Endings.Quiet, Endings.ending_of, Outcomes.Outcome, Outcomes.done, Outcomes.ended}
+use Rattle.vms_commands.specs.{SetWords.SetWord, SetWords.Shipped, SetWords.OnShelf}
 use Rattle.vms_commands.specs.Fetching.{longest_file, text_under, fetched, SetText, Text, fetched_set, said_set, set_in, sets_in, named_sets, word_set}
 use Rattle.vms_commands.specs.StepEndings.{IsFree, EndedAs, StepAs, WrittenAs, TextEnds}
 use Rattle.vms_commands.specs.Steps.{Step, Untold, Gives, Ends, next, both, HasBy, HasText}

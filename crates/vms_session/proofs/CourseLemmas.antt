@@ -1,11 +1,11 @@
 -- Events, parts and lines of a session, one after the other.
 use Rattle.vms_session.proofs.Facade.{Appends, Appends-nil, Appends-trans, AreEvents, AreLines, Does, DoesSome, Err, Event, FailsToStore, Family, Goes, Happens}
-use Rattle.vms_session.proofs.Facade.{HasPlayCause, Held, HoldsBut, IsEvent, Line, LinesEnd, List, NoMemory, Ok, Option, Outlet, Part, PlayFault, Plays}
-use Rattle.vms_session.proofs.Facade.{Reaches, Read, Result, Rose, Saves, ScriptLine, Serves, Session, ShelfFault, Some, State, Stock, WriteFault, [], after_by}
-use Rattle.vms_session.proofs.Facade.{after_events, answers_by, ap, append-nil, append_assoc, arith, drop, drop_all, drop_more, event_lines, events_of, get_or}
-use Rattle.vms_session.proofs.Facade.{held_after, inl, inr, length, length-append, line_view, lines_view, part_of, reaches_both, refl, serves_both, session_of}
-use Rattle.vms_session.proofs.Facade.{stored_next, suc, sym, take, take_all, text_begun, text_of, trace_from, trace_line, zero, ℕ, ⊎_elim, ◌++◌}
-use Rattle.vms_session.proofs.Facade.{◌+◌, ◌<◌, ◌∙◌, ◌∷◌, ◌≡◌, ◌≤◌}
+use Rattle.vms_session.proofs.Facade.{Held, HoldsBut, IsEvent, Line, LinesEnd, List, NoMemory, Ok, Option, Outlet, Part, PlayFault, Plays, Reaches, Read}
+use Rattle.vms_session.proofs.Facade.{Result, Rose, Saves, ScriptLine, Serves, Session, ShelfFault, Some, State, Stock, WriteFault, [], after_by, after_events}
+use Rattle.vms_session.proofs.Facade.{answers_by, ap, append-nil, append_assoc, arith, drop, drop_all, drop_more, event_lines, events_of, get_or, held_after}
+use Rattle.vms_session.proofs.Facade.{inl, inr, length, length-append, line_view, lines_view, part_of, reaches_both, refl, serves_both, session_of, stored_next}
+use Rattle.vms_session.proofs.Facade.{suc, sym, take, take_all, text_begun, text_of, trace_from, trace_line, zero, ℕ, ⊎_elim, ◌++◌, ◌+◌, ◌<◌}
+use Rattle.vms_session.proofs.Facade.{◌∙◌, ◌∷◌, ◌≡◌, ◌≤◌}
 use Rattle.vms_session.proofs.SoundLaws.{comes, event_is, line_event}
 use Rattle.vms_script.specs.Lines.{Restores}
 use Rattle.vms_commands.specs.Outcomes.{ComesTo}
@@ -134,19 +134,11 @@ lines_next lines i line lt is = cc (drop_more lines i line lt)
 pub rose_since : (a b c : ℕ) → a ≤ b → Rose b c → Rose a c
 rose_since a b c le rose = omega arith
 
-cause_since : (out out' out'' : Outlet) (shelf shelf' shelf'' : Stock) (result : Result Unit PlayFault) → out.faults ≤ out'.faults
-    → shelf.faults ≤ shelf'.faults
-    → HasPlayCause out' out'' shelf' shelf'' result → HasPlayCause out out'' shelf shelf'' result
-cause_since out out' out'' shelf shelf' shelf'' result p q h = grind (arith, rose_since)
-
 -- what calls before it did
 pub goes_since : {out out' out'' : Outlet} {shelf shelf' shelf'' : Stock} {result : Result Unit PlayFault} → Serves out out' → Reaches shelf shelf'
     → Goes out' out'' shelf' shelf'' result → Goes out out'' shelf shelf'' result
-goes_since {out} {out'} {out''} {shelf} {shelf'} {shelf''} {result} p q g = record {
-  serves = serves_both p g.serves;
-  reaches = reaches_both q g.reaches;
-  cause = cause_since out out' out'' shelf shelf' shelf'' result p.later q.later g.cause;
-}
+goes_since {out} {out'} {out''} {shelf} {shelf'} {shelf''} {result} p q g =
+    record { serves = serves_both p g.serves; reaches = reaches_both q g.reaches; cause = grind (arith, rose_since) }
 
 -- ---- a session in its course
 
@@ -177,7 +169,10 @@ module _ (i : ℕ) (line : ScriptLine) (left : List ScriptLine) (parts : List Pa
   abbrev between : Session
   between = course.rest.2
 
-  next : NextPart (part_of line text between) course.rest.1 i parts
+  abbrev part : Part
+  part = part_of line text between
+
+  next : NextPart part course.rest.1 i parts
   next = next_part _ _ i parts course.rest.5
 
   pub course_goes : Content line board board' out' out'' shelf' shelf'' (Ok tt) → InCourse (i + 1) left parts new board' out out'' shelf shelf''
@@ -196,7 +191,7 @@ module _ (i : ℕ) (line : ScriptLine) (left : List ScriptLine) (parts : List Pa
   behind none = rw (append-nil (text_of (take i parts))) at (Appends-trans _ _ _ _ [] course.text none)
 
   -- the result of this one is the result of all
-  comes_behind : ComesTo out' out'' shelf' shelf'' (part_of line text between ∷ []) → ComesTo out out'' shelf shelf'' parts
+  comes_behind : ComesTo out' out'' shelf' shelf'' (part ∷ []) → ComesTo out out'' shelf shelf'' parts
   comes_behind comes = by comes.begun comes.text comes.held
     where
       some : (n : ℕ) → Appends out'.written out''.written (take n text) → shelf''.held ≡ Some between.held → ComesTo out out'' shelf shelf'' parts
@@ -207,20 +202,17 @@ module _ (i : ℕ) (line : ScriptLine) (left : List ScriptLine) (parts : List Pa
         held = cc (next.held shelf.held);
       }
 
-      by : (k : ℕ) → Appends out'.written out''.written (text_begun (part_of line text between ∷ []) k comes.bytes)
-          → shelf''.held ≡ held_after shelf'.held (take k (part_of line text between ∷ [])) → ComesTo out out'' shelf shelf'' parts
+      by : (k : ℕ) → Appends out'.written out''.written (text_begun (part ∷ []) k comes.bytes) → shelf''.held ≡ held_after shelf'.held (take k (part ∷ []))
+          → ComesTo out out'' shelf shelf'' parts
       by zero none held =
           record { begun = i; bytes = length (text_of parts); text = rw (begun_whole i (length (text_of parts)) parts (omega arith)) (behind none); held = cc }
       by (suc zero) begun held = some comes.bytes begun held
       by (suc (suc k)) all held = some (length text) (rw (take_all (length text) text (omega arith)) (rw (append-nil text) at all)) held
 
   -- where this one is done, or nothing of it is
-  does_behind : DoesSome out' out'' shelf' shelf'' (part_of line text between ∷ []) → DoesSome out out'' shelf shelf'' parts
+  does_behind : DoesSome out' out'' shelf' shelf'' (part ∷ []) → DoesSome out out'' shelf shelf'' parts
   does_behind does = by does.done does.text does.held
     where
-      part : Part
-      part = part_of line text between
-
       whole : Appends out'.written out''.written (text ++ []) → shelf''.held ≡ Some between.held → DoesSome out out'' shelf shelf'' parts
       whole all held = record {
         done = suc i;
@@ -235,13 +227,9 @@ module _ (i : ℕ) (line : ScriptLine) (left : List ScriptLine) (parts : List Pa
       by (suc (suc k)) all held = whole all held
 
   -- but for the name under which this one stores
-  fails_behind : shelf.faults ≤ shelf'.faults → FailsToStore out' out'' shelf' shelf'' (part_of line text between ∷ [])
-      → FailsToStore out out'' shelf shelf'' parts
+  fails_behind : shelf.faults ≤ shelf'.faults → FailsToStore out' out'' shelf' shelf'' (part ∷ []) → FailsToStore out out'' shelf shelf'' parts
   fails_behind le fails = by fails.done fails.text fails.held
     where
-      part : Part
-      part = part_of line text between
-
       by : (k : ℕ) → Appends out'.written out''.written (text_of (take k (part ∷ [])))
           → HoldsBut (stored_next (drop k (part ∷ []))) (held_after shelf'.held (take k (part ∷ []))) shelf''.held
           → FailsToStore out out'' shelf shelf'' parts

@@ -22,10 +22,6 @@ abbrev HeldComes : ℕ → Option (List ℕ) → Type 0
 HeldComes level None = Unit {0}
 HeldComes level (Some bytes) = Comes level bytes
 
-held-comes : (level : ℕ) (held : Option (List ℕ)) → HoldsBytes held → HeldComes level held
-held-comes level None h = tt
-held-comes level (Some bytes) h = isa_laws.one.some level bytes h
-
 -- with bytes under a name
 abbrev put : Held → List ℕ → List ℕ → Held
 put held name bytes other = if bytes_eq other name then Some bytes else held other
@@ -126,6 +122,10 @@ lines-end level (line ∷ lines) old at good s held =
       plays = (first.text, rest.parts, first.new, first.does, rest.plays, refl);
     }
 
+held-comes : (level : ℕ) (held : Option (List ℕ)) → HoldsBytes held → HeldComes level held
+held-comes level None h = tt
+held-comes level (Some bytes) h = isa_laws.one.some level bytes h
+
 pub sessions_end : SessionsEnd
 sessions_end = record {
   ends = λ lines old good s held.
@@ -134,11 +134,8 @@ sessions_end = record {
 
 -- ---- a script of a session leaves one trace and one session, and the shelf still holds bytes
 
--- ---- the shelf still holds bytes
-
 pub reads_bytes : (line : ScriptLine) (old : Session) → HoldsAll old.held → ReadsBytes line old
-reads_bytes (Loads name) old holds = holds name
-reads_bytes _ old holds = tt
+reads_bytes line old holds = grind arith
 
 pub line_holds : (line : ScriptLine) (old : Session) (text : List ℕ) (new : Session) → IsLine (Some old.board.level) line → Does line old text new
     → IsSound old.board
@@ -185,9 +182,4 @@ lines-follow level [] old parts new are f p = rw p.1 f
 lines-follow level (line ∷ lines) old parts new are f p = lines-follow level lines p.2 p.1 new are.1 (line_follows level line old p.0 p.2 are.0 p.3 f) p.4
 
 pub sessions_are_one : SessionsAreOne
-sessions_are_one = record {
-  one = λ lines old parts parts' new new' are sound holds p q.
-      lines-one old.board.level lines old parts parts' new new' are (record { at = refl; sound = sound; holds = holds }) p q;
-  holds = λ lines old parts new are sound holds p.
-      (lines-follow _ lines old parts new are (record { at = refl; sound = sound; holds = holds }) p).holds;
-}
+sessions_are_one = search (arith, lines-one, lines-follow)

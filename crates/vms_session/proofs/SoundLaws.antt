@@ -6,8 +6,9 @@ use Rattle.vms_session.proofs.Facade.{Option, Outlet, Part, PlayFault, Plays, Pu
 use Rattle.vms_session.proofs.Facade.{ScriptLine, SectionsSpell, Session, SessionsStaySound, Set, Some, State, Stock, TakesBoard, WriteFault, WritesText, []}
 use Rattle.vms_session.proofs.Facade.{ap, append-nil, arith, bytes_eq, bytes_eq-Decides, cells_in, clock_goes_on, false, inl, inr, isa, isa_laws, length}
 use Rattle.vms_session.proofs.Facade.{longest_file, map, none_left, normal_may_be_restored, part_of, refl, restored_is_sound, shipped_set, slice_get, slice_set}
-use Rattle.vms_session.proofs.Facade.{sound_stays_on, step, suc, sym, too_large_line, trace_line, true, zero, ℕ, ◌<◌, ◌∙◌, ◌∷◌, ◌≡◌}
-use Rattle.vms_session.proofs.Facade.{◌≢◌, ◌≤◌, ◌⊎◌}
+use Rattle.vms_session.proofs.Facade.{sound_stays_on, step, suc, sym, trace_line, true, zero, ℕ, ◌∙◌, ◌∷◌, ◌≡◌, ◌≢◌, ◌≤◌}
+use Rattle.vms_session.proofs.Facade.{◌⊎◌}
+use Rattle.std.proofs.{Common.⊎_elim, lemmas.Bool.cases_Bool}
 use Rattle.vms_script.specs.{Grammar.IsEvent as IsSpelled, Lines.Restores as Loads}
 
 -- ---- each device of a stream that is taken has a normal image
@@ -24,11 +25,7 @@ not-yet (x ∷ devices) (suc k) d e = not-yet devices k d e
 
 of-section : (set : Set) (footed : Bool) (k : ℕ) (device : Option Device) (found : Option Image) (bytes : List ℕ) (d : Device) (image : Image)
     → HasSection set footed k device found bytes → device ≡ Some d → found ≡ Some image → IsNormal set d image
-of-section set footed k (Some x) (Some y) bytes d image h e f =
-    let same : x ≡ d = cc in
-    let alike : y ≡ image = cc in
-    rw (← same, ← alike) h.1.normal
-of-section set footed k _ _ bytes d image h e f = absurd h
+of-section set footed k device found bytes d image h e f = grind arith
 
 normal-in : (set : Set) (footed : Bool) (images : List Image) (order : List ℕ) (came : List Bool) (bytes : List ℕ)
     → EachOnce came order → SectionsSpell set footed images order bytes → (k : ℕ) (d : Device) (image : Image)
@@ -60,9 +57,6 @@ event_is event h = grind arith
 pub line_event : (play : Option ℕ) (event : Event) → IsLine play (Happens event) → IsSpelled event
 line_event play event h = grind arith
 
-same-board : (old new : Session) → new.board ≡ old.board → IsSound old.board → IsSound new.board
-same-board old new e s = rw e s
-
 -- What a restore from the shelf keeps, whatever it brings back.
 pub record LoadKeeps (old new : Session) : Type 0 where
   pub held : new.held ≡ old.held
@@ -87,14 +81,11 @@ load_keeps (Some bytes) old text new loads = bytes-keep bytes old text new loads
 
 pub line_sound : (play : Option ℕ) (line : ScriptLine) (old : Session) (text : List ℕ) (new : Session) → IsLine play line → Does line old text new
     → IsSound old.board → IsSound new.board
-line_sound play (Happens event) old text new good does s =
-    rw (does.new_is) (sound_stays_on.event event old.board (event_is event (line_event play event good)) s)
-line_sound play (Saves set name) old text new good does s = same-board old new does.board s
-line_sound play (Loads name) old text new good does s = (load_keeps _ old text new does).sound s
+line_sound play line old text new good does s = grind (arith, sound_stays_on, event_is, line_event, load_keeps)
 
 lines-sound : (play : Option ℕ) (lines : List ScriptLine) (old : Session) (parts : List Part) (new : Session) → AreLines play lines
     → Plays lines old parts new → IsSound old.board → IsSound new.board
-lines-sound play [] old parts new good plays s = same-board old new (rw (plays.1)) s
+lines-sound play [] old parts new good plays s = rw plays.1 s
 lines-sound play (line ∷ lines) old parts new good plays s =
     lines-sound play lines plays.2 plays.1 new good.1 plays.4 (line_sound play line old _ _ good.0 plays.3 s)
 
@@ -107,9 +98,7 @@ abbrev level_of : Session → ℕ
 level_of s = s.board.level
 
 pub line_level : (line : ScriptLine) (old : Session) (text : List ℕ) (new : Session) → Does line old text new → level_of new ≡ level_of old
-line_level (Happens event) old text new does = cc (clock_goes_on.level event old.board)
-line_level (Saves set name) old text new does = rw (does.board)
-line_level (Loads name) old text new does = (load_keeps _ old text new does).level
+line_level line old text new does = grind (arith, clock_goes_on, load_keeps)
 
 lines-level : (lines : List ScriptLine) (old : Session) (parts : List Part) (new : Session) → Plays lines old parts new → level_of new ≡ level_of old
 lines-level [] old parts new plays = ap level_of plays.1
@@ -121,15 +110,11 @@ level_stays = record { level = lines-level }
 -- ---- what bytes are to a restore is one thing, and what a line does is one thing: lines
 
 same-held : (old a b : Held) (name bytes : List ℕ) → PutsUnder old a name bytes → PutsUnder old b name bytes → (other : List ℕ) → a other ≡ b other
-same-held old a b name bytes p q other = by _ refl
-  where
-    by : (t : Bool) → bytes_eq other name ≡ t → a other ≡ b other
-    by true e =
-        let same : other ≡ name = (bytes_eq-Decides other name).0 e in
-        cc (p.there, q.there)
-    by false e =
-        let ne : other ≢ name = λ same. let f = (bytes_eq-Decides other name).1 same in cc (sym e ∙ f) in
-        p.others other ne ∙ sym (q.others other ne)
+same-held old a b name bytes p q other =
+    ⊎_elim (λ (e : bytes_eq other name ≡ true). let same : other ≡ name = (bytes_eq-Decides other name).0 e in cc (p.there, q.there))
+    (λ (e : bytes_eq other name ≡ false).
+    let ne : other ≢ name = λ same. let f = (bytes_eq-Decides other name).1 same in cc (sym e ∙ f) in
+    p.others other ne ∙ sym (q.others other ne)) (cases_Bool (bytes_eq other name))
 
 -- what is held after bytes were put under a name is one map
 pub one_map : (old a b : Held) (name bytes : List ℕ) → PutsUnder old a name bytes → PutsUnder old b name bytes → a ≡ b
@@ -144,15 +129,7 @@ same-left said after text text' new new' a b = record { texts = cc; ends = cc }
 
 same-bytes : (bytes : List ℕ) (old : Session) (text text' : List ℕ) (new new' : Session) → IsBytes bytes → LoadsBytes bytes old text new
     → LoadsBytes bytes old text' new' → IsOneEnd text text' new new'
-same-bytes bytes old text text' new new' ok (IsTooLarge long a) (IsTooLarge long' b) = same-left _ old text text' new new' a b
-same-bytes bytes old text text' new new' ok (IsTooLarge long a) (IsLoaded r few restores b) = absurd (omega arith)
-same-bytes bytes old text text' new new' ok (IsLoaded r few restores a) (IsTooLarge long b) = absurd (omega arith)
-same-bytes bytes old text text' new new' ok (IsLoaded r few restores a) (IsLoaded r' few' restores' b) =
-    come r' (rw (isa_laws.one.one old.board.level bytes ok r r' restores restores') at a) b
-  where
-    come : (x : Restore State) → ComesTo x old text new → ComesTo x old text' new' → IsOneEnd text text' new new'
-    come (Back m taken) a b = same-left _ _ text text' new new' a b
-    come (Refused place section reason) a b = same-left _ old text text' new new' a b
+same-bytes bytes old text text' new new' ok loads_bytes first = grind (arith, same-left, isa_laws)
 
 same-under : (held : Option (List ℕ)) (old : Session) (text text' : List ℕ) (new new' : Session) → HoldsBytes held → LoadsHeld held old text new
     → LoadsHeld held old text' new' → IsOneEnd text text' new new'
@@ -176,8 +153,7 @@ lines_are_one = record { line = one_end }
 pub comes : (bytes : List ℕ) (old : Session) (text : List ℕ) (new : Session) (r : Restore State) → IsBytes bytes → length bytes ≤ longest_file
     → Restores isa old.board.level bytes r
     → LoadsBytes bytes old text new → ComesTo r old text new
-comes bytes old text new r ok few restores (IsTooLarge long left) = absurd (omega arith)
-comes bytes old text new r ok few restores (IsLoaded other some others left) = rw (isa_laws.one.one old.board.level bytes ok other r others restores) at left
+comes bytes old text new r ok few restores loads_bytes = grind (arith, isa_laws)
 
 -- a line's text is written once the line is done
 pub line_ends : (line : ScriptLine) (text mark : List ℕ) (new : Session) (o o' : Outlet) (s s' : Stock) (m : State) (r : Result Unit PlayFault) → mark ≡ text
@@ -189,14 +165,10 @@ line_ends line text mark new o o' s s' m _ e h held board = absurd h
 
 -- ---- What a restore leaves that brings no board back.
 
-large-leaves : (bytes : List ℕ) (old : Session) (said : List ℕ) (new : Session) → longest_file < length bytes → LoadsBytes bytes old said new
-    → Leaves too_large_line old said new
-large-leaves bytes old said new long h5 = grind arith
-
 leaves-so : (name : List ℕ) (old : Session) (text said : List ℕ) (new : Session) → BringsNone name old text → Does (Loads name) old said new
     → Leaves text old said new
 leaves-so name old text said new (IsMissing none is) does = rw is (rw none at does)
-leaves-so name old text said new (IsLarge bytes there long is) does = rw is (large-leaves bytes old said new long (rw there at does))
+leaves-so name old text said new (IsLarge bytes there long is) does = rw is (grind arith)
 leaves-so name old text said new (IsRefused bytes place section reason there ok few refused is) does =
     rw is (comes bytes old said new (Refused place section reason) ok few refused (rw there at does))
 

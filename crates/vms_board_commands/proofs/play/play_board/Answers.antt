@@ -1,6 +1,6 @@
 use Rattle.vms_board_commands.proofs.{ScriptCommands.script_view, ScriptCommands.ends_since, RunLemmas.play_asks, RunLemmas.lacks_runs}
-use Rattle.vms_board_commands.proofs.Facade.{ℕ, List, Option, Some, refl, IsSomeAnd, Held, outlet, stock, ending_passed, had_by, Outcome}
-use Rattle.vms_board_commands.proofs.Facade.{ScriptLine, scripted, so_since, wrong, PlaysAll, ending_of}
+use Rattle.vms_board_commands.proofs.Facade.{ℕ, List, Option, Some, refl, IsSomeAnd, Held, outlet, stock, ending_passed, had_by, Outcome, ScriptLine}
+use Rattle.vms_board_commands.proofs.Facade.{scripted, so_since, wrong, PlaysAll, ending_of}
 use Rattle.vms_board_commands.proofs.play.play_board.Goals as goal
 
 -- the outcome once the script has been read

@@ -1,5 +1,6 @@
+use Rattle.std.proofs.Common.{rules}
 use Rattle.vms_board_commands.proofs.{ScriptCommands.played_by, ScriptCommands.at_level, RunLemmas.played_so, Facade.ending_mapped}
-use Rattle.vms_board_commands.proofs.Facade.{ending_passed, refl, ap, ◌∙◌, Keeps-refl, outlet, stock, lines_view, comes_to_nothing, same_so}
+use Rattle.vms_board_commands.proofs.Facade.{ending_passed, ap, ◌∙◌, outlet, stock, lines_view, comes_to_nothing, same_so}
 use Rattle.vms_board_commands.proofs.play.play_lines.Goals as goal
 
 pub play-requires : goal.play-requires
@@ -16,7 +17,4 @@ returns g c = λ input few.
 
 -- without memory nothing was done
 pub returns-in_err-board : goal.returns-in_err-board
-returns-in_err-board g c = rw (ending_passed _ c.from_residual.ensures.1) (λ input few.
-    let out = outlet g.O.Sink c.args.out.now in
-    let shelf = stock g.H.Shelf c.args.shelf.now in
-    record { content = λ o has. comes_to_nothing out out shelf shelf _ (Keeps-refl out.written) refl; so = same_so input out shelf _ _ refl tt; given = tt; seen = λ reads. cc })
+returns-in_err-board g c = search (rules, ending_passed, comes_to_nothing, same_so)

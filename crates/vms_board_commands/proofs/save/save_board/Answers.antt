@@ -1,5 +1,5 @@
-use Rattle.vms_board_commands.proofs.Facade.{ScriptLine, so_since, wrong, Family, List, ℕ, None, refl, sym, ◌∙◌}
-use Rattle.vms_board_commands.proofs.Facade.{saved_stream, after_events, stock, ending_passed, Step, Gives, events_back, events_of, scripted}
+use Rattle.vms_board_commands.proofs.Facade.{ScriptLine, so_since, wrong, Family, List, ℕ, None, refl, sym, ◌∙◌, saved_stream, after_events, stock}
+use Rattle.vms_board_commands.proofs.Facade.{ending_passed, Step, Gives, events_back, events_of, scripted}
 use Rattle.vms_board_commands.proofs.{ScriptCommands.event_view, RunLemmas.save_asks, RunLemmas.lacks_text, RunLemmas.then_runs}
 use Rattle.vms_board_commands.proofs.save.save_board.Goals as goal
 

@@ -1,11 +1,10 @@
+use Rattle.std.proofs.Common.{rules}
 use Rattle.vms_session.proofs.Facade.{Session, Some, sym, ap, ◌∙◌, clock_goes_on, names, outlet, stock, trace_line, line_view}
 use Rattle.vms_session.proofs.SoundLaws.{line_ends, event_is, line_event}
 use Rattle.vms_session.proofs.line.play_line.Goals as goal
 
 pub event-requires : goal.event-requires
-event-requires g c =
-    let good = rw c.in-Event.is at c.requires.line in
-    record { wire = names c.in-Event.event (event_is c.in-Event.event (line_event (Some c.args.board.now.state.level) c.in-Event.event good)) }
+event-requires g c = search (rules, names, event_is, line_event)
 
 pub returns-in-Event-clause-level : goal.returns-in-Event-clause-level
 returns-in-Event-clause-level g c = ap (λ d. d.1.level) c.event.ensures.step ∙ clock_goes_on.level c.in-Event.event c.args.board.now.state

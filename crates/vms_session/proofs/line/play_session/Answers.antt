@@ -1,22 +1,14 @@
+use Rattle.std.proofs.Common.{rules}
 use Rattle.vms_session.proofs.Facade.{session_of, Some, sym, ap, subst, ◌∙◌, isa, saved_stream, Held, PutsUnder, outlet, stock, stores_told, session_view}
-use Rattle.vms_session.proofs.Facade.{saved_line, ◌≡◌, List, ℕ, [], ◌∷◌, Option, Err, inr, Appends-nil, err_from_is_err_and, HoldsBut, LinesEnd}
-use Rattle.vms_session.proofs.Facade.{Outlet, Stock, State, Session, ScriptLine, PlayFault, WriteFault, ShelfFault, NoMemory, part_of}
-use Rattle.vms_session.proofs.SoundLaws.{one_map, line_ends, load_keeps}
+use Rattle.vms_session.proofs.Facade.{saved_line, ◌≡◌, List, ℕ, [], ◌∷◌, Err, err_from_is_err_and, LinesEnd, Outlet, Stock, State, Session}
+use Rattle.vms_session.proofs.{Facade.ScriptLine, Facade.PlayFault, Facade.part_of, SoundLaws.one_map, SoundLaws.line_ends, SoundLaws.load_keeps}
 use Rattle.vms_session.specs.{Parts.stored_by, Streams.SavesUnder}
 use Rattle.vms_session.proofs.line.play_session.Goals as goal
 
 -- a save that stored nothing, or only part of a stream
 save_stops : (line : ScriptLine) (text : List ℕ) (new : Session) (o : Outlet) (s s' : Stock) (m : State) (name stream : List ℕ) (f : PlayFault)
     → stored_by line ≡ Some name → SavesUnder name stream s s' (Err f) → LinesEnd (part_of line text new ∷ []) new o o s s' m (Err f)
-save_stops line text new o s s' m name stream WriteFault e h = absurd h
-save_stops line text new o s s' m name stream ShelfFault e h =
-    inr (record {
-      done = 0;
-      text = Appends-nil o.written;
-      rose = h.rose;
-      held = subst (λ (x : Option (List ℕ)). HoldsBut x s.held s'.held) (sym e) h.told;
-    })
-save_stops line text new o s s' m name stream NoMemory e h = record { done = 0; text = Appends-nil o.written; held = h.held }
+save_stops line text new o s s' m name stream fault e h = search rules
 
 pub returns-in_err-count-in-Save-clause-content : goal.returns-in_err-count-in-Save-clause-content
 returns-in_err-count-in-Save-clause-content g c = λ held text new told does.

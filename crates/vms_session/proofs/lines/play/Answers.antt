@@ -1,22 +1,14 @@
-use Rattle.vms_session.proofs.Facade.{◌+◌, drop, refl, ◌∙◌, arith, drop_all, outlet, stock, reaches_both, reaches_none}
-use Rattle.vms_session.proofs.Facade.{serves_both, serves_none, line_view, lines_view}
+use Rattle.std.proofs.Common.{rules}
+use Rattle.vms_session.proofs.Facade.{◌+◌, drop, ◌∙◌, arith, drop_all, outlet, stock, reaches_both, reaches_none, serves_both, serves_none, line_view}
+use Rattle.vms_session.proofs.Facade.{lines_view}
 use Rattle.vms_session.proofs.CourseLemmas.{lines_next, in_course, course_goes, course_stops, course_ends, goes_since}
 use Rattle.vms_session.proofs.lines.play.Goals as goal
 
 pub loop-line-init : goal.loop-line-init
-loop-line-init g c = record {
-  level = refl;
-  lines = c.requires;
-  sets = c.new-sets.ensures;
-  course = λ held parts new told plays. in_course _ parts new _ held _ _ told plays;
-  serves = serves_none (outlet g.K.Sink c.args.out.now);
-  reaches = reaches_none (stock g.H.Shelf c.args.shelf.now);
-}
+loop-line-init g c = search (rules, in_course, serves_none, reaches_none)
 
 pub play_line-requires-clause-line : goal.play_line-requires-clause-line
-play_line-requires-clause-line g c =
-    let i = c.loop-line.line-index in
-    rw c.loop-line.invariant.level (rw (lines_next c.args.lines.now i c.line-item.result (omega arith) c.line-item.is) at c.loop-line.invariant.lines).0
+play_line-requires-clause-line g c = search (rules, lines_next)
 
 pub loop-line-preserved : goal.loop-line-preserved
 loop-line-preserved g c =

@@ -1,7 +1,8 @@
-use Rattle.vms_session.proofs.{Facade.arith, Facade.err_from_is_err_and, Facade.outlet, Facade.trace_line, run.trace.Given.Over, run.trace.Goals.In-loop-event}
+use Rattle.std.proofs.Common.{rules}
+use Rattle.vms_session.proofs.{Facade.arith, Facade.err_from_is_err_and, Facade.trace_line, run.trace.Given.Over, run.trace.Goals.In-loop-event}
 use Rattle.vms_session.proofs.{run.trace.Goals.After-loop-event, CourseLemmas.number_next, CourseLemmas.one_more}
 use Rattle.vms_session.proofs.CourseLemmas.{trace_next, trace_none, event_at, left_next, none_left, first_event, later_events, after_next, after_none, none_yet}
-use Rattle.vms_session.proofs.Facade.{trace_from, leaves_all, leaves_none, leaves_rest, leaves_stop, ◌≡◌, ◌+◌, [], ◌∷◌, drop, refl, ◌∙◌}
+use Rattle.vms_session.proofs.Facade.{trace_from, leaves_all, leaves_none, leaves_rest, leaves_stop, ◌≡◌, ◌+◌, [], ◌∷◌, drop, ◌∙◌}
 use Rattle.vms_session.proofs.run.trace.Goals as goal
 
 -- the event whose turn it is, and those after it
@@ -10,15 +11,7 @@ next : (g : Over) (c : goal.In-loop-event g)
 next g c = left_next c.args.events.now c.loop-event.event-index (omega arith)
 
 pub loop-event-init : goal.loop-event-init
-loop-event-init g c = record {
-  events = c.requires;
-  leaves = leaves_all (outlet g.K.Sink c.args.out.now) (trace_from g.M.Machine.family c.args.events.now c.args.board.now.state)
-      (trace_from g.M.Machine.family c.args.events.now c.args.board.now.state) refl;
-  left = refl;
-  among = none_yet g.M.Machine.family c.args.events.now c.args.board.now.state;
-  number = refl;
-  taken = refl;
-}
+loop-event-init g c = search (rules, leaves_all, none_yet)
 
 pub trace_event-requires : goal.trace_event-requires
 trace_event-requires g c =
@@ -65,15 +58,10 @@ none : (g : Over) (c : goal.After-loop-event g) → drop c.loop-event.event-inde
 none g c = none_left c.args.events.now c.loop-event.event-index (omega arith)
 
 pub returns-clause-wrote : goal.returns-clause-wrote
-returns-clause-wrote g c =
-    leaves_none (trace_none g.M.Machine.family (drop c.loop-event.event-index c.args.events.now) c.loop-event.board.state
-    (none g (goal.at.returns-clause-wrote g c).After-loop-event)) c.loop-event.invariant.leaves
+returns-clause-wrote g c = search (rules, leaves_none, trace_none, none)
 
 pub returns-in_err-trace_event-clause-number : goal.returns-in_err-trace_event-clause-number
-returns-in_err-trace_event-clause-number g c =
-    number_next g.M.Machine.family g.met.M.Machine.stands.stays
-    (event_at c.args.events.now c.loop-event.event-index) c.loop-event.board.state c.trace_event.new.board.state c.in_err-trace_event.ensures.state
-    ∙ c.loop-event.invariant.number
+returns-in_err-trace_event-clause-number g c = search (rules, number_next, g.met.M.Machine.stands.stays)
 
 pub returns-in_err-trace_event-clause-stopped : goal.returns-in_err-trace_event-clause-stopped
 returns-in_err-trace_event-clause-stopped g c =
