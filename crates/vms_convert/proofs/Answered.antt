@@ -7,38 +7,10 @@ use Rattle.vms_convert.proofs.Facade.{◌∙◌, arith, length-map, slice_get-ge
 use Rattle.vms_convert.proofs.Facade.{device_cells, find_device, newest_set, AreReady, IsReady, WellFormed, device_at, IsNameAt, device_is, Typed, state_of}
 use Rattle.vms_convert.proofs.Facade.{shipped_holds, AreKept, name_of, device_below, carried, Compatible, AreOfKinds, back, pair, all_in, AreBack, recast_each}
 use Rattle.vms_convert.proofs.Facade.{AreWritable, FirstInvalid, Judges, KeepsMachine, KeepsName, first_cell_at, first_of, IsValidAt, Loses, OfDevice}
-use Rattle.vms_convert.proofs.Facade.{OfMachine, first_cell, numbers_in, AreReturned, AreReturnedTo, IsFirstLost, Loss, LostCell, ext_get_or, ◌⊎◌, inl}
-use Rattle.vms_convert.proofs.Facade.{inr, zero, suc, Bool, true, false, pos, signed_Decides, int_eq, Slot, Rule, RulesHold, image_slots, is_one_of, no_image}
-use Rattle.vms_convert.proofs.Facade.{older, device_partners, IsBack, IsPairAt, AnswerLaw, DifferAt, KeepsAll, OfCell}
+use Rattle.vms_convert.proofs.Facade.{OfMachine, first_cell, numbers_in, AreReturned, IsFirstLost, Loss, LostCell, ext_get_or, ◌⊎◌, inl, inr, zero, suc}
+use Rattle.vms_convert.proofs.Facade.{Bool, true, false, pos, Slot, Rule, RulesHold, image_slots, is_one_of, no_image, older, device_partners, IsBack, IsPairAt}
+use Rattle.vms_convert.proofs.Facade.{AnswerLaw, DifferAt, KeepsAll, OfCell}
 use Rattle.vms_convert.proofs.LostLaws.{all_carried, cell_lost, no_device, older_pair, there_is, there_long}
-
--- ---- what was found of the devices, as the relations say it
-
-module _ (to new : Set) (wanted : List (List ℤ)) (images : List Typed) (lost : Option LostCell)
-    (returned : AreReturnedTo to new wanted (length to.devices) images lost) where
-  abbrev backs : List Image
-  backs = map state_of images
-
-  pub backs_long : length backs ≡ length to.devices
-  backs_long = cc (length-map images state_of)
-
-  pub are_back : AreBack to new wanted backs
-  are_back = record {
-    one_each = backs_long;
-    each = λ i k d e image p at.
-        let d_is = device_is to i d p.in_old in
-        let e_is = device_is new k e p.in_new in
-        rw (← d_is, ← e_is) (returned.back i k image (rw (d_is, e_is) p) at);
-  }
-
-  module _ (fit : IsFit to) (well : WellFormed new) (compatible : Compatible to new)
-      (kinds : (k : ℕ) (e : Device) → slice_get new.devices k ≡ Some e → AreOfKinds (device_cells new e) (get_or wanted k [])) where
-    pub writable : AreWritable to images
-    writable = record {
-      count = returned.count;
-      of = returned.of;
-      may = λ i d image there at. may_be to new fit well compatible wanted backs are_back kinds i d image there at;
-    }
 
 -- ---- one device
 
@@ -54,12 +26,7 @@ module _ (to new : Set) (images : List Typed) (writable : AreWritable to images)
   -- the image that the older set has of it is ready, or isn't
   pub valid_of : (i : ℕ) (image : Typed) → find_device 0 to.devices (device_at new k).desc.name (device_at new k).instance ≡ Some i
       → slice_get all i ≡ Some (state_of image) → IsReady to (device_at to i) (state_of image) → IsValidAt to new all k
-  valid_of i image found at ready j d e back in_new found' in_old at' =
-      let e_is = device_is new k e in_new in
-      let number : i ≡ j = cc in
-      let back_is : state_of image ≡ back = cc (at, at') in
-      let d_is : device_at to i ≡ d = rw number (device_is to j d in_old) in
-      rw (← d_is, ← back_is) ready.valid
+  valid_of i image found at ready j d e back in_new found' in_old at' = grind (arith, device_is)
 
   pub invalid_of : (i : ℕ) (image : Typed) → k < length new.devices → find_device 0 to.devices (device_at new k).desc.name (device_at new k).instance ≡ Some i
       → i < length to.devices → slice_get all i ≡ Some (state_of image) → (IsReady to (device_at to i) (state_of image) → ⊥) → IsValidAt to new all k → ⊥
@@ -76,21 +43,10 @@ module _ (to new : Set) (images : List Typed) (writable : AreWritable to images)
   pub valid_none : find_device 0 to.devices (device_at new k).desc.name (device_at new k).instance ≡ None → IsValidAt to new all k
   valid_none none j d e back in_new found in_old at = let e_is = device_is new k e in_new in cc
 
-module _ (to new : Set) (name : Option (List ℕ)) (wanted there : List (List ℤ)) (backs : List Image) (same : wanted ≡ there) where
-  pub machine_judged : FirstInvalid to new backs None → (r : Result (Option ℕ) Loss) → KeepsMachine to name r → Judges to new name wanted there backs r
-  machine_judged valid (Ok m) h = (record { cells = same; valid = valid; machine_is = h.one }, h)
-  machine_judged valid (Err loss) h =
-      rw h.loss_is (OfMachine h.which same valid h.is h.none)
-
 -- a machine that is found by its name
 pub keeps_machine : (to new : Set) (names : List (List ℕ)) (name : List ℕ) (k own : ℕ) → names ≡ to.machines → name ≡ get_or new.machines k []
     → IsNameAt names name (Some own) → KeepsName to (name_of new (Some k)) (Some own)
-keeps_machine to new names name k own names_are name_is h =
-    record {
-      is = rw (← names_are, ← name_is, ← h.2) (slice_get-get_or names own [] h.1);
-      inside = rw (← names_are) h.1;
-      one = rw (← names_are, ← name_is) h.0;
-    }
+keeps_machine to new names name k own names_are name_is h = search (arith, slice_get-get_or)
 
 -- ---- the answer, of what comes back of the images that a loader of the newest set keeps
 
@@ -131,14 +87,27 @@ module _ (to new : Set) (images : List Image) (typed : List Typed) (lost : Optio
   long : length wants ≡ length new.devices
   long = recast_long to new.devices (numbers_in images) (length-map images (λ (image : Image). image.numbers) ∙ p.kept.one_each)
 
-  pub writable_back : AreWritable to typed
-  writable_back = writable to new wants typed lost p.returned p.fit well p.compatible (newest_kinds to new p.newest images p.kept)
+  kinds : (k : ℕ) (e : Device) → slice_get new.devices k ≡ Some e → AreOfKinds (device_cells new e) (get_or wants k [])
+  kinds = newest_kinds to new p.newest images p.kept
 
   pub backs_are : AreBack to new wants states
-  backs_are = are_back to new wants typed lost p.returned
+  backs_are = record {
+    one_each = cc (length-map typed state_of, p.returned.count);
+    each = λ i k d e image q at.
+        let d_is = device_is to i d q.in_old in
+        let e_is = device_is new k e q.in_new in
+        rw (← d_is, ← e_is) (p.returned.back i k image (rw (d_is, e_is) q) at);
+  }
+
+  pub writable_back : AreWritable to typed
+  writable_back = record {
+    count = p.returned.count;
+    of = p.returned.of;
+    may = may_be to new p.fit well p.compatible wants states backs_are kinds;
+  }
 
   pub ready_back : ((k : ℕ) → k < length new.devices → IsValidAt to new states k) → AreReady to states
-  ready_back valid = ready_if to new p.fit well p.compatible wants states backs_are (newest_kinds to new p.newest images p.kept) valid
+  ready_back valid = ready_if to new p.fit well p.compatible wants states backs_are kinds valid
 
   first_lost : (found : Option LostCell) → lost ≡ found → IsFirstLost to new wants (length to.devices) states found
   first_lost found same = rw (← same) p.returned.first_lost
@@ -153,12 +122,13 @@ module _ (to new : Set) (images : List Image) (typed : List Typed) (lost : Optio
       → Loses to new name wants given states (Some k) (first_cell_at new k)
   device_first name same k h =
       let cell : first_cell (get_or wants k []) ≡ first_cell_at new k =
-      same_first _ _ (newest_kinds to new p.newest images p.kept k (device_at new k) (slice_get-get_or new.devices k no_device h.0)).long in
+      same_first _ _ (kinds k (device_at new k) (slice_get-get_or new.devices k no_device h.0)).long in
       rw (← cell) (OfDevice k h.0 (kept_cells same) h.1 h.2)
 
   pub machine_last : (name : Option (List ℕ)) → lost ≡ None → FirstInvalid to new states None → (m : Result (Option ℕ) Loss) → KeepsMachine to name m
       → Judges to new name wants given states m
-  machine_last name same valid m h = machine_judged to new name wants given states (kept_cells same) valid m h
+  machine_last name same valid (Ok m) h = (record { cells = kept_cells same; valid = valid; machine_is = h.one }, h)
+  machine_last name same valid (Err loss) h = rw h.loss_is (OfMachine h.which (kept_cells same) valid h.is h.none)
 
 -- ---- of each state of the newer set something comes back, and either all is kept or something is lost first
 
@@ -181,10 +151,7 @@ first_bad P Bad (suc n) either = elim (first_bad P Bad n (λ i lt. either i (ome
 ]
 
 same_or_not : (x y : ℤ) → (x ≡ y) ⊎ (x ≡ y → ⊥)
-same_or_not x y = go _ refl where
-  go : (b : Bool) → int_eq x y ≡ b → (x ≡ y) ⊎ (x ≡ y → ⊥)
-  go true e = inl ((signed_Decides x y).0 e)
-  go false e = inr (λ same. (let t = (signed_Decides x y).1 same in cc))
+same_or_not x y = grind arith
 
 first_differ : (xs ys : List ℤ) → length xs ≡ length ys → (xs ≡ ys) ⊎ ((c : ℕ) × DifferAt xs ys c)
 first_differ xs ys long =
@@ -294,11 +261,10 @@ module _ (to new : Set) (fit : IsFit to) (well : WellFormed new) (compatible : C
 
 pub answered : AnswerLaw
 answered to new fit well compatible machine images long kinds =
-    let wanted = recast_each to new.devices (numbers_in images) in
-    let h = backs_of to new fit well compatible wanted in
+    let h = backs_of to new fit well compatible _ in
     record {
       backs = h.list;
       back = record { one_each = h.long; each = λ i k d e image p at. h.each i image at k d e p };
-      answer = answered_all to new fit well compatible wanted
+      answer = answered_all to new fit well compatible _
           (recast_long to new.devices (numbers_in images) (length-map images (λ (x : Image). x.numbers) ∙ long)) kinds h machine;
     }

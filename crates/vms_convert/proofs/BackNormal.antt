@@ -4,10 +4,10 @@ use Rattle.vms_convert.proofs.Facade.{ne_eqb, ◌≡◌, ℕ, zero, suc, ◌+◌
 use Rattle.vms_convert.proofs.Facade.{arith, inl, inr, ◌<◌, length, get_or, map, Option, ℤ, pos, false, if◌then◌else◌, length-set, ◌==◌}
 use Rattle.vms_convert.proofs.Facade.{slice_get, leb-true, eq-eqb, or_parts, get_or-map, get_or-set_other, get_or-set_same, length-map, false_from_ne_true}
 use Rattle.vms_convert.proofs.Facade.{get_or_from_slice_get, Sub, Device, Set, Image, FitsCell, has_cell, image_slots, own_slots, own_cells, came_slots}
-use Rattle.vms_convert.proofs.Facade.{sub_slots, is_needed, needed_from, bare, image_of, AreSubs, versions, needed, within_all, InRange, exceeds, Cell, no_cell}
-use Rattle.vms_convert.proofs.Facade.{Slot, device_cells, WellFormed, FitsHeads, IsGood, names_append, none_in_both, its_same, its_below, its_above, SameIn}
-use Rattle.vms_convert.proofs.Facade.{sub_size, sub_place_up, parts_together, part_apart, part_place, well_good, device_parts, sub_clean, IsCellOf, IsBack}
-use Rattle.vms_convert.proofs.Facade.{taken, whole, ArePartners, AreOfKinds, own_or_sub, Typed, WalkStep, changed, Changes, AreTargets, give_partner, give_step}
+use Rattle.vms_convert.proofs.Facade.{sub_slots, is_needed, needed_from, bare, image_of, AreSubs, versions, needed, within_all, InRange, Cell, no_cell, Slot}
+use Rattle.vms_convert.proofs.Facade.{device_cells, WellFormed, FitsHeads, IsGood, names_append, none_in_both, its_same, its_below, its_above, SameIn, sub_size}
+use Rattle.vms_convert.proofs.Facade.{sub_place_up, parts_together, part_apart, part_place, well_good, device_parts, sub_clean, IsCellOf, IsBack, taken, whole}
+use Rattle.vms_convert.proofs.Facade.{ArePartners, AreOfKinds, own_or_sub, Typed, WalkStep, changed, Changes, AreTargets, give_partner, give_step}
 use Rattle.vms_convert.proofs.Facade.{device_partners, IsCarried, steps_of, its_in}
 use Rattle.vms_walk.specs.declared.step.WalkStep.TheVariants.{Number as Step}
 
@@ -19,11 +19,7 @@ all_subs (s ∷ subs) h = (h 0 s refl, all_subs subs (λ j t e. h (suc j) t e))
 
 taken_fits : (numbers : List ℤ) (cell : Cell) (has : Bool) (p : Option ℕ) → FitsCell cell cell.default
     → ((k : ℕ) → p ≡ Some k → InRange cell.kind (get_or numbers k (pos 0))) → FitsCell cell (taken numbers cell has p)
-taken_fits numbers cell true (Some k) fine h = go _ refl where
-  go : (b : Bool) → exceeds cell.capacities (get_or numbers k (pos 0)) ≡ b → FitsCell cell (if b then cell.default else get_or numbers k (pos 0))
-  go true e = fine
-  go false e = (h k refl, within_all cell.capacities (get_or numbers k (pos 0)) e)
-taken_fits numbers cell _ _ fine h = fine
+taken_fits numbers cell has p fine h = grind (arith, within_all)
 
 pub at_get : (partners : List (Option ℕ)) (c k : ℕ) → get_or partners c None ≡ Some k → slice_get partners c ≡ Some (Some k)
 at_get [] c k e = cc

@@ -1,20 +1,19 @@
 -- What is converted loads as the newer set's, and again: recast numbers, and the parts of a device
 -- one by one.
-use Rattle.vms_convert.proofs.{TakeLaws.first_slots, TakeLaws.first_next, TakeLaws.one_slots, HasBack.one_back, Settling.back_versions, Settling.some_at}
+use Rattle.vms_convert.proofs.{TakeLaws.first_slots, TakeLaws.walk_next, TakeLaws.one_slots, HasBack.one_back, Settling.back_versions, Settling.some_at}
 use Rattle.vms_convert.proofs.BackNormal.{back_may, at_get, gives, given_all, steps_long}
 use Rattle.vms_convert.proofs.Facade.{◌≡◌, zero, suc, Bool, true, false, List, [], ◌∷◌, get_or, map, Some, ℤ, refl, sym, arith}
 use Rattle.vms_convert.proofs.Facade.{if◌then◌else◌, ℕ, ◌<◌, length, ap, Option, None, IfSome, slice_get, Device, Set, Cell, first, device_cells}
 use Rattle.vms_convert.proofs.Facade.{Image, IsNormal, newest_set, timer, i8259_at_4, i8254_at_2, AreOf, kind-of, count-of, kinds, IsPortCells, recast_cells}
 use Rattle.vms_convert.proofs.Facade.{recast_kinds, AreRecastOf, RecastOfLaw, OneLostLaw, AreOfKinds, recast, wants_arrays, is_port, AreKept, serial_at_4}
-use Rattle.vms_convert.proofs.Facade.{port-of, recast_each, is_one_of, one_number, DifferAt, Loses, OfCell, OfDevice, OfMachine, KeepsAll, changed_append}
-use Rattle.vms_convert.proofs.Facade.{step_of, add-one, ◌+◌, ◌≤◌, ◌∙◌, append-nil, slice_get-get_or, take_all, map-append, own_slots}
-use Rattle.vms_convert.proofs.Facade.{image_slots, needed_at, is_well_formed, sub_at, few_cells, own_inside_device, sub_inside, Typed, HasSpot, spot_slots}
-use Rattle.vms_convert.proofs.Facade.{steps_of, SettlesBy, SettlesSub, part_of, part_slots, sub_slots_at, changed, part_place, give_step, subst}
-use Rattle.vms_convert.proofs.Facade.{slice_get_within, get_or-map, length-map, Ok, AreReady, longest_text, written, WellFormed, no_cell, IsFit, same_lists}
-use Rattle.vms_convert.proofs.Facade.{well_good, Compatible, carried, carried_device, pair, back, all_in, upgrade_stands, recast_twice, AreBack, IsConverted}
-use Rattle.vms_convert.proofs.Facade.{IsPairAt, OneBackLaw, BackLaw, numbers_in, device_partners, device_paired, U8, ArePartners, carried_stands, kinds_at}
-use Rattle.vms_convert.proofs.Facade.{default_at, state_of, IsBack, Changes, AreTargets, AreSources, IsWholeStream, Converts, at_option, IsStreamFor}
-use Rattle.vms_convert.proofs.Facade.{PutsStream, Judges, stream_of, ArePut, Pair, MayBeWritten, IsValidAt}
+use Rattle.vms_convert.proofs.Facade.{port-of, recast_each, is_one_of, one_number, DifferAt, Loses, OfCell, OfDevice, OfMachine, KeepsAll, ◌+◌, ◌≤◌}
+use Rattle.vms_convert.proofs.Facade.{◌∙◌, append-nil, slice_get-get_or, take_all, own_slots, image_slots, is_well_formed, sub_at, few_cells}
+use Rattle.vms_convert.proofs.Facade.{own_inside_device, sub_inside, Typed, HasSpot, spot_slots, steps_of, SettlesSub, part_of, part_slots, sub_slots_at}
+use Rattle.vms_convert.proofs.Facade.{changed, part_place, give_step, subst, slice_get_within, get_or-map, length-map, Ok, AreReady, longest_text, written}
+use Rattle.vms_convert.proofs.Facade.{WellFormed, no_cell, IsFit, same_lists, well_good, Compatible, carried, carried_device, pair, back, all_in}
+use Rattle.vms_convert.proofs.Facade.{upgrade_stands, recast_twice, AreBack, IsConverted, IsPairAt, OneBackLaw, BackLaw, numbers_in, device_partners}
+use Rattle.vms_convert.proofs.Facade.{device_paired, U8, ArePartners, carried_stands, kinds_at, default_at, state_of, IsBack, Changes, AreTargets, AreSources}
+use Rattle.vms_convert.proofs.Facade.{IsWholeStream, Converts, at_option, IsStreamFor, PutsStream, Judges, stream_of, ArePut, Pair, MayBeWritten, IsValidAt}
 use Rattle.vms_parts.specs.Devices.{device_at}
 use Rattle.vms_spec.specs.declared.Part.TheVariants as parts
 
@@ -22,18 +21,10 @@ use Rattle.vms_spec.specs.declared.Part.TheVariants as parts
 
 -- the same, as the devices say it
 to_kinds : (cells : List Cell) (numbers : List ℤ) → AreOfKinds cells numbers → AreOf (map (λ cell. cell.kind) cells) numbers
-to_kinds cells numbers h =
-    record {
-      count = omega (arith, count-of cells);
-      in_range = λ c lt. rw (kind-of cells c) (h.in_range c (omega (arith, count-of cells)));
-    }
+to_kinds cells numbers h = search (arith, count-of, kind-of)
 
 from_kinds : (cells : List Cell) (numbers : List ℤ) → AreOf (map (λ cell. cell.kind) cells) numbers → AreOfKinds cells numbers
-from_kinds cells numbers h =
-    record {
-      long = omega (arith, count-of cells);
-      in_range = λ c lt. rw (← kind-of cells c) (h.in_range c (omega (arith, count-of cells)));
-    }
+from_kinds cells numbers h = search (arith, count-of, kind-of)
 
 of_normal : (d : Device) (image : Image) → IsNormal newest_set d image → AreOfKinds (device_cells newest_set d) image.numbers
 of_normal d image n = record { long = n.cells.long; in_range = λ c lt. (n.cells.fits c lt).0 }
@@ -116,9 +107,7 @@ module _ (to new : Set) (machine : Option (List ℕ)) (wanted there : List (List
   not_all k c d e = not_same k c d (rw e)
 
   never : (section cell : Option ℕ) → KeepsAll to new machine wanted there backs → Lost section cell → ⊥
-  never section cell h (OfCell k c before differ) = not_all k c differ h.cells
-  never section cell h (OfDevice k inside same before bad) = bad (h.valid k inside)
-  never section cell h (OfMachine name same valid is not) = let e = accepted to _ name h.machine_is is in let f : true ≡ false = cc in absurd (cc)
+  never section cell h said = grind (arith, not_all)
 
   first_differ : (k c k' c' : ℕ) → ((i : ℕ) → i < k → get_or wanted i [] ≡ get_or there i []) → Differ k c
       → ((i : ℕ) → i < k' → get_or wanted i [] ≡ get_or there i []) → Differ k' c' → k ≡ k'
@@ -149,24 +138,13 @@ module _ (set : Set) (i : ℕ) (lt : i < length set.devices) where
 
   module _ (well : is_well_formed set ≡ true) (n : List ℤ) (long : length n ≡ length (device_cells set (device_at set i))) where
     pub own_spot : HasSpot set (part_of set (parts.Device i)) n
-    own_spot = record {
-      part = lt;
-      few = omega (arith, few_cells set well i);
-      room = omega (arith, own_inside_device set i);
-    }
+    own_spot = search (arith, few_cells, own_inside_device)
 
     pub sub_spot : (j : ℕ) → j < length (device_at set i).subs → HasSpot set (part_of set (parts.Sub i j)) n
-    sub_spot j less = record {
-      part = (lt, less);
-      few = omega (arith, few_cells set well i);
-      room = omega (arith, sub_inside set i j less);
-    }
+    sub_spot j less = search (arith, few_cells, sub_inside)
 
   pub settle_rest : (a b : Typed) (j : ℕ) → SettlesSub set i j a b → b ≡ record a { numbers = b.numbers }
-  settle_rest a b j s = go (needed_at set i j a.numbers) s where
-    go : (t : Bool) → SettlesBy t set i j a b → b ≡ record a { numbers = b.numbers }
-    go true s = s ∙ ap (λ (x : Typed). record a { numbers = x.numbers }) (sym s)
-    go false s = s.1
+  settle_rest a b j s = grind arith
 
 -- ---- What is given, part by part.
 
@@ -193,9 +171,7 @@ module _ (set : Set) (i : ℕ) (lt : i < length set.devices) (image : Image) (lo
       let o = get_or image.came j None in
       let at : slice_get dev.subs j ≡ Some (sub_at dev j) = slice_get-get_or dev.subs j _ less in
       let at' : slice_get image.came j ≡ Some (get_or image.came j None) = slice_get-get_or image.came j None (omega arith) in
-      let front = first_slots set dev image.came j n in
-      let both = changed_append (give_step partners n) (steps_of front) (steps_of (part_slots set i j image)) before in
-      rw (add-one j, first_next set dev image.came j (sub_at dev j) o n at at', one_is j o, map-append step_of front (part_slots set i j image), both, ← e) f
+      walk_next (give_step partners n) set dev image.came j (sub_at dev j) o n before now next at at' e (rw (one_is j o) f)
 
   pub gave_all : (before : List ℤ) (j : ℕ) → length dev.subs ≤ j → j ≤ length dev.subs
       → gives_to j before ≡ changed (give_step partners n) (steps_of (image_slots set dev image)) before
@@ -309,42 +285,12 @@ module _ (to new : Set) (fit : IsFit to) (well : WellFormed new) (i k : ℕ) (d 
   abbrev ps : List (Option ℕ)
   ps = device_partners to new d e
 
-  paired : ArePartners (device_cells to d) (device_cells new e) (device_partners to new d e)
-  paired = device_paired to new fit.well well i d e at_i
-
-  kind_at : (cells : List Cell) (c : ℕ) → get_or (map (λ c. c.kind) cells) c U8 ≡ (get_or cells c no_cell).kind
-  kind_at cells c = get_or-map (λ (c : Cell). c.kind) cells c no_cell
-
-  -- the numbers of the newer device may be taken
-  pub sources_are : (numbers : List ℤ) → AreOfKinds (device_cells new e) numbers → AreSources (map (λ c. c.kind) (device_cells to d)) numbers ps
-  sources_are numbers of =
-      let long = paired.long in
-      record {
-        long = cc (length-map (device_cells to d) (λ (c : Cell). c.kind));
-        inside = λ c j f. let inside = (paired.kinds c j (at_get ps c j f)).0 in omega arith;
-        in_range = λ c j f.
-            let h = paired.kinds c j (at_get ps c j f) in
-            rw (kind_at (device_cells to d) c, h.1) (of.in_range j h.0);
-      }
-
-  -- those of the older device's image may be given
-  pub targets_are : (image : Image) → IsNormal to d image → AreTargets (map (λ c. c.kind) (device_cells new e)) image.numbers ps
-  targets_are image normal =
-      let long = paired.long in
-      record {
-        long = omega arith;
-        inside = λ c j f. let inside = (paired.kinds c j (at_get ps c j f)).0 in omega (arith, length-map (device_cells new e) (λ (c : Cell). c.kind));
-        in_range = λ c j f.
-            let g = at_get ps c j f in
-            rw (kind_at (device_cells new e) j, ← (paired.kinds c j g).1) (normal.cells.fits c (omega (arith, slice_get_within ps c (Some j) g))).0;
-      }
-
-  -- what they are given from defaults on is what is carried
+  -- what its partners are given from defaults on is what is carried
   pub given_carried : (numbers : List ℤ) (image : Image) → IsBack to d ps numbers image
       → gives ps image.numbers (image_slots to d image) (map (λ c. c.default) (device_cells new e)) ≡ (carried_device to new d e image).numbers
   given_carried numbers image back =
       carried_stands to new fit.well well i k d e at_i at_k image (back_versions to d ps _ image back)
-      (gives ps image.numbers (image_slots to d image) (map (λ (c : Cell). c.default) (device_cells new e))) (given_all to new d e image paired)
+      (gives ps image.numbers (image_slots to d image) (map (λ (c : Cell). c.default) (device_cells new e))) (given_all to new d e image (device_paired to new fit.well well i d e at_i))
 
 -- ---- as the calls have it
 
@@ -364,18 +310,40 @@ module _ (to new : Set) (i k : ℕ) (source : List ℤ) (p : IsReturning to new 
   abbrev e : Device
   e = device_at new k
 
+  abbrev theirs : List (Option ℕ)
+  theirs = device_partners to new (device_at to i) (device_at new k)
+
+  paired : ArePartners (device_cells to d) (device_cells new e) (device_partners to new d e)
+  paired = device_paired to new p.fit.well p.well i d e (there to i p.device)
+
+  kind_at : (cells : List Cell) (c : ℕ) → get_or (map (λ c. c.kind) cells) c U8 ≡ (get_or cells c no_cell).kind
+  kind_at cells c = get_or-map (λ (c : Cell). c.kind) cells c no_cell
+
+  -- the numbers of the newer device may be taken
   pub sources_of : AreSources (kinds_at to i) source partners
-  sources_of = rw partners_are (sources_are to new p.fit p.well i k d e (there to i p.device) (there new k p.other) source p.kinds)
+  sources_of = rw partners_are (record {
+    long = cc (length-map (device_cells to d) (λ (c : Cell). c.kind), paired.long);
+    inside = λ c j f. omega (arith, (paired.kinds c j (at_get theirs c j f)).0, p.kinds.long);
+    in_range = λ c j f. (let h = paired.kinds c j (at_get theirs c j f) in rw (kind_at (device_cells to d) c, h.1) (p.kinds.in_range j h.0));
+  })
 
   module _ (image : Typed) (back : IsBack to (device_at to i) partners source (state_of image)) where
     pub back_of : IsBack to d (device_partners to new d e) source (state_of image)
     back_of = rw (← partners_are) back
 
     module _ (carried : Typed) (fresh : carried ≡ default_at new k) where
+      -- those of the older device's image may be given
       pub targets_of : AreTargets carried.kinds image.numbers partners
       targets_of =
-          let normal = (back_stands to new p.fit p.well i d e (there to i p.device) source p.kinds (state_of image) back_of).normal in
-          rw (partners_are, fresh) (targets_are to new p.fit p.well i k d e (there to i p.device) (there new k p.other) _ normal)
+          let fits = (back_stands to new p.fit p.well i d e (there to i p.device) source p.kinds (state_of image) back_of).normal.cells in
+          rw (partners_are, fresh) (record {
+            long = omega (arith, fits.long, paired.long);
+            inside = λ c j f. omega (arith, (paired.kinds c j (at_get theirs c j f)).0, length-map (device_cells new e) (λ (c : Cell). c.kind));
+            in_range = λ c j f.
+                let g = at_get theirs c j f in
+                rw (kind_at (device_cells new e) j, ← (paired.kinds c j g).1)
+                (fits.fits c (omega (arith, slice_get_within theirs c (Some j) g, paired.long))).0;
+          })
 
       module _ (target : Typed)
           (changes : Changes (give_step partners image.numbers) (steps_of (image_slots to (device_at to i) (state_of image))) carried target) where

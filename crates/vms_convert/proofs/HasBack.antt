@@ -2,10 +2,10 @@
 -- fields.
 use Rattle.vms_convert.proofs.Facade.{get_or_append_left, get_or_from_slice_get, slice_get_within, ◌≡◌, ℕ, zero, suc, ◌+◌, ◌<◌, ◌≤◌, List}
 use Rattle.vms_convert.proofs.Facade.{[], ◌∷◌, ◌++◌, ◌⊎◌, length, get_or, drop, Option, Some, None, ℤ, refl, sym, ap, ◌∙◌, arith, Bool}
-use Rattle.vms_convert.proofs.Facade.{if◌then◌else◌, length-append, map, pos, inl, inr, slice_get, ext_get_or, slice_get-get_or, cases_lt, sub_place_up}
+use Rattle.vms_convert.proofs.Facade.{if◌then◌else◌, length-append, pos, inl, inr, slice_get, ext_get_or, slice_get-get_or, cases_lt, sub_place_up}
 use Rattle.vms_convert.proofs.Facade.{IsCellOf, one_part, Item, Field, Desc, Sub, Device, Set, is_there, Slot, Meaning, no_meaning, no_desc, item_slots}
 use Rattle.vms_convert.proofs.Facade.{item_size, times, field_slots, slots_from, desc_slots, desc_cells, struct_cells, field_cells, place_of, numbers_of}
-use Rattle.vms_convert.proofs.Facade.{elements_of, counted, no_parent, first, meaning, meanings, Cell, no_cell, device_cells, has_cell, own_cells, came_slots}
+use Rattle.vms_convert.proofs.Facade.{elements_of, no_parent, first, meaning, meanings, Cell, no_cell, device_cells, has_cell, own_cells, came_slots}
 use Rattle.vms_convert.proofs.Facade.{image_slots, Image, one_more, IsSound, AreSound, IsSoundField, AreSoundFields, IsEarlier, names_append, SameBelow}
 use Rattle.vms_convert.proofs.Facade.{there_same, elements_same, place_next, MeanAbove, meanings_above, field_above, SameIn, in_less, own_in, cells_in}
 use Rattle.vms_convert.proofs.Facade.{drop_next, place_first, zero_plus, is_needed, well_good, sub_within, image_of, AreSettled, AreTaken, taken, whole, IsBack}
@@ -20,9 +20,7 @@ alike : (c : ℕ) (xs : List Slot) → Alike c xs xs
 alike c xs = record { is = refl }
 
 either_part : {c : ℕ} {xs ys us vs : List Slot} → Alike c xs us → Alike c ys vs → Alike c (xs ++ ys) (us ++ vs)
-either_part {c} {xs} {ys} {us} {vs} p q = record {
-  is = rw (names_append xs ys c, names_append us vs c, p.is, q.is);
-}
+either_part {c} {xs} {ys} {us} {vs} p q = search (arith, names_append)
 
 -- ---- structures
 
@@ -66,10 +64,9 @@ module _ (ms : List Meaning) (h : MeanKnown ms) (above : MeanAbove ms) where
     | inr le ↦
         let before = numbers_of cs d n base in
         let now = numbers_of cs d k base in
-        let caps = counted i d.fields in
         let below = in_less base base cell c n k (omega arith) le s in
         let same : (j : ℕ) → IsEarlier d.fields i j → now j ≡ before j = λ j x. own_in cs d base i cell j n k here below x in
-        let known = items_known f.item caps (elements_of f.count before) cell (item_size cs f.item) c n k (in_less base cell c c n k up (omega arith) s) in
+        let known = items_known f.item _ (elements_of f.count before) cell (item_size cs f.item) c n k (in_less base cell c c n k up (omega arith) s) in
         record {
           is = rw (there_same d.fields i v f.since before now same f.test sound.test, elements_same d.fields i before now same f.count sound.count)
               (either c (is_there f.test f.since v before no_parent) _ _ known).is;
@@ -107,8 +104,7 @@ module _ (set : Set) (structs : AreSound set.structs) where
   part_known : (d : Desc) → IsSound d → (v base c : ℕ) (n m : List ℤ) → SameBelow c n m
       → Alike c (desc_slots (meanings set.structs (length set.structs)) d v m base) (desc_slots (meanings set.structs (length set.structs)) d v n base)
   part_known d sound v base c n m s =
-      let k = length set.structs in
-      desc_known (meanings set.structs k) (meanings_known set.structs structs k (omega arith)) (meanings_above set.structs k) d v base c n m sound
+      desc_known (meanings set.structs _) (meanings_known set.structs structs _ (omega arith)) (meanings_above set.structs _) d v base c n m sound
       (record { same = λ i up lt. s.same i lt })
 
   abbrev pub AllSound : List Sub → Type 0
@@ -119,8 +115,7 @@ module _ (set : Set) (structs : AreSound set.structs) where
   came_known d from c n m (t ∷ subs) (None ∷ came) sound s =
       came_known d (from + length (desc_cells (struct_cells set) t.desc)) c n m subs came (λ j u e. sound (suc j) u e) s
   came_known d from c n m (t ∷ subs) (Some v ∷ came) sound s =
-      let next = from + length (desc_cells (struct_cells set) t.desc) in
-      either_part (part_known t.desc (sound 0 t refl) v from c n m s) (came_known d next c n m subs came (λ j u e. sound (suc j) u e) s)
+      either_part (part_known t.desc (sound 0 t refl) v from c n m s) (came_known d _ c n m subs came (λ j u e. sound (suc j) u e) s)
   came_known d from c n m _ _ sound s = alike c []
 
   -- the numbers before a cell determine whether it is in the bytes of an image
@@ -245,10 +240,7 @@ module _ (to : Set) (structs : AreSound to.structs) (d : Device) (own : IsSound 
   module _ (numbers a b : List ℤ) (p : AreTaken to d partners numbers a) (q : AreTaken to d partners numbers b) where
     below : (m : ℕ) → m ≤ length (device_cells to d) → SameBelow m a b
     below zero le = record { same = λ c lt. absurd (omega arith) }
-    below (suc m) le =
-        let before : SameBelow m a b = below m (omega arith) in
-        let known = image_known to structs d own subs d.desc.version (map (λ s. Some s.desc.version) d.subs) m a b before in
-        record { same = λ c lt. by_last c m lt (λ less. before.same c less) (λ same. rw (same, q.each m le, known, p.each m le)) }
+    below (suc m) le = search (arith, image_known, by_last, below m (omega arith))
 
     -- the numbers that are taken
     pub one_taken : b ≡ a

@@ -2,17 +2,16 @@
 use Rattle.vms_convert.proofs.Converts.{there, newest_kinds, port_cells, port_is, recast_at}
 use Rattle.vms_convert.proofs.Facade.{◌≡◌, ℕ, ◌+◌, ◌<◌, Bool, true, false, nat_lt, List, [], ◌∷◌, ◌++◌, length, get_or, map, Option}
 use Rattle.vms_convert.proofs.Facade.{Some, None, ℤ, refl, sym, ap, ◌∙◌, arith, if◌then◌else◌, get_or-append_seam, ltb-true, ltb-false}
-use Rattle.vms_convert.proofs.Facade.{get_or_append_left, get_or_default, length-map, get_or_from_slice_get, slice_get-get_or, slice_get_within, slice_get}
-use Rattle.vms_convert.proofs.Facade.{take_all, length-append, ◌≤◌, slice_set, take, map-append, take_more_set, back, Device, Set, Image, find_device}
-use Rattle.vms_convert.proofs.Facade.{index, WellFormed, device_at, device_is, carried, carried_at, carried_device, no_image, Compatible, found_device, pair}
-use Rattle.vms_convert.proofs.Facade.{all_in, at_map, DifferAt, Loses, OfCell, numbers_in, FirstDifference, ArePaired, IsFirstLost, IsLostCell, carried_of}
-use Rattle.vms_convert.proofs.Facade.{LostCell, IsBack, device_partners, default_image, Typed, state_of, AreImagesOf, default_at, typed, IsReturned}
-use Rattle.vms_convert.proofs.Facade.{AreReturnedTo, AreReturned, IsRecastFor, kinds_at, recast, AreFresh, AreRoutes, IsRoute, Route, first, newest_set}
-use Rattle.vms_convert.proofs.Facade.{AreKept, kinds, recast_each, at_other, IsImageOf}
-use Rattle.vms_convert.proofs.Facade.{Older, older}
+use Rattle.vms_convert.proofs.Facade.{get_or_append_left, length-map, get_or_from_slice_get, slice_get-get_or, slice_get_within, slice_get, take_all}
+use Rattle.vms_convert.proofs.Facade.{length-append, ◌≤◌, slice_set, take, map-append, take_more_set, back, Device, Set, Image, find_device, index}
+use Rattle.vms_convert.proofs.Facade.{WellFormed, device_at, device_is, carried, carried_at, carried_device, no_image, Compatible, found_device, pair, all_in}
+use Rattle.vms_convert.proofs.Facade.{at_map, DifferAt, Loses, OfCell, numbers_in, FirstDifference, ArePaired, IsFirstLost, IsLostCell, carried_of, LostCell}
+use Rattle.vms_convert.proofs.Facade.{IsBack, device_partners, default_image, Typed, state_of, AreImagesOf, default_at, typed, IsReturned, AreReturnedTo}
+use Rattle.vms_convert.proofs.Facade.{AreReturned, IsRecastFor, kinds_at, recast, AreFresh, AreRoutes, IsRoute, Route, first, newest_set, AreKept, kinds}
+use Rattle.vms_convert.proofs.Facade.{recast_each, at_other, IsImageOf, Older, older, ext_get_or}
 use Rattle.vms_convert.proofs.HasBack.{extend, appended}
 use Rattle.vms_convert.specs.Returns.{IsEarlier}
-use Rattle.std.proofs.lemmas.List.{same_lists, length-set}
+use Rattle.std.proofs.lemmas.List.{length-set}
 
 abbrev pub no_device : Device
 no_device = device_at (record { machines = []; structs = []; devices = [] }) 0
@@ -41,8 +40,7 @@ module _ (to new : Set) (wanted : List (List ℤ)) where
     -- what the devices before give, and this one
     upto : (l : ℕ) → ((i : ℕ) → i < n → ArePaired to new i l → get_or wanted l [] ≡ carried_of to new backs i l) → (ArePaired to new n l → Gives n l)
         → (i : ℕ) → i < n + 1 → ArePaired to new i l → Gives i l
-    upto l front end i lt =
-        extend (λ (i : ℕ). ArePaired to new i l → Gives i l) n (λ i lt p. rw (at_front i l lt) (front i lt p)) end i (omega arith)
+    upto l front end i lt = grind (arith, extend, at_front)
 
     -- this device gives all its numbers
     end_gives : get_or wanted k [] ≡ gives → (l : ℕ) → ArePaired to new n l → Gives n l
@@ -50,26 +48,12 @@ module _ (to new : Set) (wanted : List (List ℤ)) where
 
     still : (l : LostCell) → IsLostCell to new wanted n backs l → ((j : ℕ) → j < l.device → ArePaired to new n j → Gives n j)
         → IsLostCell to new wanted (n + 1) more l
-    still l h end =
-        let inside = h.inside in
-        record {
-          i = h.i;
-          inside = omega arith;
-          pair = h.pair;
-          differs = rw (at_front h.i l.device inside) h.differs;
-          before = λ i j lt less. upto j (λ i lt. h.before i j lt less) (end j less) i lt;
-        }
+    still l h end = search (arith, at_front, upto)
 
     lost_here : (c : ℕ) → DifferAt (get_or wanted k []) gives c
         → ((i j : ℕ) → i < n → j < k → ArePaired to new i j → get_or wanted j [] ≡ carried_of to new backs i j)
         → IsLostCell to new wanted (n + 1) more (record { device = k; cell = c })
-    lost_here c differs before = record {
-      i = n;
-      inside = omega arith;
-      pair = pair;
-      differs = rw (at_end k) differs;
-      before = λ i j lt less. upto j (λ i lt. before i j lt less) (λ p. absurd (omega (arith, same_partner n k j pair p))) i lt;
-    }
+    lost_here c differs before = search (arith, at_end, upto, same_partner)
 
     all_given : (known : Option LostCell) → IsFirstLost to new wanted n backs known → get_or wanted k [] ≡ gives
         → IsFirstLost to new wanted (n + 1) more known
@@ -108,25 +92,22 @@ module _ (to new : Set) (well_to : WellFormed to) (well_new : WellFormed new) (c
         let stands = at_map (λ (image : Image). image.numbers) (map carry new.devices) k image (at_map carry new.devices k e at) in
         rw (get_or_from_slice_get given k _ [] stands, o.found, o.stands, device_is to o.i o.d o.stands, device_is new k e at)
 
-    older_inside : (k : ℕ) (e : Device) (o : Older to new well_to well_new compatible k e) → o.i < length to.devices
-    older_inside k e o = slice_get_within to.devices o.i o.d o.stands
-
     pub there_long : length given ≡ length new.devices
     unfolding carried
     there_long = length-map (carried to new backs) (λ (image : Image). image.numbers) ∙ length-map new.devices _
 
     module _ (wanted : List (List ℤ)) (long : length wanted ≡ length new.devices) where
+      -- what the older device of its name carries of a device is all of it
+      known : (k : ℕ) → k < length new.devices → ((i : ℕ) → i < length to.devices → ArePaired to new i k → get_or wanted k [] ≡ carried_of to new backs i k)
+          → get_or wanted k [] ≡ get_or given k []
+      known k lt h =
+          let at : slice_get new.devices k ≡ Some (device_at new k) = slice_get-get_or new.devices k no_device lt in
+          let o = older to new well_to well_new compatible k (device_at new k) at in
+          h o.i (slice_get_within to.devices o.i o.d o.stands) (older_pair k (device_at new k) at o) ∙ sym (there_is k (device_at new k) at o)
+
       -- nothing is lost of the cells
       pub all_carried : IsFirstLost to new wanted (length to.devices) backs None → wanted ≡ given
-      all_carried h =
-          same_lists wanted given (long ∙ sym there_long)
-          (λ k d lt. get_or_default wanted k d [] lt ∙ one k (omega arith) ∙ get_or_default given k [] d (omega (arith, there_long)))
-        where
-          one : (k : ℕ) → k < length new.devices → get_or wanted k [] ≡ get_or given k []
-          one k lt =
-              let at : slice_get new.devices k ≡ Some (device_at new k) = slice_get-get_or new.devices k no_device lt in
-              let o = older to new well_to well_new compatible k (device_at new k) at in
-              h o.i k (older_inside k (device_at new k) o) (older_pair k (device_at new k) at o) ∙ sym (there_is k (device_at new k) at o)
+      all_carried h = ext_get_or [] wanted given (long ∙ sym there_long) (λ k lt. known k (omega arith) (λ i inside p. h i k inside p))
 
       -- this cell is lost first
       pub cell_lost : (machine : Option (List ℕ)) (l : LostCell) → IsFirstLost to new wanted (length to.devices) backs (Some l)
@@ -136,10 +117,7 @@ module _ (to new : Set) (well_to : WellFormed to) (well_new : WellFormed new) (c
         within = slice_get_within new.devices l.device (device_at new l.device) h.pair.in_new
 
         before : (k : ℕ) → k < l.device → get_or wanted k [] ≡ get_or given k []
-        before k less =
-            let at : slice_get new.devices k ≡ Some (device_at new k) = slice_get-get_or new.devices k no_device (omega (arith, within)) in
-            let o = older to new well_to well_new compatible k (device_at new k) at in
-            h.before o.i k (older_inside k (device_at new k) o) less (older_pair k (device_at new k) at o) ∙ sym (there_is k (device_at new k) at o)
+        before k less = known k (omega (arith, within)) (λ i inside p. h.before i k inside less p)
 
         differ : DifferAt (get_or wanted l.device []) (get_or given l.device []) l.cell
         differ =

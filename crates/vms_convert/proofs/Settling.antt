@@ -1,11 +1,11 @@
 -- Whether a subsection is needed depends on its own cells and on those of its device.
 use Rattle.vms_convert.proofs.Facade.{cases_lt, inl, inr, ◌≡◌, ℕ, ◌+◌, List, length, get_or, Option, Some, None, ℤ, refl, ap, ◌∙◌, arith}
-use Rattle.vms_convert.proofs.Facade.{Bool, true, not, suc, ◌<◌, ◌≤◌, false, pos, sym, if◌then◌else◌, zero, [], ◌∷◌, slice_get, and_parts}
+use Rattle.vms_convert.proofs.Facade.{Bool, true, not, suc, ◌<◌, ◌≤◌, pos, sym, if◌then◌else◌, zero, [], ◌∷◌, slice_get, and_parts}
 use Rattle.vms_convert.proofs.Facade.{slice_get_within, slice_get-get_or, Own, Parent, Formula, Not, And, Or, Field, Desc, Sub, Device, Set, truth, place_of}
-use Rattle.vms_convert.proofs.Facade.{numbers_of, desc_cells, struct_cells, no_cell, device_cells, Image, own_cells, is_needed, is_steady, is_steady_in}
-use Rattle.vms_convert.proofs.Facade.{names_well, WellFormed, IsEarlier, place_up, place_below, place_end, sub_size, sub_place_up, places_apart, part_place}
-use Rattle.vms_convert.proofs.Facade.{SameIn, earlier, sub_clean, bare, needed_from, IsCellOf, AreSettled, whole, IsBack, same_lists, IsAtVersions, device_at}
-use Rattle.vms_convert.proofs.Facade.{needed_at, sub_at, ArePutAt, Typed, SettlesSub, SettlesBy}
+use Rattle.vms_convert.proofs.Facade.{numbers_of, desc_cells, no_cell, device_cells, Image, own_cells, is_needed, is_steady, is_steady_in, names_well}
+use Rattle.vms_convert.proofs.Facade.{WellFormed, IsEarlier, place_up, place_below, place_end, sub_size, sub_place_up, places_apart, part_place, SameIn}
+use Rattle.vms_convert.proofs.Facade.{earlier, sub_clean, bare, needed_from, IsCellOf, AreSettled, whole, IsBack, same_lists, IsAtVersions, device_at}
+use Rattle.vms_convert.proofs.Facade.{needed_at, sub_at, Typed, SettlesSub}
 use Rattle.vms_spec.specs.{Sets.Cell, Layout.Cell as OneCell}
 
 -- a test that names only fields of these numbers
@@ -39,11 +39,10 @@ module _ (set : Set) (well : WellFormed set) (k : ℕ) (d : Device) (there : sli
   pub needed_same : (j : ℕ) (s : Sub) → slice_get d.subs j ≡ Some s → (x y : Image) → SameIn 0 (0 + own_cells set d) x.numbers y.numbers
       → SameIn (part_place set d j) (part_place set d j + sub_size set s) x.numbers y.numbers → is_needed set d y s j ≡ is_needed set d x s j
   needed_same j s e x y own part =
-      let cs = struct_cells set in
       truth_alike _ (is_steady_in d.desc)
-      (numbers_of cs s.desc x.numbers (part_place set d j)) (numbers_of cs s.desc y.numbers (part_place set d j)) (numbers_of cs d.desc x.numbers 0)
-      (numbers_of cs d.desc y.numbers 0) (λ i h. number_same cs s.desc _ i _ _ h part)
-      (λ i h. number_same cs d.desc 0 i _ _ h own) s.needed s.desc.version ((sub_clean set well k j d s there e).own.1.1.1.0)
+      (numbers_of _ s.desc x.numbers (part_place set d j)) (numbers_of _ s.desc y.numbers (part_place set d j)) (numbers_of _ d.desc x.numbers 0)
+      (numbers_of _ d.desc y.numbers 0) (λ i h. number_same _ s.desc _ i _ _ h part)
+      (λ i h. number_same _ d.desc 0 i _ _ h own) s.needed s.desc.version ((sub_clean set well k j d s there e).own.1.1.1.0)
 
 -- ---- Subsections that aren't needed are put to their defaults one after the other.
 
@@ -76,47 +75,35 @@ module _ (set : Set) (well : WellFormed set) (k : ℕ) (lt : k < length set.devi
       (record { same = λ c low lt. h.own c (omega arith) })
       (record { same = λ c low lt. h.left j s c (omega arith) (record { is = e; low = low; high = lt }) })
 
-  -- it is needed, so nothing changes
-  settled_needed : (now : List ℤ) (j : ℕ) → j < length d.subs → SettledTo set d j before now → needed_at set k j now ≡ true → SettledTo set d (j + 1) before now
-  settled_needed now j less h n =
-      let e : slice_get d.subs j ≡ Some (sub_at d j) = slice_get-get_or d.subs j _ less in
-      record {
-        long = h.long;
-        own = h.own;
-        done = λ i t c lt x. by_last i j (omega arith) (λ less. h.done i t c less x) (λ same.
-            let sub : t ≡ sub_at d j = cc (x.is, e) in
-            let needed : is_needed set d (whole d before) t i ≡ true = rw (sub, same) (sym (still_needed now j (sub_at d j) e h) ∙ n) in
-            rw needed (h.left i t c (omega arith) x));
-        left = λ i t c le x. h.left i t c (omega arith) x;
-      }
+  -- subsection j is settled: its cells are as they were if it is needed, else at their defaults, and all others are as they were
+  record Settles (j : ℕ) (now next : List ℤ) : Type 0 where
+    long : length next ≡ length now
+    here : (c : ℕ) → IsCellOf set d j (sub_at d j) c
+        → get_or next c (pos 0) ≡ (if needed_at set k j now then get_or now c (pos 0) else (get_or (device_cells set d) c no_cell).default)
+    below : (c : ℕ) → c < part_place set d j → get_or next c (pos 0) ≡ get_or now c (pos 0)
+    above : (c : ℕ) → part_place set d j + sub_size set (sub_at d j) ≤ c → get_or next c (pos 0) ≡ get_or now c (pos 0)
 
-  -- it isn't, and its cells are put to their defaults
-  settled_bare : (now next : List ℤ) (j : ℕ) → j < length d.subs → SettledTo set d j before now → needed_at set k j now ≡ false → ArePutAt set k j now next
-      → SettledTo set d (j + 1) before next
-  settled_bare now next j less h n p =
+  settles : (a b : Typed) (j : ℕ) → SettlesSub set k j a b → Settles j a.numbers b.numbers
+  settles a b j s = grind arith
+
+  pub settled_next : (a b : Typed) (j : ℕ) → j < length d.subs → SettledTo set d j before a.numbers → SettlesSub set k j a b
+      → SettledTo set d (j + 1) before b.numbers
+  settled_next a b j less h x =
       let s = sub_at d j in
       let e : slice_get d.subs j ≡ Some (sub_at d j) = slice_get-get_or d.subs j _ less in
+      let p = settles a b j x in
       record {
-        long = cc;
+        long = p.long ∙ h.long;
         own = λ c lt. p.below c (omega (arith, sub_place_up set (own_cells set d) d.subs j)) ∙ h.own c lt;
         done = λ i t c lt x. by_last i j (omega arith)
             (λ less. p.below c (omega (arith, places_apart set (own_cells set d) d.subs i j t x.is less)) ∙ h.done i t c less x)
             (λ same.
             let sub : t ≡ s = cc (x.is, e) in
-            let place : part_place set d i ≡ part_place set d j = ap (part_place set d) same in
-            let size : sub_size set t ≡ sub_size set s = ap (sub_size set) sub in
-            let not_needed : is_needed set d (whole d before) t i ≡ false = rw (sub, same) (sym (still_needed now j s e h) ∙ n) in
-            rw not_needed (p.inside c (omega arith) (omega arith)));
+            let here : IsCellOf set d j s c = rw (same, sub) at x in
+            rw (sub, same, ← still_needed a.numbers j s e h, ← h.left j s c (omega arith) here) (p.here c here));
         left = λ i t c le x.
             p.above c (omega (arith, places_apart set (own_cells set d) d.subs j i s e (omega arith))) ∙ h.left i t c (omega arith) x;
       }
-
-  pub settled_next : (a b : Typed) (j : ℕ) → j < length d.subs → SettledTo set d j before a.numbers → SettlesSub set k j a b
-      → SettledTo set d (j + 1) before b.numbers
-  settled_next a b j less h s = go (needed_at set k j a.numbers) refl s where
-    go : (t : Bool) → needed_at set k j a.numbers ≡ t → SettlesBy t set k j a b → SettledTo set d (j + 1) before b.numbers
-    go true e s = rw s (settled_needed _ j less h e)
-    go false e s = settled_bare _ _ j less h e s.0
 
 pub all_settled : (set : Set) (d : Device) (before now : List ℤ) (j : ℕ) → j ≡ length d.subs → SettledTo set d j before now → AreSettled set d before now
 all_settled set d before now j end h = record {
@@ -165,7 +152,4 @@ needed_version set d image i j subs s v e f = version_if (is_needed set d image 
 
 pub back_versions : (to : Set) (d : Device) (partners : List (Option ℕ)) (numbers : List ℤ) (image : Image) → IsBack to d partners numbers image
     → IsAtVersions d image
-back_versions to d partners numbers image back = record {
-  version = rw (back.is);
-  subs = λ j s v e f. needed_version to d (bare d image.numbers) 0 j d.subs s v e (sym (rw (back.is)) ∙ f);
-}
+back_versions to d partners numbers image back = search (arith, needed_version)

@@ -36,8 +36,7 @@ module _ (set : Set) (d : Device) (n : List ℤ) where
   pub came_next : (from : ℕ) (subs : List Sub) (came : List (Option ℕ)) (j : ℕ) (s : Sub) (o : Option ℕ) → slice_get subs j ≡ Some s → slice_get came j ≡ Some o
       → came_slots set d n from (take (suc j) subs) (take (suc j) came) ≡ came_slots set d n from (take j subs) (take j came) ++ one_slots set s o n
       (sub_place set from subs j)
-  came_next from (t ∷ subs) (None ∷ came) zero s o e f =
-      let same : o ≡ None = cc in rw same
+  came_next from (t ∷ subs) (None ∷ came) zero s o e f = grind arith
   came_next from (t ∷ subs) (Some v ∷ came) zero s o e f =
       let same : o ≡ Some v = cc in
       let one : t ≡ s = cc in
@@ -52,14 +51,22 @@ module _ (set : Set) (d : Device) (n : List ℤ) where
 abbrev pub first_slots : Set → Device → List (Option ℕ) → ℕ → List ℤ → List Slot
 first_slots set d came j n = own_slots set d d.desc.version n ++ came_slots set d n (own_cells set d) (take j d.subs) (take j came)
 
-pub first_next : (set : Set) (d : Device) (came : List (Option ℕ)) (j : ℕ) (s : Sub) (o : Option ℕ) (n : List ℤ) → slice_get d.subs j ≡ Some s
-    → slice_get came j ≡ Some o → first_slots set d came (suc j) n ≡ first_slots set d came j n ++ one_slots set s o n (part_place set d j)
-first_next set d came j s o n e f =
+-- a walk goes through one more
+pub walk_next : (f : WalkStep → List ℤ → List ℤ) (set : Set) (d : Device) (came : List (Option ℕ)) (j : ℕ) (s : Sub) (o : Option ℕ) (n before now next : List ℤ)
+    → slice_get d.subs j ≡ Some s → slice_get came j ≡ Some o → now ≡ changed f (steps_of (first_slots set d came j n)) before
+    → next ≡ changed f (steps_of (one_slots set s o n (part_place set d j))) now → next ≡ changed f (steps_of (first_slots set d came (j + 1) n)) before
+walk_next f set d came j s o n before now next e h first more =
+    let its = one_slots set s o n (part_place set d j) in
+    let own = own_slots set d d.desc.version n in
     let front = came_slots set d n (own_cells set d) (take j d.subs) (take j came) in
     rw (
-      came_next set d n (own_cells set d) d.subs came j s o e f,
-      append_assoc (own_slots set d d.desc.version n) front (one_slots set s o n (part_place set d j)),
-    )
+      add-one j,
+      came_next set d n (own_cells set d) d.subs came j s o e h,
+      ← append_assoc own front its,
+      map-append step_of (own ++ front) its,
+      changed_append f (steps_of (own ++ front)) (steps_of its) before,
+      ← first,
+    ) more
 
 module _ (set : Set) (structs : AreSound set.structs) (d : Device) where
   came_same : (n m : List ℤ) (from : ℕ) (subs : List Sub) (came : List (Option ℕ)) (j : ℕ) → ((i : ℕ) (s : Sub) → slice_get subs i ≡ Some s → IsSound s.desc)
@@ -160,10 +167,8 @@ module _ (set : Set) (i : ℕ) (lt : i < length set.devices) (good : IsGood set)
       let below : SameBelow (part_place set d j) n m =
       record { same = λ c lt. keeps.same c (has_step_of its c ∙ its_below set s.desc s.desc.version (part_place set d j) m c lt) } in
       let still = first_same set good.structs d (good.devices i d there) (λ k s e. good.subs i k d s there e) n m (all_came d.subs) j below in
-      let next = first_next set d (all_came d.subs) j s (Some s.desc.version) m e (at_map (λ (s : Sub). Some s.desc.version) d.subs j s e) in
-      let front = first_slots set d (all_came d.subs) j m in
-      let both = changed_append (put_step partners source) (steps_of front) (steps_of its) (map (λ (c : Cell). c.default) (device_cells set d)) in
-      rw (add-one j, next, map-append step_of front its, both, still, ← first) more
+      walk_next (put_step partners source) set d (all_came d.subs) j s (Some s.desc.version) m (map (λ c. c.default) (device_cells set d)) n m e
+      (at_map (λ (s : Sub). Some s.desc.version) d.subs j s e) (rw still first) more
 
   pub took_all : (n : List ℤ) (j : ℕ) → j ≡ length d.subs → TookTo j n → length n ≡ length (device_cells set d) → AreTaken set d partners source n
   took_all n j end first long =

@@ -1,13 +1,12 @@
 -- A section, as the judge reads it: its head, and what comes after the fields of a part.
-use Rattle.vms_load.proofs.Facade.{no_desc, ◌≡◌, ℕ, ◌+◌, ◌<◌, List, length, map, drop, slice_set, Option, Some, None, Bool, true, false, Result}
-use Rattle.vms_load.proofs.Facade.{Ok, Err, refl, sym, ap, ◌∙◌, subst, zero, suc, ◌-◌, [], ◌∷◌, get_or, IfSome, arith, map-set, drop_all}
-use Rattle.vms_load.proofs.Facade.{slice_get-get_or, slice_get, Set, Device, Sub, Image, Piece, SubHead, Foot, Goes, reading_after, find_device, find_sub}
-use Rattle.vms_load.proofs.Facade.{reading_on, set_twice, at_set, judge, ask, judge_seen, State, Free, Inside, after, by_state, or_none, slots_at, due_by}
-use Rattle.vms_load.proofs.Facade.{known_at, Head, Stand, Tail, Refusal, Typed, Unfit, opened_at, section_opened, opened_unless, reason_against_sub, sub_opened}
-use Rattle.vms_load.proofs.Facade.{Onward, Reads, ReadsOn, ReadsBehind, behind, Settles, concerning, state_in, in_fields, after_part, bytes_of, subs_due}
-use Rattle.vms_load.proofs.Facade.{spot_in, all_passed, after_fields, image_at, state_of, LoadFault, Section, Staged, AfterFields, begins_next, rules_hold}
-use Rattle.vms_load.proofs.Facade.{Good, seen, judged_holds, next_holds, seen_holds, device_at, sub_at, AnswersBehind, in_section, tail_of, FrameFault, Open}
-use Rattle.vms_load.proofs.Facade.{LONGEST_SUB_HEAD}
+use Rattle.vms_load.proofs.Facade.{◌≡◌, ℕ, ◌+◌, ◌<◌, List, length, map, drop, slice_set, Option, Some, None, Bool, true, false, Result, Ok, Err}
+use Rattle.vms_load.proofs.Facade.{refl, sym, ap, ◌∙◌, subst, zero, suc, ◌-◌, [], ◌∷◌, get_or, IfSome, arith, map-set, drop_all}
+use Rattle.vms_load.proofs.Facade.{slice_get-get_or, slice_get, Set, Device, Sub, Image, Piece, SubHead, Goes, reading_after, find_device, find_sub, reading_on}
+use Rattle.vms_load.proofs.Facade.{set_twice, at_set, judge, ask, judge_seen, State, Free, Inside, after, by_state, or_none, slots_at, due_by, known_at, Head}
+use Rattle.vms_load.proofs.Facade.{Stand, Tail, Refusal, Typed, Unfit, opened_at, section_opened, opened_unless, reason_against_sub, sub_opened, Onward, Reads}
+use Rattle.vms_load.proofs.Facade.{ReadsOn, ReadsBehind, behind, Settles, concerning, state_in, in_fields, after_part, bytes_of, subs_due, spot_in, all_passed}
+use Rattle.vms_load.proofs.Facade.{after_fields, image_at, state_of, LoadFault, Section, Staged, AfterFields, begins_next, rules_hold, Good, seen, judged_holds}
+use Rattle.vms_load.proofs.Facade.{next_holds, seen_holds, device_at, sub_at, AnswersBehind, in_section, tail_of, FrameFault, Open, LONGEST_SUB_HEAD}
 use Rattle.vms_load.proofs.HeadLemmas.{device_is, known_sub, sub_below, sub_is, verdict, section_judged, sub_judged}
 use Rattle.vms_load.proofs.ReadLemmas.{IsLong, refused_here, unit_fails, unit_settled, unit_of}
 use Rattle.vms_spec.specs.Units.{Head as HeadUnit}
@@ -37,9 +36,7 @@ module _ (set : Set) (names : List (List ℕ)) (staged : Staged) (first configur
 
   refuses : {X : Type 0} (x : Piece) (n place to : ℕ) (end : Stand) (bytes rest : List ℕ) (left : Option (List ℕ)) (next : X → Onward) (o : Result ℕ Unfit) (e : LoadFault) → Err e ≡ opened_at place o → left ≡ Some (drop n bytes)
       → Reads (behind go place (verdict set names state x n o) to rest) next place end bytes left (Err e)
-  refuses x n place to end bytes rest left next (Err why) (faults.Refused r) h is =
-      refused_here place bytes left why.section why.reason n r (refusal_is r (record { section = why.section; at = place; reason = why.reason }) cc) is
-  refuses x n place to end bytes rest left next _ _ h is = cc
+  refuses x n place to end bytes rest left next o e h is = search (arith, refused_here, refusal_is)
 
   -- the device has come
   abbrev pub begun : ℕ → State
@@ -48,12 +45,10 @@ module _ (set : Set) (names : List (List ℕ)) (staged : Staged) (first configur
   -- a device that is opened is begun
   opened_is : (id : ℕ) (name : List ℕ) (instance v k : ℕ) (image : Image) (tail : Tail) → find_device 0 set.devices name instance ≡ Some k → k < length set.devices → image ≡ image_at set k v → tail ≡ staged.tail
       → after set state (HeadUnit id name instance v) ≡ state_in (begun k) (record { device = k; id = id; tail = tail }) image (Inside k id None 0)
-  opened_is id name instance v k image tail found below is same =
-      rw (found, slice_get-get_or set.devices k (record { instance = 0; desc = no_desc; subs = [] }) below, is, same)
+  opened_is id name instance v k image tail found below is same = search (arith, slice_get-get_or)
 
   opens : (x : Piece) (n place k : ℕ) (o : Result ℕ Unfit) → Ok k ≡ opened_at place o → verdict set names state x n o ≡ Goes n (after set state x)
-  opens x n place k (Ok i) e = refl
-  opens x n place k (Err why) e = cc
+  opens x n place k o e = grind arith
 
   pub section_long : (head : Head) → length staged.came.items ≡ length set.devices → IsLong (head_long head) (ask set names state (head_unit head) (head_long head))
   section_long head came = grind (arith, section_judged, verdict)
@@ -164,10 +159,6 @@ module _ (set : Set) (names : List (List ℕ)) (state : State) (section : Sectio
       → ReadsOn (after_fields set names state section part image) (after_part set names state (record section { tail = tails.Bare }) image) from to old left (Ok None)
   after_next from to old left before far a = grind (arith, next_is)
 
-  -- the footer
-  pub foot_settled : (at' : ℕ) → Settles (ask set names inner (Foot section.id) 5) at' (λ next. state_in state (record section { tail = tails.Footed }) image (spot_in (record section { tail = tails.Footed }) next)) 5 (Ok None)
-  foot_settled at' = (refl, refl)
-
   module _ (place : ℕ) (name : List ℕ) (v : ℕ) (long : length image.came ≡ length (device_at set section.device).subs) where
     abbrev n : ℕ
     n = 6 + length name
@@ -192,8 +183,7 @@ module _ (set : Set) (names : List (List ℕ)) (state : State) (section : Sectio
     sub_ok (Err why) j f e = cc
 
     sub_err : {X : Type 0} (o : Result ℕ Unfit) (e : LoadFault) (next : X → State) → Err e ≡ opened_at place o → Settles (verdict set names inner (SubHead name v) n o) place next n (Err e)
-    sub_err (Err why) (faults.Refused r) next h = let same : faults.Refused r ≡ faults.Refused (record { section = why.section; at = place; reason = why.reason }) = cc in (refusal_is r _ same, refl)
-    sub_err _ _ next h = cc
+    sub_err o e next h = search (arith, refusal_is)
 
     -- a subsection that is opened, or not
     pub sub_settled : (j : ℕ) → Ok j ≡ opened_at place (sub_opened section.device (device_at set section.device) image.came name v)
@@ -208,7 +198,7 @@ module _ (set : Set) (names : List (List ℕ)) (state : State) (section : Sectio
 -- ---- a subsection that is opened hasn't come
 
 unless_came : (k j : ℕ) (s : Sub) (came : Option ℕ) (v place : ℕ) → Ok j ≡ opened_at place (opened_unless (Some k) j (reason_against_sub s came v)) → came ≡ None
-unless_came k j s came v place e = grind (arith)
+unless_came k j s came v place e = grind arith
 
 pub sub_new : (k : ℕ) (d : Device) (came : List (Option ℕ)) (name : List ℕ) (v j place : ℕ) → length came ≡ length d.subs → Ok j ≡ opened_at place (sub_opened k d came name v)
     → (j < length d.subs) × (slice_get came j ≡ Some None)

@@ -2,9 +2,9 @@
 use Rattle.vms_load.proofs.Facade.{false_from_ne_true, ◌≡◌, ℕ, ◌+◌, List, [], length, take, drop, slice_set, Option, Some, Result, Ok, Err, OnOk}
 use Rattle.vms_load.proofs.Facade.{ℤ, refl, sym, ap, ◌∙◌, arith, Bool, true, false, not, ◌&&◌, nat_lt, ◌<◌, ◌^◌, IfErr, drop_all, Kind}
 use Rattle.vms_load.proofs.Facade.{width, value_of, Reason, same_number, exceeds, is_truth, is_above, Slot, Rule, Taken, Progress, take_slot, Piece, raw, Seen}
-use Rattle.vms_load.proofs.Facade.{Good, Bad, Short, seen, nothing_known, put, taken_by, IsUnit, by_tests, tested, slot_seen, AnswersSeen, Fails, ReadsNumber}
+use Rattle.vms_load.proofs.Facade.{Good, Bad, seen, nothing_known, put, taken_by, IsUnit, by_tests, tested, slot_seen, AnswersSeen, Fails, ReadsNumber}
 use Rattle.vms_load.proofs.Facade.{ReadsFiller, FrameFault, TakesAs, ReadsCapped, ReadsConstant, TakesOn, progress, same_number_is, Intake, takes_none}
-use Rattle.vms_load.proofs.Facade.{reads_as, reads_last, ReadsAs, OnErr, Told, Fills, keeps_same, ◌∷◌}
+use Rattle.vms_load.proofs.Facade.{reads_as, reads_last, ReadsAs, Told, Fills, keeps_same, ◌∷◌}
 use Rattle.vms_load.proofs.RunReads.{step_fills}
 use Rattle.vms_spec.specs.Layout.{Number as NumberSlot, Constant as ConstantSlot, Filler as FillerSlot}
 use Rattle.vms_spec.specs.Units.{Number, Constant, Filler}
@@ -39,8 +39,7 @@ record Passed (a b e : Bool) (x y : Piece) : Type 0 where
   same : x ≡ y
 
 passed : (a b e : Bool) (x y : Piece) (n : ℕ) (why : Reason) → by_tests a b e x n why ≡ Good y n → Passed a b e x y
-passed false false false x y n why h = let e : Good x n ≡ Good y n = h in record { cut = refl; bad = refl; other = refl; same = cc }
-passed _ _ _ x y n why h = cc
+passed a b e x y n why h = search arith
 
 to_good : (a b e : Bool) (x y : Piece) (n : ℕ) (why : Reason) → a ≡ false → b ≡ false → e ≡ false → x ≡ y → by_tests a b e x n why ≡ Good y n
 to_good a b e x y n why f g h same = cc
@@ -53,12 +52,10 @@ number_same kind z y e = cc
 
 -- a fault without the slot's own checks is the same with them
 fails_with : (a b e : Bool) (x y : Piece) (n : ℕ) (why other : Reason) (rest : List ℕ) (left : Option (List ℕ)) (reason : Reason) → Fails (by_tests a b false x n why) rest left reason → Fails (by_tests a b e y n other) rest left reason
-fails_with false false e x y n why other rest left reason h = absurd h
-fails_with _ _ e x y n why other rest left reason h = h
+fails_with a b e x y n why other rest left reason h = grind arith
 
 fails_alike : (a b e : Bool) (x y : Piece) (n : ℕ) (why : Reason) (rest : List ℕ) (left : Option (List ℕ)) (reason : Reason) → Fails (by_tests a b e x n why) rest left reason → Fails (by_tests a b e y n why) rest left reason
-fails_alike false false false x y n why rest left reason h = absurd h
-fails_alike _ _ _ x y n why rest left reason h = h
+fails_alike a b e x y n why rest left reason h = grind arith
 
 -- a slot with a test of its own beside those of its number
 module _ (kind : Kind) (at : ℕ) (new : Option (List ℕ)) (rest : List ℕ) {found : Seen} (own : ℤ → Bool) (x : ℤ → Piece) (why : Reason)
@@ -85,9 +82,7 @@ module _ (kind : Kind) (at : ℕ) (new : Option (List ℕ)) (rest : List ℕ) {f
 -- ---- what is taken by what is seen
 
 fails_taken : (p : Progress) (s : Seen) (n : List ℤ) (to : ℕ) (left : Option (List ℕ)) (place : ℕ) (reason : Reason) → place ≡ p.place → Fails s p.rest left reason → TakesAs (taken_by p s) n to left (Err (faults.Refused place reason))
-fails_taken p (Good x m) n to left place reason e h = absurd h
-fails_taken p (Bad m why) n to left place reason e h = (e, h.0, h.1)
-fails_taken p Short n to left place reason e h = (e, h.0, h.1 ∙ ap (λ l. Some l) (sym (drop_all (length p.rest) p.rest (omega arith))))
+fails_taken p s n to left place reason e h = grind (arith, drop_all)
 
 good_taken : (p : Progress) (s : Seen) (x : Piece) (m to : ℕ) (left : Option (List ℕ)) → s ≡ Good x m → to ≡ p.place + m → left ≡ Some (drop m p.rest) → TakesAs (taken_by p s) (put x p.numbers) to left (Ok tt)
 good_taken p s x m to left e far l = rw e (refl, far, l)
@@ -111,9 +106,7 @@ module _ (rest : List ℕ) (new : Option (List ℕ)) (at to : ℕ) (numbers : Li
   -- a constant and unused bytes give no number
   plain : (slot : Slot) (x : Piece) (m : ℕ) (result : Result (Unit {0}) FrameFault) → IsUnit slot → OnOk result (to ≡ at + m) → put x numbers ≡ numbers
       → AnswersSeen (λ _. x) (λ _. m) (seen (Field 0 slot) nothing_known rest) at rest new result → TakesAs (take_slot slot from) numbers to new result
-  plain slot x m (Ok tt') u far same a = seen_taken slot numbers (Ok tt') u (rw same at (good_taken from _ x m to new a.0 far a.1))
-  plain slot x m (Err (faults.Refused place reason)) u far same a = seen_taken slot numbers (Err (faults.Refused place reason)) u (fails_taken from (seen (Field 0 slot) nothing_known rest) numbers to new place reason a.0 a.1)
-  plain slot x m (Err faults.ReadFault) u far same a = by_read_fault (take_slot slot from) numbers to new
+  plain slot x m result u far same a = grind (arith, seen_taken, good_taken, fails_taken, by_read_fault)
 
   pub constant_taken : (kind : Kind) (y : ℤ) (result : Result (Unit {0}) FrameFault) → OnOk result (to ≡ at + width kind) → ReadsConstant kind y at (Some rest) new result → TakesAs (take_slot (ConstantSlot kind y) from) numbers to new result
   constant_taken kind y result far a = plain (ConstantSlot kind y) (Constant kind y) (width kind) result tt far refl a
@@ -173,18 +166,10 @@ module _ {a b : Intake} (kind : Kind) (at : ℕ) (y : ℤ) where
 -- nothing is read for the validations of a description
 pub reads_rule : (a : Intake) (holds : Bool) (numbers : List ℤ) (at : ℕ) (result : Result (Unit {0}) FrameFault) → a.given < 2 ^ 64 → OnOk result (holds ≡ true)
     → IfErr result (λ fault. (holds ≡ false) × (fault ≡ faults.Refused at reasons.Invalid)) → TakesOn a a 0 at at (λ rest. take_slot (Rule holds) (progress numbers at rest)) numbers result
-reads_rule a holds numbers at (Ok x) counted ok err =
-    rw ok (record { bytes = []; takes = takes_none a counted; long = (omega arith, omega arith); says = λ more f. (refl, refl, refl); cause = tt })
-reads_rule a holds numbers at (Err e) counted ok err = search (arith, takes_none)
+reads_rule a holds numbers at result counted ok err = search (arith, takes_none)
 
 -- The end of a part leaves the image and the source as they are.
 module _ (a : Told) {found holds : Bool} (is : found ≡ holds) (r : Result (Unit {0}) FrameFault) (counted : a.source.given < 2 ^ 64) (ok : OnOk r (found ≡ true))
     (err : IfErr r (λ fault. (found ≡ false) × (fault ≡ faults.Refused a.place reasons.Invalid))) where
   pub rule_fills : Fills (steps.Rule holds ∷ []) a r a
-  rule_fills =
-      let reads = reads_rule a.source found a.image.numbers a.place r counted ok err in
-      rw (← is) (step_fills (steps.Rule found) a a r reads refl (keeps_same _ a.image.numbers a.image.numbers refl) (stays r))
-    where
-      stays : (s : Result (Unit {0}) FrameFault) → OnErr s (a.image ≡ a.image)
-      stays (Ok x) = tt
-      stays (Err e) = refl
+  rule_fills = grind (arith, reads_rule, step_fills, keeps_same)

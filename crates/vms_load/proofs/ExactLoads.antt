@@ -1,11 +1,11 @@
 -- What a load returns: images that are normal and valid, and exactly what the input is.
-use Rattle.vms_load.proofs.Facade.{⊎_elim, cases_eq, ◌≡◌, ℕ, Bool, true, false, List, [], ◌∷◌, slice_set, Option, Some, None, map, suc, zero}
-use Rattle.vms_load.proofs.Facade.{refl, sym, ap, subst, ◌∙◌, ◌+◌, ◌++◌, drop, Result, Ok, Err, IfSome, inl, inr, ◌≤◌, arith, length}
-use Rattle.vms_load.proofs.Facade.{length-append, length-drop, slice_get, same_Some, Device, Set, Image, EachOnce, none_left, HasSection, SectionsSpell, Takes}
-use Rattle.vms_load.proofs.Facade.{at_other, IsKept, AreKept, IsBytes, WellFormed, Reading, Refused, FitsHeads, reading, State, by_state, at_start}
-use Rattle.vms_load.proofs.Facade.{accepted_holds, one_stream_holds, never_both_holds, one_fault_holds, state_refuses, Refusal, Intake, Last, MayFollow}
-use Rattle.vms_load.proofs.Facade.{bytes_both, no_bytes, reads_as, reads_told, Loads, GoesThrough, LoadReads, ReadsAll, name_of, most_given, LoadFault, Staged}
-use Rattle.vms_load.proofs.Facade.{capped, Piece, spell, spelled, Reason, Fault, Why, Cut, Wrong, EndsAtUnit, GivesStream, IsRefusedAt, ExactLaw, UnitLaw}
+use Rattle.vms_load.proofs.Facade.{⊎_elim, cases_eq, ◌≡◌, ℕ, Bool, true, false, List, [], ◌∷◌, slice_set, Option, Some, map, suc, zero, refl}
+use Rattle.vms_load.proofs.Facade.{sym, ap, ◌∙◌, ◌+◌, ◌++◌, drop, Result, Ok, Err, IfSome, inl, ◌≤◌, arith, length, length-append}
+use Rattle.vms_load.proofs.Facade.{length-drop, slice_get, same_Some, Device, Set, Image, EachOnce, none_left, HasSection, SectionsSpell, Takes, at_other}
+use Rattle.vms_load.proofs.Facade.{IsKept, AreKept, IsBytes, WellFormed, Reading, Refused, FitsHeads, reading, State, by_state, at_start, accepted_holds}
+use Rattle.vms_load.proofs.Facade.{one_stream_holds, never_both_holds, one_fault_holds, state_refuses, Refusal, Intake, Last, MayFollow, bytes_both, no_bytes}
+use Rattle.vms_load.proofs.Facade.{reads_as, reads_told, Loads, GoesThrough, LoadReads, ReadsAll, name_of, most_given, LoadFault, Staged, capped, Piece, spell}
+use Rattle.vms_load.proofs.Facade.{spelled, Reason, Fault, Why, Cut, Wrong, EndsAtUnit, GivesStream, IsRefusedAt, ExactLaw, UnitLaw}
 use Rattle.vms_image.specs.Typed.{state_of as untyped}
 use Rattle.vms_stream.specs.Faults.{Fails}
 use Rattle.vms_load.specs.declared.fault.LoadFault.TheVariants as faults
@@ -16,7 +16,7 @@ none_came (x ∷ devices) zero d e = refl
 none_came (x ∷ devices) (suc k) d e = none_came devices k d e
 
 section_is : (set : Set) (footed : Bool) (k : ℕ) (d : Device) (image : Image) (o : Option Device) (i : Option Image) (bytes : List ℕ) → o ≡ Some d → i ≡ Some image → HasSection set footed k o i bytes → IsKept set d image
-section_is set footed k d image o i bytes e f h = search (arith)
+section_is set footed k d image o i bytes e f h = search arith
 
 module _ (set : Set) (footed : Bool) (images : List Image) (k : ℕ) (d : Device) (image : Image) (there : slice_get set.devices k ≡ Some d) (here : slice_get images k ≡ Some image) where
   -- a device that has not come yet comes in what follows
@@ -51,9 +51,7 @@ module _ (set : Set) (names : List (List ℕ)) (well : WellFormed set) (heads : 
 
 -- what may follow at the end are bytes
 last_bytes : (left : Option (List ℕ)) (more : List ℕ) → IfSome left IsBytes → MayFollow Last left more → IsBytes more
-last_bytes left more ok (inl none) = subst IsBytes (sym none) no_bytes
-last_bytes None more ok (inr is) = cc
-last_bytes (Some rest) more ok (inr is) = let same : rest ≡ more = cc in subst IsBytes same ok
+last_bytes left more ok said = grind (arith, no_bytes)
 
 abbrev Through : Intake → Intake → Set → List (List ℕ) → Staged → Result ℕ LoadFault → Type 0
 Through a b set names staged result = GoesThrough a b set (reading (by_state set names) (at_start set)) staged result
@@ -89,8 +87,7 @@ module _ (set : Set) (names : List (List ℕ)) (images : List Image) (taken : �
   given machine p = omega arith
 
   pub within : (r : Result (Option ℕ) LoadFault) → LoadReads a b set names images taken r → b.given ≤ a.given + most_given set
-  within (Ok machine) p = omega arith
-  within (Err fault) p = omega arith
+  within r p = grind arith
 
 -- ---- The result of a load says exactly what the input is.
 

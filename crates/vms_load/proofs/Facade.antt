@@ -48,7 +48,7 @@ pub use Rattle.vms_stream.specs.State.{open_at, or_none, slots_at, Before, Ended
 pub use Rattle.vms_stream.specs.Table.{alone, asking, first_row, is_none, test_some}
 unfoldable pub use Rattle.vms_stream.specs.{Finding.trailer_at, Judge.reading}
 pub use Rattle.vms_desc.proofs.AskLaws.{few_cells, own_inside_device, sub_inside}
-pub use Rattle.vms_desc.proofs.Clean.{few_devices, few_items, few_machines, good_of, none_is}
+pub use Rattle.vms_desc.proofs.Clean.{few_devices, few_items, few_machines, few_subs, good_of, none_is}
 pub use Rattle.vms_desc.specs.{Asks.first_cell, Described.described, Formed.is_well_formed, Parts.HasPart, Parts.desc_at, Parts.sub_at, Spots.kinds_at}
 pub use Rattle.vms_frames.specs.{Reads.IsLong, Reads.ReadsAs, Stands.Stand, declared.fault.FrameFault.FrameFault, declared.fault.Refusal.Refusal}
 pub use Rattle.vms_frames.specs.{declared.units.Between.Between, declared.units.Between.TheVariants.First, declared.units.Step.Step, declared.units.Tail.Tail}

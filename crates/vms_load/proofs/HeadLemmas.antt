@@ -52,8 +52,7 @@ module _ (k : ℕ) (d : Device) (came : List (Option ℕ)) (name : List ℕ) (v 
 -- ---- what was opened is what was found
 
 opens_it : (section : Option ℕ) (i k place : ℕ) (reason : Option Reason) → Ok k ≡ opened_at place (opened_unless section i reason) → k ≡ i
-opens_it section i k place None e = cc
-opens_it section i k place (Some reason) e = cc
+opens_it section i k place reason e = grind arith
 
 pub device_is : (set : Set) (came : List Bool) (name : List ℕ) (instance v place k : ℕ) → Ok k ≡ opened_at place (section_opened set came name instance v) → find_device 0 set.devices name instance ≡ Some k
 device_is set came name instance v place k e = grind (arith, unknown, opens_it, known)
@@ -77,7 +76,7 @@ head_rows o d came v =
     else None
 
 known_head : (k : ℕ) (d : Device) (came : Bool) (v : ℕ) → head_rows (Some k) (Some d) (Some came) v ≡ unfit_for (device_opened v (Some k) (Some d) came)
-known_head k d came v = grind (arith)
+known_head k d came v = grind arith
 
 head_opened : (set : Set) (names : List (List ℕ)) (k : Known) (id : ℕ) (name : List ℕ) (instance v : ℕ) → length k.came ≡ length set.devices
     → first_row (asking set names k (Head id name instance v)) ≡ unfit_for (section_opened set k.came name instance v)
@@ -102,7 +101,7 @@ sub_rows section o s came v =
     else None
 
 known_rows : (k j : ℕ) (s : Sub) (came : Option ℕ) (v : ℕ) → sub_rows (Some k) (Some j) (Some s) (Some came) v ≡ unfit_for (sub_opened_at k v (Some j) (Some s) (Some came))
-known_rows k j s came v = grind (arith)
+known_rows k j s came v = grind arith
 
 sub_is_opened : (set : Set) (names : List (List ℕ)) (y : Known) (k : ℕ) (d : Device) (name : List ℕ) (v : ℕ) → y.section ≡ Some k → slice_get set.devices k ≡ Some d → length y.image.came ≡ length d.subs
     → first_row (asking set names y (SubHead name v)) ≡ unfit_for (sub_opened k d y.image.came name v)
@@ -125,8 +124,7 @@ module _ (set : Set) (names : List (List ℕ)) (s : State) (x : Piece) (n : ℕ)
   verdict (Err why) = Faulty why.section why.reason n
 
   by_unfit : (o : Result ℕ Unfit) → by_row (by_state set names) (unfit_for o) n (after set s x) ≡ verdict o
-  by_unfit (Ok k) = refl
-  by_unfit (Err why) = refl
+  by_unfit o = grind arith
 
 pub section_judged : (set : Set) (names : List (List ℕ)) (s : State) (id : ℕ) (name : List ℕ) (instance v n : ℕ) → length s.came ≡ length set.devices
     → ask set names s (Head id name instance v) n ≡ verdict set names s (Head id name instance v) n (section_opened set s.came name instance v)
@@ -217,8 +215,7 @@ starts set images came n e f g = cc (none_came set.devices)
 -- ---- a device whose section begins hasn't come
 
 unless_came : (k : ℕ) (d : Device) (came : Bool) (v place : ℕ) → Ok k ≡ opened_at place (opened_unless (Some k) k (reason_against d came v)) → came ≡ false
-unless_came k d true v place e = cc
-unless_came k d false v place e = refl
+unless_came k d came v place e = grind arith
 
 pub section_new : (set : Set) (came : List Bool) (name : List ℕ) (instance v k place : ℕ) → length came ≡ length set.devices → Ok k ≡ opened_at place (section_opened set came name instance v)
     → (k < length set.devices) × (slice_get came k ≡ Some false)

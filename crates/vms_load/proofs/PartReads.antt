@@ -28,8 +28,7 @@ rest_above cell (Number c kind caps) xs above = record { below = λ k lt. (or_pa
 rest_above cell _ xs above = record { below = λ k lt. above.below k lt }
 
 first_from : (cell : ℕ) (x : Slot) (xs : List Slot) → IsAbove cell (x ∷ xs) → IsFrom cell x
-first_from cell (Number c kind caps) xs above = first_above cell c kind caps xs above
-first_from cell _ xs above = tt
+first_from cell x xs above = grind (arith, first_above)
 
 last_below : (cell : ℕ) (xs : List Slot) (p : Progress) → IsAbove cell xs → SameBelow cell p.numbers (last_numbers (steps_of xs) p)
 last_below cell [] p above = same_refl cell p.numbers
@@ -95,8 +94,7 @@ module _ (set : Set) (structs : AreSound set.structs) (d : Desc) (sound : IsSoun
   ok_numbers xs p q e = sym (rw (sym (append-nil xs)) (last_taken xs [] p q e))
 
   ends_ok : (xs : List WalkStep) (p : Progress) (numbers : List ℤ) (place : ℕ) (left : Option (List ℕ)) (t : Taken) → take_steps xs p ≡ t → TakesAs t numbers place left (Ok tt) → numbers ≡ last_numbers xs p
-  ends_ok xs p numbers place left (Ok q) e h = cc (ok_numbers xs p q e)
-  ends_ok xs p numbers place left (Err r) e h = absurd h
+  ends_ok xs p numbers place left t e h = grind (arith, ok_numbers)
 
   pub part_read : (a b : Told) (r : Result (Unit {0}) FrameFault) (rest left : List ℕ) → IsFilled (steps_of (slots b.image.numbers)) a r b rest left → TakesAs (part_taken (from a rest)) b.image.numbers b.place (Some left) r
   part_read a b (Ok x) rest left h =
@@ -112,8 +110,7 @@ module _ (set : Set) (structs : AreSound set.structs) (d : Desc) (sound : IsSoun
 -- ---- What a reader of a part takes is what the judge reads there.
 
 pub open_in : (d : Device) (image : Image) (sub : Option ℕ) (v : ℕ) → IsOpen d image sub v → IsIn d sub
-open_in d image None v h = tt
-open_in d image (Some j) v h = h.0
+open_in d image sub v h = grind arith
 
 -- the fault of a body, or none
 abbrev pub concerns : Option ℕ → Result (Unit {0}) FrameFault → Result (Unit {0}) Rattle.vms_load.specs.declared.fault.LoadFault.LoadFault
@@ -137,8 +134,7 @@ module _ (set : Set) (good : IsGood set) (section : Section) (here : section.dev
   module _ (names : List (List ℕ)) (state : State) (image : Image) where
     slots_are : (o : Option ℕ) → IsOpen device image o v → (m : List ℤ)
         → part_slots set (Some device) (record image { numbers = m }) o ≡ desc_slots (meanings set.structs (length set.structs)) (part_desc device o) v m (part_base set device o)
-    slots_are None h m = rw (sym h)
-    slots_are (Some j) h m = cc (sub_there j h.0)
+    slots_are o h m = grind (arith, sub_there)
 
     -- the state before the section's image is put
     abbrev outer : State

@@ -19,14 +19,11 @@ unit_of set names s place rest = one_unit (judge (by_state set names)) (advances
 -- a fault is reported alike whatever would follow
 pub still : {X Y : Type 0} (reading same : Option (Reading State)) (next : X → Onward) (other : Y → Onward) (at : ℕ) (to end : Stand) (rest : List ℕ) (left : Option (List ℕ)) (e : LoadFault)
     → reading ≡ same → Reads reading next at to rest left (Err e) → Reads same other at end rest left (Err e)
-still reading same next other at to end rest left (faults.Refused r) e h = record { long = h.long; is = cc; from = h.from; taken = h.taken }
-still reading same next other at to end rest left faults.ReadFault e h = tt
+still reading same next other at to end rest left e said h = search arith
 
 pub still_on : {X Y : Type 0} (old : Option (List ℕ)) (reading : Onward) (next : X → Onward) (other : Y → Onward) (from to end : Stand) (left : Option (List ℕ)) (e : LoadFault)
     → ReadsOn reading next from to old left (Err e) → ReadsOn reading other from end old left (Err e)
-still_on None reading next other from to end left e h = tt
-still_on (Some rest) reading next other from to end left e h =
-    still (reading from.at (ahead from.held rest)) (reading from.at (ahead from.held rest)) next other from.at to end (ahead from.held rest) left e refl h
+still_on old reading next other from to end left e h = grind arith
 
 drop_between : (at to end : ℕ) (rest : List ℕ) → at ≤ to → to ≤ end → drop (end - to) (drop (to - at) rest) ≡ drop (end - at) rest
 drop_between at to end rest h i = drop-drop (end - to) (to - at) rest ∙ ap (λ n. drop n rest) (omega arith)
@@ -60,7 +57,7 @@ reads_on (Some rest) (Some left) new reading middle next from to end (Err e) h i
 
 -- nothing was read
 pub leads_here : (old : Option (List ℕ)) (next : Onward) (from : Stand) → LeadsOn next next from from old old
-leads_here old next from = grind (arith)
+leads_here old next from = grind arith
 
 -- ---- units
 
@@ -107,9 +104,7 @@ module _ (go : State → Onward) (section : Option ℕ) (it : Piece → ℕ → 
   unit_settled found x n left to next result a far held h = rw a.0 (by_verdict (it x n) n to left next result a.1 far held h)
 
   behind_is : (v : Verdict State) (n : ℕ) → IsLong n v → reading_after go at rest v ≡ behind go at v (at + n) (drop n rest)
-  behind_is (Goes m s) n h = rw h
-  behind_is (Faulty section' reason m) n h = refl
-  behind_is (Over end) n h = absurd h
+  behind_is v n h = grind arith
 
   -- a whole unit was found and is judged further: what follows it is read from the unit on
   pub unit_behind : {Y : Type 0} (found : Seen) (x : Piece) (n : ℕ) (next : Y → Onward) (to : Stand) (left : Option (List ℕ)) (result : Result Y LoadFault)
@@ -131,17 +126,14 @@ read_behind go v next long at bytes to end left new result b up r =
 
 spent_on : {X : Type 0} (from to end : Stand) (some most : ℕ) (result : Result X LoadFault) → reach from ≤ reach to → OnOk result (reach to ≤ reach end) → reach to + some ≤ reach from + most
     → (k n : ℕ) → k ≡ reach to - reach from → IsSpent to end some result n → IsSpent from end most result (k + n)
-spent_on from to end some most (Ok x) up more le k n e l = omega arith
-spent_on from to end some most (Err fault) up more le k n e l = omega arith
+spent_on from to end some most result up more le k n e l = grind arith
 
 spent_most : {X : Type 0} (from to : Stand) (some most : ℕ) (result : Result X LoadFault) (n : ℕ) → some ≤ most → IsSpent from to some result n → IsSpent from to most result n
-spent_most from to some most (Ok x) n le l = l
-spent_most from to some most (Err fault) n le l = omega arith
+spent_most from to some most result n le l = grind arith
 
 -- whatever a call returns, it took the bytes by which the cursor has advanced
 pub spent_by : {X : Type 0} (from to : Stand) (most : ℕ) (result : Result X LoadFault) (n : ℕ) → n ≡ reach to - reach from → n ≤ most → IsSpent from to most result n
-spent_by from to most (Ok x) n e le = e
-spent_by from to most (Err fault) n e le = le
+spent_by from to most result n e le = grind arith
 
 -- nothing was read
 pub goes_here : (a : Intake) (next : Onward) (from : Stand) → a.given < 2 ^ 64 → GoesSoFar a a next next from from
@@ -149,8 +141,7 @@ goes_here a next from counted = record { bytes = []; takes = takes_none a counte
 
 -- a call that succeeds advances the cursor
 advances_by : {X : Type 0} (from to : Stand) (due : ℕ) (after : X → ℕ) (result : Result X LoadFault) → Moves from to due after result → OnOk result (from.at ≤ to.at) × OnOk result (reach from ≤ reach to)
-advances_by from to due after (Ok x) m = (m.0, m.1)
-advances_by from to due after (Err fault) m = (tt, tt)
+advances_by from to due after result m = search arith
 
 -- what a call reads from the next place on, whatever it returns
 pub goes_on : {X : Type 0} {a b c : Intake} (some most due : ℕ) (after : X → ℕ) (reading middle : Onward) (next : X → Onward) (from to end : Stand) (result : Result X LoadFault) → from.at ≤ to.at
@@ -166,18 +157,15 @@ goes_still X Y most reading next other from to end e p = reads_as (λ n l. l) (�
 -- a unit that came was judged: the call goes on, or the unit is invalid
 module _ {a b : Intake} {L : ℕ → Type 0} {P : List ℕ → List ℕ → Type 0} where
   pub goes_refused : (e : LoadFault) → IsRefused e → Takes On a b L P → Takes (fault_course e) a b L P
-  goes_refused (faults.Refused r) ok p = reads_last p
-  goes_refused faults.ReadFault ok p = absurd ok
+  goes_refused e ok p = grind (arith, reads_last)
 
   pub goes_judged : {X : Type 0} (result : Result X LoadFault) → IfErr result IsRefused → Takes On a b L P → Takes (course result) a b L P
-  goes_judged (Ok x) ok p = p
-  goes_judged (Err e) ok p = goes_refused e ok p
+  goes_judged result ok p = grind (arith, goes_refused)
 
 -- a head that was judged, after which nothing is read
 pub behind_here : {X : Type 0} (a : Intake) (most : ℕ) (go : State → Onward) (v : Verdict State) (next : X → Onward) (at long : ℕ) (from to : Stand) (e : LoadFault) → IsRefused e → a.given < 2 ^ 64
     → ((more bytes : List ℕ) → IsBehind long at bytes from (Some more) → ReadsBehind go v next at long bytes to (Some more) (Err e)) → GoesBehind a a most go v next at long from to (Err e)
-behind_here a most go v next at long from to e ok counted h =
-    goes_refused e ok (record { bytes = []; takes = takes_none a counted; long = omega arith; says = λ more f. h more; cause = tt })
+behind_here a most go v next at long from to e ok counted h = search (arith, goes_refused, takes_none)
 
 -- what a call reads after a unit, seen from that unit on
 pub goes_behind : {X : Type 0} {a b : Intake} (go : State → Onward) (v : Verdict State) (next : X → Onward) (long at : ℕ) (to end : Stand) (result : Result X LoadFault) (some most due : ℕ) (after : X → ℕ) → Moves to end due after result → some ≤ most
@@ -189,5 +177,4 @@ goes_behind go v next long at to end result some most due after moves le reading
 
 -- a fault of a cursor, with the device concerned
 pub same_course : (section : Option ℕ) (e : FrameFault) → frame_course e ≡ fault_course (concerning section e)
-same_course section (frames.Refused at reason) = refl
-same_course section frames.ReadFault = refl
+same_course section e = grind arith

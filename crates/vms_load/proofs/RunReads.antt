@@ -15,17 +15,14 @@ use Rattle.vms_spec.specs.declared.Reason.TheVariants as reasons
 
 -- what holds anyhow
 pub on_any : {X E P : Type 0} (r : Result X E) → P → OnOk r P
-on_any (Ok x) p = p
-on_any (Err e) p = tt
+on_any r p = grind arith
 
 module _ (x : WalkStep) where
   alone : (t : Taken) (n : List ℤ) (place : ℕ) (left : Option (List ℕ)) (r : Result (Unit {0}) FrameFault) → TakesAs t n place left r → TakesAs (t >>= take_steps []) n place left r
-  alone (Ok q) n place left r h = h
-  alone (Err e) n place left r h = h
+  alone t n place left r h = grind arith
 
   same_then : (t : Taken) (numbers n : List ℤ) (place p : ℕ) (reason : _) (left : Option (List ℕ)) → TakesAs t n place left (Err (faults.Refused p reason)) → n ≡ numbers → n ≡ numbers_then t numbers (last_numbers [])
-  same_then (Ok q) numbers n place p reason left h e = absurd h
-  same_then (Err r) numbers n place p reason left h e = e
+  same_then t numbers n place p reason left h e = grind arith
 
   module _ (a b : Told) where
     abbrev OneReads : Result (Unit {0}) FrameFault → Type 0
@@ -42,8 +39,7 @@ module _ (x : WalkStep) where
 -- one that is cut.
 
 any_good : (kind : Kind) (bytes : List ℕ) → (kind ≡ Bool → ⊥) → is_bad_bool kind bytes ≡ false
-any_good Bool bytes any = absurd (any refl)
-any_good _ bytes any = refl
+any_good kind bytes any = grind arith
 
 pub values_long : (kind : Kind) (count : ℕ) (bytes : List ℕ) → length (values_of kind count bytes) ≡ count
 values_long kind zero bytes = refl
@@ -73,7 +69,7 @@ module _ (kind : Kind) (any : kind ≡ Bool → ⊥) where
 
   number_cut : (cell place : ℕ) (numbers : List ℤ) (rest : List ℕ) → length rest < width kind
       → take_slot (slot_of (Number cell kind None)) (progress numbers place rest) ≡ refuse (progress numbers place rest) reasons.Truncated (length rest)
-  number_cut cell place numbers rest lt = grind (arith)
+  number_cut cell place numbers rest lt = grind arith
 
   -- ---- all of them
 

@@ -1,18 +1,18 @@
 -- What each description set has, and how many bytes the parts and the streams of a set may have.
 use Rattle.vms_load.proofs.Facade.{◌≡◌, ℕ, ◌+◌, ◌<◌, ◌≤◌, List, [], ◌∷◌, ◌++◌, length, map, Option, Some, None, ℤ, refl, sym}
-use Rattle.vms_load.proofs.Facade.{◌∙◌, subst, arith, true, nat_le, suc, get_or, Bool, ◌&&◌, zero, ◌*◌, ◌^◌, false, and_parts, leb-true}
-use Rattle.vms_load.proofs.Facade.{get_or-map, slice_get-get_or, slice_get_within, get_or_from_slice_get, slice_get, State, at_start, Set, Sub, Desc, Field}
-use Rattle.vms_load.proofs.Facade.{Device, Slot, Number, Rule, Cell, no_cell, no_desc, desc_slots, device_cells, first, capacity_of, own_cells, own_slots}
-use Rattle.vms_load.proofs.Facade.{sub_place, sub_slots, Kind, U8, own_cell_count, first_fault, WellFormed, has_few, item_count, items_in, struct_items}
-use Rattle.vms_load.proofs.Facade.{subs_items, devices_items, AreCells, sub_are, own_are, device_parts, Clean, struct_clean, sub_clean, device_at}
-use Rattle.vms_load.proofs.Facade.{is_well_formed, first_cell, HasPart, desc_at, sub_at, kinds_at, few_cells, own_inside_device, sub_inside, none_is, few_items}
-use Rattle.vms_load.proofs.Facade.{few_devices, IsIn, part_of, part_desc, part_base, bytes_of, subs_due, HasSpot, table, spot_slots, steps_of, WalkStep}
-use Rattle.vms_load.proofs.Facade.{IsOfKind, AreOfKinds, PartAt, is_small_item, is_small_optional, Item, Struct, MOST_UNUSED, first_long, width_small}
-use Rattle.vms_load.proofs.Facade.{item_bytes, fields_bytes, desc_bytes, struct_bytes, section_bytes, sections_due, subs_bytes, devices_most, FOOT_LENGTH}
-use Rattle.vms_load.proofs.Facade.{LONGEST_HEAD, LONGEST_SUB_HEAD, length-append, mul-le-mul_right, length-replicate, is_there, Meaning, no_meaning, item_slots}
-use Rattle.vms_load.proofs.Facade.{item_size, times, field_slots, slots_from, field_cells, numbers_of, elements_of, counted, all_hold, no_parent, meaning}
-use Rattle.vms_load.proofs.Facade.{meanings, desc_cells, struct_cells, elements_fit, cells_in, steps_append, field_bytes, steps_long, long_append, length-code}
-use Rattle.vms_load.proofs.Facade.{Image, zeroed, optional, configuration, trailer, written, written_section, written_sections, written_subs}
+use Rattle.vms_load.proofs.Facade.{◌∙◌, arith, true, nat_le, suc, get_or, Bool, ◌&&◌, zero, ◌*◌, ◌^◌, false, and_parts, leb-true, get_or-map}
+use Rattle.vms_load.proofs.Facade.{slice_get-get_or, slice_get, State, at_start, Set, Sub, Desc, Field, Device, Slot, Number, Rule, Cell, no_cell, no_desc}
+use Rattle.vms_load.proofs.Facade.{desc_slots, device_cells, first, capacity_of, own_cells, own_slots, sub_place, sub_slots, Kind, U8, own_cell_count}
+use Rattle.vms_load.proofs.Facade.{first_fault, WellFormed, has_few, item_count, items_in, struct_items, subs_items, devices_items, AreCells, sub_are, own_are}
+use Rattle.vms_load.proofs.Facade.{device_parts, Clean, struct_clean, sub_clean, device_at, is_well_formed, first_cell, HasPart, desc_at, sub_at, kinds_at}
+use Rattle.vms_load.proofs.Facade.{few_cells, own_inside_device, sub_inside, none_is, few_items, few_devices, IsIn, part_of, part_desc, part_base, bytes_of}
+use Rattle.vms_load.proofs.Facade.{subs_due, HasSpot, table, spot_slots, steps_of, WalkStep, IsOfKind, AreOfKinds, PartAt, is_small_item, is_small_optional}
+use Rattle.vms_load.proofs.Facade.{Item, MOST_UNUSED, first_long, width_small, item_bytes, fields_bytes, desc_bytes, struct_bytes, section_bytes, sections_due}
+use Rattle.vms_load.proofs.Facade.{subs_bytes, devices_most, FOOT_LENGTH, LONGEST_HEAD, LONGEST_SUB_HEAD, length-append, mul-le-mul_right, length-replicate}
+use Rattle.vms_load.proofs.Facade.{is_there, Meaning, no_meaning, item_slots, item_size, times, field_slots, slots_from, field_cells, numbers_of, elements_of}
+use Rattle.vms_load.proofs.Facade.{counted, all_hold, no_parent, meaning, meanings, desc_cells, struct_cells, elements_fit, cells_in, steps_append, field_bytes}
+use Rattle.vms_load.proofs.Facade.{steps_long, long_append, length-code, Image, zeroed, optional, configuration, trailer, written, written_section}
+use Rattle.vms_load.proofs.Facade.{written_sections, written_subs}
 use Rattle.vms_bodies.proofs.Places.{if_there}
 use Rattle.vms_spec.proofs.Tables.{two_more}
 use Rattle.std.specs.List.{AllByRecursion}
@@ -23,22 +23,18 @@ pub well_of : (set : Set) → is_well_formed set ≡ true → WellFormed set
 well_of set h = none_is (first_fault set) h
 
 pub desc_is : (set : Set) (k : ℕ) (sub : Option ℕ) → desc_at set (part_of k sub) ≡ part_desc (device_at set k) sub
-desc_is set k None = refl
-desc_is set k (Some j) = refl
+desc_is set k sub = grind arith
 
 pub base_is : (set : Set) (k : ℕ) (sub : Option ℕ) → first_cell set (part_of k sub) ≡ part_base set (device_at set k) sub
-base_is set k None = refl
-base_is set k (Some j) = refl
+base_is set k sub = grind arith
 
 -- the fields of a part of a device are among its cells
 module _ (set : Set) (well : is_well_formed set ≡ true) (k : ℕ) (lt : k < length set.devices) where
   has_part : (sub : Option ℕ) → IsIn (device_at set k) sub → HasPart set (part_of k sub)
-  has_part None h = lt
-  has_part (Some j) h = (lt, h)
+  has_part sub h = grind arith
 
   inside : (sub : Option ℕ) → IsIn (device_at set k) sub → first_cell set (part_of k sub) + own_cell_count set (desc_at set (part_of k sub)) ≤ length (device_cells set (device_at set k))
-  inside None h = omega (arith, own_inside_device set k)
-  inside (Some j) h = sub_inside set k j h
+  inside sub h = grind (arith, own_inside_device, sub_inside)
 
   pub part_spot : (sub : Option ℕ) → IsIn (device_at set k) sub → (n : List ℤ) → length n ≡ length (device_cells set (device_at set k)) → (spot : PartAt) → spot.part ≡ part_of k sub → spot.base ≡ first_cell set spot.part
       → HasSpot set spot n
@@ -69,33 +65,13 @@ one_of_kinds kinds (y ∷ xs) rest x h = one_of_kinds kinds xs rest x h.1
 pub step_kind : (kinds : List Kind) (slots : List Slot) (xs rest : List WalkStep) (x : WalkStep) → AreOfKinds kinds slots → steps_of slots ≡ xs ++ (x ∷ rest) → IsOfKind kinds x
 step_kind kinds slots xs rest x h e = one_of_kinds kinds xs rest x (rw e at h)
 
-pub few_subs : (set : Set) → is_well_formed set ≡ true → (k : ℕ) → k < length set.devices → length (device_at set k).subs ≤ 32
-few_subs set h k lt =
-    let d = device_at set k in
-    let c = (device_parts set (well_of set h) k d (slice_get-get_or set.devices k _ lt)).0 in
-    leb-true (length d.subs) 32 (and_parts (has_few d.desc) (nat_le (length d.subs) 32) c.own.1.1.1.1.1.1.0).1
-
 -- ---- The items of a well-formed set have few unused bytes.
 
-abbrev pub AreSmall : List Field → Type 0
-AreSmall [] = Unit {0}
-AreSmall (f ∷ fs) = (is_small_item f.item ≡ true) × AreSmall fs
-
-are_small : (fs : List Field) → ((i : ℕ) (f : Field) → slice_get fs i ≡ Some f → is_small_item f.item ≡ true) → AreSmall fs
-are_small [] h = tt
-are_small (f ∷ fs) h = (h 0 f refl, are_small fs (λ i g e. h (suc i) g e))
+abbrev AreSmall : List Field → Type 0
+AreSmall fs = (i : ℕ) (f : Field) → slice_get fs i ≡ Some f → is_small_item f.item ≡ true
 
 clean_small : (k : ℕ) (d : Desc) (rules : List Bool) → Clean k d rules → AreSmall d.fields
-clean_small k d rules c = are_small d.fields (λ i f e. (and_parts (nat_le (length f.former) 8 && is_small_optional f.test) (is_small_item f.item) (c.fields i f e).1.1.1.1.1.1.0).1)
-
-module _ (set : Set) (well : WellFormed set) where
-  pub struct_small : (j : ℕ) → j < length set.structs → AreSmall (get_or set.structs j no_desc).fields
-  struct_small j lt = clean_small j (get_or set.structs j no_desc) _ (struct_clean set well j (get_or set.structs j no_desc) (slice_get-get_or set.structs j no_desc lt))
-
-  pub part_small : (k : ℕ) (sub : Option ℕ) → k < length set.devices → IsIn (device_at set k) sub → AreSmall (part_desc (device_at set k) sub).fields
-  part_small k None lt h = clean_small (length set.structs) (device_at set k).desc _ (device_parts set well k (device_at set k) (slice_get-get_or set.devices k _ lt)).0
-  part_small k (Some j) lt h =
-      clean_small (length set.structs) (sub_at (device_at set k) j).desc _ (sub_clean set well k j (device_at set k) (sub_at (device_at set k) j) (slice_get-get_or set.devices k _ lt) (slice_get-get_or (device_at set k).subs j _ h))
+clean_small k d rules c i f e = (and_parts (nat_le (length f.former) 8 && is_small_optional f.test) (is_small_item f.item) (c.fields i f e).1.1.1.1.1.1.0).1
 
 -- ---- no item has more than 4,096 bytes
 
@@ -115,7 +91,8 @@ times_small (suc n) b i h = grind (arith, times_small n b i h)
 fields_small : (bytes items : List ℕ) → Small bytes items → (fs : List Field) → AreSmall fs → fields_bytes bytes fs ≤ MOST_UNUSED * items_in items fs
 fields_small bytes items s [] h = omega arith
 fields_small bytes items s (f ∷ fs) h =
-    omega (arith, times_small (capacity_of f.count) _ _ (item_small bytes items s f.item h.0), fields_small bytes items s fs h.1)
+    let more = fields_small bytes items s fs (λ i g e. h (suc i) g e) in
+    omega (arith, times_small (capacity_of f.count) _ _ (item_small bytes items s f.item (h 0 f refl)), more)
 
 abbrev items_to : List Desc → ℕ → List ℕ
 items_to ds k = first (λ sizes d. items_in sizes d.fields) ds k
@@ -135,9 +112,14 @@ structs_small ds small (suc k) le j =
 -- ---- the parts of a set
 
 module _ (set : Set) (well : is_well_formed set ≡ true) where
+  struct_small : (j : ℕ) → j < length set.structs → AreSmall (get_or set.structs j no_desc).fields
+  struct_small j lt =
+      clean_small j (get_or set.structs j no_desc) _
+      (struct_clean set (well_of set well) j (get_or set.structs j no_desc) (slice_get-get_or set.structs j no_desc lt))
+
   desc_small : (d : Desc) → AreSmall d.fields → bytes_of set d ≤ MOST_UNUSED * items_in (struct_items set.structs) d.fields
   desc_small d small =
-      fields_small _ _ (structs_small set.structs (struct_small set (well_of set well)) (length set.structs) (omega arith)) d.fields small
+      fields_small _ _ (structs_small set.structs struct_small (length set.structs) (omega arith)) d.fields small
 
   subs_small : (subs : List Sub) → ((j : ℕ) (s : Sub) → slice_get subs j ≡ Some s → AreSmall s.desc.fields) → subs_bytes set subs ≤ MOST_UNUSED * subs_items (struct_items set.structs) subs
   subs_small [] h = omega arith
@@ -152,13 +134,10 @@ module _ (set : Set) (well : is_well_formed set ≡ true) where
 
   part_of_device : (k : ℕ) (d : Device) → slice_get set.devices k ≡ Some d → AreSmall d.desc.fields × (length d.subs ≤ 32) × ((j : ℕ) (s : Sub) → slice_get d.subs j ≡ Some s → AreSmall s.desc.fields)
   part_of_device k d e =
-      let lt : k < length set.devices = slice_get_within set.devices k d e in
-      let same : device_at set k ≡ d = get_or_from_slice_get set.devices k d _ e in (
-        rw same at (part_small set (well_of set well) k None lt tt),
-        rw same at (few_subs set well k lt),
-        λ j s f.
-            let g : slice_get (device_at set k).subs j ≡ Some s = cc in
-            subst (λ x. AreSmall x.desc.fields) (get_or_from_slice_get (device_at set k).subs j s _ g) (part_small set (well_of set well) k (Some j) lt (slice_get_within (device_at set k).subs j s g)),
+      let c = (device_parts set (well_of set well) k d e).0 in (
+        clean_small (length set.structs) d.desc _ c,
+        leb-true (length d.subs) 32 (and_parts (has_few d.desc) (nat_le (length d.subs) 32) c.own.1.1.1.1.1.1.0).1,
+        λ j s f. clean_small (length set.structs) s.desc _ (sub_clean set (well_of set well) k j d s e f),
       )
 
   -- this many bytes give no offset above 2 ^ 63
@@ -198,8 +177,7 @@ record Bounds (ms : List Meaning) (bytes : List ℕ) : Type 0 where
 
 module _ (ms : List Meaning) (bytes : List ℕ) (bounds : Bounds ms bytes) where
   item_bound : (item : Item) (caps : List ℕ) (n : List ℤ) (at : ℕ) → long (item_slots ms item caps n at) ≤ item_bytes bytes item
-  item_bound (Struct j) caps n at = bounds.each j n at
-  item_bound _ caps n at = omega arith
+  item_bound item caps n at = grind arith
 
   items_bound : (item : Item) (caps : List ℕ) (n : List ℤ) (k at step : ℕ) → long (times k (item_slots ms item caps n) at step) ≤ k * item_bytes bytes item
   items_bound item caps n zero at step = omega arith
@@ -286,9 +264,7 @@ module _ (set : Set) where
   sections-le : (id : ℕ) (devices : List Device) (images : List Image) → length (written_sections set id devices images) ≤ devices_long set devices
   sections-le id [] images = omega arith
   sections-le id (d ∷ devices) [] = omega arith
-  sections-le id (d ∷ devices) (image ∷ images) =
-      both-le (written_section set d image id) (written_sections set (suc id) devices images) (device_long set d) (devices_long set devices)
-      (section-le d image id) (sections-le (suc id) devices images)
+  sections-le id (d ∷ devices) (image ∷ images) = grind (arith, both-le, section-le, sections-le (suc id) devices images)
 
   pub stream_le : (machine : Option (List ℕ)) (images : List Image) (text : Option (List ℕ))
       → length (written set machine images text) ≤ 8 + length (optional configuration machine) + devices_long set set.devices + 1 + length (optional trailer text)

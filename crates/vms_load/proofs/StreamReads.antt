@@ -5,8 +5,8 @@ use Rattle.vms_load.proofs.Facade.{Result, Ok, Err, IfSome, OnOk, refl, sym, ap,
 use Rattle.vms_load.proofs.Facade.{Piece, Magic, Version, Verdict, Goes, Reading, reading_after, Accepted, Refused, reading_on, AMagic, AVersion, AfterEnd}
 use Rattle.vms_load.proofs.Facade.{alone, needs, text_at, trailer_at, judge, reading, ask, judge_seen, Seen, Good, seen, seen_by, seen_in, State, Spot, Before}
 use Rattle.vms_load.proofs.Facade.{Headed, Free, by_state, Ended, at_start, nothing_known, judged_holds, Head, Stand, ahead, due_of, unit_of_step, ReadsBetween}
-use Rattle.vms_load.proofs.Facade.{AnswersSeen, AnswersAfter, AnswersHead, Fails, AnswersEnd, ReadsEnd, Between, First, Step, FrameFault, Onward, Reads}
-use Rattle.vms_load.proofs.Facade.{ReadsOn, LeadsOn, ReadsBehind, IsBehind, Settles, concerning, state_of, spot_of, is_first, is_configured, ReadsAll}
+use Rattle.vms_load.proofs.Facade.{AnswersSeen, AnswersAfter, AnswersHead, Fails, AnswersEnd, ReadsEnd, Between, Step, FrameFault, Onward, Reads, ReadsOn}
+use Rattle.vms_load.proofs.Facade.{LeadsOn, ReadsBehind, IsBehind, Settles, concerning, state_of, spot_of, is_first, is_configured, ReadsAll}
 use Rattle.vms_load.proofs.ReadLemmas.{unit_fault, unit_settled, unit_behind, reads_on, unit_of, still_behind, unit_fails}
 use Rattle.vms_stream.specs.{Dues.Between as IsBetween, State.Over}
 use Rattle.vms_frames.specs.Calls.{step_long}
@@ -15,8 +15,7 @@ use Rattle.vms_frames.specs.declared.fault.FrameFault.TheVariants as frames
 use Rattle.vms_load.specs.declared.fault.LoadFault.TheVariants as faults
 
 due_is : (between : Between) → IsBetween (is_first between) (is_configured between) ≡ due_of between
-due_is First = refl
-due_is _ = refl
+due_is between = grind arith
 
 module _ (set : Set) (names : List (List ℕ)) where
   abbrev go : State → Onward
@@ -53,13 +52,7 @@ module _ (set : Set) (names : List (List ℕ)) where
         → ReadsBetween between from old middle (Ok (steps.Section head)) → mid.at ≡ from.at + head_long head → mid.held ≡ None → place ≡ from.at
         → ((bytes : List ℕ) → IsBehind (head_long head) place bytes mid middle → ReadsBehind go (ask set names state (head_unit head) (head_long head)) (λ _. go final) place (head_long head) bytes end new result)
         → ReadsOn (go state) (λ _. go final) from end old new result
-    turn_section from mid end None middle new head place final result came a far free is r = tt
-    turn_section from mid end (Some rest) middle new head place final result came a far free is r =
-        let bytes = ahead from.held rest in
-        let n = head_long head in
-        let onward = rw is at (r bytes (record { place = cc; held = free; taken = a.1 })) in
-        rw (between_is from.at bytes) (unit_behind go None (ask set names state) from.at bytes (seen (due_of between) nothing_known bytes) (head_unit head) n (λ (x : Unit {0}). go final) end new result a.0
-        (section_long set names staged (is_first between) (is_configured between) head came) onward)
+    turn_section from mid end old middle new head place final result came a far free is r = search (arith, between_is, unit_behind, section_long)
 
 -- ---- the stream head
 
@@ -147,15 +140,12 @@ module _ (set : Set) (names : List (List ℕ)) where
   whole_is input = refl
 
   all_fault : (x : Option (Reading State)) (staged : Staged) (input : List ℕ) (left : Option (List ℕ)) → ReadsAll set x staged input left (Err faults.ReadFault)
-  all_fault None staged input left = tt
-  all_fault (Some (Accepted n end)) staged input left = tt
-  all_fault (Some (Refused place section reason long)) staged input left = tt
+  all_fault x staged input left = grind arith
 
   -- a refusal is the whole's
   all_refused : {X : Type 0} (x : Option (Reading State)) (staged : Staged) (input : List ℕ) (left : Option (List ℕ)) (next : X → Onward) (from : ℕ) (to : Stand) (e : LoadFault) → from ≡ 0
       → Reads x next from to input left (Err e) → ReadsAll set x staged input left (Err e)
-  all_refused x staged input left next from to (faults.Refused r) zero h = rw h.is (refl, h.taken ∙ ap (λ k. Some (drop k input)) (omega arith))
-  all_refused x staged input left next from to faults.ReadFault zero h = all_fault x staged input left
+  all_refused x staged input left next from to e zero h = grind (arith, all_fault)
 
   -- the reading of a whole input, if the cursor holds nothing
   begins : (state : State) (from : Stand) (input : List ℕ) → state ≡ at_start set → from.at ≡ 0 → from.held ≡ None → goes state from.at (ahead from.held input) ≡ whole input
@@ -189,8 +179,7 @@ module _ (set : Set) (names : List (List ℕ)) where
     IsLast _ = Unit {0}
 
     line_last : (x : Piece) (n : ℕ) → ask set names ended x n ≡ Goes n closed_state → (o : Option (Option ℕ × Reason)) → IsLast (seen_by o x n)
-    line_last x n h None = h
-    line_last x n h (Some (section, reason)) = tt
+    line_last x n h o = grind arith
 
     needs_last : (n : ℕ) (rest : List ℕ) (x : Piece) → ask set names ended x n ≡ Goes n closed_state → IsLast (seen_in AfterEnd nothing_known (needs n rest x))
     needs_last n rest x h = grind (arith, line_last, alone)
@@ -220,12 +209,7 @@ module _ (set : Set) (names : List (List ℕ)) where
 
     by_last : (place end b : ℕ) (input more : List ℕ) (left : Option (List ℕ)) (result : Result (Unit {0}) FrameFault) (f : Seen) → IsLast f → b ∷ more ≡ drop place input
         → AnswersEnd (b ∷ more) f place end left result → ReadsAll set (by_rest place (b ∷ more) f) staged input left (closes_at end result)
-    by_last place end b input more left (Ok x) (Good unit n) is there h =
-        let rest = b ∷ more in
-        accepts place n end input rest left closed_state (by_rest place rest (Good unit n)) (rw is (unit_of set names closed_state (place + n) (drop n rest))) refl refl h.0 h.1 there
-    by_last place end b input more left (Err (frames.Refused at reason)) f is there h = closed_fault place end input (b ∷ more) left at reason f there h.0 h.1
-    by_last place end b input more left (Err frames.ReadFault) f is there h = all_fault (by_rest place (b ∷ more) f) staged input left
-    by_last place end b input more left (Ok x) _ is there h = absurd h
+    by_last place end b input more left result f is there h = grind (arith, accepts, unit_of, closed_fault, all_fault)
 
     closed_at : (place end : ℕ) (input rest : List ℕ) (left : Option (List ℕ)) (result : Result (Unit {0}) FrameFault) → rest ≡ drop place input → AnswersEnd rest (seen AfterEnd nothing_known rest) place end left result
         → ReadsAll set (goes ended place rest) staged input left (closes_at end result)

@@ -1,6 +1,6 @@
-use Rattle.vms_convert.proofs.{Converts.own_spot, Converts.sub_spot, TakeLaws.put_rest, TakeLaws.took_all, TakeLaws.took_own, TakeLaws.took_sub}
 use Rattle.vms_convert.proofs.Facade.{spot_slots, steps_of, takes_keeps, ◌≡◌, ◌<◌, length, refl, ap, ◌∙◌, arith, length-map, IsGood, Cell}
 use Rattle.vms_convert.proofs.Facade.{device_cells, described, device_at, good_of, Typed}
+use Rattle.vms_convert.proofs.{Converts.own_spot, Converts.sub_spot, TakeLaws.put_rest, TakeLaws.took_all, TakeLaws.took_own, TakeLaws.took_sub}
 use Rattle.vms_convert.proofs.back.take_all.Goals as goal
 
 pub take_part-requires-clause-part : goal.take_part-requires-clause-part
@@ -29,9 +29,8 @@ loop-sub-init c =
 pub take_part-requires-in-loop-sub-clause-part : goal.take_part-requires-in-loop-sub-clause-part
 take_part-requires-in-loop-sub-clause-part c =
     let set = described c.args.set.now in
-    let n = c.loop-sub.image.numbers in
     let less : c.loop-sub.sub < length (device_at set c.args.device).subs = omega arith in
-    rw c.whole_part-part.ensures (sub_spot set c.args.device c.requires.device c.args.set.now.well_formed n c.loop-sub.invariant.long c.loop-sub.sub less)
+    rw c.whole_part-part.ensures (sub_spot set c.args.device c.requires.device c.args.set.now.well_formed _ c.loop-sub.invariant.long c.loop-sub.sub less)
 
 pub loop-sub-preserved : goal.loop-sub-preserved
 loop-sub-preserved c =

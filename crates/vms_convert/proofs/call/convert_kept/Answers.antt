@@ -1,6 +1,6 @@
-use Rattle.vms_convert.proofs.{Converts.puts_kept, call.convert_kept.Given.Over, Answered.ComesBack, Answered.backs_are, Answered.ready_back}
 use Rattle.vms_convert.proofs.Facade.{◌≡◌, map, ◌∙◌, subst, sym, with_items_is, err_from_is_err_and, refl, at_option, fit_of, described, state_of}
 use Rattle.vms_convert.proofs.Facade.{outlet, Puts, Stops, has, loads, name_of, ConvertsKept, stream_of}
+use Rattle.vms_convert.proofs.{Converts.puts_kept, call.convert_kept.Given.Over, Answered.ComesBack, Answered.backs_are, Answered.ready_back}
 use Rattle.vms_convert.proofs.call.convert_kept.Goals.{After-deref, After-deref-2}
 use Rattle.vms_convert.proofs.call.convert_kept.Goals as goal
 
@@ -38,11 +38,10 @@ returns-in_err-machine g c =
 pub write_back-requires : goal.write_back-requires
 write_back-requires g c =
     let p = goal.at.write_back-requires g c in
-    let back = ready_back _ _ _ _ _ (came g p.After-deref) c.in_ok-machine.ensures.0.valid in
     record {
       machine = c.in_ok-machine.ensures.1.inside;
       of = rw (same g p.After-deref-2, images_are g p.After-deref) (record { one_each = c.return_all-lost.ensures.count; each = c.return_all-lost.ensures.of });
-      ready = rw (same g p.After-deref-2) back;
+      ready = rw (same g p.After-deref-2) (ready_back _ _ _ _ _ (came g p.After-deref) c.in_ok-machine.ensures.0.valid);
     }
 
 pub returns-in_err-write_back : goal.returns-in_err-write_back

@@ -1,6 +1,6 @@
+use Rattle.vms_convert.proofs.Facade.{◌<◌, List, ℤ, length, refl, ap, ◌∙◌, arith, described, device_at, state_of, steps_of}
 use Rattle.vms_convert.proofs.{TakeLaws.first_slots, TakeLaws.put_rest, BackNormal.steps_long}
 use Rattle.vms_convert.proofs.Converts.{own_spot, gave_all, gave_own, gave_sub}
-use Rattle.vms_convert.proofs.Facade.{◌<◌, List, ℤ, length, refl, ap, ◌∙◌, arith, described, device_at, state_of, steps_of}
 use Rattle.vms_convert.proofs.carrying.give_all.Goals as goal
 
 pub give_part-requires-clause-part : goal.give_part-requires-clause-part

@@ -1,6 +1,6 @@
-use Rattle.vms_convert.proofs.Answered.{invalid_of, own_bound, searched_by, valid_none, valid_of}
 use Rattle.vms_convert.proofs.Facade.{map, ◌∙◌, ◌≡◌, rules, Some, slice_get, OnTrue_at, OnTrue_from, OnFalse_at, OnFalse_from, IsReady, described}
 use Rattle.vms_convert.proofs.Facade.{device_at, state_of, at_state, IsValidAt, device_below, find_device, image_at}
+use Rattle.vms_convert.proofs.Answered.{invalid_of, own_bound, searched_by, valid_none, valid_of}
 use Rattle.vms_convert.proofs.losing.is_valid.Goals.{After-index-images-own, In-Some}
 use Rattle.vms_convert.proofs.losing.is_valid.Goals as goal
 

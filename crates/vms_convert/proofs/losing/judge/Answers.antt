@@ -1,5 +1,5 @@
-use Rattle.vms_convert.proofs.Answered.{ComesBack, cell_first, device_first, invalid_by, machine_last, writable_back}
 use Rattle.vms_convert.proofs.Facade.{Some, None, ◌∙◌, ap, fit_of, described, has, loads, name_of, Set, first_cell_at}
+use Rattle.vms_convert.proofs.Answered.{ComesBack, cell_first, device_first, invalid_by, machine_last, writable_back}
 use Rattle.vms_convert.proofs.losing.judge.Goals.{Start}
 use Rattle.vms_convert.proofs.losing.judge.Goals as goal
 
@@ -29,9 +29,7 @@ returns-in-Some-first_invalid c =
 
 pub returns : goal.returns
 returns c =
-    let to = described c.args.to.now in
-    let name = name_of (loads c.args.loader.now) c.args.machine in
-    machine_last _ _ _ _ _ (came (goal.at.returns c).Start) name c.in_default.is
-    (invalid_by to (loads c.args.loader.now) c.args.images.now _ None c.first_invalid.result c.set.ensures c.first_invalid.ensures
+    machine_last _ _ _ _ _ (came (goal.at.returns c).Start) _ c.in_default.is
+    (invalid_by (described c.args.to.now) (loads c.args.loader.now) c.args.images.now _ None c.first_invalid.result c.set.ensures c.first_invalid.ensures
     c.in_default-first_invalid.is)
     c.machine_under.result (rw (← c.set-2.ensures) c.machine_under.ensures)

@@ -1,5 +1,5 @@
-use Rattle.vms_convert.proofs.Answered.{keeps_machine}
 use Rattle.vms_convert.proofs.Facade.{◌≡◌, [], Some, length, get_or, ap, arith, ◌∙◌, get_or_default, Set, described, IsNameAt, few_machines}
+use Rattle.vms_convert.proofs.Answered.{keeps_machine}
 use Rattle.vms_convert.proofs.losing.machine_under.Goals as goal
 
 pub find_name-requires : goal.find_name-requires

@@ -9,7 +9,6 @@ elements f = record { item = f.item; count = capacity_of f.count }
 
 pub returns : goal.returns
 returns c =
-    let code = c.index-fields_of-number.result in
     let is =
-    found_field c.fields_of.result.now (desc_on c.args.side).fields c.args.number code c.fields_of.ensures c.requires.field c.index-fields_of-number.is in
+    found_field c.fields_of.result.now (desc_on c.args.side).fields c.args.number _ c.fields_of.ensures c.requires.field c.index-fields_of-number.is in
     rw (c.capacity.ensures) (ap elements is)

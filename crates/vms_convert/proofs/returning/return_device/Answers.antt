@@ -1,4 +1,4 @@
-use Rattle.vms_convert.proofs.Facade.{ap, sym, ◌∙◌, length-map, Cell, device_cells, device_at, fit_of, described, well_of, loads}
+use Rattle.vms_convert.proofs.Facade.{ap, sym, ◌∙◌, length-map, Cell, fit_of, described, well_of, loads}
 use Rattle.vms_convert.proofs.Converts.{IsReturning, back_of, given_is, given_long, sources_of, targets_of}
 use Rattle.vms_convert.proofs.returning.return_device.Goals.{Start}
 use Rattle.vms_convert.proofs.returning.return_device.Goals as goal
@@ -26,15 +26,13 @@ pub give_all-requires : goal.give_all-requires
 give_all-requires c =
     let targets = targets_of _ _ _ _ _ (returning (goal.at.give_all-requires c).Start) c.args.partners.now c.requires.partners
     c.come_back.new.image c.come_back.ensures.back c.args.carried.now c.requires.empty in
-    let new = loads c.args.pair.loader.now in
-    let cells = device_cells new (device_at new c.args.pair.other) in
     record {
       device = c.requires.device;
       of = c.come_back.ensures.of;
       version = ap (λ x. x.version) c.come_back.ensures.back.is;
       may = record {
         targets = targets;
-        kinds = rw c.requires.empty (length-map cells (λ (x : Cell). x.kind) ∙ sym (length-map cells (λ (x : Cell). x.default)));
+        kinds = rw c.requires.empty (length-map _ (λ (x : Cell). x.kind) ∙ sym (length-map _ (λ (x : Cell). x.default)));
       };
     }
 

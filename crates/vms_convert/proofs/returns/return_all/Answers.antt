@@ -1,5 +1,5 @@
-use Rattle.vms_convert.proofs.{LostLaws.midway_first, LostLaws.midway_last, LostLaws.midway_next, returns.return_all.Goals.After-index-images-device}
 use Rattle.vms_convert.proofs.Facade.{◌<◌, length, arith, slice_get-get_or, described, loads}
+use Rattle.vms_convert.proofs.{LostLaws.midway_first, LostLaws.midway_last, LostLaws.midway_next, returns.return_all.Goals.After-index-images-device}
 use Rattle.vms_convert.proofs.returns.return_all.Goals as goal
 
 pub loop-device-init : goal.loop-device-init
@@ -10,14 +10,13 @@ inside c = omega arith
 
 pub return_at-cell-requires : goal.return_at-cell-requires
 return_at-cell-requires c =
-    let n = c.loop-device.device in
     let inside = inside (goal.at.return_at-cell-requires c).After-index-images-device in
     record {
       newest = c.requires.newest;
       kept = c.requires.kept;
       device = omega arith;
-      route = c.loop-device.invariant.routes_are n _ (omega arith) (slice_get-get_or c.loop-device.routes n c.index-routes-device.result inside);
-      fresh = c.loop-device.invariant.fresh n _ (omega arith) (slice_get-get_or c.loop-device.images n c.index-images-device.result (omega arith));
+      route = c.loop-device.invariant.routes_are _ _ (omega arith) (slice_get-get_or c.loop-device.routes _ c.index-routes-device.result inside);
+      fresh = c.loop-device.invariant.fresh _ _ (omega arith) (slice_get-get_or c.loop-device.images _ c.index-images-device.result (omega arith));
     }
 
 pub loop-device-preserved : goal.loop-device-preserved

@@ -1,6 +1,6 @@
-use Rattle.vms_convert.proofs.{Facade.loads, returns.return_at.Goals.After-index-images-pair, returns.return_at.Goals.Start}
 use Rattle.vms_convert.proofs.Facade.{◌≡◌, ◌<◌, Some, length, ap, arith, length-map, slice_get_within, slice_get, described, state_of, at_state}
 use Rattle.vms_convert.proofs.Facade.{image_at, has}
+use Rattle.vms_convert.proofs.{Facade.loads, returns.return_at.Goals.After-index-images-pair, returns.return_at.Goals.Start}
 use Rattle.vms_convert.proofs.LostLaws.{recast_for, wanted_is}
 use Rattle.vms_convert.proofs.returns.return_at.Goals as goal
 

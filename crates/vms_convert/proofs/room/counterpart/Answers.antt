@@ -1,5 +1,5 @@
-use Rattle.vms_convert.proofs.{LostLaws.always_found, LostLaws.pair_found, room.counterpart.Goals.After-find}
 use Rattle.vms_convert.proofs.Facade.{◌≡◌, sym, ap, ◌∙◌, find_device, Device, first_fault, described, device_at, none_is}
+use Rattle.vms_convert.proofs.{LostLaws.always_found, LostLaws.pair_found, room.counterpart.Goals.After-find}
 use Rattle.vms_convert.proofs.room.counterpart.Goals as goal
 
 found : (c : After-find)
@@ -15,8 +15,6 @@ returns c =
 
 pub unreachable-requires : goal.unreachable-requires
 unreachable-requires c =
-    let to = described c.args.to.now in
-    let new = described c.args.newest.now in
-    always_found to new (none_is (first_fault to) c.args.to.now.well_formed)
-    (none_is (first_fault new) c.args.newest.now.well_formed) c.requires.compatible c.args.device c.requires.device
+    always_found _ _ (none_is (first_fault _) c.args.to.now.well_formed)
+    (none_is (first_fault _) c.args.newest.now.well_formed) c.requires.compatible c.args.device c.requires.device
     (found (goal.at.unreachable-requires c).After-find ∙ c.in-None.is)

@@ -1,5 +1,5 @@
-use Rattle.vms_load.proofs.{StreamLengths.part_bound, StreamLengths.step_kind, Facade.long_append}
 use Rattle.vms_load.proofs.Facade.{spot_slots, IsOfKind, ◌≡◌, sym, subst, ◌∷◌, ◌++◌, ap, ◌∙◌, arith, append_assoc, described, steps_long}
+use Rattle.vms_load.proofs.{StreamLengths.part_bound, StreamLengths.step_kind, Facade.long_append}
 use Rattle.vms_load.proofs.body.read_part.Goals as goal
 
 pub walk-requires-clause-may : goal.walk-requires-clause-may

@@ -1,34 +1,25 @@
 use Rattle.vms_load.proofs.BodyLemmas.{reads_rule, number_ok, number_err, constant_taken, filler_taken}
-use Rattle.vms_load.proofs.Facade.{refl, w128, to_z-of_z, rules, SFits, ◌≡◌, ℕ, ◌+◌, Some, Result, Ok, Err, OnOk, None, Typed, sym, subst, arith}
-use Rattle.vms_load.proofs.Facade.{WalkStep, capacities_of, take_slot, intake, reads_as, IsLong, FrameFault, TakesOn, HasMoved, progress, slot_of, step_long}
+use Rattle.vms_load.proofs.Facade.{w128, to_z-of_z, rules, SFits, ◌≡◌, ℕ, ◌+◌, Some, Result, Ok, OnOk, None, Typed, sym, subst, arith, WalkStep}
+use Rattle.vms_load.proofs.Facade.{capacities_of, take_slot, intake, reads_as, IsLong, FrameFault, TakesOn, HasMoved, progress, slot_of, step_long}
 use Rattle.vms_load.proofs.ReadLemmas.{err_is}
 use Rattle.vms_load.specs.Calls.{Input, TakesStep}
-use Rattle.std.specs.Prelude.{OnErr}
 use Rattle.vms_load.proofs.body.read_step.Goals as goal
 
 -- all bytes of an item, by which the cursor moves
 moved : (most at to : ℕ) (result : Result (Unit {0}) FrameFault) (n : ℕ) → OnOk result (to ≡ at + most) → IsLong (λ _. most) most result n → HasMoved most at to result n
-moved most at to (Ok x) n far l = (omega arith, omega arith)
-moved most at to (Err e) n far l = (l, tt)
+moved most at to result n far l = search rules
 
 -- a step that leaves the image as it is
 stays : (x y : WalkStep) (image : Typed) (from to : Input) (result : Result (Unit {0}) FrameFault) → x ≡ y → OnOk result (to.cursor.held ≡ None)
     → TakesOn from.source to.source (step_long y) from.cursor.at to.cursor.at (λ rest. take_slot (slot_of y) (progress image.numbers from.cursor.at rest)) image.numbers result
     → TakesStep x image image from to result
-stays x y image from to result is held reads =
-    rw is (record { reads = reads; held = held; kept = refl; keeps = record { long = refl; same = λ c e. refl }; stopped = unchanged result image })
-  where
-    unchanged : (result : Result (Unit {0}) FrameFault) (image : Typed) → OnErr result (image ≡ image)
-    unchanged (Ok x) image = tt
-    unchanged (Err e) image = refl
+stays x y image from to result is held reads = search rules
 
 pub set-requires-clause-cell : goal.set-requires-clause-cell
 set-requires-clause-cell g c = rw c.in-Number.is at c.requires.step.inside
 
 pub set-requires-clause-range : goal.set-requires-clause-range
-set-requires-clause-range g c =
-    let of_kind = rw c.in-Number.is at c.requires.step.of_kind in
-    rw (to_z-of_z w128 c.in_ok-number-in-Number.number (search rules)) (rw of_kind c.in_ok-number-in-Number.ensures.range)
+set-requires-clause-range g c = search rules
 
 pub returns-in_err-number-in-Number : goal.returns-in_err-number-in-Number
 returns-in_err-number-in-Number g c =
@@ -69,13 +60,7 @@ returns-in-Constant g c =
     (rw (to_z-of_z w128 z f) at c.constant.ensures.reads))
 
 pub returns-in-Filler : goal.returns-in-Filler
-returns-in-Filler g c =
-    let n = c.in-Filler.bytes in
-    let at = c.args.cursor.now.at in
-    let to = c.skip.new.self.at in
-    stays _ _ _ _ _ _ c.in-Filler.is (search rules)
-    (reads_as (λ k l. moved n at to c.skip.result k c.skip.ensures.place l)
-    (λ rest left h. filler_taken rest (Some left) at to c.args.image.now.numbers n c.skip.result c.skip.ensures.place h) c.skip.ensures.reads)
+returns-in-Filler g c = search (rules, stays, reads_as, moved, filler_taken)
 
 pub returns-in-Rule : goal.returns-in-Rule
 returns-in-Rule g c =

@@ -1,4 +1,4 @@
-use Rattle.vms_load.proofs.Facade.{rules, ◌<◌, sym, ap, ◌∙◌, arith, length, get_or, false, Some, None, described, reason_against}
+use Rattle.vms_load.proofs.Facade.{rules, sym, ap, ◌∙◌, get_or, false, Some, None, described, reason_against}
 use Rattle.vms_load.proofs.HeadLemmas.{opens, device_below, section_new}
 use Rattle.vms_load.proofs.heads.open_section.Goals as goal
 
@@ -6,9 +6,7 @@ pub device-requires : goal.device-requires
 device-requires c = device_below (described c.args.set.now).devices c.deref.result.now c.args.head.now.instance c.in-Some.number (sym c.find.ensures ∙ c.in-Some.is)
 
 pub bounds-came-number : goal.bounds-came-number
-bounds-came-number c =
-    let lt : c.in-Some.number < length (described c.args.set.now).devices = device_below (described c.args.set.now).devices c.deref.result.now c.args.head.now.instance c.in-Some.number (sym c.find.ensures ∙ c.in-Some.is) in
-    omega arith
+bounds-came-number c = search (rules, device_below)
 
 pub returns-in-None-against_device : goal.returns-in-None-against_device
 returns-in-None-against_device c =

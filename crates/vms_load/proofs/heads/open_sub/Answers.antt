@@ -45,9 +45,4 @@ returns-in-Some-against_sub c =
     record { short = search rules; opened = λ k. judged h.After-against_sub (found h.In-Some) k _ c.in-Some-against_sub.is }
 
 pub returns-in-None : goal.returns-in-None
-returns-in-None c =
-    let none = rw (c.find_sub.ensures, c.as_slice.ensures, c.deref.ensures.0) at c.in-None.is in
-    record {
-      short = search rules;
-      opened = λ k. sym (unknown_sub k (device_of c.args.device.now) c.args.image.now.came c.args.name.now.items c.args.version none);
-    }
+returns-in-None c = search (rules, unknown_sub)

@@ -1,8 +1,9 @@
-use Rattle.vms_load.proofs.{ReadLemmas.goes_refused, ReadLemmas.same_course, StreamLengths.few_subs, Facade.LONGEST_SUB_HEAD}
-use Rattle.vms_load.proofs.AfterReads.{after_fault, after_settled, after_next, foot_settled, sub_settled, sub_refused, sub_new, subs_taken}
+use Rattle.vms_load.proofs.{ReadLemmas.goes_refused, ReadLemmas.same_course}
+use Rattle.vms_load.proofs.AfterReads.{after_fault, after_settled, after_next, sub_settled, sub_refused, sub_new, subs_taken}
 use Rattle.vms_load.proofs.Facade.{rules, refl, ◌≡◌, ℕ, ◌+◌, List, Option, Some, None, Result, Ok, Err, length, slice_set, sym, subst, ap}
 use Rattle.vms_load.proofs.Facade.{◌∙◌, arith, Reason, Device, AtLeast, no_desc, described, at_set, device_at, held_long, SubHead, Foot, opened_at}
 use Rattle.vms_load.proofs.Facade.{sub_opened, intake, reads_as, GoesOn, subs_due, after_fields, after_part, state_in, spot_in, LoadFault, Open, Typed}
+use Rattle.vms_load.proofs.Facade.{LONGEST_SUB_HEAD, few_subs}
 use Rattle.vms_load.specs.{Heads.in_section, declared.fault.LoadFault.TheVariants.Refused}
 use Rattle.vms_image.specs.Typed.{state_of as untyped}
 use Rattle.vms_frames.specs.declared.units.Tail.TheVariants as tails
@@ -29,7 +30,7 @@ returns-in-Ok-Done g c =
           reads_as (λ n l. omega (arith, ap held_long came.held, ap held_long c.requires.cursor.held))
           (λ rest left h. after_settled set names state section part (untyped c.args.image.now) c.requires.image.device room c.args.cursor.now c.after_fields.new.self
           (Some rest) (Some left) (Foot section.id) 5 (record section { tail = tails.Footed }) (untyped c.args.image.now) (Ok None)
-          c.requires.cursor.held came.held h came.place (foot_settled set names state section part (untyped c.args.image.now) c.requires.image.device room c.args.cursor.now.at)) came.reads;
+          c.requires.cursor.held came.held h came.place (refl, refl)) came.reads;
       section = (refl, refl);
       next = record { moved = omega arith; held = tt; opens = tt };
       moves = search rules;

@@ -1,3 +1,4 @@
+use Rattle.vms_load.proofs.Facade.{rules}
 use Rattle.vms_load.proofs.{ReadLemmas.same_course, parts.read_fields.Given.Over, PartReads.open_in, PartReads.fields_answer, PartReads.part_read}
 use Rattle.vms_load.proofs.Facade.{◌≡◌, Some, Ok, Err, ap, ◌∙◌, arith, described, desc_at, first_cell, good_of, IsGood, device_at, PartAt, HasSpot}
 use Rattle.vms_load.proofs.Facade.{part_sound, held_long, bytes_of, part_base, part_desc, Told, told, intake, reads_as}
@@ -27,11 +28,7 @@ abbrev spot_of : (g : Over) (c : goal.After-first_cell-base g) → PartAt
 spot_of g c = record { part = c.part_of-number.result; version = c.args.part.version; base = c.first_cell-base.result }
 
 spot : (g : Over) (c : goal.After-first_cell-base g) → HasSpot (described c.args.set.now) (spot_of g c) c.args.image.now.numbers
-spot g c =
-    let set = described c.args.set.now in
-    let k = c.args.section.device in
-    let sub = c.args.part.sub in
-    part_spot set c.args.set.now.well_formed k c.requires.image.device sub (open_in (device_at set k) (untyped c.args.image.now) sub c.args.part.version c.requires.begun) c.args.image.now.numbers c.requires.image.shaped.cells (spot_of g c) c.part_of-number.ensures c.first_cell-base.ensures
+spot g c = search (rules, part_spot, open_in)
 
 pub read_part-requires : goal.read_part-requires
 read_part-requires g c =

@@ -1,41 +1,21 @@
 use Rattle.vms_load.proofs.{parts.read_section.Given.Over, parts.read_section.Goals.After-read_fields, parts.read_section.Goals.After-read_after_fields}
-use Rattle.vms_load.proofs.Facade.{rules, refl, ◌≡◌, ℕ, List, ◌+◌, ◌<◌, ◌≤◌, Option, Some, None, length, ap, ◌∙◌, arith, Result}
-use Rattle.vms_load.proofs.Facade.{Set, State, Device, GoesOn, Intake, LoadFault, Section, Typed, intake, Stand, held_long, described, device_at, Open, Onward}
-use Rattle.vms_load.proofs.Facade.{reach, IsMoved, part_due, subs_due, bytes_of_part, in_fields, after_fields, after_part, section_due, FOOT_LENGTH}
-use Rattle.vms_load.proofs.Facade.{LONGEST_SUB_HEAD, LONGEST_HEAD}
+use Rattle.vms_load.proofs.Facade.{rules, ◌≡◌, ℕ, List, ◌+◌, ◌<◌, ◌≤◌, Option, Some, None, length, ap, ◌∙◌, arith, Result, Set}
+use Rattle.vms_load.proofs.Facade.{State, Device, GoesOn, Intake, LoadFault, Section, Typed, intake, Stand, described, device_at, Open, Onward, reach, IsMoved}
+use Rattle.vms_load.proofs.Facade.{part_due, subs_due, bytes_of_part, in_fields, after_fields, after_part, section_due, FOOT_LENGTH, LONGEST_SUB_HEAD}
+use Rattle.vms_load.proofs.Facade.{LONGEST_HEAD}
 use Rattle.vms_load.proofs.ReadLemmas.{err_is, goes_here, goes_on, goes_still}
 use Rattle.vms_desc.specs.declared.set.DescSet.{DescSet}
 use Rattle.vms_image.specs.Typed.{state_of as untyped}
 use Rattle.vms_load.proofs.parts.read_section.Goals as goal
 
 pub loop-next-init : goal.loop-next-init
-loop-next-init g c = record {
-  same = (refl, refl);
-  held = c.requires.cursor.held;
-  reads = λ names state room. goes_here (intake g.S.Source c.args.source.now) (in_fields (described c.args.set.now) names state c.args.section.now None (untyped c.args.image.now)) c.args.cursor.now (g.met.S.Source.counted c.args.source.now);
-  next_is = search rules;
-  shaped = c.requires.image.shaped;
-  from = omega arith;
-  onward = omega arith;
-  place = search rules;
-}
+loop-next-init g c = search (rules, goes_here, g.met.S.Source.counted)
 
 pub read_fields-requires : goal.read_fields-requires
-read_fields-requires g c =
-    let loop = c.loop-next.invariant in
-    let same = loop.same in
-    record { image = record { device = omega arith; shaped = loop.shaped }; begun = search rules; cursor = search rules }
+read_fields-requires g c = search rules
 
 pub read_after_fields-requires : goal.read_after_fields-requires
-read_after_fields-requires g c =
-    let shaped = c.loop-next.invariant.shaped in
-    record {
-      image = record {
-        device = omega arith;
-        shaped = rw c.in_ok-read_fields.ensures.image.kept (record { subs = shaped.subs; cells = cc; kinds = shaped.kinds });
-      };
-      cursor = search rules;
-    }
+read_after_fields-requires g c = search rules
 
 -- what has been read of the section from its first part on
 abbrev Goes : {X : Type 0} (set : DescSet) (section : Section) (image : Typed) (names : List (List ℕ)) (state : State) (from : Stand) (a b : Intake) (next : X → Onward) (to : Stand) (result : Result X LoadFault) → Type 0
@@ -131,21 +111,10 @@ returns-in_err-next g c =
 -- less is due with each part
 less : (set : Set) (d : Device) (came : List (Option ℕ)) (next : Option Open) (from to : Stand) (most : ℕ) → from.held ≡ None → IsMoved from to next → reach to + part_due set d came next ≤ reach from + most → 0 < most
     → part_due set d came next < most
-less set d came None from to most free moved h some = some
-less set d came (Some part) from to most free moved h some = omega (arith, ap held_long free)
+less set d came next from to most free moved h some = search rules
 
 pub loop-next-smaller : goal.loop-next-smaller
-loop-next-smaller g c =
-    let set = described c.args.set.now in
-    let loop = c.loop-next in
-    let d = device_at set loop.section.device in
-    let due = ap (λ o. part_due set d loop.image.came o) c.in-Some.is in
-    let same = ap (λ image. subs_due set d.subs image.came) c.in_ok-read_fields.ensures.image.kept in
-    let still = ap (λ k. part_due set (device_at set k) c.read_after_fields.new.image.came c.in_ok-next.next) c.in_ok-next.ensures.section.0 in
-    let most = subs_due set d.subs c.read_fields.new.image.came + FOOT_LENGTH in
-    let some : 0 < most = omega arith in
-    let now = less set d c.read_after_fields.new.image.came c.in_ok-next.next c.read_fields.new.cursor c.read_after_fields.new.cursor most c.in_ok-read_fields.ensures.held c.in_ok-next.ensures.next.moved (c.in_ok-next.ensures.moves.2) some in
-    omega arith
+loop-next-smaller g c = search (rules, less)
 
 pub returns : goal.returns
 returns g c = record {

@@ -1,5 +1,5 @@
-use Rattle.vms_load.proofs.{Facade.length-replicate, Facade.slice_get_within, HeadLemmas.starts}
 use Rattle.vms_load.proofs.Facade.{with_items_is, device_of, described, ◌≡◌, map, ap, ◌∙◌, sym, arith, false, length, with_items, length-map}
+use Rattle.vms_load.proofs.{Facade.length-replicate, Facade.slice_get_within, HeadLemmas.starts}
 use Rattle.vms_image.specs.Typed.{state_of as untyped}
 use Rattle.vms_load.proofs.staged.restart.Goals as goal
 

@@ -1,19 +1,10 @@
 use Rattle.vms_load.proofs.{stream.sections.Given.Over, stream.sections.Goals.After-read_between, Facade.due_at, Facade.read_from}
-use Rattle.vms_load.proofs.Facade.{spot_at, stream_due, LONGEST_HEAD, rules, Option, Some, None, ap, arith, ◌+◌, intake, described, Between, First, GoesOn}
+use Rattle.vms_load.proofs.Facade.{spot_at, LONGEST_HEAD, rules, Option, Some, None, ap, arith, ◌+◌, intake, Between, First, GoesOn}
 use Rattle.vms_load.proofs.ReadLemmas.{err_is, goes_here, goes_on, goes_still}
 use Rattle.vms_load.proofs.stream.sections.Goals as goal
 
 pub loop-place-init : goal.loop-place-init
-loop-place-init g c =
-    let here = read_from c.args.set.now c.args.only c.args.staged.now (spot_at (Some First)) in
-    record {
-      reads = goes_here _ here c.args.cursor.now (g.met.S.Source.counted c.args.source.now);
-      held = tt;
-      whole = c.requires.can.whole;
-      from = omega arith;
-      onward = omega arith;
-      due = omega arith;
-    }
+loop-place-init g c = search (rules, goes_here, g.met.S.Source.counted)
 
 -- what has been read once the next unit was read, or refused
 on : (g : Over) (c : After-read_between g) → GoesOn (intake g.S.Source c.args.source.now) (intake g.S.Source c.read_between.new.source) (due_at c.args.set.now c.args.staged.now (Some First) + LONGEST_HEAD)
@@ -52,11 +43,7 @@ returns-in_err-place g c =
     })
 
 pub loop-place-smaller : goal.loop-place-smaller
-loop-place-smaller g c =
-    let set = described c.args.set.now in
-    let loop = c.loop-place in
-    let due = ap (λ (o : Option Between). stream_due set loop.staged.came.items o) c.in-Some.is in
-    omega (arith, due, loop.invariant.due, c.in_ok-place.ensures.moves.2, c.in_ok-place.ensures.next.moved)
+loop-place-smaller g c = search rules
 
 pub returns : goal.returns
 returns g c = record {

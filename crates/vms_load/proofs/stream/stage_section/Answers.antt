@@ -1,9 +1,9 @@
 use Rattle.vms_load.proofs.{ReadLemmas.err_is, ReadLemmas.behind_here, ReadLemmas.goes_behind, stream.stage_section.Given.Over}
 use Rattle.vms_load.proofs.AfterReads.{head_unit, head_long, begun, section_refused, section_reads, ended_in, ends_later}
-use Rattle.vms_load.proofs.Facade.{rules, ◌≡◌, ◌+◌, ℕ, List, Bool, map, [], Some, None, false, length, refl, slice_set, sym, ap, ◌∙◌, subst}
-use Rattle.vms_load.proofs.Facade.{arith, length-set, length-map, no_desc, judge, ask, Free, by_state, reading_on, described, device_at, due_in, opened_at}
-use Rattle.vms_load.proofs.Facade.{section_due, section_opened, subs_due, AreShaped, GoesBehind, IsOf, LONGEST_HEAD, Staged, after_part, begun_at, in_fields}
-use Rattle.vms_load.proofs.Facade.{name_of, state_of, sections_due, tail_of, intake, Onward}
+use Rattle.vms_load.proofs.Facade.{rules, ◌≡◌, ◌+◌, ℕ, List, Bool, map, [], Some, None, false, refl, slice_set, sym, ap, ◌∙◌, subst, arith}
+use Rattle.vms_load.proofs.Facade.{length-map, no_desc, judge, ask, Free, by_state, reading_on, described, device_at, due_in, opened_at, section_due}
+use Rattle.vms_load.proofs.Facade.{section_opened, subs_due, AreShaped, GoesBehind, IsOf, LONGEST_HEAD, Staged, after_part, begun_at, in_fields, name_of}
+use Rattle.vms_load.proofs.Facade.{state_of, sections_due, tail_of, intake, Onward}
 use Rattle.vms_load.proofs.HeadLemmas.{image_begun, begun_here, shaped_put, still_fresh, default_shaped, sections_taken}
 use Rattle.vms_load.proofs.stream.stage_section.Goals.{After-index_mut-image, After-read_section}
 use Rattle.vms_image.specs.Typed.{state_of as untyped}
@@ -11,14 +11,10 @@ use Rattle.vms_load.proofs.stream.stage_section.Goals as goal
 
 -- the images once the section has begun, and the image of its device
 began : (g : Over) (c : After-index_mut-image g) → c.begin_section.new.staged.images.items ≡ slice_set c.args.staged.now.images.items c.in_ok-device.device (begun_at (described c.args.set.now) c.in_ok-device.device c.args.head.now.version)
-began g c =
-    let new = rw c.deref.ensures.0 at c.in_ok-device.ensures.fresh in
-    begun_here (described c.args.set.now) _ _ c.in_ok-device.device c.args.head.now.version c.begin_section.ensures.images (c.requires.whole.fresh c.in_ok-device.device new.1)
+began g c = search (rules, begun_here)
 
 image : (g : Over) (c : After-index_mut-image g) → c.index_mut-image.result.now ≡ begun_at (described c.args.set.now) c.in_ok-device.device c.args.head.now.version
-image g c =
-    let new = c.in_ok-device.ensures.fresh.0 in
-    image_begun _ c.args.staged.now.images.items c.in_ok-device.device _ c.index_mut-image.result.now c.index_mut-image.ensures.value (began g c) (omega (arith, c.requires.whole.images.all))
+image g c = search (rules, image_begun)
 
 pub returns-in_err-device : goal.returns-in_err-device
 returns-in_err-device g c =
@@ -38,15 +34,10 @@ returns-in_err-device g c =
     })
 
 pub begin_section-requires : goal.begin_section-requires
-begin_section-requires g c = record {
-  image = omega (arith, c.requires.whole.images.all, c.in_ok-device.ensures.fresh.0);
-  device = omega (arith, c.requires.whole.came, c.in_ok-device.ensures.fresh.0);
-}
+begin_section-requires g c = search rules
 
 pub index_mut-image-requires : goal.index_mut-image-requires
-index_mut-image-requires g c =
-    let long = ap length c.begin_section.ensures.images ∙ length-set c.args.staged.now.images.items c.in_ok-device.device _ in
-    omega (arith, c.in_ok-device.ensures.fresh.0, long, c.requires.whole.images.all)
+index_mut-image-requires g c = search rules
 
 pub read_section-requires : goal.read_section-requires
 read_section-requires g c =

@@ -1,8 +1,8 @@
-use Rattle.vms_load.proofs.{ReadLemmas.err_is, ReadLemmas.goes_on, ReadLemmas.same_course, StreamLengths.most_small, StreamLengths.start_due}
-use Rattle.vms_load.proofs.{stream.stream.Given.Over, stream.stream.Goals.After-sections, stream.stream.Goals.After-trailer}
 use Rattle.vms_load.proofs.Facade.{First, LONGEST_HEAD, ◌+◌, List, ℕ, Some, None, Result, Ok, Err, true, false, sym, subst, ap, arith, intake, reads_as}
 use Rattle.vms_load.proofs.Facade.{reads_both, judge, reading, Before, Free, by_state, at_start, reading_on, described, held_long, FrameFault, GoesOn}
 use Rattle.vms_load.proofs.Facade.{GoesThrough, LeadsOn, ReadsAll, ReadsEnd, accepted_of, due_at, read_from, reach, state_of, spot_at, most_given}
+use Rattle.vms_load.proofs.{ReadLemmas.err_is, ReadLemmas.goes_on, ReadLemmas.same_course, StreamLengths.most_small, StreamLengths.start_due}
+use Rattle.vms_load.proofs.{stream.stream.Given.Over, stream.stream.Goals.After-sections, stream.stream.Goals.After-trailer}
 use Rattle.vms_load.proofs.StreamReads.{closed, closes_at, refused_before}
 use Rattle.vms_load.proofs.stream.stream.Goals as goal
 
