@@ -1,9 +1,7 @@
 -- A sound board is saved in ready images.
 use Rattle.dev_images.proofs.Facade.{AreReady, AreSavedCells, Device, Image, IsReady, List, NEWEST, SavedAreReady, Set, Some, State, [], ap, arith, first}
 use Rattle.dev_images.proofs.Facade.{image_of, images_of, length, lists_of, refl, saved, saved_are_cells, shipped_set, slice_get, subst, suc, sym, zero, ℕ}
-use Rattle.dev_images.proofs.Facade.{ℤ, ◌∷◌, ◌≡◌, ◌≤◌}
-use Rattle.dev_images.proofs.PitSaved.{pit_is_ready}
-use Rattle.dev_images.proofs.SerialSaved.{serial_is_ready}
+use Rattle.dev_images.proofs.{PitSaved.pit_is_ready, SerialSaved.serial_is_ready, Facade.ℤ, Facade.◌∷◌, Facade.◌≡◌, Facade.◌≤◌}
 use Rattle.dev_images.proofs.ShippedDevices.{chip_is_ready, five_devices, timer_is_ready}
 
 -- Each device's image is ready.
@@ -22,10 +20,7 @@ all-ready : (set : Set) (devices : List Device) (lists : List (List ℤ)) → Al
     → slice_get devices k ≡ Some d → slice_get (images_of set devices lists) k ≡ Some image → IsReady set d image
 unfolding AllReady
 all-ready set [] [] h k d image e f = cc
-all-ready set (first ∷ devices) (numbers ∷ lists) h zero d image e f =
-    let same_device : first ≡ d = cc in
-    let same_image : image_of set first numbers ≡ image = cc in
-    subst (λ i. IsReady set d i) same_image (subst (λ x. IsReady set x (image_of set first numbers)) same_device h.0)
+all-ready set (first ∷ devices) (numbers ∷ lists) h zero d image e f = grind arith
 all-ready set (first ∷ devices) (numbers ∷ lists) h (suc k) d image e f = all-ready set devices lists h.1 k d image e f
 all-ready set _ _ h k _ image _ _ = absurd h
 

@@ -1,10 +1,9 @@
 -- What is saved of a sound board is carried to the newest set as its devices' tables say, and can be restored.
-use Rattle.dev_images.proofs.Facade.{AreSavedCells, BoardCells, ComesBack, Device, Image, ImagesComeBack, IsSound, List, MaySaveUnder, NEWEST, SavedIsCarried}
-use Rattle.dev_images.proofs.Facade.{Set, Some, State, ap, arith, carried, carried_at, carried_device, cells_in, chip_in, find_device, five, get_or, images_of}
-use Rattle.dev_images.proofs.Facade.{index, lists_of, no_image, pit_in, refl, restored, same-five, saved, saved_are_cells, saved_comes_back, saved_goes_on}
-use Rattle.dev_images.proofs.Facade.{saved_images, serial_in, shipped_set, slice_get, subst, sym, timer_in, ℕ, ◌∙◌, ◌≡◌, ◌≤◌}
-use Rattle.dev_images.proofs.PitSaved.{pit_is_carried}
-use Rattle.dev_images.proofs.SerialSaved.{serial_is_carried}
+use Rattle.dev_images.proofs.Facade.{AreSavedCells, BoardCells, Device, Image, ImagesComeBack, IsSound, List, MaySaveUnder, NEWEST, SavedIsCarried, Set, Some}
+use Rattle.dev_images.proofs.Facade.{State, ap, arith, carried, carried_at, carried_device, cells_in, chip_in, find_device, five, get_or, images_of, index}
+use Rattle.dev_images.proofs.Facade.{lists_of, no_image, pit_in, refl, restored, same-five, saved, saved_are_cells, saved_comes_back, saved_goes_on}
+use Rattle.dev_images.proofs.Facade.{saved_images, serial_in, shipped_set, slice_get, timer_in, ℕ, ◌∙◌, ◌≡◌, ◌≤◌}
+use Rattle.dev_images.proofs.{PitSaved.pit_is_carried, SerialSaved.serial_is_carried}
 use Rattle.dev_images.proofs.ShippedDevices.{chip_is_carried, five_devices, places_are, timer_is_carried}
 use Rattle.dev_pic.specs.Cells.{carried as pic_carried}
 use Rattle.dev_pit.specs.Cells.{carried as pit_carried}
@@ -56,7 +55,4 @@ pub saved_is_carried : SavedIsCarried
 saved_is_carried = record { cells = cells-carried }
 
 pub images_come_back : ImagesComeBack
-images_come_back = record {
-  back = λ set m s may. subst (λ (cells : BoardCells). ComesBack m.level cells m) (sym (cells-carried set m s may)) (saved_comes_back.back set m s may);
-  answers = λ set m back events s may e. saved_goes_on.answers set m back events s may (ap (restored m.level) (sym (cells-carried set m s may)) ∙ e);
-}
+images_come_back = search (arith, cells-carried, saved_comes_back, saved_goes_on)

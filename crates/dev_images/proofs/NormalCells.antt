@@ -3,14 +3,13 @@ use Rattle.dev_images.proofs.Facade.{AreBoardCells, AreCellsOf, AreOf, AreVersio
 use Rattle.dev_images.proofs.Facade.{IsPortCells, IsVersionOf, LATCH, LATCHED, List, NEWEST, None, NormalMayBeRestored, Option, RX, RX_COUNT, RX_DATA}
 use Rattle.dev_images.proofs.Facade.{STATUS_LATCHED, Set, Slot, Some, Sub, THR_IPENDING, TIMEOUT_AT, TX, TX_COUNT, U8, WLOW, WLOW_HELD, [], ap, arith}
 use Rattle.dev_images.proofs.Facade.{came_slots, cells_in, channel_place, device_cells, false, fifo, first, flag_at, get_or, has_cell, i8254_at_2, i8259_at_4}
-use Rattle.dev_images.proofs.Facade.{image_slots, ints, kind_at, length, map, min, nat_le, nat_lt, nat_of, nat_tests, ne_eqb, negsuc, no_cell, number}
-use Rattle.dev_images.proofs.Facade.{number_at, or_from, or_second, own_slots, pos, refl, residue, ring, same_number, same_number_is, serial, set_2}
-use Rattle.dev_images.proofs.Facade.{shipped_set, slice_get, sub_slots, suc, thr_ipending, timeout, timer, timer_kinds, times, true, zero, ℕ, ℤ, ◌+◌}
-use Rattle.dev_images.proofs.Facade.{◌<◌, ◌==◌, ◌||◌, ◌∙◌, ◌∷◌, ◌≡◌, ◌≤ℤ◌, ◌≤◌}
-use Rattle.dev_images.proofs.PitSaved.{AreChannels, chip-has, chip_has, chip_slots, no_gate, second_at, status_slots, third_at}
+use Rattle.dev_images.proofs.Facade.{image_slots, kind_at, length, map, min, nat_le, nat_lt, nat_of, nat_tests, ne_eqb, no_cell, number, number_at, or_from}
+use Rattle.dev_images.proofs.Facade.{or_second, own_slots, pos, refl, residue, ring, same_number, same_number_is, serial, set_2, shipped_set, slice_get}
+use Rattle.dev_images.proofs.Facade.{sub_slots, suc, thr_ipending, timeout, timer, timer_kinds, times, true, zero, ℕ, ℤ, ◌+◌, ◌<◌, ◌==◌}
+use Rattle.dev_images.proofs.{ShippedDevices.serial_at_4, SerialSaved.elements-none, SerialSaved.fifo_slots, ShippedDevices.needs, SerialSaved.elements}
+use Rattle.dev_images.proofs.{SerialSaved.element, Facade.◌≤ℤ◌, Facade.◌∙◌, Facade.◌∷◌, Facade.◌≡◌, Facade.◌≤◌, Facade.◌||◌}
 use Rattle.dev_images.proofs.ReadyOf.{all_within, count-of, from-at, has-none, kind-of, outside, sub_cells}
-use Rattle.dev_images.proofs.SerialSaved.{element, elements, elements-none, fifo_slots}
-use Rattle.dev_images.proofs.ShippedDevices.{needs, serial_at_4}
+use Rattle.dev_images.proofs.PitSaved.{AreChannels, chip-has, chip_has, chip_slots, no_gate, second_at, third_at}
 use Rattle.vms_kinds.specs.declared.Kind.TheVariants.{Bool as Truth}
 use Rattle.dev_pic.specs.Cells.{kinds as pic_kinds}
 use Rattle.dev_pit.proofs.CallLaws.{each_of}
@@ -33,10 +32,7 @@ chip-of instance image n = of-kinds (device_cells (shipped_set NEWEST) (i8259_at
 
 -- A clear flag.
 flag-off : (z : ℤ) → InRange Truth z → (nat_of z == 1) ≡ false → needs z ≡ false
-flag-off (pos zero) r e = refl
-flag-off (pos (suc zero)) r e = cc
-flag-off (pos (suc (suc n))) r e = grind arith
-flag-off (negsuc n) r e = absurd (omega arith)
+flag-off z r e = grind arith
 
 -- The slots of an image of the chip, at either version.
 record HasSlots (normal-numbers : List ℤ) (slots : List Slot) : Type 0 where
@@ -48,11 +44,7 @@ slots-at : (v : ℕ) (came : List (Option ℕ)) (normal-numbers : List ℤ) → 
     → HasSlots normal-numbers (image_slots (shipped_set NEWEST) i8254_at_2 (record { version = v; came = came; numbers = normal-numbers }))
 unfolding first
 slots-at (suc zero) [] normal-numbers l h a = record { rest = []; same = refl; none = λ k lt. refl }
-slots-at (suc (suc zero)) [] normal-numbers l h a = record {
-  rest = status_slots;
-  same = refl;
-  none = λ k lt. outside STATUS_LATCHED CELLS status_slots k refl (λ low high. omega arith);
-}
+slots-at (suc (suc zero)) [] normal-numbers l h a = search arith
 slots-at v (o ∷ came) normal-numbers l h a = absurd a
 slots-at _ came normal-numbers l h a = absurd (omega arith)
 
@@ -117,14 +109,11 @@ came-lack set d numbers c at (s ∷ subs) (Some v ∷ came) a h = grind (arith, 
 
 own-within : (v : ℕ) (numbers : List ℤ) → 1 ≤ v → v ≤ 4 → all_within 0 THR_IPENDING (own_slots (shipped_set NEWEST) serial_at_4 v numbers) ≡ true
 unfolding first
-own-within zero numbers l h = absurd (omega arith)
-own-within (suc (suc (suc (suc (suc v))))) numbers l h = absurd (omega arith)
-own-within _ numbers l h = refl
+own-within v numbers l h = grind arith
 
 version-1 : (v : ℕ) (P : ℕ → Type 0) → 1 ≤ v → v ≤ 1 → P 1 → P v
-version-1 zero P l h p = absurd (omega arith)
 version-1 (suc zero) P l h p = p
-version-1 (suc (suc v)) P l h p = absurd (omega arith)
+version-1 _ _ l h p = absurd (omega arith)
 
 -- The FIFOs' cells have the default 0.
 abbrev is_zero_cell : ℕ → Cell → Bool
@@ -151,8 +140,7 @@ module _ (image : Image) (n : IsNormal (shipped_set NEWEST) serial_at_4 image) w
   tx-range = byte-at TX_COUNT (omega arith) refl
 
   at-most : (z : ℤ) → InRange U8 z → z ≤ℤ pos 16 → nat_of z ≤ 16
-  at-most (pos k) r l = omega (arith, ints, l)
-  at-most (negsuc k) r l = omega arith
+  at-most z r l = grind arith
 
   rx-fits : nat_of (get_or numbers RX_COUNT (pos 0)) ≤ 16
   unfolding first

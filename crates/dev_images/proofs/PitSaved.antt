@@ -3,11 +3,10 @@ use Rattle.dev_images.proofs.Facade.{AreCellsOf, Bool, COUNTERS, Cell, Constant,
 use Rattle.dev_images.proofs.Facade.{None, Num, Number, Option, Origin, PitIsCarried, PitIsReady, Row, Rule, RulesHold, STATUS, STATUS_LATCHED, Set, Slot, Some}
 use Rattle.dev_images.proofs.Facade.{U16, U8, WLOW, WLOW_HELD, [], and-false, and-true, and_from, arith, carried, carried_by, carriers, carry_items}
 use Rattle.dev_images.proofs.Facade.{channel_place, channel_rows, cond, device_cells, false, first, get_or, has_cell, i8254_at_1, i8254_at_2, is_same}
-use Rattle.dev_images.proofs.Facade.{latched_place, map, meanings, names_append, nat_of, negsuc, newest_set, no_carrier, no_meaning, number, or-false, or_assoc}
-use Rattle.dev_images.proofs.Facade.{pit_in, pos, refl, replicate, rules_append, same_kind, same_number, set_1, set_2, shipped_set, status_place, struct_cells}
-use Rattle.dev_images.proofs.Facade.{subst, suc, sym, true, zero, ℕ, ℤ, ◌&&◌, ◌++◌, ◌+◌, ◌==◌, ◌||◌, ◌∙◌, ◌∷◌, ◌≡◌}
-use Rattle.dev_images.proofs.Facade.{◌≤ℤ◌, ◌≤◌}
-use Rattle.dev_images.proofs.ReadyOf.{all_from, are_kept, from-more, ready-of, run}
+use Rattle.dev_images.proofs.Facade.{latched_place, map, meanings, names_append, nat_of, newest_set, no_carrier, no_meaning, number, or-false, or_assoc, pit_in}
+use Rattle.dev_images.proofs.Facade.{pos, refl, replicate, rules_append, same_kind, same_number, set_1, set_2, shipped_set, status_place, struct_cells, subst}
+use Rattle.dev_images.proofs.Facade.{suc, sym, true, zero, ℕ, ℤ, ◌&&◌, ◌++◌, ◌+◌, ◌==◌, ◌||◌, ◌∷◌, ◌≡◌}
+use Rattle.dev_images.proofs.{Facade.◌≤ℤ◌, Facade.◌≤◌, ReadyOf.all_from, ReadyOf.are_kept, ReadyOf.from-more, ReadyOf.ready-of, ReadyOf.run}
 use Rattle.dev_images.proofs.ShippedDevices.{IsSavedAs, SavedWhere, carried-in, is_pit, later_structs, needs, pit_kinds, pit_origins, ready-in, unneeded}
 use Rattle.vms_kinds.specs.declared.Kind.TheVariants.{Bool as Truth}
 use Rattle.dev_pit.specs.Cells.{carried as pit_carried}
@@ -30,8 +29,7 @@ run-has at ((false, cell) ∷ cells) rest k = grind (arith, and-false, run-has (
 
 run-rules : (at : ℕ) (cells : List (Bool × Cell)) (rest : List Slot) → RulesHold rest → RulesHold (run_slots at cells rest)
 run-rules at [] rest h = h
-run-rules at ((true, cell) ∷ cells) rest h = run-rules (suc at) cells rest h
-run-rules at ((false, cell) ∷ cells) rest h = run-rules (suc at) cells rest h
+run-rules at ((there, cell) ∷ cells) rest h = grind (arith, run-rules (suc at) cells rest h)
 
 -- ---- a channel among an image's cells, by the place of its first. Two of its cells may be absent.
 
@@ -94,9 +92,7 @@ status_slots =
 module _ (set : Set) (numbers : List ℤ) (last : Slot) where
   channel-has : (at k : ℕ) → IsChannel set numbers last at → has_cell (last ∷ []) k ≡ false
       → has_cell (slots_in set numbers at) k ≡ run_has at (channel numbers at) k
-  channel-has at k is none =
-      rw is (names_append (run_slots at (channel numbers at) (last ∷ [])) (Rule true ∷ []) k
-      ∙ rw (run-has at (channel numbers at) (last ∷ []) k, none) (or-false _ ∙ or-false _))
+  channel-has at k is none = grind (arith, names_append, run-has, or-false)
 
   channel-rules : (at : ℕ) → IsChannel set numbers last at → RulesHold (last ∷ []) → RulesHold (slots_in set numbers at)
   channel-rules at is own = rw is (rules_append (run_slots at (channel numbers at) (last ∷ [])) _ (run-rules at (channel numbers at) (last ∷ []) own) (refl, tt))
@@ -115,15 +111,7 @@ module _ (set : Set) (numbers : List ℤ) (last : Slot) (rest : List Slot) (are 
       simp (names_append, channel-has set numbers last 0 k are.first (are.none k), channel-has set numbers last second_at k are.second (are.none k), channel-has set numbers last third_at k are.third (are.none k), or_assoc, or-false)
 
   chip-rules : RulesHold rest → RulesHold (chip_slots set numbers rest)
-  chip-rules more =
-      let held = λ (at : ℕ) (is : IsChannel set numbers last at). channel-rules set numbers last at is are.rules in
-      let a = slots_in set numbers 0 in
-      let b = slots_in set numbers second_at in
-      let c = slots_in set numbers third_at in
-      let three = rules_append a (b ++ (c ++ [])) (held 0 are.first) (rules_append b (c ++ []) (held second_at are.second) (rules_append c [] (held third_at are.third) tt)) in
-      let all = rules_append (a ++ (b ++ (c ++ []))) rest three more in
-      rules_append (((a ++ (b ++ (c ++ []))) ++ rest) ++ Rule true ∷ []) []
-      (rules_append ((a ++ (b ++ (c ++ []))) ++ rest) (Rule true ∷ []) all (refl, tt)) tt
+  chip-rules more = grind (arith, channel-rules, rules_append)
 
   chip-kept : (cells : List Cell) → all_from (λ k cell. chip_has numbers rest k || same_number (get_or numbers k (pos 0)) cell.default) 0 cells ≡ true
       → are_kept (chip_slots set numbers rest) numbers 0 cells ≡ true
@@ -143,8 +131,7 @@ record IsKept (numbers : List ℤ) : Type 0 where
 
 -- An absent number is 0 if its flag is clear.
 off : (flag number : ℤ) → InRange Truth flag → pos 0 ≤ℤ number → ((nat_of flag == 1) ≡ false → nat_of number ≡ 0) → needs flag ≡ false → number ≡ pos 0
-off flag (pos n) r l h e = grind (arith, unneeded)
-off flag (negsuc n) r l h e = absurd (omega arith)
+off flag number r l h e = grind (arith, unneeded)
 
 absent-kept : (set : ℕ) (numbers : List ℤ) → AreCellsOf set numbers → IsKept numbers
 absent-kept set numbers are =
@@ -165,8 +152,7 @@ absent-kept set numbers are =
     }
 
 settled : (there : Bool) (z : ℤ) → (there ≡ false → z ≡ pos 0) → (((there || false) || false) || same_number z (pos 0)) ≡ true
-settled true z off = refl
-settled false z off = is_same z (pos 0) (off refl)
+settled there z off = grind (arith, is_same)
 
 -- In later sets too, which have the same cells and then those of the statuses.
 all-settled : (numbers : List ℤ) → IsKept numbers
@@ -190,8 +176,7 @@ may_lack old numbers kind there at =
 
 may_lack-is : (old : Set) (numbers : List ℤ) (kind : Kind) (there : Bool) (at : ℕ) → same_kind kind kind ≡ true
     → (there ≡ false → get_or numbers at (pos 0) ≡ pos 0) → may_lack old numbers kind there at ≡ get_or numbers at (pos 0) ∷ []
-may_lack-is old numbers kind true at e off = rw e refl
-may_lack-is old numbers kind false at e off = rw (off refl)
+may_lack-is old numbers kind there at e off = grind arith
 
 -- A channel that is carried number by number, except these two.
 abbrev lacking : List ℤ → ℕ → List ℤ → List ℤ → List ℤ
@@ -216,8 +201,7 @@ channels-carried : (old : Set) (numbers rest : List ℤ) → IsKept numbers → 
     → IsLacking old numbers third_at
     → with_channels (channel_in old numbers 0) (channel_in old numbers second_at) (channel_in old numbers third_at) rest ≡ with_channels (whole numbers 0)
     (whole numbers second_at) (whole numbers third_at) rest
-channels-carried old numbers rest k a b c =
-    cc (channel-carried old numbers 0 a k.first, channel-carried old numbers second_at b k.second, channel-carried old numbers third_at c k.third)
+channels-carried old numbers rest k a b c = grind (arith, channel-carried)
 
 -- ---- the chip
 

@@ -14,20 +14,13 @@ AreSubs (s ∷ subs) = (s.desc.minimum ≤ s.desc.version) × AreSubs subs
 
 pub versions : (set : Set) (d : Device) (image : Image) (j : ℕ) (subs : List Sub) → AreSubs subs → AreVersionsOf subs (needed_from set d image j subs)
 versions set d image j [] h = tt
-versions set d image j (s ∷ subs) h =
-    let more = versions set d image (suc j) subs h.1 in
-    cond_both (is_needed set d image s j) (Some s.desc.version) None (λ o. AreVersionsOf (s ∷ subs) (o ∷ needed_from set d image (suc j) subs))
-    (λ e. ((h.0, omega arith), more)) (λ e. more)
+versions set d image j (s ∷ subs) h = grind (arith, cond_both, versions set d image (suc j) subs h.1)
 
 -- Only the numbers decide which subsections are needed.
 pub needed : (set : Set) (d : Device) (numbers : List ℤ) (came : List (Option ℕ)) (j : ℕ) (subs : List Sub)
     → ComeAsNeeded set d (record (bare d numbers) { came = came }) j subs (needed_from set d (bare d numbers) j subs)
 needed set d numbers came j [] = refl
-needed set d numbers came j (s ∷ subs) =
-    let rest = needed_from set d (bare d numbers) (suc j) subs in
-    let more = needed set d numbers came (suc j) subs in
-    cond_both (is_needed set d (bare d numbers) s j) (Some s.desc.version) None
-    (λ o. ComeAsNeeded set d (record (bare d numbers) { came = came }) j (s ∷ subs) (o ∷ rest)) (λ e. (e, refl, more)) (λ e. (e, more))
+needed set d numbers came j (s ∷ subs) = grind (arith, cond_both, needed set d numbers came (suc j) subs)
 
 -- Cells of their kinds fit if each count is within its capacities.
 pub kind-of : (cells : List Cell) (c : ℕ) → kind_at (map (λ cell. cell.kind) cells) c ≡ (get_or cells c no_cell).kind
@@ -47,9 +40,7 @@ all_from test from (cell ∷ cells) = test from cell && all_from test (suc from)
 pub from-at : (test : ℕ → Cell → Bool) (from : ℕ) (cells : List Cell) → all_from test from cells ≡ true → (c place : ℕ) → place ≡ from + c → c < length cells
     → test place (get_or cells c no_cell) ≡ true
 from-at test from [] e c place is lt = absurd (omega arith)
-from-at test from (cell ∷ cells) e zero place is lt =
-    let same : place ≡ from = omega arith in
-    rw same (and_parts (test from cell) _ e).0
+from-at test from (cell ∷ cells) e zero place is lt = grind arith
 from-at test from (cell ∷ cells) e (suc c) place is lt =
     from-at test (suc from) cells (and_parts (test from cell) _ e).1 c place (omega arith) (omega arith)
 
@@ -83,13 +74,7 @@ abbrev pub zero_defaults : ℕ → List Cell → Bool
 zero_defaults = all_from (λ k cell. same_number (pos 0) cell.default)
 
 pub or-lift : (a b c : Bool) → (a ≡ true → b ≡ true) → (a || c) ≡ true → (b || c) ≡ true
-or-lift true b c f e = rw (f refl)
-or-lift false true c f e = refl
-or-lift false false c f e = e
-
-pub kept-both : (slots : List Slot) (numbers : List ℤ) (from next : ℕ) (first second : List Cell) → next ≡ from + length first
-    → are_kept slots numbers from first ≡ true → are_kept slots numbers next second ≡ true → are_kept slots numbers from (first ++ second) ≡ true
-kept-both slots numbers = from-both _
+or-lift a b c f e = grind arith
 
 module _ (first second : List Slot) (numbers : List ℤ) (from : ℕ) (cells : List Cell) where
   pub kept-left : are_kept first numbers from cells ≡ true → are_kept (first ++ second) numbers from cells ≡ true
@@ -105,10 +90,7 @@ AreZeros numbers from to = (k : ℕ) → from ≤ k → k < to → get_or number
 -- Each cell that isn't in the bytes is 0, as its default is.
 pub kept-by : (slots : List Slot) (numbers : List ℤ) (from : ℕ) (cells : List Cell) → zero_defaults from cells ≡ true
     → ((k : ℕ) → from ≤ k → k < from + length cells → has_cell slots k ≡ false → get_or numbers k (pos 0) ≡ pos 0) → are_kept slots numbers from cells ≡ true
-kept-by slots numbers from cells d none = from-more _ _ from cells (λ k cell l h e. held (has_cell slots k) _ _ (none k l h) e) d where
-  held : (there : Bool) (z default : ℤ) → (there ≡ false → z ≡ pos 0) → same_number (pos 0) default ≡ true → (there || same_number z default) ≡ true
-  held true z default none e = refl
-  held false z default none e = rw (none refl) e
+kept-by slots numbers from cells d none = grind (arith, from-more)
 
 -- None of these slots has a cell.
 pub has-none : (slots more : List Slot) (c : ℕ) → has_cell slots c ≡ false → has_cell more c ≡ false → has_cell (slots ++ more) c ≡ false
@@ -165,7 +147,7 @@ module _ (set : Set) (d : Device) (numbers : List ℤ) where
       let here = cond_both (is_needed set d (bare d numbers) s j) (Some s.desc.version) None
       (λ o. came_slots set d numbers at (s ∷ subs) (o ∷ came) ≡ first ++ rest) (λ e. rw e) (λ e. rw e) in
       subst (AreFine at (sub_cells set s ++ cells)) (sym here) (
-        kept-both (first ++ rest) numbers at next (sub_cells set s) cells refl (kept-left first rest numbers at (sub_cells set s) h.0.kept)
+        from-both _ at next (sub_cells set s) cells refl (kept-left first rest numbers at (sub_cells set s) h.0.kept)
             (kept-right first rest numbers next cells more.0),
         rules_append first rest h.0.rules more.1,
       )
@@ -207,7 +189,7 @@ module _ (set : Set) (d : Device) (numbers : List ℤ) (minimum : d.desc.minimum
       let next = own_cells set d in
       let cells = desc_cells (struct_cells set) d.desc in
       ready-of
-      (kept-both (held ++ came) numbers 0 next cells (flat_map (sub_cells set) d.subs) (omega arith) (kept-left held came numbers 0 cells own)
+      (from-both _ 0 next cells (flat_map (sub_cells set) d.subs) (omega arith) (kept-left held came numbers 0 cells own)
       (kept-right held came numbers next (flat_map (sub_cells set) d.subs) more.0))
       (rules_append held came rules more.1)
 

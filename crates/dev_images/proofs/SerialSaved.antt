@@ -62,18 +62,14 @@ record IsSaved (set : Set) (d : Device) (numbers : List ℤ) (s : Sub) (j at : �
 thr-1 : (set : Set) (numbers : List ℤ) → InRange I8 (get_or numbers old_latch (pos 0)) → (needed : Bool) → needs_sign (get_or numbers old_latch (pos 0)) ≡ needed
     → IsSaved set serial_at_1 numbers thr_ipending 0 old_latch (get_or numbers old_latch (pos 0) ∷ [])
 unfolding first
-thr-1 set numbers r true e = record { fine = record { kept = rw e refl; rules = rw e (refl, tt) }; carried = rw e refl }
-thr-1 set numbers r false e =
-    let off = no-sign _ r e in
-    record { fine = record { kept = rw (e, off) refl; rules = rw e tt }; carried = rw (e, off) refl }
+thr-1 set numbers r needed e = search (arith, no-sign)
 
 -- Whether a count isn't 0.
 abbrev needs_count : ℤ → Bool
 needs_count z = nat_le 1 (bit_and (residue 1 z) 255)
 
 no-count : (z : ℤ) → InRange U8 z → needs_count z ≡ false → nat_of z ≡ 0
-no-count (pos n) r e = grind (arith, and_numeral)
-no-count (negsuc n) r e = grind arith
+no-count z r e = grind (arith, and_numeral)
 
 -- An array of bytes that is carried, with zeros after its elements.
 module _ (numbers : List ℤ) (structs : List Carrier) (x y : List (List Cell)) where
@@ -93,12 +89,10 @@ module _ (numbers : List ℤ) (structs : List Carrier) (x y : List (List Cell)) 
 
 -- The number of elements of an array that are in the bytes.
 pub elements : (z : ℤ) → InRange U8 z → nat_of z ≤ 16 → min (residue 1 z) 16 ≡ nat_of z
-elements (pos n) r l = omega arith
-elements (negsuc n) r l = absurd (omega arith)
+elements z r l = grind arith
 
 counted-well : (z : ℤ) → InRange U8 z → nat_of z ≤ 16 → counts_well (16 ∷ []) z ≡ true
-counted-well (pos n) r l = grind (arith, counted_well)
-counted-well (negsuc n) r l = absurd (omega arith)
+counted-well z r l = grind (arith, counted_well)
 
 -- The FIFOs as counted arrays.
 abbrev pub byte : Cell
@@ -142,8 +136,7 @@ module _ (numbers : List ℤ) (n m : ℕ) (rx : AreZeros numbers (RX + n) (RX + 
   fifo-zero k l h out = grind (arith, names_append, or_parts, eqb-false, elements-in)
 
   fifo-rules : RulesHold (fifo_slots n m)
-  fifo-rules =
-      rules_append (inner_slots n m) (Rule true ∷ []) (rules_append (times n element RX 1) (second_slots m) (rules-times n RX) (rules_append (times m element TX 1) [] (rules-times m TX) tt)) (refl, tt)
+  fifo-rules = grind (arith, rules_append, rules-times)
 
   -- Carried to the newest set, with the structures' carriers and cells.
   module _ (structs : List Carrier) (x y : List (List Cell)) where
@@ -179,18 +172,12 @@ module _ (set : Set) (version : ℕ) (name : List ℕ) (former : List (List ℕ)
   thr : InRange I8 (get_or numbers THR_IPENDING (pos 0)) → (needed : Bool) → needs_sign (get_or numbers THR_IPENDING (pos 0)) ≡ needed
       → IsSaved set (serial_since_2 version name former more) numbers thr_ipending 0 THR_IPENDING (get_or numbers THR_IPENDING (pos 0) ∷ [])
   unfolding first
-  thr r true e = record { fine = record { kept = rw e refl; rules = rw e (refl, tt) }; carried = rw e refl }
-  thr r false e =
-      let off = no-sign _ r e in
-      record { fine = record { kept = rw (e, off) refl; rules = rw e tt }; carried = rw (e, off) refl }
+  thr r needed e = search (arith, no-sign)
 
   due : InRange Timer (get_or numbers TIMEOUT_AT (pos 0)) → (needed : Bool) → needs_timer (get_or numbers TIMEOUT_AT (pos 0)) ≡ needed
       → IsSaved set (serial_since_2 version new_name former_names (timeout ∷ more)) numbers timeout 2 TIMEOUT_AT (get_or numbers TIMEOUT_AT (pos 0) ∷ [])
   unfolding first
-  due r true e = record { fine = record { kept = rw e refl; rules = rw e (refl, tt) }; carried = rw e refl }
-  due r false e =
-      let off = no-timer _ r e in
-      record { fine = record { kept = rw (e, off) refl; rules = rw e tt }; carried = rw (e, off) refl }
+  due r needed e = search (arith, no-timer)
 
   -- In any set from 2 on.
   module _ (s : ℕ) (since : 2 ≤ s) (are : AreSaved s numbers) (rx : InRange U8 (get_or numbers RX_COUNT (pos 0))) (tx : InRange U8 (get_or numbers TX_COUNT (pos 0))) where

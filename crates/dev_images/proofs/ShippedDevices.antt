@@ -2,9 +2,9 @@
 use Rattle.dev_images.proofs.Facade.{AreChipCells, AreOf, AreTimerCells, Bool, CarriedWhere, ChipIsCarried, ChipIsReady, Device, InEachSet, InRange, KindsLaw}
 use Rattle.dev_images.proofs.Facade.{List, NEWEST, Origin, PlacesLaw, ReadyOf, ReadyWhere, Set, TimerIsCarried, TimerIsReady, [], arith, bit_and, by_list}
 use Rattle.dev_images.proofs.Facade.{carried_by, carried_numbers, cell_count, chip_in, codes, divider, divisor, false, fcr, fifo, first, get_or, i8254_at_2}
-use Rattle.dev_images.proofs.Facade.{i8259_at_1, i8259_at_2, i8259_at_4, kinds_in, kinds_saved, length, negsuc, newest_set, pit_in, place_of_pic, places, pos}
-use Rattle.dev_images.proofs.Facade.{refl, residue, ring, serial, serial_fields, serial_in, set_1, set_2, set_3, shipped_set, subst, suc, sym, thr_ipending}
-use Rattle.dev_images.proofs.Facade.{timeout, timer, timer_in, timer_kinds, true, zero, ℕ, ℤ, ◌++◌, ◌==◌, ◌∷◌, ◌≡◌, ◌≤◌}
+use Rattle.dev_images.proofs.Facade.{i8259_at_1, i8259_at_2, i8259_at_4, kinds_in, kinds_saved, length, newest_set, pit_in, place_of_pic, places, pos, refl}
+use Rattle.dev_images.proofs.Facade.{residue, ring, serial, serial_fields, serial_in, set_1, set_2, set_3, shipped_set, subst, sym, thr_ipending, timeout}
+use Rattle.dev_images.proofs.Facade.{timer, timer_in, timer_kinds, true, ℕ, ℤ, ◌++◌, ◌==◌, ◌∷◌, ◌≡◌, ◌≤◌}
 use Rattle.dev_images.proofs.ReadyOf.{needed, ready-of}
 use Rattle.dev_pic.specs.Cells.{kinds as pic_kinds, origins as pic_origins, carried as pic_carried}
 use Rattle.dev_pit.specs.Cells.{kinds_of, origins as origins_of_pit}
@@ -48,9 +48,6 @@ five_of set = timer_in set ∷ chip_in 0 set ∷ chip_in 1 set ∷ pit_in set �
 pub five_devices : (s : ℕ) → 1 ≤ s → s ≤ NEWEST → (shipped_set s).devices ≡ five_of (shipped_set s)
 five_devices = grind (arith, by_list, five_of)
 
-pub is_timer : (s : ℕ) → 1 ≤ s → s ≤ NEWEST → timer_in (shipped_set s) ≡ timer
-is_timer = by_list timer_in (λ s. timer) 1 refl
-
 pub is_chip : (instance s : ℕ) → 4 ≤ s → s ≤ NEWEST → chip_in instance (shipped_set s) ≡ i8259_at_4 instance
 is_chip instance = grind (arith, by_list)
 
@@ -65,11 +62,7 @@ is_serial = by_list serial_in (λ s. serial_at_4) 4 refl
 
 -- What holds for each of the sets 1 to 3, and for all from 4 on.
 pub from_four : (P : ℕ → Type 0) → P 1 → P 2 → P 3 → ((s : ℕ) → 4 ≤ s → s ≤ NEWEST → P s) → (s : ℕ) → 1 ≤ s → s ≤ NEWEST → P s
-from_four P one two three more zero l h = absurd (omega arith)
-from_four P one two three more (suc zero) l h = one
-from_four P one two three more (suc (suc zero)) l h = two
-from_four P one two three more (suc (suc (suc zero))) l h = three
-from_four P one two three more (suc (suc (suc (suc s)))) l h = more (suc (suc (suc (suc s)))) (omega arith) h
+from_four P one two three more s l h = grind arith
 
 -- ---- the kinds of the devices' cells, and where those of the newest set are, from a number on
 
@@ -122,7 +115,7 @@ unfolding first
 timer-saved set numbers are = record { ready = ready-of set timer numbers (omega arith) tt are refl refl (refl, tt); carried = one numbers are.count }
 
 pub timer_is_saved : InEachSet (SavedWhere AreTimerCells (λ set numbers. numbers) (timer_in newest_set)) timer_in
-timer_is_saved = record { each = λ s l h. rw (is_timer s l h) (timer-saved (shipped_set s)) }
+timer_is_saved = record { each = λ s l h. rw (by_list timer_in (λ s. timer) 1 refl) (timer-saved (shipped_set s)) }
 
 pub timer_is_ready : TimerIsReady
 timer_is_ready = ready-in timer_is_saved
@@ -144,10 +137,7 @@ abbrev pub needs : ℤ → Bool
 needs z = bit_and (residue 1 z) 1 == 1
 
 pub unneeded : (z : ℤ) → InRange Truth z → needs z ≡ false → z ≡ pos 0
-unneeded (pos zero) r e = refl
-unneeded (pos (suc zero)) r e = cc
-unneeded (pos (suc (suc n))) r e = grind arith
-unneeded (negsuc n) r e = absurd (omega arith)
+unneeded z r e = grind arith
 
 -- No item of a chip is a structure, so these hold in any set.
 module _ (set : Set) (instance : ℕ) (numbers : List ℤ) where

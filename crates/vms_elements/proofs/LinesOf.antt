@@ -38,10 +38,9 @@ slots_append [] ys = refl
 slots_append (x ∷ xs) ys = pick_append _ _ _ _ _ (slots_append xs ys)
 
 slots_behind : (step : ℕ × ℕ) (text : List ℕ) (c p : Bool) (xs : List Element) → slots_of (map (behind step text c p) xs) ≡ (if p then slots_of xs else [])
-slots_behind step text c true [] = refl
-slots_behind step text c false [] = refl
 slots_behind step text c true (x ∷ xs) = rw (slots_behind step text c true xs)
 slots_behind step text c false (x ∷ xs) = slots_behind step text c false xs
+slots_behind step text c _ _ = refl
 
 -- an element of a field that is there or not, before the count and past it, and those before it
 slots_here : (there : Bool) (step : ℕ × ℕ) (text : List ℕ) (xs : List Element) → slots_of (map (behind step text true (there && true)) xs) ≡ (if there then slots_of xs else [])
@@ -51,10 +50,9 @@ slots_past : (there : Bool) (step : ℕ × ℕ) (text : List ℕ) (xs : List Ele
 slots_past there step text xs = grind (arith, slots_behind)
 
 slots_all : (there : Bool) (slots : ℕ → List Slot) (step e m at : ℕ) → outs (λ e a. if there then slots a else []) step e m at ≡ (if there then times m slots at step else [])
-slots_all true slots step e zero at = refl
-slots_all false slots step e zero at = refl
 slots_all true slots step e (suc m) at = rw (slots_all true slots step (suc e) m (at + step))
 slots_all false slots step e (suc m) at = slots_all false slots step (suc e) m (at + step)
+slots_all _ slots step e _ at = refl
 
 slots_dotted : (xs : List Element) → slots_of (map dotted xs) ≡ slots_of xs
 slots_dotted [] = refl

@@ -7,9 +7,8 @@ use Rattle.vms_elements.proofs.Facade.{item_at, element_at, path_at, Element, Sh
 use Rattle.vms_elements.proofs.Facade.{Stand, stand_of, array_elements, field_elements, elements_from, desc_elements, index_text, is_number, elements_in}
 use Rattle.vms_elements.proofs.Facade.{last_field, field_named, IsFieldOf, DistinctLaw, PathLaw, inr, flat_map, Sub, Device, no_cell, struct_cells}
 use Rattle.vms_elements.proofs.Facade.{device_cells, sub_place, own_cells, desc_of_sub, cell_in, cell_at, What, numbers_in, cells_of, cells_with, CountsUp}
-use Rattle.vms_elements.proofs.Facade.{ArePaths, part_desc, CellLaw, CountedLaw}
+use Rattle.vms_elements.proofs.{Walk.walks, Walk.numbers_long, Walk.IsCounted, Facade.ArePaths, Facade.part_desc, Facade.CellLaw, Facade.CountedLaw}
 use Rattle.vms_elements.proofs.Members.{Each, all_both, all_map, Has, has_left, has_right, has_map, shapes_cells, all_at}
-use Rattle.vms_elements.proofs.Walk.{walks, numbers_long, IsCounted}
 
 -- ---- the path of each number has its cell and names a field of its kind and default; and a path that has a cell is a number's
 

@@ -32,8 +32,7 @@ least_more fields k f table i whole lt is inside e =
     one_more f.count (field_of f) (map field_of (drop (k + 1) fields)) table i inside ∙ (rw (drop_is fields k f lt is) at e)
 
 pub counted_long : (c : Count) (table : List (Option ℕ)) → length (counted_in table c) ≡ length table
-counted_long (Counted by most) table = length-set table by (lesser (get_or table by None) most)
-counted_long _ table = refl
+counted_long c table = grind (arith, length-set)
 
 -- a slice as long as the list is the whole list
 pub written_back : {X : Type 0} (items new : List X) (len : ℕ) → length new ≡ length items → len ≡ length items → take len (new ++ drop (length new) items) ≡ new

@@ -1,7 +1,7 @@
 -- Sums that are cut at 2 ^ 32 - 1.
 use Rattle.vms_parts.proofs.Facade.{◌≡◌, ℕ, zero, suc, ◌+◌, ◌*◌, ◌^◌, ◌<◌, ◌≤◌, List, [], ◌∷◌, ◌++◌, length, get_or}
-use Rattle.vms_parts.proofs.Facade.{drop, map, refl, sym, ap, ◌∙◌, arith, add-one, drop_all, map-append, Item, Struct, capacity_of, first, no_desc}
-use Rattle.vms_parts.proofs.Facade.{Measure, in_u32, size_of, fields_size, subs_size, sizes_to, field_of, desc_of}
+use Rattle.vms_parts.proofs.Facade.{drop, map, refl, sym, ap, ◌∙◌, arith, add-one, drop_all, map-append, Item, capacity_of, first, no_desc, Measure}
+use Rattle.vms_parts.proofs.Facade.{in_u32, size_of, fields_size, subs_size, sizes_to, field_of, desc_of}
 use Rattle.vms_parts.proofs.Items.{drop_is, get_map_at}
 use Rattle.vms_parts.specs.declared.types.Desc.{Desc}
 use Rattle.vms_spec.specs.Sets as sets
@@ -29,13 +29,11 @@ capped_product (suc c) s =
     omega (arith, p, q, e)
 
 pub capped_at : (sizes : List ℕ) (j : ℕ) → get_or (map in_u32 sizes) j 0 ≡ in_u32 (get_or sizes j 0)
-capped_at [] j = refl
-capped_at (s ∷ sizes) zero = refl
 capped_at (s ∷ sizes) (suc j) = capped_at sizes j
+capped_at _ j = refl
 
 capped_item : (m : Measure) (sizes : List ℕ) (c : ℕ) (item : Item) → in_u32 (c * size_of m (map in_u32 sizes) item) ≡ in_u32 (c * size_of m sizes item)
-capped_item m sizes c (Struct j) = rw (capped_at sizes j) (capped_product c (get_or sizes j 0))
-capped_item m sizes c _ = refl
+capped_item m sizes c item = grind (arith, capped_at, capped_product)
 
 pub capped_fields : (m : Measure) (sizes : List ℕ) (fs : List sets.Field) → in_u32 (fields_size m (map in_u32 sizes) fs) ≡ in_u32 (fields_size m sizes fs)
 capped_fields m sizes [] = refl

@@ -1,49 +1,32 @@
 -- Lists and numbers: tests of them, and their bytes.
 use Rattle.vms_spec.proofs.Facade.{◌≡◌, ℕ, suc, ◌+◌, ◌*◌, ◌-◌, ◌<◌, ◌≤◌, min, Bool, true, false, ◌&&◌, nat_le}
 use Rattle.vms_spec.proofs.Facade.{if◌then◌else◌, List, ◌∷◌, ◌++◌, length, get_or, drop, Option, Some, None, refl, sym, ap, ◌∙◌, arith}
-use Rattle.vms_spec.proofs.Facade.{◌||◌, [], AllByRecursion, slice_get, bytes_eq, or_assoc, or_comm, drop-append_seam, and_from, and_parts, leb-true}
-use Rattle.vms_spec.proofs.Facade.{le-leb, drop-drop, drop_more, get_or_read, bytes_eq-Decides, or_else, position, Set, Sub, sub_place, AreVersionsOf, AllCame}
-use Rattle.vms_spec.proofs.Facade.{is_one_of, natural_from, ℤ, pos, negsuc, ◌≤ℤ◌, eqb-true, eq-eqb, ltb-false, le-ltb, or_parts, ints, same_number}
-use Rattle.vms_spec.proofs.Facade.{is_above, exceeds, ◌%◌, ◌^◌, append-nil, mod_below, pow_pos, big_number, big_bytes, twos_complement}
-use Rattle.vms_spec.proofs.Facade.{big_number-reads_back, Kind, U8, I8, I16, I32, I64, width, residue, code, InRange, value_of, MOST_UNUSED, be32, is_bad_bool}
-use Rattle.vms_spec.proofs.Facade.{nat_tests, is_name_byte}
+use Rattle.vms_spec.proofs.Facade.{◌||◌, [], AllByRecursion, slice_get, bytes_eq, or_assoc, or_comm, drop-append_seam, and_from, drop-drop, drop_more}
+use Rattle.vms_spec.proofs.Facade.{get_or_read, bytes_eq-Decides, or_else, position, Set, Sub, sub_place, AreVersionsOf, AllCame, is_one_of, natural_from, ℤ}
+use Rattle.vms_spec.proofs.Facade.{pos, negsuc, ◌≤ℤ◌, or_parts, ints, same_number, is_above, exceeds, ◌^◌, append-nil, mod_below, pow_pos}
+use Rattle.vms_spec.proofs.Facade.{big_number, big_bytes, big_number-reads_back, Kind, U8, width, residue, code, InRange, value_of, MOST_UNUSED, be32}
+use Rattle.vms_spec.proofs.Facade.{is_bad_bool, nat_tests, is_name_byte}
 use Rattle.std.proofs.{lemmas.Result.err_from_is_err_and, Common.Err, Common.IsErrAnd, Common.Result}
-use Rattle.vms_kinds.specs.declared.Kind.TheVariants.{Bool as Truth}
 
 -- ---- tests
 
 pub same_tests : (a b : Bool) → (a ≡ true → b ≡ true) → (b ≡ true → a ≡ true) → a ≡ b
-same_tests true b f g = sym (f refl)
-same_tests false true f g = g refl
-same_tests false false f g = refl
+same_tests a b f g = grind arith
 
 pub or_second : (a b : Bool) → (a || b) ≡ true → a ≡ false → b ≡ true
-or_second true b e f = cc
-or_second false b e f = e
+or_second a b e f = grind arith
 
 pub or_turned : (a b c : Bool) → (a || (b || c)) ≡ ((b || a) || c)
 or_turned a b c = cc (or_assoc a b c, or_comm a b)
 
 pub and_swap : (a b c d : Bool) → ((a && b) && (c && d)) ≡ ((a && c) && (b && d))
-and_swap false b c d = refl
-and_swap true true c d = refl
-and_swap true false true d = refl
-and_swap true false false d = refl
+and_swap a b c d = grind arith
 
 pub both_below : (n a b : ℕ) → nat_le n (min a b) ≡ (nat_le n a && nat_le n b)
-both_below n a b = same_tests (nat_le n (min a b)) (nat_le n a && nat_le n b) forth back
-  where
-    forth : nat_le n (min a b) ≡ true → (nat_le n a && nat_le n b) ≡ true
-    forth e = let le : n ≤ min a b = leb-true n (min a b) e in and_from (nat_le n a) (nat_le n b) (le-leb n a (omega arith)) (le-leb n b (omega arith))
-
-    back : (nat_le n a && nat_le n b) ≡ true → nat_le n (min a b) ≡ true
-    back e =
-        let p = and_parts (nat_le n a) (nat_le n b) e in
-        le-leb n (min a b) (omega (arith, leb-true n b p.1, leb-true n a p.0))
+both_below n a b = grind (arith, same_tests, and_from)
 
 pub either_of : {C : Type 0} (a b : Bool) → (a || b) ≡ true → (a ≡ true → C) → (b ≡ true → C) → C
-either_of true b e f g = f refl
-either_of false b e f g = g e
+either_of a b e f g = grind arith
 
 -- what `?` returns
 pub err_is : {T E : Type 0} (r : Result T E) (e : E) → IsErrAnd r (λ y. y ≡ e) → r ≡ Err e
@@ -53,8 +36,7 @@ err_is r e is = let p = err_from_is_err_and r is in rw (p.1, p.2)
 
 -- the first of a list, if it is taken
 pub pick_append : {B : Type 0} (b : Bool) (x : B) (xs ys zs : List B) → xs ≡ ys ++ zs → (if b then x ∷ xs else xs) ≡ (if b then x ∷ ys else ys) ++ zs
-pick_append true x xs ys zs e = rw e
-pick_append false x xs ys zs e = e
+pick_append b x xs ys zs e = grind arith
 
 pub all_right : (P : ℕ → Type 0) (xs ys : List ℕ) → AllByRecursion P (xs ++ ys) → AllByRecursion P ys
 all_right P [] ys h = h
@@ -114,21 +96,16 @@ found_one names i name one lt is same inv = (
 -- ---- tests on numbers, and the relations that they decide
 
 pub same_number_itself : (z : ℤ) → same_number z z ≡ true
-same_number_itself (pos n) = eq-eqb n n refl
-same_number_itself (negsuc n) = eq-eqb n n refl
+same_number_itself z = grind arith
 
 pub same_number_is : (a b : ℤ) → same_number a b ≡ true → a ≡ b
-same_number_is (pos a) (pos b) e = ap pos (eqb-true a b e)
-same_number_is (negsuc a) (negsuc b) e = ap negsuc (eqb-true a b e)
-same_number_is _ _ e = cc
+same_number_is a b e = grind arith
 
 pub not_above : (z : ℤ) (most : ℕ) → is_above z most ≡ false → z ≤ℤ pos most
-not_above (pos n) most e = let h = ltb-false most n e in omega (arith, ints)
-not_above (negsuc n) most e = omega arith
+not_above z most e = grind arith
 
 pub is_below : (z : ℤ) (most : ℕ) → z ≤ℤ pos most → is_above z most ≡ false
-is_below (pos n) most h = le-ltb most n (omega (arith, ints))
-is_below (negsuc n) most h = refl
+is_below z most h = grind arith
 
 pub within_all : (caps : List ℕ) (z : ℤ) → exceeds caps z ≡ false → AllByRecursion (λ most. z ≤ℤ pos most) caps
 within_all [] z e = tt
@@ -145,12 +122,10 @@ read_back w x h = cc (append-nil (big_bytes w x), big_number-reads_back w x [] h
 
 pub length-code : (kind : Kind) (z : ℤ) → length (code kind z) ≡ width kind
 unfolding code
-length-code U8 z = refl
-length-code _ z = refl
+length-code kind z = grind arith
 
 pub width_small : (kind : Kind) → width kind ≤ MOST_UNUSED
-width_small U8 = omega arith
-width_small _ = omega arith
+width_small kind = grind arith
 
 -- ---- numbers by their bytes
 
@@ -159,30 +134,21 @@ residue_low w (pos n) = mod_below n (2 ^ (8 * w)) (pow_pos (8 * w))
 residue_low w (negsuc n) = omega (arith, pow_pos (8 * w))
 
 low : (kind : Kind) (z : ℤ) → residue (width kind) z < 256 ^ (width kind)
-low U8 z = residue_low 1 z
-low kind z = residue_low (width kind) z
+low kind z = grind (arith, residue_low)
 
 pub code_read : (kind : Kind) (z : ℤ) → big_number (width kind) (code kind z) ≡ residue (width kind) z
 unfolding code
 code_read kind z = read_back (width kind) (residue (width kind) z) (low kind z)
 
 pub value_code : (kind : Kind) (z : ℤ) → InRange kind z → value_of kind (code kind z) ≡ z
-value_code I8 (pos n) h = ap (twos_complement 1) (code_read I8 (pos n)) ∙ grind (arith, ints)
-value_code I8 (negsuc n) h = ap (twos_complement 1) (code_read I8 (negsuc n)) ∙ grind (arith, ints)
-value_code I16 (pos n) h = ap (twos_complement 2) (code_read I16 (pos n)) ∙ grind (arith, ints)
-value_code I16 (negsuc n) h = ap (twos_complement 2) (code_read I16 (negsuc n)) ∙ grind (arith, ints)
-value_code I32 (pos n) h = ap (twos_complement 4) (code_read I32 (pos n)) ∙ grind (arith, ints)
-value_code I32 (negsuc n) h = ap (twos_complement 4) (code_read I32 (negsuc n)) ∙ grind (arith, ints)
-value_code I64 (pos n) h = ap (twos_complement 8) (code_read I64 (pos n)) ∙ grind (arith, ints)
-value_code I64 (negsuc n) h = ap (twos_complement 8) (code_read I64 (negsuc n)) ∙ grind (arith, ints)
-value_code kind (pos n) h = ap pos (code_read kind (pos n) ∙ omega (arith, ints))
-value_code _ (negsuc n) h = absurd (omega (arith, ints))
+value_code U8 (pos n) h = rw (code_read U8 (pos n)) (grind (arith, ints))
+value_code kind (pos n) h = rw (code_read kind (pos n)) (grind (arith, ints))
+value_code U8 (negsuc n) h = absurd (omega (arith, ints))
+value_code kind (negsuc n) h = rw (code_read kind (negsuc n)) (grind (arith, ints))
 
 pub good_code : (kind : Kind) (z : ℤ) → InRange kind z → is_bad_bool kind (code kind z) ≡ false
 unfolding code
-good_code Truth (pos n) h = let e = read_back 1 (n % 256) (omega arith) in le-ltb 1 (big_number 1 (big_bytes 1 (n % 256))) (omega (arith, ints))
-good_code Truth (negsuc n) h = absurd (omega arith)
-good_code _ z h = refl
+good_code kind z h = grind arith
 
 pub be32_read : (n : ℕ) (rest : List ℕ) → n < 2 ^ 32 → big_number 4 (be32 n ++ rest) ≡ n
 be32_read n rest h = big_number-reads_back 4 n rest (omega arith)

@@ -1,4 +1,5 @@
 -- Each shipped set is well formed and good. So the premises of the laws about sets can be met.
+use Rattle.vms_spec.proofs.Facade.{arith}
 use Rattle.vms_spec.proofs.Facade.{◌≡◌, ℕ, zero, suc, ◌<◌, ◌^◌, Bool, true, List, [], ◌∷◌, Option, Some, None, refl, is_none, AllByRecursion, list_all}
 use Rattle.vms_spec.proofs.Facade.{slice_get, and_parts, ltb-true, Device, Sub, Set, first, first_fault, shipped_sets, IsFit, ShippedLaw, FitsHeads}
 use Rattle.std.specs.Prelude.{◌&&◌, nat_lt}
@@ -37,13 +38,10 @@ heads_fit set all = record {
 }
 
 pub none_is : {X : Type 0} (o : Option X) → is_none o ≡ true → o ≡ None
-none_is None h = refl
-none_is (Some x) h = cc
+none_is o h = grind arith
 
 pub fit : (set : Set) → is_fit set ≡ true → IsFit set
-fit set h =
-    let f = and_parts (is_none (first_fault set)) (list_all device_fits set.devices) h in
-    record { well = none_is (first_fault set) f.0; heads = heads_fit set f.1 }
+fit set h = search (arith, none_is, heads_fit)
 
 -- ---- each shipped set
 

@@ -1,10 +1,10 @@
 -- Structures by number: tables, the cells and room of a field, and tables that include a table.
 use Rattle.vms_spec.proofs.Facade.{◌≡◌, ℕ, zero, suc, ◌<◌, ◌≤◌, List, [], ◌∷◌, ◌++◌, length, length-append, get_or, take, refl, sym}
-use Rattle.vms_spec.proofs.Facade.{ap, ◌∙◌, arith, Bool, true, false, nat_lt, ltb-true, ltb-false, get_or_append_left, get_or_push, get_or-take, Desc}
-use Rattle.vms_spec.proofs.Facade.{first, no_desc, ◌+◌, ◌*◌, ℤ, mul-le-mul_right, Item, Num, Count, One, Fixed, Counted, Field, field_cells}
-use Rattle.vms_spec.proofs.Facade.{item_cells, item_size, capacity_of, times, elements_of, counted, map, pos, get_or-map, fun_ext, map-append, Struct, is_there}
-use Rattle.vms_spec.proofs.Facade.{uses_below, Meaning, no_field, no_parent, no_meaning, meaning, meanings, cells_from, desc_cells, item_slots, slots_from}
-use Rattle.vms_spec.proofs.Facade.{desc_slots, numbers_of, place_of, Reader, reader, cells_of}
+use Rattle.vms_spec.proofs.Facade.{ap, ◌∙◌, arith, Bool, true, false, nat_lt, ltb-true, get_or_append_left, get_or_push, get_or-take, Desc, first}
+use Rattle.vms_spec.proofs.Facade.{no_desc, ◌+◌, ◌*◌, ℤ, mul-le-mul_right, Item, Count, Field, field_cells, item_cells, item_size, capacity_of, times}
+use Rattle.vms_spec.proofs.Facade.{elements_of, counted, map, pos, get_or-map, fun_ext, map-append, Struct, is_there, uses_below, Meaning, no_field, no_parent}
+use Rattle.vms_spec.proofs.Facade.{no_meaning, meaning, meanings, cells_from, desc_cells, item_slots, slots_from, desc_slots, numbers_of, place_of, Reader}
+use Rattle.vms_spec.proofs.Facade.{reader, cells_of}
 use Rattle.vms_spec.specs.Layout.{Cell}
 
 -- ---- tables by number: each element is made from the earlier ones alone
@@ -20,10 +20,7 @@ at_step f ds d k j lt earlier true e =
     let l : j < k = ltb-true j k e in
     let long = first_long f ds k in
     get_or_append_left (first f ds k) (f (first f ds k) (get_or ds k no_desc) ∷ []) d j (omega (arith, long)) ∙ earlier l
-at_step f ds d k j lt earlier false e =
-    let same : k ≡ j = omega (arith, ltb-false j k e) in
-    ap (λ i. get_or (first f ds k ++ f (first f ds k) (get_or ds k no_desc) ∷ []) i d) (sym same)
-    ∙ get_or_push (first f ds k) (f (first f ds k) (get_or ds k no_desc)) d k (first_long f ds k) ∙ ap (λ i. f (first f ds i) (get_or ds i no_desc)) same
+at_step f ds d k j lt earlier false e = grind (arith, get_or_push, first_long)
 
 -- a property of each element of a list and of one more
 pub one_more : {A : Type 0} (P : A → Type 0) (a0 : A) → P a0 → (xs : List A) → ((j : ℕ) → P (get_or xs j a0)) → (a : A) → P a → (j : ℕ) → P (get_or (xs ++ a ∷ []) j a0)
@@ -60,17 +57,14 @@ length-times (suc n) xs at step =
     length-append xs (times n (λ _. xs) (at + step) step) ∙ ap (λ k. length xs + k) (length-times n xs (at + step) step) ∙ sym (grind arith)
 
 pub size_same : (cs : List (List Cell)) (item : Item) (caps : List ℕ) (z : ℤ) → length (item_cells cs item caps z) ≡ item_size cs item
-size_same cs (Num kind) caps z = refl
-size_same cs _ caps z = refl
+size_same cs item caps z = grind arith
 
 pub field_size : (cs : List (List Cell)) (fields : List Field) (i : ℕ) (f : Field) → length (field_cells cs fields i f) ≡ capacity_of f.count * item_size cs f.item
 field_size cs fields i f =
     cc (length-times (capacity_of f.count) (item_cells cs f.item (counted i fields) f.default) 0 0, size_same cs f.item (counted i fields) f.default)
 
 pub elements_fit : (c : Count) (own : ℕ → ℕ) → elements_of c own ≤ capacity_of c
-elements_fit One own = omega arith
-elements_fit (Fixed n) own = omega arith
-elements_fit (Counted by most) own = omega arith
+elements_fit c own = grind arith
 
 -- ---- room for elements
 
@@ -96,8 +90,7 @@ FieldsBelow k [] = Unit {0}
 FieldsBelow k (f ∷ fs) = ItemBelow k f.item × FieldsBelow k fs
 
 pub item_below : (k : ℕ) (item : Item) → uses_below k item ≡ true → ItemBelow k item
-item_below k (Struct j) e = ltb-true j k e
-item_below k _ e = tt
+item_below k item e = grind arith
 
 pub all_below : (k : ℕ) (fs : List Field) → ((i : ℕ) → i < length fs → uses_below k (get_or fs i no_field).item ≡ true) → FieldsBelow k fs
 all_below k [] h = tt
@@ -108,8 +101,7 @@ all_below k (f ∷ fs) h = (item_below k f.item (h 0 (omega arith)), all_below k
 -- two lists have the same cells of structures of numbers below j
 module _ (j : ℕ) (cs cs' : List (List Cell)) (same : (i : ℕ) → i < j → get_or cs i [] ≡ get_or cs' i []) where
   pub item_cells_same : (item : Item) (caps : List ℕ) (z : ℤ) → ItemBelow j item → item_cells cs item caps z ≡ item_cells cs' item caps z
-  item_cells_same (Struct i) caps z h = same i h
-  item_cells_same _ caps z h = refl
+  item_cells_same item caps z h = grind arith
 
   pub field_cells_same : (all : List Field) (i : ℕ) (f : Field) → ItemBelow j f.item → field_cells cs all i f ≡ field_cells cs' all i f
   field_cells_same all i f h = rw (item_cells_same f.item (counted i all) f.default h)
@@ -160,8 +152,7 @@ module _ (j : ℕ) (ms ms' : List Meaning) (same : (i : ℕ) → i < j → get_o
   cells_row i h = row_same (λ (m : Meaning). m.cells) no_meaning ms ms' i (same i h)
 
   item_slots_same : (item : Item) (caps : List ℕ) (numbers : List ℤ) → ItemBelow j item → item_slots ms item caps numbers ≡ item_slots ms' item caps numbers
-  item_slots_same (Struct i) caps numbers h = fun_ext (λ at. ap (λ m. m.slots numbers at) (same i h))
-  item_slots_same _ caps numbers h = refl
+  item_slots_same item caps numbers h = grind arith
 
   slots_same : (all : List Field) (v : ℕ) (own : ℕ → ℕ) (numbers : List ℤ) (i at : ℕ) (fs : List Field) → FieldsBelow j fs
       → slots_from ms all v own numbers i at fs ≡ slots_from ms' all v own numbers i at fs

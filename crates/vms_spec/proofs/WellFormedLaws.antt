@@ -2,24 +2,23 @@
 use Rattle.vms_spec.proofs.{Facade.ConstantFits, Facade.ConstantsFit, ListsAndNumbers.either_of, Tables.one_more}
 use Rattle.vms_spec.proofs.Facade.{◌≡◌, ℕ, zero, suc, ◌+◌, ◌≤◌, List, [], ◌∷◌, length, Option, Some, None, refl, sym, ap, ◌∙◌}
 use Rattle.vms_spec.proofs.Facade.{arith, Bool, true, false, ◌&&◌, struct_fault, device_fault, size_rules, nat_le, slice_get, list_all, bytes_eq}
-use Rattle.vms_spec.proofs.Facade.{bytes_eq-Decides, and_parts, leb-true, Place, or_else, first_answer, is_name, is_name_byte, Set, is_one_of, failing}
-use Rattle.vms_spec.proofs.Facade.{first_fault, here, set_rules, WellFormed, IsGood, FitsHeads, ◌<◌, ◌++◌, get_or, map, take, ℤ, pos, negsuc}
-use Rattle.vms_spec.proofs.Facade.{◌≤ℤ◌, subst, ◌==◌, nat_lt, if◌then◌else◌, AllByRecursion, flat_map, list_any, not-true, ltb-true, eq-eqb}
-use Rattle.vms_spec.proofs.Facade.{and_from, or_parts, ints, slice_get_within, get_or_from_slice_get, Kind, Item, Num, Equal, Struct, lowest, highest, InRange}
-use Rattle.vms_spec.proofs.Facade.{Count, One, Counted, Own, Parent, Part, position, Formula, Cell, Not, And, Or, Field, Desc, Sub, Device, no_field, no_desc}
-use Rattle.vms_spec.proofs.Facade.{times, counted, capacity_of, item_cells, field_cells, cells_from, desc_cells, struct_cells, device_cells, first, FitsCell}
-use Rattle.vms_spec.proofs.Facade.{find_device, find_sub, is_num, is_one, has_no_test, is_steady, is_steady_in, is_earlier_in, names_well, nobody}
-use Rattle.vms_spec.proofs.Facade.{test_names_well, count_names_well, is_counting, defaults_well, counts_well, int_le, in_range, field_rules, validation_rules}
-use Rattle.vms_spec.proofs.Facade.{in_field, fields_fault, validations_fault, desc_fault, struct_rules, sub_fault, sub_rules, device_rules, is_same_device}
-use Rattle.vms_spec.proofs.Facade.{IsNumber, IsOne, IsEarlier, NamesEarlier, IsSoundTest, IsSoundCount, IsSoundField, AreSoundFields, IsSound, DefaultsFit}
-use Rattle.vms_spec.specs.{Layout.Cell as OneCell}
+use Rattle.vms_spec.proofs.Facade.{bytes_eq-Decides, and_parts, Place, or_else, first_answer, is_name, Set, is_one_of, failing, first_fault, here, set_rules}
+use Rattle.vms_spec.proofs.Facade.{WellFormed, IsGood, FitsHeads, ◌<◌, ◌++◌, get_or, map, take, ℤ, pos, ◌≤ℤ◌, subst, ◌==◌, nat_lt}
+use Rattle.vms_spec.proofs.Facade.{AllByRecursion, flat_map, list_any, not-true, ltb-true, eq-eqb, and_from, or_parts, slice_get_within, get_or_from_slice_get}
+use Rattle.vms_spec.proofs.Facade.{Kind, Item, Struct, lowest, highest, InRange, Count, Own, Parent, Part, position, Formula, Cell, Not, And, Or, Field, Desc}
+use Rattle.vms_spec.proofs.Facade.{Sub, Device, no_field, no_desc, times, counted, capacity_of, item_cells, field_cells, cells_from, desc_cells, struct_cells}
+use Rattle.vms_spec.proofs.Facade.{device_cells, first, FitsCell, find_device, find_sub, is_num, is_one, has_no_test, is_steady, is_steady_in, is_earlier_in}
+use Rattle.vms_spec.proofs.Facade.{names_well, nobody, test_names_well, count_names_well, defaults_well, counts_well, int_le, in_range, field_rules}
+use Rattle.vms_spec.proofs.Facade.{validation_rules, in_field, fields_fault, validations_fault, desc_fault, struct_rules, sub_fault, sub_rules, device_rules}
+use Rattle.vms_spec.proofs.Facade.{is_same_device, IsNumber, IsOne, IsEarlier, NamesEarlier, IsSoundTest, IsSoundCount, IsSoundField, AreSoundFields, IsSound}
+use Rattle.vms_spec.proofs.Facade.{DefaultsFit}
+use Rattle.vms_spec.specs.Layout.{Cell as OneCell}
 use Rattle.vms_spec.specs.declared.Part.TheVariants as parts
 
 -- ---- a set without a fault: each test in the walk finds nothing, and each rule holds
 
 pub or_else_none : {X : Type 0} (x y : Option X) → or_else x y ≡ None → (x ≡ None) × (y ≡ None)
-or_else_none (Some x) y e = cc
-or_else_none None y e = (refl, e)
+or_else_none x y e = grind arith
 
 -- the element at a number is tested with that number
 pub answers_none : {X Y : Type 0} (f : ℕ → X → Option Y) (i : ℕ) (xs : List X) → first_answer f i xs ≡ None → (j : ℕ) (x : X) → slice_get xs j ≡ Some x → f (i + j) x ≡ None
@@ -52,9 +51,7 @@ every_one p (n ∷ names) name h e =
     either_of (bytes_eq n name) (is_one_of names name) e (λ is. cc ((bytes_eq-Decides n name).0 is, both.0)) (every_one p names name both.1)
 
 pub name_short : (most : ℕ) (name : List ℕ) → is_name most name ≡ true → length name ≤ most
-name_short most name e =
-    let p = and_parts (nat_le 1 (length name) && nat_le (length name) most) (list_all is_name_byte name) e in
-    leb-true (length name) most (and_parts (nat_le 1 (length name)) (nat_le (length name) most) p.0).1
+name_short most name e = grind arith
 
 -- the rules of the set, and its parts without a fault
 pub record SetClean (set : Set) : Type 0 where
@@ -66,23 +63,13 @@ pub record SetClean (set : Set) : Type 0 where
 module _ (set : Set) (well : WellFormed set) where
   pub set_clean : SetClean set
   unfolding first_fault
-  set_clean =
-      let a = or_else_none (failing 1 (set_rules set) (here parts.Set)) _ well in
-      let b = or_else_none (first_answer (struct_fault set.structs) 0 set.structs) _ a.1 in
-      let c = or_else_none (first_answer (device_fault set) 0 set.devices) (failing 1 (size_rules set) (here parts.Set)) b.1 in
-      record {
-        own = all_true 1 (set_rules set) (here parts.Set) a.0;
-        structs = b.0;
-        devices = c.0;
-        sizes = all_true 1 (size_rules set) (here parts.Set) c.1;
-      }
+  set_clean = search (arith, or_else_none, all_true)
 
   pub machine_short : (name : List ℕ) → is_one_of set.machines name ≡ true → length name ≤ 64
   machine_short name h = name_short 64 name (every_one (is_name 64) set.machines name set_clean.own.0 h)
 
   pub few_devices : length set.devices ≤ 64
-  few_devices =
-      leb-true (length set.devices) 64 (and_parts (nat_le (length set.machines) 16 && nat_le (length set.structs) 64) (nat_le (length set.devices) 64) set_clean.own.1.1.1.1.1.1.0).1
+  few_devices = grind (arith, set_clean)
 
 -- ---- a set that is well formed is good: no fault anywhere
 
@@ -115,16 +102,13 @@ get_none (y ∷ xs) zero d e = cc
 get_none (y ∷ xs) (suc i) d e = get_none xs i d e
 
 is_number : (item : Item) → is_num item ≡ true → IsNumber item
-is_number (Num kind) e = tt
-is_number _ e = cc
+is_number item e = grind arith
 
 is_single : (c : Count) → is_one c ≡ true → IsOne c
-is_single One e = tt
-is_single _ e = cc
+is_single c e = grind arith
 
 pub untested : (t : Option Formula) → has_no_test t ≡ true → t ≡ None
-untested None e = refl
-untested (Some t) e = cc
+untested t e = grind arith
 
 pub earlier : (d : Desc) (k j : ℕ) → j < k → is_steady_in d j ≡ true → IsEarlier d.fields k j
 earlier d k j lt e = go (slice_get d.fields j) refl e
@@ -158,12 +142,10 @@ earlier_in : (d : Desc) (k j : ℕ) → is_earlier_in d k j ≡ true → IsEarli
 earlier_in d k j e = let p = and_parts (nat_lt j k) (is_steady_in d j) e in earlier d k j (ltb-true j k p.0) p.1
 
 sound_test : (d : Desc) (k : ℕ) (t : Option Formula) → test_names_well d k t ≡ true → IsSoundTest d.fields k t
-sound_test d k None e = tt
-sound_test d k (Some t) e = names_earlier d.fields k (is_earlier_in d k) (λ j h. earlier_in d k j h) t e
+sound_test d k t e = grind (arith, names_earlier, earlier_in)
 
 sound_count : (d : Desc) (k : ℕ) (c : Count) → count_names_well d k c ≡ true → IsSoundCount d.fields k c
-sound_count d k (Counted by most) e = earlier_in d k by (and_parts (is_earlier_in d k by) (is_counting (slice_get d.fields by)) e).0
-sound_count d k _ e = tt
+sound_count d k c e = grind (arith, earlier_in)
 
 -- field j of a list is field k of the description
 sound_fields : (fields : List Field) (i : ℕ) (fs : List Field) → ((j k : ℕ) (f : Field) → k ≡ i + j → slice_get fs j ≡ Some f → IsSoundField fields k f) → AreSoundFields fields i fs
@@ -191,10 +173,7 @@ sound k d rules c = record {
 -- ---- defaults and constants
 
 pub int_below : (z u : ℤ) → int_le z u ≡ true → z ≤ℤ u
-int_below (pos a) (pos b) h = omega (arith, ints, leb-true a b h)
-int_below (pos a) (negsuc b) h = cc
-int_below (negsuc a) (pos b) h = omega (arith, ints)
-int_below (negsuc a) (negsuc b) h = omega (arith, ints, leb-true b a h)
+int_below z u h = grind arith
 
 pub ranges : (kind : Kind) (z : ℤ) → in_range kind z ≡ true → InRange kind z
 ranges kind z e = let p = and_parts (int_le (lowest kind) z) (int_le z (highest kind)) e in (int_below (lowest kind) z p.0, int_below z (highest kind) p.1)
@@ -204,8 +183,7 @@ within [] z e = tt
 within (m ∷ caps) z e = let p = and_parts (int_le z (pos m)) (counts_well caps z) e in (int_below z (pos m) p.0, within caps z p.1)
 
 constant_fits : (item : Item) (z : ℤ) → defaults_well item z ≡ true → ConstantFits item
-constant_fits (Equal kind y) z e = ranges kind y (and_parts (in_range kind y) _ e).0
-constant_fits _ z e = tt
+constant_fits item z e = grind (arith, ranges)
 
 constants_fit : (fs : List Field) → ((i : ℕ) (f : Field) → slice_get fs i ≡ Some f → ConstantFits f.item) → ConstantsFit fs
 constants_fit [] h = tt
@@ -228,9 +206,7 @@ abbrev AllFit : List (List OneCell) → Type 0
 AllFit structs = (j : ℕ) → Fit (get_or structs j [])
 
 fit_item : (structs : List (List OneCell)) → AllFit structs → (item : Item) (caps : List ℕ) (z : ℤ) → defaults_well item z ≡ true → counts_well caps z ≡ true → Fit (item_cells structs item caps z)
-fit_item structs all (Num kind) caps z e f = ((ranges kind z e, within caps z f), tt)
-fit_item structs all (Struct j) caps z e f = all j
-fit_item structs all _ caps z e f = tt
+fit_item structs all item caps z e f = search (arith, ranges, within)
 
 -- the rule about defaults at each field of a description from field i on
 record FieldsFit (fields : List Field) (i : ℕ) (fs : List Field) : Type 0 where
@@ -265,10 +241,7 @@ fit_at (x ∷ cells) p (suc c) lt = fit_at cells p.1 c (omega arith)
 
 first_of : {X : Type 0} (p : X → Bool) (i : ℕ) (xs : List X) (k : ℕ) (x : X) → slice_get xs k ≡ Some x → p x ≡ true → list_any p (take k xs) ≡ false → position p i xs ≡ Some (i + k)
 first_of p i [] k x e t f = cc
-first_of p i (y ∷ xs) zero x e t f =
-    let same : y ≡ x = cc in
-    let plus : i ≡ i + 0 = omega arith in
-    ap (λ b. if b then Some i else position p (suc i) xs) (ap p same ∙ t) ∙ ap (λ k. Some k) plus
+first_of p i (y ∷ xs) zero x e t f = grind arith
 first_of p i (y ∷ xs) (suc k) x e t f =
     let g = or_parts (p y) (list_any p (take k xs)) f in
     rw (g.0) (first_of p (suc i) xs k x e t g.1 ∙ ap (λ k. Some k) (omega arith))

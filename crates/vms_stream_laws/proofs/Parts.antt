@@ -69,9 +69,6 @@ pub due_held : (t : Tail) (o : Option ℕ) (slots : List Slot) → due_field t o
 due_held t None slots = refl
 due_held t (Some k) slots = (held_as t k slots).0
 
-pub rules_held : (slots : List Slot) → rules_hold (held slots) ≡ true
-rules_held slots = (held_as Footed 0 slots).1
-
 pub drop_held : (n : ℕ) (slots : List Slot) → drop n (held slots) ≡ held (drop n slots)
 drop_held n slots = drop-map held_slot n slots
 
@@ -276,7 +273,7 @@ module _ (set : Set) where
 
   -- no validation fails
   pub every_holds : (u : List Piece) → holds bare u ≡ true
-  every_holds u = ap rules_hold (left_held u) ∙ rules_held (drop (passed set u) (slots set u))
+  every_holds u = ap rules_hold (left_held u) ∙ ((held_as Footed 0 (drop (passed set u) (slots set u))).1)
 
   -- ---- the rows
 

@@ -9,8 +9,7 @@ use Rattle.vms_stream_laws.proofs.Facade.{false, not, ◌&&◌, nat_le, map, tak
 use Rattle.vms_stream_laws.proofs.Facade.{FitsHeads, first_answer, WellFormed, deepest, desc_fault, device_fault, device_rules, devices_items, failing}
 use Rattle.vms_stream_laws.proofs.Facade.{first_fault, has_few, here, is_same_device, items_in, set_rules, size_rules, struct_depths, struct_fault}
 use Rattle.vms_stream_laws.proofs.Facade.{struct_items, sub_fault, subs_items, AllTrue, all_true, or_else_none, unruled, unruled_desc, unruled_device}
-use Rattle.vms_stream_laws.proofs.Facade.{unruled_sub}
-use Rattle.vms_stream_laws.proofs.Parts.{cells_in, any_map, came_from, none_after, first_unruled}
+use Rattle.vms_stream_laws.proofs.{Facade.unruled_sub, Parts.cells_in, Parts.any_map, Parts.came_from, Parts.none_after, Parts.first_unruled}
 use Rattle.vms_spec.specs.declared.Part.TheVariants as parts
 
 -- ---- a bound on the slots of a part, whatever its numbers are
