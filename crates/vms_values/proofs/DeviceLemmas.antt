@@ -11,7 +11,6 @@ use Rattle.vms_values.proofs.Facade.{sub_said, also, read_sub, LineFault, Starts
 use Rattle.vms_values.proofs.Facade.{DeviceRead, AllRead, or_bad_assoc, first_cell, sub_at, Taken, ReadsBy}
 use Rattle.vms_values.specs.declared.fault.Values.{Values}
 use Rattle.vms_spec.specs.declared.Part.TheVariants as parts
-use Rattle.vms_spec.specs.declared.ValuesReason.TheVariants as reasons
 use Rattle.vms_values.specs.declared.fault.LineFault.TheVariants as faults
 
 pub alike_kept : (a b : Typed) → IsKept a b → IsAlike a b

@@ -1,6 +1,5 @@
 use Rattle.vms_values.proofs.Facade.{rules, ◌≡◌, ◌<◌, ◌+◌, ◌∷◌, ◌++◌, [], length, ap, ◌∙◌, arith, length-append, drop_all}
 use Rattle.vms_values.proofs.Facade.{err_from_is_err_and, own_cells, described, device_at, sub_first, refl}
-use Rattle.vms_spec.specs.declared.Part.TheVariants as parts
 use Rattle.vms_values.proofs.DeviceLemmas.{follows_none, follows_next, follows_stop, sub_came, subs_bad, subs_end, alike_more, of_alike}
 use Rattle.vms_values.proofs.subsections.read_subs.Goals as goal
 
