@@ -1,4 +1,4 @@
-use Rattle.vms_json.proofs.Facade.{rules, arith}
+use Rattle.vms_json.proofs.Facade.{rules, arith, map}
 use Rattle.vms_json.proofs.KeyLaws.{before_none, goes_on, stops, ends}
 use Rattle.vms_json.proofs.lists.read_each.Goals as goal
 
@@ -17,4 +17,6 @@ loop-item-preserved g c =
     )
 
 pub returns : goal.returns
-returns g c = search (rules, ends)
+returns g c =
+    let l = c.loop-item in
+    ends (g.R.Reads.says c.args.reader.now) l.i (map g.R.Reads.means l.list.items) l.invariant.0 c.in_default.ensures.value
