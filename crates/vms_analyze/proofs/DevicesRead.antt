@@ -1,13 +1,13 @@
 -- What is read of a description is exactly what it says.
 use Rattle.vms_analyze.proofs.Facade.{arith, map-map, ◌≡◌, ℕ, Bool, true, ◌&&◌, ◌||◌, ◌==◌, nat_le, if◌then◌else◌, List, [], Option}
 use Rattle.vms_analyze.proofs.Facade.{Some, None, ℤ, codes, refl, inl, ap, ◌∙◌, ◌∷◌, map, IfSome, Ordering, Equal, subst, ◌+◌, drop, bytes_eq}
-use Rattle.vms_analyze.proofs.Facade.{is_utf8, and_parts, eqb-true, and_from, eq-eqb, bytes_eq-Decides, list_all, nat_cmp, match_ordering, slice_cmp, Data}
-use Rattle.vms_analyze.proofs.Facade.{number, string, object, no_members, member, array, Items, Members, of_integer, get, get_member, as_array, fits, Kind}
-use Rattle.vms_analyze.proofs.Facade.{width, MOST_UNUSED, LONGEST_NAME, in_range, kind_word, kind_named, word_named, tells_kind, natural, entry_tree, list_tree}
-use Rattle.vms_analyze.proofs.Facade.{LONGEST_PATH, Told, Sent, Kept, Fixed, Skipped, inr, told_entry, is_path, is_good, ToldSub, told_sub, ToldDevice}
-use Rattle.vms_analyze.proofs.Facade.{told_device, told_tree, fits_four, is_kept, is_good_sub, is_good_device, IsSorted, AreSorted, HoldSorted, only, path_at}
-use Rattle.vms_analyze.proofs.Facade.{sent_keys, kept_keys, unprinted, sent_as, sent_in, kept_as, kept_in, element_in, next, list_at, each, sub_keys, sub_in}
-use Rattle.vms_analyze.proofs.Facade.{device_keys, device_in, devices_in, items_of, read, value_in, is_width, Tells, ◌⊎◌, false}
+use Rattle.vms_analyze.proofs.Facade.{is_utf8, and_parts, eqb-true, and_from, bytes_eq-Decides, list_all, nat_cmp, match_ordering, slice_cmp, Data, number}
+use Rattle.vms_analyze.proofs.Facade.{string, object, no_members, member, array, Items, Members, of_integer, get, get_member, as_array, fits, Kind, width}
+use Rattle.vms_analyze.proofs.Facade.{MOST_UNUSED, LONGEST_NAME, in_range, kind_word, kind_named, word_named, tells_kind, natural, entry_tree, list_tree}
+use Rattle.vms_analyze.proofs.Facade.{LONGEST_PATH, Told, Fixed, Skipped, inr, told_entry, is_path, is_good, ToldSub, told_sub, ToldDevice, told_device}
+use Rattle.vms_analyze.proofs.Facade.{told_tree, fits_four, is_kept, is_good_sub, is_good_device, IsSorted, AreSorted, HoldSorted, only, path_at, sent_keys}
+use Rattle.vms_analyze.proofs.Facade.{kept_keys, unprinted, sent_as, sent_in, kept_as, kept_in, element_in, next, list_at, each, sub_keys, sub_in, device_keys}
+use Rattle.vms_analyze.proofs.Facade.{device_in, devices_in, items_of, read, value_in, is_width, Tells, ◌⊎◌, false}
 use Rattle.vms_analyze.proofs.MembersRead.{is_picked, after, first_then, only_is, only_so, text_is, path_is, natural_is, whole_is, whole_back, Says, under}
 use Rattle.vms_analyze.proofs.MembersRead.{IsPathAt, four_is, flag_is, list_is, each_says, each_back, read_sorted}
 use Rattle.vms_analyze.proofs.Shapes.{sub_parts, sub_from, device_parts, device_from}
@@ -43,7 +43,7 @@ record IsToldBy (path : List ℕ) (tree_read : Data) (t : Told) : Type 0 where
 
 told_by : (path : List ℕ) (d : Data) (b : Bool) (u t : Told) → only b u ≡ Some t → (b ≡ true → d ≡ element_tree u)
     → (is_path LONGEST_PATH path ≡ true → b ≡ true → is_good u ≡ true) → IsToldBy path d t
-told_by path d b u t e tree good = let o = only_is b u t e in rw (← o.same) (record { tree = tree o.so; good = λ h. good h o.so })
+told_by path d b u t e tree good = let o = only_is _ _ _ e in rw (← o.same) (record { tree = tree o.so; good = λ h. good h o.so })
 
 abbrev IsUnprinted : List ℕ → ℕ → List ℕ → Told → Type 0
 IsUnprinted path size word t = IsToldBy path (three (string path) (natural size) (string word)) t
@@ -64,9 +64,8 @@ unprinted_is path size word t e = elim (if_gives (bytes_eq word (codes "equal"))
 
 sent_is : (path : List ℕ) (size : ℕ) (word : List ℕ) (named : Option Kind) (t : Told) → kind_named word ≡ named → sent_as path size word named ≡ Some t
     → IsUnprinted path size word t
-sent_is path size word None t f e = unprinted_is path size word t e
-sent_is path size word (Some kind) t f e =
-    told_by path _ (size == width kind) (Sent path kind) t e (λ so. rw (eqb-true size (width kind) so, word_of word kind f)) (λ h so. h)
+sent_is path size word None t f e = unprinted_is _ _ _ _ e
+sent_is path size word (Some kind) t f e = told_by _ _ _ _ _ e (λ so. rw (eqb-true size (width kind) so, word_of word kind f)) (λ h so. h)
 
 sent_says : (d : Data) → IsSorted d → fits sent_keys [] d ≡ true → (t : Told) → sent_in d ≡ Some t → Says element_tree is_good d t
 sent_says d sorted h t e =
@@ -88,9 +87,8 @@ kept_is : (path : List ℕ) (size : ℕ) (word : List ℕ) (value : ℤ) (named 
     → kept_as path size value named ≡ Some t → IsKept path size word value t
 kept_is path size word value None t f e = cc
 kept_is path size word value (Some kind) t f e =
-    told_by path _ (size == 0 && in_range kind value) (Kept path kind value) t e
-    (λ so. rw (eqb-true size 0 (and_parts (size == 0) (in_range kind value) so).0, word_of word kind f))
-    (λ h so. and_from (is_path LONGEST_PATH path) (in_range kind value) h (and_parts (size == 0) (in_range kind value) so).1)
+    told_by _ _ _ _ _ e (λ so. rw (eqb-true size 0 (and_parts (size == 0) (in_range kind value) so).0, word_of word kind f))
+    (λ h so. and_from _ _ h (and_parts (size == 0) (in_range kind value) so).1)
 
 kept_says : (d : Data) → IsSorted d → fits kept_keys [] d ≡ true → (t : Told) → kept_in d ≡ Some t → Says element_tree is_good d t
 kept_says d sorted h t e =
@@ -114,21 +112,7 @@ element_says d sorted t e = elim (if_gives (fits sent_keys [] d) _ _ t e) [
 
 -- back
 pub element_back : (t : Told) → is_good t ≡ true → element_in (element_tree t) ≡ Some t
-element_back (Sent path kind) e =
-    first_then _ (only_so (is_path LONGEST_PATH path) path e)
-    (rw (word_named kind) (only_so (width kind == width kind) (Sent path kind) (eq-eqb (width kind) (width kind) refl)))
-element_back (Kept path kind value) e =
-    let p = and_parts (is_path LONGEST_PATH path) (in_range kind value) e in
-    first_then _ (only_so (is_path LONGEST_PATH path) path p.0)
-    (first_then _ (whole_back value)
-    (rw (word_named kind) (only_so (in_range kind value) (Kept path kind value) p.1)))
-element_back (Fixed path n) e =
-    let p = and_parts (is_path LONGEST_PATH path) (is_width n) e in
-    first_then _ (only_so (is_path LONGEST_PATH path) path p.0) (only_so (is_width n) (Fixed path n) p.1)
-element_back (Skipped path n) e =
-    let few = nat_le 1 n && nat_le n MOST_UNUSED in
-    let p = and_parts (is_path LONGEST_PATH path) few e in
-    first_then _ (only_so (is_path LONGEST_PATH path) path p.0) (only_so few (Skipped path n) p.1)
+element_back t e = grind (arith, first_then, only_so, word_named, whole_back)
 
 -- ---- What is read of a description's devices is exactly what it says.
 
@@ -162,11 +146,11 @@ module _ {A : Type 0} (tree : A → Data) (good : A → Bool) (says : Data → O
       → next (list_at key d) (each says) ≡ Some list → ListAt tree good key d list
   list_says one key d sorted list e =
       let a = after {P = λ (ds : Items). list_at key d ≡ Some ds} _ (λ ds at. at) (each says) list e in
-      let s = each_says tree good says one a.value (list_sorted key d a.value sorted a.is) list a.then in
+      let s = each_says tree good says one _ (list_sorted _ _ _ sorted a.is) _ a.then in
       record { is = rw (list_is (get key d) a.value a.is, s.trees_are); fine = s.good_are }
 
 entries_back : (ts : List Told) → list_all is_good ts ≡ true → each element_in (items_of (map entry_tree (map told_entry ts))) ≡ Some ts
-entries_back ts h = rw (map-map entry_tree told_entry ts) (each_back element_tree is_good element_in element_back ts h)
+entries_back ts h = rw (map-map entry_tree told_entry ts) (each_back element_tree is_good element_in element_back _ h)
 
 entries_are : (d : Data) (ts : List Told) → under (codes "fields") d ≡ list_tree element_tree ts
     → under (codes "fields") d ≡ list_tree entry_tree (map told_entry ts)
@@ -181,10 +165,7 @@ a_sub name sent version elements = record { name = name; sent = sent; version = 
 by_keys : {A : Type 0} (tree : A → Data) (good : A → Bool) (keys : List (List ℕ)) (rest : List ℕ → Option A) (d : Data) (a : A)
     → (if fits keys [] d then next (path_at LONGEST_NAME (codes "name") d) rest else None) ≡ Some a
     → (fits keys [] d ≡ true → (name : List ℕ) → IsPathAt LONGEST_NAME (codes "name") d name → rest name ≡ Some a → Says tree good d a) → Says tree good d a
-by_keys tree good keys rest d a e says =
-    let k = when_gives (fits keys [] d) _ a e in
-    let n = after _ (path_is LONGEST_NAME (codes "name") d) rest a k.1 in
-    says k.0 n.value n.is n.then
+by_keys tree good keys rest d a e says = grind (arith, when_gives, path_is)
 
 pub sub_says : (d : Data) → IsSorted d → (s : ToldSub) → sub_in d ≡ Some s → Says told_sub is_good_sub d s
 sub_says d sorted s e = by_keys told_sub is_good_sub sub_keys _ d s e (λ h name named rest.

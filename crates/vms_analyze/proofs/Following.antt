@@ -1,9 +1,9 @@
 -- What is required, one after the other, is taken if it is at the front.
 use Rattle.vms_analyze.proofs.Facade.{◌≡◌, ℕ, ◌+◌, ◌<◌, ◌^◌, Bool, true, ◌&&◌, nat_le, List, [], ◌∷◌, ◌++◌, length}
 use Rattle.vms_analyze.proofs.Facade.{length-append, append_assoc, Some, ℤ, refl, sym, ap, ◌∙◌, arith, codes, decimal, le-leb, and_from, Kind, width}
-use Rattle.vms_analyze.proofs.Facade.{code, InRange, number_at, in_range, be32, section_head, foot, length-code, value_code, be32_read, front_take, front_drop}
-use Rattle.vms_analyze.proofs.Facade.{ranged, begins_itself, Want, Bytes, Any, Number, Head, Foot, Line, number_line, Took, took, only_if, take_number, taken}
-use Rattle.vms_analyze.proofs.Facade.{Found, Lines, Differs, behind, found_after, found}
+use Rattle.vms_analyze.proofs.Facade.{code, InRange, in_range, section_head, length-code, value_code, be32_read, front_take, front_drop, ranged, begins_itself}
+use Rattle.vms_analyze.proofs.Facade.{Want, Bytes, Any, Number, Head, Line, number_line, Took, took, only_if, take_number, taken, Found, Lines, Differs, behind}
+use Rattle.vms_analyze.proofs.Facade.{found_after, found}
 
 -- ---- one
 
@@ -16,9 +16,6 @@ if_so b t e = grind arith
 
 pub takes_bytes : (bytes : List ℕ) (id : ℕ) → Takes (Bytes bytes) id bytes id []
 takes_bytes bytes id = record { is = λ more. if_so _ (took (length bytes) id []) (begins_itself bytes more) }
-
-pub takes_foot : (id : ℕ) → Takes Foot id (foot id) id []
-takes_foot id = record { is = λ more. if_so _ (took (length (foot id)) id []) (begins_itself (foot id) more) }
 
 pub takes_line : (line : List ℕ) (id : ℕ) → Takes (Line line) id [] id (line ∷ [])
 takes_line line id = record { is = λ more. refl }
@@ -43,18 +40,7 @@ takes_number path kind z id fits = record { is = λ more. whole more }
 pub takes_head : (name : List ℕ) (instance version old id : ℕ) → id < 2 ^ 32
     → Takes (Head name instance version) old (section_head id name instance version) id
     ((codes "section " ++ (name ++ (codes " " ++ (decimal instance ++ (codes " v" ++ decimal version))))) ∷ [])
-takes_head name instance version old id small = record { is = λ more. whole more }
-  where
-    line : List ℕ
-    line = codes "section " ++ (name ++ (codes " " ++ (decimal instance ++ (codes " v" ++ decimal version))))
-
-    whole : (more : List ℕ) → taken (Head name instance version) old (section_head id name instance version ++ more) ≡ Some
-        (took (length (section_head id name instance version)) id (line ∷ []))
-    whole more =
-        let tail = (length name ∷ name) ++ be32 instance ++ be32 version in
-        let its : number_at 4 1 (section_head id name instance version ++ more) ≡ id =
-        ap (λ l. Rattle.byteorder.specs.Endian.big_number 4 l) (append_assoc (be32 id) tail more) ∙ be32_read id (tail ++ more) small in
-        rw its (if_so _ (took (length (section_head id name instance version)) id (line ∷ [])) (begins_itself (section_head id name instance version) more))
+takes_head name instance version old id small = search (arith, be32_read, if_so, begins_itself)
 
 -- ---- one after the other
 
@@ -71,17 +57,12 @@ pub record Follows (ws : List Want) (id : ℕ) (bytes : List ℕ) (next : ℕ) (
       → found (ws ++ more) id place (bytes ++ rest) ≡ behind lines (found more next (place + length bytes) rest)
 
 pub none_follows : (id : ℕ) → Follows [] id [] id []
-none_follows id = record {
-  goes = λ more place rest.
-      let same : place ≡ place + 0 = omega arith in
-      ap (λ k. found more id k rest) same ∙ sym (behind_none (found more id (place + 0) rest));
-}
+none_follows id = search (arith, behind_none)
 
 pub one_follows : {w : Want} {id : ℕ} {bytes : List ℕ} {next : ℕ} {lines : List (List ℕ)} → Takes w id bytes next lines → Follows (w ∷ []) id bytes next lines
 one_follows {id = id} {bytes = bytes} {next = next} {lines = lines} t = record {
-  goes = λ more place rest.
-      ap (found_after (found more) place (bytes ++ rest)) (t.is rest)
-      ∙ ap (λ (l : List ℕ). behind lines (found more next (place + length bytes) l)) (front_drop (length bytes) bytes rest (bytes ++ rest) refl refl);
+  goes = λ more place rest. ap (found_after (found more) place (bytes ++ rest)) (t.is rest)
+      ∙ ap (λ (l : List ℕ). behind lines (found more next (place + length bytes) l)) (front_drop _ bytes _ _ refl refl);
 }
 
 pub both_follow : {ws vs : List Want} {id next last : ℕ} {bytes more : List ℕ} {lines others : List (List ℕ)}

@@ -1,9 +1,9 @@
 -- Names of a well-formed set and paths are of the bytes that a description may have.
 use Rattle.vms_analyze.proofs.Facade.{decimal_all, ◌≡◌, ℕ, ◌+◌, ◌<◌, ◌≤◌, Bool, true, ◌&&◌, nat_le, List, [], ◌∷◌, ◌++◌}
 use Rattle.vms_analyze.proofs.Facade.{elements_each, what_of, length, length-append, refl, ap, ◌∙◌, arith, get_or, ℤ, list_all, AllByRecursion}
-use Rattle.vms_analyze.proofs.Facade.{and_parts, leb-true, le-leb, and_from, list_all-append, Count, is_name_byte, is_name, is_sub_name, index_text, What}
-use Rattle.vms_analyze.proofs.Facade.{Constant, Filler, Rule, is_path_byte, is_path, sub_name_is, Item, MOST_UNUSED, in_range, defaults_well, is_small_item}
-use Rattle.vms_analyze.proofs.Facade.{Field, Desc, Set, no_desc, elements_in}
+use Rattle.vms_analyze.proofs.Facade.{and_parts, le-leb, and_from, list_all-append, Count, is_name_byte, is_name, is_sub_name, index_text, What, Constant}
+use Rattle.vms_analyze.proofs.Facade.{Filler, Rule, is_path_byte, is_path, sub_name_is, Item, MOST_UNUSED, in_range, defaults_well, is_small_item, Field, Desc}
+use Rattle.vms_analyze.proofs.Facade.{Set, no_desc, elements_in}
 use Rattle.std.specs.Fmt.{decimal}
 use Rattle.vms_elements.specs.Elements.{Number, Element, behind}
 
@@ -16,13 +16,13 @@ pub record IsNamed (most : ℕ) (text : List ℕ) : Type 0 where
   pub bytes : list_all is_path_byte text ≡ true
 
 pub named_path : (most : ℕ) (text : List ℕ) → IsNamed most text → is_path most text ≡ true
-named_path most text h = rw (le-leb 1 (length text) h.some, (le-leb (length text) most h.few), h.bytes) refl
+named_path most text h = rw (le-leb 1 (length text) h.some, (le-leb (length text) most h.few), h.bytes)
 
 pub named_within : (a b : ℕ) (text : List ℕ) → a ≤ b → IsNamed a text → IsNamed b text
 named_within a b text le h = let few = h.few in record { some = h.some; few = omega arith; bytes = h.bytes }
 
 pub every_both : (xs ys : List ℕ) → list_all is_path_byte xs ≡ true → list_all is_path_byte ys ≡ true → list_all is_path_byte (xs ++ ys) ≡ true
-every_both xs ys e f = list_all-append is_path_byte xs ys ∙ and_from (list_all is_path_byte xs) (list_all is_path_byte ys) e f
+every_both xs ys e f = list_all-append is_path_byte xs ys ∙ and_from _ _ e f
 
 -- ---- names
 
@@ -30,13 +30,10 @@ name_bytes : (xs : List ℕ) → list_all is_name_byte xs ≡ true → list_all 
 name_bytes [] e = refl
 name_bytes (x ∷ xs) e =
     let p = and_parts (is_name_byte x) (list_all is_name_byte xs) e in
-    rw (p.0) (name_bytes xs p.1)
+    rw p.0 (name_bytes xs p.1)
 
 pub name_named : (most : ℕ) (name : List ℕ) → is_name most name ≡ true → IsNamed most name
-name_named most name e =
-    let p = and_parts (nat_le 1 (length name) && nat_le (length name) most) (list_all is_name_byte name) e in
-    let q = and_parts (nat_le 1 (length name)) (nat_le (length name) most) p.0 in
-    record { some = leb-true 1 (length name) q.0; few = leb-true (length name) most q.1; bytes = name_bytes name p.1 }
+name_named most name e = search (arith, name_bytes)
 
 pub sub_named : (device name : List ℕ) → IsNamed 100 device → is_sub_name device name ≡ true → IsNamed 165 name
 sub_named device name d e =
@@ -56,10 +53,10 @@ sub_named device name d e =
 
 path_bytes : (text : List ℕ) → AllByRecursion (λ b. is_path_byte b ≡ true) text → list_all is_path_byte text ≡ true
 path_bytes [] h = refl
-path_bytes (b ∷ text) h = rw (h.0) (path_bytes text h.1)
+path_bytes (b ∷ text) h = rw h.0 (path_bytes text h.1)
 
 digit_byte : (d : ℕ) → d < 10 → is_path_byte (48 + d) ≡ true
-digit_byte d lt = rw (le-leb 48 (48 + d) (omega arith), le-leb (48 + d) 57 (omega arith)) refl
+digit_byte d lt = rw (le-leb 48 (48 + d) (omega arith), le-leb (48 + d) 57 (omega arith))
 
 decimal_bytes : (n : ℕ) → list_all is_path_byte (decimal n) ≡ true
 decimal_bytes n = path_bytes (decimal n) (decimal_all _ digit_byte n)
@@ -119,6 +116,6 @@ what_good i caps z default small = grind arith
 pub elements_good : (set : Set) → ((j : ℕ) → AreGoodFields (get_or set.structs j no_desc).fields) → (d : Desc) → AreGoodFields d.fields
     → (v : ℕ) (n : List ℤ) (at : ℕ) → AllByRecursion IsGoodElement (elements_in set d v n at)
 elements_good set h d fields v n at =
-    elements_each IsGoodField IsPart IsGoodElement (λ f good caps at. record { bytes = refl; what = what_good f.item caps f.default good.default good.small })
-    (λ x h. record { bytes = h.bytes; what = h.what }) (λ f good number e c p x h. behind_good f good.name e (number, e) c p x h)
+    elements_each IsGoodField IsPart IsGoodElement (λ f good caps at. record { bytes = refl; what = what_good _ _ _ good.default good.small })
+    (λ x h. record { bytes = h.bytes; what = h.what }) (λ f good number e c p x h. behind_good f good.name _ _ _ _ _ h)
     (λ at b. record { part = record { bytes = refl; what = tt }; path = tt }) (λ x h. h.part) set h d v fields n at

@@ -39,9 +39,9 @@ put_both k d (member m e ms) x h = go (slice_cmp nat_cmp k m) refl (put_both k d
   where
     go : (o : Ordering) → slice_cmp nat_cmp k m ≡ o → AreBoth (put k d ms)
         → AreBoth (match_ordering o (member k d (member m e ms)) (member m d ms) (member m e (put k d ms)))
-    go Less is more = (((is, before_more k m (keys_of ms) is h.0.0), h.0), (x, h.1))
+    go Less is more = (((is, before_more _ _ _ is h.0.0), h.0), (x, h.1))
     go Equal is more = (h.0, (x, h.1.1))
-    go Greater is more = ((put_before m k d ms (less_turned k m is) h.0.0, more.0), (h.1.0, more.1))
+    go Greater is more = ((put_before _ _ _ _ (less_turned k m is) h.0.0, more.0), (h.1.0, more.1))
 
 -- ---- exactly these keys
 
@@ -52,7 +52,7 @@ none_of l (k ∷ keys) h = rw (sym (is_eq-slice_cmp k l) ∙ ap is_eq (greater_t
 
 none_under : (k : List ℕ) (ms : Members) → IsBefore k (keys_of ms) → get_member k ms ≡ None
 none_under k no_members h = refl
-none_under k (member l e ms) h = rw (h.0) (none_under k ms h.1)
+none_under k (member l e ms) h = rw h.0 (none_under k ms h.1)
 
 -- without the first key, if no other is it
 others_left : (k : List ℕ) (keys : List (List ℕ)) (ms : Members) → IsBefore k (keys_of ms) → has_no_others (k ∷ keys) ms ≡ true → has_no_others keys ms ≡ true
@@ -121,8 +121,7 @@ all_picked (member l d ms) h = rw (is_itself l, picked_behind (keys_of ms) l d m
 pub is_picked : (keys : List (List ℕ)) → AreOrdered keys → (d : Data) → IsSorted d → fits keys [] d ≡ true → d ≡ object (picked keys d)
 is_picked keys h (object ms) sorted e =
     let p = and_parts (has_no_others (keys ++ []) ms) (has_all keys (object ms)) e in
-    let same = just_keys keys ms h sorted.0 (rw append-nil at p.0) p.1 in
-    ap object (all_picked ms sorted.0 ∙ rw same)
+    ap object (all_picked ms sorted.0 ∙ rw (just_keys _ _ h sorted.0 (rw append-nil at p.0) p.1))
 is_picked keys h _ sorted e = cc
 
 -- ---- A value that was read has the keys of each object in order.
@@ -139,9 +138,9 @@ any o = grind arith
 
 mutual
   sorted_json : (j : json.Json) → IfSome (of_json j) IsSorted
-  sorted_json (json.number s) = by_map (λ _. Unit {0}) IsSorted number (λ n x. tt) (number_of s) (any (number_of s))
-  sorted_json (json.array js) = by_map AreSorted IsSorted array (λ ds x. x) (of_items js) (sorted_items js)
-  sorted_json (json.object ms) = by_map AreBoth IsSorted object (λ ds x. x) (of_members ms no_members) (sorted_members ms no_members (tt, tt))
+  sorted_json (json.number s) = by_map (λ _. Unit {0}) IsSorted number (λ n x. tt) _ (any (number_of s))
+  sorted_json (json.array js) = by_map AreSorted IsSorted array (λ ds x. x) _ (sorted_items js)
+  sorted_json (json.object ms) = by_map AreBoth IsSorted object (λ ds x. x) _ (sorted_members ms no_members (tt, tt))
   sorted_json _ = tt
 
   sorted_items : (js : json.Items) → IfSome (of_items js) AreSorted
@@ -201,10 +200,7 @@ pub record IsPathAt (most : ℕ) (key : List ℕ) (d : Data) (t : List ℕ) : Ty
   pub good : is_path most t ≡ true
 
 pub path_is : (most : ℕ) (key : List ℕ) (d : Data) (t : List ℕ) → path_at most key d ≡ Some t → IsPathAt most key d t
-path_is most key d t e =
-    let a = after _ (text_is (get key d)) (λ text. only (is_path most text) text) t e in
-    let o = only_is (is_path most a.value) a.value t a.then in
-    rw (← o.same) (record { is = a.is; good = o.so })
+path_is most key d t e = search (arith, text_is, only_is)
 
 pub flag_is : (o : Option Data) (b : Bool) → next o as_bool ≡ Some b → unwrap_or o null ≡ boolean b
 flag_is (Some (boolean b)) t e = cc
@@ -222,27 +218,20 @@ unsigned_is : (n : Num) (k : ℕ) → as_u64 n ≡ Some k → n ≡ unsigned k
 unsigned_is n k e = grind arith
 
 pub natural_is : (key : List ℕ) (d : Data) (k : ℕ) → natural_at key d ≡ Some k → under key d ≡ natural k
-natural_is key d k e =
-    let a = after _ (number_in (get key d)) as_u64 k e in
-    rw (a.is, unsigned_is a.value k a.then)
+natural_is key d k e = grind (arith, unsigned_is)
 
 pub record IsFourAt (key : List ℕ) (d : Data) (k : ℕ) : Type 0 where
   pub is : under key d ≡ natural k
   pub good : fits_four k ≡ true
 
 pub four_is : (key : List ℕ) (d : Data) (k : ℕ) → four_at key d ≡ Some k → IsFourAt key d k
-four_is key d k e =
-    let a = after _ (natural_is key d) (λ n. only (fits_four n) n) k e in
-    let o = only_is (fits_four a.value) a.value k a.then in
-    rw (← o.same) (record { is = a.is; good = o.so })
+four_is key d k e = search (arith, natural_is, only_is)
 
 whole_is_of : (n : Num) (z : ℤ) → whole_of n ≡ Some z → n ≡ of_integer z
 whole_is_of n z e = grind arith
 
 pub whole_is : (key : List ℕ) (d : Data) (z : ℤ) → whole_at key d ≡ Some z → under key d ≡ number (of_integer z)
-whole_is key d z e =
-    let a = after _ (number_in (get key d)) whole_of z e in
-    rw (a.is, whole_is_of a.value z a.then)
+whole_is key d z e = grind (arith, whole_is_of)
 
 pub whole_back : (z : ℤ) → whole_of (of_integer z) ≡ Some z
 whole_back z = grind arith
@@ -268,11 +257,11 @@ module _ {A : Type 0} (tree : A → Data) (good : A → Bool) (says : Data → O
   each_says one no_items sorted [] e = record { trees_are = refl; good_are = refl }
   each_says one no_items sorted (b ∷ list) e = cc
   each_says one (item d ds) sorted list e =
-      let a = after _ (one d sorted.0) (λ a. next (each says ds) (λ rest. Some (a ∷ rest))) list e in
-      let b = after _ (each_says one ds sorted.1) (λ rest. Some (a.value ∷ rest)) list a.then in
-      says_more a.value b.value (same_Some _ _ b.then) a.is b.is
+      let a = after _ (one d sorted.0) (λ a. next (each says ds) (λ rest. Some (a ∷ rest))) _ e in
+      let b = after _ (each_says one ds sorted.1) (λ rest. Some (a.value ∷ rest)) _ a.then in
+      says_more _ _ (same_Some _ _ b.then) a.is b.is
 
   pub each_back : ((a : A) → good a ≡ true → says (tree a) ≡ Some a) → (list : List A) → list_all good list ≡ true
       → each says (items_of (map tree list)) ≡ Some list
   each_back one list e =
-      each_good good (λ l. each says (items_of (map tree l)) ≡ Some l) refl (λ a l p q. first_then _ (one a p) (first_then _ q refl)) list e
+      each_good good (λ l. each says (items_of (map tree l)) ≡ Some l) refl (λ a l p q. first_then _ (one a p) (first_then _ q refl)) _ e

@@ -35,7 +35,7 @@ none_at input end q none not_below place = ⊎_elim (λ (lt : q < end). not_belo
 module _ (input : List ℕ) (end at : ℕ) (le : end ≤ length input) (none : NoneFrom input end)
     (h : NoneAfter (Passes (is_byte 6) (take end input)) 0 (length (take end input)) at) where
   pub none_after : NoneFrom input (at + 1)
-  none_after q low place = none_at input end q none (λ lt. h.after q low (omega (arith, long input end le)) (marked input end q lt place)) place
+  none_after q low place = none_at _ _ _ none (λ lt. h.after q low (omega (arith, long input end le)) (marked _ _ _ lt place)) place
 
   -- the place that was found
   pub last_found : IsPlace input at → IsLastPlace input at
@@ -43,14 +43,12 @@ module _ (input : List ℕ) (end at : ℕ) (le : end ≤ length input) (none : N
 
   -- or wasn't one
   pub found_none : (IsPlace input at → ⊥) → NoneFrom input at
-  found_none other q low place =
-      ⊎_elim (λ (lt : at < q). none_after q (omega arith) place)
-      (λ (ge : q ≤ at). let same : q ≡ at = omega arith in other (rw same at place)) (cases_lt at q)
+  found_none other q low place = grind (arith, none_after)
 
 pub none_before : (input : List ℕ) (end : ℕ) → end ≤ length input → NoneFrom input end
     → Nowhere (Passes (is_byte 6) (take end input)) 0 (length (take end input)) → (q : ℕ) → IsPlace input q → ⊥
 none_before input end le none h q place =
-    none_at input end q none (λ lt. h q (omega arith) (omega (arith, long input end le)) (marked input end q lt place)) place
+    none_at _ _ _ none (λ lt. h q (omega arith) (omega (arith, long input end le)) (marked _ _ _ lt place)) place
 
 -- ---- An input that is taken piece by piece.
 
@@ -75,7 +73,7 @@ piece_few {was = was} a le = rw a.items (omega (arith, length-append was a.bytes
 pub piece_fails : (old mid new : Intake) (was now : List ℕ) (room : ℕ) (why : NoInput) → Takes old mid was → TakesPiece mid new was now room (Err why)
     → length was + room ≤ longest_input + 1 → TakesInput old new (Err why)
 piece_fails old mid new was now room none.TooLong p h le = absurd h
-piece_fails old mid new was now room none.ReadFault p h le = breaks_more (longest_input + 1) le p h
+piece_fails old mid new was now room none.ReadFault p h le = breaks_more _ le p h
 piece_fails old mid new was now room none.NoMemory p h le =
     record { bytes = was ++ h.bytes; takes = takes_both p h.takes; few = omega (arith, length-append was h.bytes) }
 
@@ -143,7 +141,7 @@ has_more ws old new stream s g other = go (left new) refl
 
 pub why_none : (ws : List Want) (old new : Walk) (stream : List ℕ) (stop : Stop) → AtStart old stream → WhyStopped ws old new stop
     → WhyNone (listing_of (found ws 0 0 stream)) new stop
-why_none ws old new stream whys.Differs s h = ap listing_of (sym (at_start ws old stream s) ∙ h.differs [])
+why_none ws old new stream whys.Differs s h = ap listing_of (sym (at_start ws old _ s) ∙ h.differs [])
 why_none ws old new stream whys.NoMemory s h = tt
 
 -- the text after a place
@@ -168,7 +166,7 @@ before_none said = grind arith
 
 pub goes_on : {A T : Type 0} (m : T → A) (says : Data → Option A) (now rest : Items) (d : Data) (whole : Option (List A)) (done : List T) (t : T)
     → whole ≡ before (map m done) (each says now) → now ≡ item d rest → says d ≡ Some (m t) → whole ≡ before (map m (done ++ t ∷ [])) (each says rest)
-goes_on m says now rest d whole done t e is said = rw (e, is, said, before_one (map m done) (m t) (each says rest), map-append m done (t ∷ [])) refl
+goes_on m says now rest d whole done t e is said = rw (e, is, said, before_one (map m done) (m t) (each says rest), map-append m done (t ∷ []))
 
 pub stops : {A T U : Type 0} (m : T → A) (n : U → List A) (says : Data → Option A) (now rest : Items) (d : Data) (whole : Option (List A)) (done : List A)
     → (why : Unread) → whole ≡ before done (each says now) → now ≡ item d rest → ReadsAs m (says d) (Err why) → ReadsAs n whole (Err why)
@@ -176,7 +174,7 @@ stops m n says now rest d whole done why e is said = grind arith
 
 pub ends : {A : Type 0} (says : Data → Option A) (now : Items) (whole : Option (List A)) (done : List A)
     → whole ≡ before done (each says now) → now ≡ no_items → whole ≡ Some done
-ends says now whole done e none = rw (e, none, append-nil done) refl
+ends says now whole done e none = rw (e, none, append-nil done)
 
 -- ---- an input has at most one listing
 
@@ -201,9 +199,9 @@ one_holds input _ _ (IsRead p ds le last tells) (IsTooLong lt) = absurd (omega a
 one_holds input _ _ (IsRead p ds le last tells) (HasNone le' none) = absurd (none p last.is)
 one_holds input _ _ (IsRead p ds le last tells) (HasNoShape q le' last' other) = absurd (other ds (rw (last_same input p q last last') at tells))
 one_holds input _ _ (IsRead p ds le last tells) (IsRead q es le' last' tells') =
-    let at = last_same input p q last last' in
+    let at = last_same _ _ _ last last' in
     -- what is read of a description is what it says, so it says one thing
-    let same = same_Some ds es (sym (told_back input q ds (rw at at tells)) ∙ told_back input q es tells') in
+    let same = same_Some ds es (sym (told_back _ _ _ (rw at at tells)) ∙ told_back _ _ _ tells') in
     ap₂ (λ (k : ℕ) (l : List ToldDevice). listing_of (found (wants l) 0 0 (take k input))) at same
 one_holds input _ _ _ _ = refl
 

@@ -2,19 +2,19 @@
 use Rattle.vms_analyze.proofs.Facade.{nat_tests, ◌≡◌, ℕ, suc, ◌<◌, ◌≤◌, List, [], ◌∷◌, length, get_or, arith, true, ◌&&◌, ◌||◌}
 use Rattle.vms_analyze.proofs.Facade.{list_all, AllByRecursion, Bool, and_parts, and_from, LONGEST_NAME, ToldSub, ToldDevice, is_path, fits_four, is_good}
 use Rattle.vms_analyze.proofs.Facade.{is_kept, is_width, is_good_sub, is_good_device, ◌+◌, false, is_some, map, Option, ℤ, refl, ap, ◌∙◌, codes}
-use Rattle.vms_analyze.proofs.Facade.{◌*◌, nat_le, length-append, zero, is_none, ⊎_elim, map-append, length-map, lt-ltb, cases_lt, get_or-eq_default}
+use Rattle.vms_analyze.proofs.Facade.{◌*◌, nat_le, length-append, zero, is_none, ⊎_elim, length-map, lt-ltb, cases_lt, get_or-eq_default}
 use Rattle.vms_analyze.proofs.Facade.{slice_get-get_or, list_all-append, no_members, Members, member, number, string, Desc, Sub, Device, Set, AtLeast}
-use Rattle.vms_analyze.proofs.Facade.{desc_cells, struct_cells, no_desc, no_field, counted, Image, own_cells, What, Constant, Filler, shapes, elements_in}
-use Rattle.vms_analyze.proofs.Facade.{entry_of, entries_of, part_entries, sub_trees, device_trees, described_tree, natural, entry_tree, told_entry, told_sub}
-use Rattle.vms_analyze.proofs.Facade.{told_device, told_tree, Told, Sent, Kept, Fixed, Skipped, is_path_byte, told_what, tolds, told_part, told_subs}
-use Rattle.vms_analyze.proofs.Facade.{told_devices, told, told_sub_of, told_device_of, escape, escape_byte, compact_text, members_text, Kind, width, kind_word}
-use Rattle.vms_analyze.proofs.Facade.{of_integer, Part, MOST_UNUSED, is_name, in_range, defaults_well, counts_well, is_small_item, is_small_optional}
-use Rattle.vms_analyze.proofs.Facade.{WellFormed, struct_items, struct_depths, items_in, deepest, subs_items, devices_items, HasPart, desc_at, sub_at}
-use Rattle.vms_analyze.proofs.Facade.{field_sound, few_subs, device_clean, sub_clean, member_long, AreLong, longer, entries_few, entries_long, fit, part_sound}
-use Rattle.vms_analyze.proofs.Facade.{fields_flat, LONGEST_PATH, FitsHeads, device_at, is_well_formed, few_items, all_both}
+use Rattle.vms_analyze.proofs.Facade.{desc_cells, struct_cells, no_desc, no_field, counted, Image, own_cells, What, shapes, elements_in, entry_of, entries_of}
+use Rattle.vms_analyze.proofs.Facade.{part_entries, sub_trees, device_trees, described_tree, natural, entry_tree, told_entry, told_sub, told_device, told_tree}
+use Rattle.vms_analyze.proofs.Facade.{Told, Sent, Kept, Fixed, Skipped, is_path_byte, told_what, tolds, told_part, told_subs, told_devices, told, told_sub_of}
+use Rattle.vms_analyze.proofs.Facade.{escape, escape_byte, compact_text, members_text, Kind, width, kind_word, of_integer, Part, MOST_UNUSED, is_name, in_range}
+use Rattle.vms_analyze.proofs.Facade.{defaults_well, counts_well, is_small_item, is_small_optional, WellFormed, struct_items, struct_depths, items_in, deepest}
+use Rattle.vms_analyze.proofs.Facade.{subs_items, devices_items, HasPart, desc_at, sub_at, field_sound, few_subs, device_clean, sub_clean, member_long, AreLong}
+use Rattle.vms_analyze.proofs.Facade.{longer, entries_few, entries_long, fit, part_sound, fields_flat, LONGEST_PATH, FitsHeads, device_at, is_well_formed}
+use Rattle.vms_analyze.proofs.Facade.{few_items, all_both}
 use Rattle.vms_analyze.proofs.Letters.{AreGoodFields, elements_good, named_path, IsNamed, named_within, name_named, sub_named, IsGoodWhat, HasPath}
 use Rattle.vms_analyze.proofs.Letters.{IsGoodElement, IsGoodField}
-use Rattle.vms_elements.specs.Elements.{Number, Element}
+use Rattle.vms_elements.specs.Elements.{Element}
 use Rattle.vms_kinds.specs.declared.Kind.TheVariants as kinds
 use Rattle.vms_spec.specs.declared.Part.TheVariants as parts
 
@@ -67,9 +67,7 @@ one_entry w counted present path = grind arith
 
 all_entries : (sent : Bool) (xs : List Element) → map told_entry (tolds sent xs) ≡ entries_of sent [] xs
 all_entries sent [] = refl
-all_entries sent (x ∷ xs) =
-    let here = told_what x.what x.counted (sent && x.present) x.name in
-    rw (map-append told_entry here (tolds sent xs), one_entry x.what x.counted (sent && x.present) x.name, all_entries sent xs)
+all_entries sent (x ∷ xs) = grind (arith, one_entry, all_entries sent xs)
 
 -- ---- parts
 
@@ -146,35 +144,22 @@ width_fits kind = grind arith
 
 what_fine : (w : What) (counted present : Bool) (path : List ℕ) → list_all is_path_byte path ≡ true → IsGoodWhat w → HasPath w path
     → AreFine (told_what w counted present path)
-what_fine (Number cell) true true path bytes good some = (record { some = some; bytes = bytes; shape = tt }, tt)
-what_fine (Number cell) true false path bytes good some = (record { some = some; bytes = bytes; shape = good }, tt)
-what_fine (Constant kind z) counted true path bytes good some = (record { some = some; bytes = bytes; shape = width_fits kind }, tt)
-what_fine (Filler n) counted true path bytes good some = (record { some = some; bytes = bytes; shape = good }, tt)
-what_fine _ _ _ path bytes good some = tt
+what_fine w counted present path bytes good some = search (arith, width_fits)
 
 all_fine : (sent : Bool) (xs : List Element) → AllByRecursion IsGoodElement xs → AreFine (tolds sent xs)
 all_fine sent [] h = tt
-all_fine sent (x ∷ xs) h =
-    all_both _ (told_what x.what x.counted (sent && x.present) x.name) (tolds sent xs)
-    (what_fine x.what x.counted (sent && x.present) x.name h.0.part.bytes h.0.part.what h.0.path) (all_fine sent xs h.1)
-
-one_good : (t : Told) → is_path LONGEST_PATH (path_of t) ≡ true → IsOfShape t → is_good t ≡ true
-one_good t path shape = grind arith
+all_fine sent (x ∷ xs) h = grind (arith, all_both, what_fine, all_fine sent xs h.1)
 
 each_told : (ts : List Told) → AreFine ts → AreLong 299 (map told_entry ts) → list_all is_good ts ≡ true
 each_told [] fine long = refl
 each_told (t ∷ ts) fine long =
     let path = named_path LONGEST_PATH (path_of t) (record { some = fine.0.some; few = path_short t long.0; bytes = fine.0.bytes }) in
-    and_from (is_good t) (list_all is_good ts) (one_good t path fine.0.shape) (each_told ts fine.1 long.1)
-
--- of a part that isn't sent no element is in the stream
-what_kept : (w : What) (counted : Bool) (path : List ℕ) → list_all is_kept (told_what w counted false path) ≡ true
-what_kept w counted path = grind arith
+    and_from _ _ (grind arith) (each_told ts fine.1 long.1)
 
 pub all_kept : (xs : List Element) → list_all is_kept (tolds false xs) ≡ true
 all_kept [] = refl
 all_kept (x ∷ xs) =
-    list_all-append is_kept (told_what x.what x.counted false x.name) (tolds false xs) ∙ and_from _ _ (what_kept x.what x.counted x.name) (all_kept xs)
+    list_all-append is_kept (told_what x.what x.counted false x.name) (tolds false xs) ∙ and_from _ _ (grind arith) (all_kept xs)
 
 -- ---- a part of a well-formed set
 
@@ -183,13 +168,13 @@ module _ (set : Set) (well : WellFormed set) where
   formed = ap is_none well
 
   part_fields : (part : Part) → HasPart set part → AreGoodFields (desc_at set part).fields
-  part_fields part has = all_at _ no_field (desc_at set part).fields (λ i lt. one i lt)
+  part_fields part has = all_at _ _ _ (λ i lt. one i lt)
     where
       one : (i : ℕ) → i < length (desc_at set part).fields → IsGoodField (get_or (desc_at set part).fields i no_field)
       one i lt =
           let d = desc_at set part in
           let f = get_or d.fields i no_field in
-          let rules = field_sound set formed part has i lt in
+          let rules = field_sound _ formed _ has _ lt in
           record {
             name = (and_parts (is_name 32 f.name) (list_all (is_name 32) f.former) rules.0).0;
             default = (and_parts (defaults_well f.item f.default) (counts_well (counted i d.fields) f.default) rules.1.1.1.1.1.0).0;
@@ -214,7 +199,7 @@ module _ (set : Set) (well : WellFormed set) where
       let d = desc_at set part in
       let depths = struct_depths set.structs in
       longer (0 + 40 * deepest depths d.fields + 107) 299 (part_entries set d sent n at) (omega (arith, fields_flat set formed d.fields))
-      (entries_long (shapes set) (struct_items set.structs) depths (fit set formed) d d.version sent [] n at tt (part_sound set formed part has) few)
+      (entries_long _ _ _ (fit set formed) d _ sent [] _ _ tt (part_sound set formed part has) few)
 
   pub part_good : (part : Part) → HasPart set part → items_in (struct_items set.structs) (desc_at set part).fields ≤ 16384
       → (sent : Bool) (n : List ℤ) (at : ℕ) → list_all is_good (told_part set (desc_at set part) sent n at) ≡ true
@@ -262,36 +247,20 @@ pub record IsGoodDevice (set : Set) (d : Device) : Type 0 where
 abbrev pub AreGoodDevices : Set → List Device → Type 0
 AreGoodDevices set = AllByRecursion (IsGoodDevice set)
 
-kept_or_sent : (set : Set) (d : Desc) (c : Option ℕ) (n : List ℤ) (at : ℕ) → (is_some c || list_all is_kept (told_part set d (is_some c) n at)) ≡ true
-kept_or_sent set d c n at = grind (arith, all_kept)
-
 subs_good : (set : Set) (n : List ℤ) (at : ℕ) (subs : List Sub) (came : List (Option ℕ)) → AreGoodSubs set subs
     → list_all is_good_sub (told_subs set n at subs came) ≡ true
 subs_good set n at (s ∷ subs) (c ∷ came) h =
-    let t = told_sub_of set n at s c in
-    and_from (is_good_sub t) _
-    (sub_from t
-    (record {
-      name = named_path LONGEST_NAME s.desc.name (named_within 165 LONGEST_NAME s.desc.name (omega arith) h.0.name);
+    and_from _ _ (sub_from (told_sub_of set n at s c) (record {
+      name = named_path LONGEST_NAME s.desc.name (named_within 165 _ _ (omega arith) h.0.name);
       version = h.0.version;
       elements = h.0.elements (is_some c) n at;
-      kept = kept_or_sent set s.desc c n at;
+      kept = grind (arith, all_kept);
     })) (subs_good set n (at + length (desc_cells (struct_cells set) s.desc)) subs came h.1)
 subs_good set n at _ _ h = refl
 
 devices_good : (set : Set) (devices : List Device) (images : List Image) → AreGoodDevices set devices
     → list_all is_good_device (told_devices set devices images) ≡ true
-devices_good set (d ∷ devices) (image ∷ images) h =
-    let t = told_device_of set d image in
-    and_from (is_good_device t) _
-    (device_from t
-    (record {
-      name = named_path LONGEST_NAME d.desc.name (named_within 100 LONGEST_NAME d.desc.name (omega arith) h.0.own.name);
-      instance = h.0.instance;
-      version = h.0.own.version;
-      elements = h.0.own.elements true image.numbers 0;
-      subs = subs_good set image.numbers (own_cells set d) d.subs image.came h.0.subs;
-    })) (devices_good set devices images h.1)
+devices_good set (d ∷ devices) (image ∷ images) h = search (arith, and_from, named_path, named_within, subs_good, devices_good set devices images h.1)
 devices_good set _ _ h = refl
 
 module _ (set : Set) (well : WellFormed set) (heads : FitsHeads set) where

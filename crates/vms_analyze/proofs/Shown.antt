@@ -2,14 +2,13 @@
 use Rattle.vms_analyze.proofs.{Streams.front, Streams.front_found}
 use Rattle.vms_analyze.proofs.Facade.{◌≡◌, ℕ, ◌+◌, ◌<◌, ◌≤◌, true, List, [], ◌∷◌, ◌++◌, length, length-append, append_assoc}
 use Rattle.vms_analyze.proofs.Facade.{take, drop, is_none, Option, Some, refl, sym, ap, ◌∙◌, subst, arith, Bool, if◌then◌else◌, None, is_utf8}
-use Rattle.vms_analyze.proofs.Facade.{flat_map, ◌*◌, false, ◌==◌, nat_le, length-drop, get_or, map, ℤ, and_parts, leb-true, list_all, compact_text}
-use Rattle.vms_analyze.proofs.Facade.{value_in, escape_byte, read, FitsHeads, Set, Image, AreReady, be32, end_mark, trailer, written, WellFormed, few_devices}
-use Rattle.vms_analyze.proofs.Facade.{front_take, front_drop, IsMachineOf, values_lines, text_law, few_items, IsSound, described_tree, described_text}
-use Rattle.vms_analyze.proofs.Facade.{short_holds, described_plain, reads_whole, told_tree, Bytes, Lines, device_wants, wants, found, IsLastPlace, Tells, Text}
-use Rattle.vms_analyze.proofs.Facade.{listing_of, Lists, IsRead, told, ReadBackLaw, ShownLaw, width, LONGEST_NAME, MOST_UNUSED, number_at, bytes_at}
-use Rattle.vms_analyze.proofs.Facade.{is_name_byte, Sub, Device, Desc, desc_cells, struct_cells, own_cells, begins_with, configuration, struct_items, items_in}
-use Rattle.vms_analyze.proofs.Facade.{subs_items, devices_items, width_small, Told, is_good, Want, Any, Number, Machine, Head, Foot, Line, element_want}
-use Rattle.vms_analyze.proofs.Facade.{sub_wants, Took, took, only_if, take_machine, is_machine, taken, Found, Differs, behind, found_after, told_part}
+use Rattle.vms_analyze.proofs.Facade.{flat_map, ◌*◌, false, ◌==◌, length-drop, get_or, map, ℤ, compact_text, value_in, escape_byte, read, FitsHeads}
+use Rattle.vms_analyze.proofs.Facade.{Set, Image, AreReady, be32, end_mark, trailer, written, WellFormed, few_devices, front_take, front_drop, IsMachineOf}
+use Rattle.vms_analyze.proofs.Facade.{values_lines, text_law, few_items, IsSound, described_tree, described_text, short_holds, described_plain, reads_whole}
+use Rattle.vms_analyze.proofs.Facade.{told_tree, Bytes, Lines, device_wants, wants, found, IsLastPlace, Tells, Text, listing_of, Lists, IsRead, told}
+use Rattle.vms_analyze.proofs.Facade.{ReadBackLaw, ShownLaw, width, MOST_UNUSED, number_at, bytes_at, Sub, Device, Desc, desc_cells, struct_cells, own_cells}
+use Rattle.vms_analyze.proofs.Facade.{struct_items, items_in, subs_items, devices_items, width_small, Told, is_good, Want, Any, Number, Machine, Head, Foot}
+use Rattle.vms_analyze.proofs.Facade.{Line, element_want, sub_wants, Took, took, only_if, take_machine, taken, Found, Differs, behind, found_after, told_part}
 use Rattle.vms_analyze.proofs.Facade.{told_subs, told_devices, told_device_of, told_sub_of}
 use Rattle.vms_analyze.proofs.Shapes.{each_good, width_few, all_good, told_good, tree_same, IsGoodPart, AreGoodSubs, IsGoodDevice, AreGoodDevices}
 use Rattle.vms_analyze.proofs.Texts.{told_text, HasNoMark, last_place, tree_sound, text_printed, no_mark}
@@ -37,9 +36,7 @@ only_so : (b : Bool) (t u : Took) → only_if b t ≡ Some u → b ≡ true
 only_so b t u e = grind arith
 
 machine_long : (id : ℕ) (rest name : List ℕ) (u : Took) → take_machine id rest name ≡ Some u → u.long ≤ 260
-machine_long id rest name u e =
-    let p = and_parts (begins_with (configuration name) rest) (is_machine name) (only_so _ _ u e) in
-    omega (arith, leb-true (length name) LONGEST_NAME (and_parts (nat_le (length name) LONGEST_NAME) (list_all is_name_byte name) p.1).0, only_long _ _ u e)
+machine_long id rest name u e = grind (arith, only_so, only_long)
 
 taken_long : (w : Want) (id : ℕ) (rest : List ℕ) (u : Took) → taken w id rest ≡ Some u → u.long ≤ most_of w
 taken_long (Bytes bytes) id rest u e = omega (arith, only_long _ _ u e)
@@ -62,7 +59,7 @@ IsBound ws = (id place : ℕ) (rest : List ℕ) (lines : List (List ℕ)) → fo
 pub found_long : (ws : List Want) (id place : ℕ) (rest : List ℕ) (lines : List (List ℕ)) → found ws id place rest ≡ Lines lines → length rest ≤ total ws
 found_long [] id place [] lines e = omega arith
 found_long [] id place (b ∷ rest) lines e = cc
-found_long (w ∷ ws) id place rest lines e = by_took (λ id place rest lines e. found_long ws id place rest lines e) (taken w id rest) refl e
+found_long (w ∷ ws) id place rest lines e = by_took (λ id place rest lines e. found_long ws id place rest lines e) _ refl e
   where
     by_found : IsBound ws → (t : Took) (f : Found) → found ws t.id (place + t.long) (drop t.long rest) ≡ f → behind t.lines f ≡ Lines lines
         → length (drop t.long rest) ≤ total ws
@@ -115,7 +112,7 @@ module _ (set : Set) where
       let n = image.numbers in
       let own = map element_want (told_part set d.desc true n 0) in
       let subs = flat_map sub_wants (told_subs set n (own_cells set d) d.subs image.came) in
-      let later = subs_long n (own_cells set d) d.subs image.came h.subs in
+      let later = subs_long n (own_cells set d) _ image.came h.subs in
       omega (arith, part_long 100 d.desc h.own true n 0, total_append (own ++ subs) (Foot ∷ []), total_append own subs)
 
   pub devices_long : (devices : List Device) (images : List Image) → AreGoodDevices set devices

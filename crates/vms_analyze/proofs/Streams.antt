@@ -2,19 +2,18 @@
 use Rattle.vms_analyze.proofs.{Facade.all_true, Facade.or_else_none, Facade.every_one, Following.takes_any, Following.takes_number, Following.takes_bytes}
 use Rattle.vms_analyze.proofs.Facade.{front_take, text_says, ◌≡◌, ℕ, Bool, true, false, ◌&&◌, List, [], ◌∷◌, ◌++◌, append_assoc}
 use Rattle.vms_analyze.proofs.Facade.{append-nil, get_or, map, replicate, None, ℤ, pos, refl, sym, ap, ◌∙◌, codes, if◌then◌else◌, suc, ◌+◌}
-use Rattle.vms_analyze.proofs.Facade.{◌<◌, ◌≤◌, ◌^◌, length, Option, Some, arith, ◌==◌, nat_le, signed_decimal, map-append, length-replicate}
-use Rattle.vms_analyze.proofs.Facade.{and_parts, le-leb, and_from, and-false, and-true, flat_map, list_all, width, code, InRange, length-code, be32_read, Slot}
-use Rattle.vms_analyze.proofs.Facade.{desc_cells, struct_cells, meanings, desc_slots, Cell, zeroed, Image, own_cells, sub_slots, same_number_is, What, Constant}
-use Rattle.vms_analyze.proofs.Facade.{Filler, Rule, is_number, slot_of, slots_of, elements_in, printed, number_lines, sub_line, subs_lines, device_lines}
-use Rattle.vms_analyze.proofs.Facade.{devices_lines, machine_lines, values_lines, OfNumber, has_default, have_defaults, line_reason, if_not, came_well}
-use Rattle.vms_analyze.proofs.Facade.{number_entries, subs_entries, device_entries, devices_entries, entries, AreFine, AreAtVersions, IsShaped, AreShaped}
-use Rattle.vms_analyze.proofs.Facade.{IsMachineOf, Each, line_number, reason_fits, fine_rest, begins_itself, IsFitting, AreShort, of_numbers, IsCounted}
-use Rattle.vms_analyze.proofs.Facade.{AreCounted, walks, element_want, Bytes, sub_wants, device_wants, Want, Machine, wants, took, is_machine, taken, Found}
-use Rattle.vms_analyze.proofs.Facade.{Lines, behind, found, told_what, tolds, told_part, told_subs, told_device_of, told_devices, told, Desc, Sub, Device, Set}
-use Rattle.vms_analyze.proofs.Facade.{sub_head, is_needed, written_subs, written_section, written_sections, AreReady, is_one_of, be32, magic, stream_head}
-use Rattle.vms_analyze.proofs.Facade.{configuration, end_mark, optional, elements_slots, short_are, AreGood, all_parts, LONGEST_NAME, number_at, bytes_at}
-use Rattle.vms_analyze.proofs.Facade.{is_name, is_name_byte, values_text, WellFormed, failing, first_fault, here, set_rules, machine_short, few_devices}
-use Rattle.vms_analyze.proofs.Following.{takes_foot, takes_head, Takes, if_so, Follows, none_follows, one_follows, both_follow, follows_as, takes_line}
+use Rattle.vms_analyze.proofs.Facade.{◌<◌, ◌≤◌, ◌^◌, length, Option, Some, arith, ◌==◌, signed_decimal, map-append, length-replicate}
+use Rattle.vms_analyze.proofs.Facade.{and_parts, and_from, and-false, and-true, flat_map, code, InRange, length-code, be32_read, Slot, desc_cells, struct_cells}
+use Rattle.vms_analyze.proofs.Facade.{meanings, desc_slots, Cell, zeroed, Image, own_cells, sub_slots, same_number_is, What, Constant, Filler, Rule, is_number}
+use Rattle.vms_analyze.proofs.Facade.{slot_of, slots_of, elements_in, printed, number_lines, sub_line, subs_lines, device_lines, devices_lines, machine_lines}
+use Rattle.vms_analyze.proofs.Facade.{values_lines, OfNumber, has_default, have_defaults, line_reason, if_not, came_well, number_entries, subs_entries}
+use Rattle.vms_analyze.proofs.Facade.{device_entries, devices_entries, entries, AreFine, AreAtVersions, IsShaped, AreShaped, IsMachineOf, Each, line_number}
+use Rattle.vms_analyze.proofs.Facade.{reason_fits, fine_rest, begins_itself, IsFitting, AreShort, of_numbers, IsCounted, AreCounted, walks, element_want, Bytes}
+use Rattle.vms_analyze.proofs.Facade.{sub_wants, device_wants, Want, Machine, wants, took, is_machine, taken, Found, Lines, behind, found, told_what, tolds}
+use Rattle.vms_analyze.proofs.Facade.{told_part, told_subs, told_device_of, told_devices, told, Desc, Sub, Device, Set, sub_head, is_needed, written_subs}
+use Rattle.vms_analyze.proofs.Facade.{written_section, written_sections, AreReady, is_one_of, be32, magic, stream_head, configuration, end_mark, optional}
+use Rattle.vms_analyze.proofs.Facade.{elements_slots, short_are, AreGood, all_parts, WellFormed, first_fault, here, machine_short, few_devices, foot}
+use Rattle.vms_analyze.proofs.Following.{takes_head, Takes, if_so, Follows, none_follows, one_follows, both_follow, follows_as, takes_line}
 use Rattle.vms_elements.specs.{Elements.Number, Elements.Element, Lines.number_line}
 use Rattle.vms_spec.specs.declared.ValuesReason.TheVariants as reasons
 use Rattle.vms_spec.specs.declared.Part.TheVariants as parts
@@ -48,7 +47,7 @@ module _ (n : List ℤ) (id : ℕ) where
       → Follows (map element_want (told_what (Number cell) counted p name)) id (bytes_if n p at (Number cell)) id
       (lines_if counted (name ++ (codes " = " ++ signed_decimal (get_or n at (pos 0)))))
   number_follows true true cell at name f g =
-      rw (append-nil (code cell.kind (get_or n at (pos 0)))) (one_follows (takes_number name cell.kind (get_or n at (pos 0)) id (f refl).1))
+      rw (append-nil (code cell.kind (get_or n at (pos 0)))) (one_follows (takes_number _ _ _ _ (f refl).1))
   number_follows true false cell at name f g =
       follows_as (rw (g refl refl)) refl refl (one_follows (takes_line (name ++ (codes " = " ++ signed_decimal (get_or n at (pos 0)))) id))
   number_follows false true cell at name f g = absurd (cc ((f refl).0))
@@ -58,16 +57,16 @@ module _ (n : List ℤ) (id : ℕ) where
   others : (w : What) (counted p : Bool) (at : ℕ) (name : List ℕ) → is_number w ≡ false
       → Follows (map element_want (told_what w counted p name)) id (bytes_if n p at w) id []
   others (Number cell) counted p at name e = cc
-  others (Constant kind y) counted true at name e = rw (append-nil (code kind y)) (one_follows (takes_any (code kind y) (width kind) id (length-code kind y)))
-  others (Filler m) counted true at name e = rw (append-nil {A = ℕ} (replicate m 0)) (one_follows (takes_any (replicate m 0) m id (length-replicate m 0)))
+  others (Constant kind y) counted true at name e = rw (append-nil (code kind y)) (one_follows (takes_any _ _ _ (length-code kind y)))
+  others (Filler m) counted true at name e = rw (append-nil {A = ℕ} (replicate m 0)) (one_follows (takes_any _ _ _ (length-replicate m 0)))
   others (Rule holds) counted true at name e = none_follows id
   others _ counted false at name e = none_follows id
 
   one : (sent : Bool) (w : What) (counted present : Bool) (at : ℕ) (name : List ℕ) → IsSaidAs sent w counted present (get_or n at (pos 0))
       → Follows (map element_want (told_what w counted (sent && present) name)) id (bytes_if n (sent && present) at w) id
       (lines_if (counted && is_number w) (name ++ (codes " = " ++ signed_decimal (get_or n at (pos 0)))))
-  one sent (Number cell) counted present at name said = rw (and-true counted) (number_follows counted (sent && present) cell at name said.0 said.1)
-  one sent w counted present at name said = rw (and-false counted) (others w counted (sent && present) at name refl)
+  one sent (Number cell) counted present at name said = rw (and-true counted) (number_follows _ _ _ _ _ said.0 said.1)
+  one sent w counted present at name said = rw (and-false counted) (others _ counted _ _ name refl)
 
   -- ---- all of them
 
@@ -89,17 +88,12 @@ module _ (n : List ℤ) (id : ℕ) where
   no_bytes [] = refl
   no_bytes (x ∷ xs) = no_bytes xs
 
-  line_more : (b : Bool) (x : Element) (xs : List Element)
-      → lines_if b (number_line n x) ++ map (number_line n) xs ≡ map (number_line n) (if b then x ∷ xs else xs)
-  line_more b x xs = grind arith
-
   all_follow : (sent : Bool) (xs : List Element) → Each (IsSaid sent n) xs
       → Follows (map element_want (tolds sent xs)) id (bytes_of sent xs) id (map (number_line n) (printed xs))
   all_follow sent [] said = none_follows id
   all_follow sent (x ∷ xs) said =
-      follows_as (sym (map-append element_want (told_what x.what x.counted (sent && x.present) x.name) (tolds sent xs))) refl
-      (line_more (x.counted && is_number x.what) x (printed xs))
-      (both_follow (one sent x.what x.counted x.present x.cell x.name said.0) (all_follow sent xs said.1))
+      follows_as (sym (map-append element_want (told_what x.what x.counted (sent && x.present) x.name) (tolds sent xs))) refl (grind arith)
+      (both_follow (one _ _ _ _ _ _ said.0) (all_follow sent xs said.1))
 
 -- ---- from the lines of a text
 
@@ -108,14 +102,14 @@ said_as : (n : List ℤ) (short : AreShort n) (x : Element) (w : What) → x.wha
     → IsSaidAs true w x.counted x.present (get_or n x.cell (pos 0))
 said_as n short x (Number cell) e counted fine =
     let fits : x.counted ≡ true → IsFitting cell x.present (get_or n x.cell (pos 0)) =
-    λ c. reason_fits cell x.present (get_or n x.cell (pos 0)) (sym (line_number x n cell e (short x.cell)) ∙ fine c refl) in
+    λ c. reason_fits _ _ _ (sym (line_number x n _ e (short x.cell)) ∙ fine c refl) in
     (λ p. (counted p, (fits (counted p)).fits.0), λ c p. (fits c).absent p)
 said_as n short x _ e counted fine = tt
 
 pub fine_said : (n : List ℤ) → AreShort n → (xs : List Element) → AreCounted xs → AreFine (of_numbers n (printed xs)) → Each (IsSaid true n) xs
 fine_said n short [] counted fine = tt
 fine_said n short (x ∷ xs) counted fine =
-    (said_as n short x x.what refl counted.0 its_line, fine_said n short xs counted.1 (fine_rest n x xs (x.counted && is_number x.what) fine))
+    (said_as _ short x _ refl counted.0 its_line, fine_said n short xs counted.1 (fine_rest n x xs (x.counted && is_number x.what) fine))
   where
     first : (b : Bool) → AreFine (of_numbers n (if b then x ∷ printed xs else printed xs)) → b ≡ true → line_reason (OfNumber x n) (number_line n x) ≡ None
     first true f e = f.0
@@ -131,7 +125,7 @@ pub default_said : (n : List ℤ) (xs : List Element) → have_defaults n xs ≡
 default_said n [] h = tt
 default_said n (x ∷ xs) h =
     let p = and_parts (has_default n x.cell x.what) (have_defaults n xs) h in
-    (kept_as n x.cell x.what x.counted x.present p.0, default_said n xs p.1)
+    (kept_as n x.cell _ _ _ p.0, default_said n xs p.1)
 
 -- ---- What is written for ready images is found as described, device after device.
 
@@ -147,9 +141,8 @@ module _ (set : Set) (d : Device) (image : Image) (short : AreShort image.number
   part_follows : (desc : Desc) (at : ℕ) → AreFine (number_entries set desc n at) → Follows (map element_want (told_part set desc true n at)) id
       (zeroed n (desc_slots (meanings set.structs (length set.structs)) desc desc.version n at)) id (number_lines set desc n at)
   part_follows desc at fine =
-      let xs = elements_in set desc desc.version n at in
-      follows_as refl (sent_bytes n id xs ∙ ap (zeroed n) (elements_slots set desc desc.version n at)) refl
-      (all_follow n id true xs (fine_said n short xs (walks set desc desc.version desc.version n n at at).counted fine))
+      follows_as refl (sent_bytes n id (elements_in set desc desc.version n at) ∙ ap (zeroed n) (elements_slots set desc desc.version n at)) refl
+      (all_follow _ _ true _ (fine_said _ short _ (walks set desc desc.version desc.version n n at at).counted fine))
 
   sub_came : (s : Sub) (at : ℕ) → AreFine (number_entries set s.desc n at)
       → Follows (sub_wants (record { name = s.desc.name; sent = true; version = s.desc.version; elements = told_part set s.desc true n at })) id
@@ -164,7 +157,7 @@ module _ (set : Set) (d : Device) (image : Image) (short : AreShort image.number
       (sub_line s None ∷ number_lines set s.desc n at)
   sub_kept s at have =
       let xs = elements_in set s.desc s.desc.version n at in
-      both_follow (one_follows (takes_line (sub_line s None) id)) (follows_as refl (no_bytes n id xs) refl (all_follow n id false xs (default_said n xs have)))
+      both_follow (one_follows (takes_line (sub_line s None) id)) (follows_as refl (no_bytes n id xs) refl (all_follow _ _ false _ (default_said n xs have)))
 
   subs_follow : (j at : ℕ) (subs : List Sub) (came : List (Option ℕ)) → AreAtVersions subs came → AreFine (subs_entries set d image j at subs came)
       → AreGood set (subs_entries set d image j at subs came)
@@ -191,11 +184,10 @@ module _ (set : Set) (d : Device) (image : Image) (short : AreShort image.number
       let numbers = number_entries set d.desc n 0 in
       let others = subs_entries set d image 0 (own_cells set d) d.subs image.came in
       let f = all_parts _ numbers others fine.1 in
-      rw (shaped.version, ← append-nil (number_lines set d.desc n 0 ++ subs_lines set n (own_cells set d) d.subs image.came))
-      (both_follow
-      (both_follow (both_follow (one_follows (takes_head d.desc.name d.instance d.desc.version old id small)) (part_follows d.desc 0 f.0))
-      (subs_follow 0 (own_cells set d) d.subs image.came shaped.versions f.1 (all_parts _ numbers others good.1).1))
-      (one_follows (takes_foot id)))
+      rw (shaped.version, ← append-nil (number_lines set d.desc n 0 ++ subs_lines set n (own_cells set d) d.subs image.came)) (both_follow
+      (both_follow (both_follow (one_follows (takes_head _ _ _ _ _ small)) (part_follows d.desc 0 f.0))
+      (subs_follow 0 _ _ _ shaped.versions f.1 (all_parts _ numbers others good.1).1))
+      (one_follows (record { is = λ more. if_so _ (took (length (foot id)) id []) (begins_itself (foot id) more) })))
 
 -- the section that is open after them
 abbrev pub last : ℕ → ℕ → List Device → List Image → ℕ
@@ -212,7 +204,7 @@ devices_follow set old id (d ∷ devices) (image ∷ images) few shaped fine goo
     let others = devices_entries set devices images in
     let f = all_parts _ here others fine in
     let g = all_parts _ here others good in
-    both_follow (device_follows set d image (short_are image.numbers shaped.0.short) id old (omega arith) shaped.0 f.0 g.0)
+    both_follow (device_follows _ _ _ (short_are image.numbers shaped.0.short) _ _ (omega arith) shaped.0 f.0 g.0)
     (devices_follow set id (suc id) devices images (omega arith) shaped.1 f.1 g.1)
 devices_follow set old id _ _ few shaped fine good = none_follows old
 
@@ -220,21 +212,11 @@ devices_follow set old id _ _ few shaped fine good = none_follows old
 
 pub takes_machine : (name : List ℕ) (id : ℕ) → is_machine name ≡ true → length name < 2 ^ 32
     → Takes Machine id (configuration name) id ((codes "machine " ++ name) ∷ [])
-takes_machine name id good small = record { is = λ more. whole more }
-  where
-    whole : (more : List ℕ) → taken Machine id (configuration name ++ more) ≡ Some (took (length (configuration name)) id ((codes "machine " ++ name) ∷ []))
-    whole more =
-        let rest = configuration name ++ more in
-        let long : number_at 4 1 rest ≡ length name = cc (append_assoc (be32 (length name)) name more, be32_read (length name) (name ++ more) small) in
-        let its : bytes_at (number_at 4 1 rest) 5 rest ≡ name = rw long (front_take (length name) name more _ (append_assoc [] name more) refl) in
-        rw its (if_so _ (took (length (configuration name)) id ((codes "machine " ++ name) ∷ [])) (and_from _ _ (begins_itself (configuration name) more) good))
+takes_machine name id good small = search (arith, be32_read, front_take, if_so, and_from, begins_itself)
 
 machine_good : (set : Set) → WellFormed set → (name : List ℕ) → is_one_of set.machines name ≡ true → is_machine name ≡ true
 unfolding first_fault
-machine_good set well name h =
-    let rules = all_true 1 (set_rules set) (here parts.Set) (or_else_none (failing 1 (set_rules set) (here parts.Set)) _ well).0 in
-    and_from (nat_le (length name) LONGEST_NAME) (list_all is_name_byte name) (le-leb (length name) LONGEST_NAME (omega (arith, machine_short set well name h)))
-    (and_parts (nat_le 1 (length name) && nat_le (length name) 64) (list_all is_name_byte name) (every_one (is_name 64) set.machines name rules.0 h)).1
+machine_good set well name h = grind (arith, all_true, or_else_none, and_from, machine_short, every_one)
 
 -- without a machine none is taken, since a section or the end mark is there
 pub no_machine : (id : ℕ) (rest : List ℕ) → (get_or rest 0 0 == 7) ≡ false → taken Machine id rest ≡ Some (took 0 id [])
@@ -252,7 +234,7 @@ module _ (set : Set) (well : WellFormed set) (images : List Image) (us : List Wa
       → (place : ℕ) → found (Machine ∷ us) 0 place (optional configuration machine ++ sections) ≡ behind (machine_lines machine) f
   machine_found None named other is place = cc (no_machine 0 sections other, is (place + 0))
   machine_found (Some name) named other is place =
-      let m = one_follows (takes_machine name 0 (machine_good set well name named) (omega (arith, machine_short set well name named))) in
+      let m = one_follows (takes_machine name 0 (machine_good _ well _ named) (omega (arith, machine_short set well name named))) in
       rw (m.goes us place sections, is (place + length (configuration name)))
 
 -- ---- the whole
@@ -268,11 +250,11 @@ front set machine images = stream_head ++ optional configuration machine ++ writ
 pub front_found : (set : Set) → WellFormed set → (machine : Option (List ℕ)) → IsMachineOf set machine → (images : List Image) → AreReady set images
     → found (wants (told set images)) 0 0 (front set machine images) ≡ Lines (values_lines set machine images)
 front_found set well machine named images ready =
-    let says = text_says set (values_text set machine images) machine images (record { named = named; ready = ready; printed = refl }) in
+    let says = text_says _ _ _ _ (record { named = named; ready = ready; printed = refl }) in
     let lines = devices_lines set set.devices images in
     let sections = written_sections set 0 set.devices images in
-    let said = devices_said set machine images says.says.fine says.good in
-    let all = devices_follow set 0 0 set.devices images (omega (arith, few_devices set well)) says.says.shaped said.0 said.1 in
+    let said = devices_said set _ _ says.says.fine says.good in
+    let all = devices_follow _ 0 0 _ _ (omega (arith, few_devices set well)) says.says.shaped said.0 said.1 in
     let us = flat_map device_wants (told set images) ++ Bytes end_mark ∷ [] in
     let tail : (place : ℕ) → found us 0 place (sections ++ end_mark) ≡ Lines lines =
     λ place. rw (all.goes (Bytes end_mark ∷ []) place end_mark, append-nil lines) in
@@ -280,5 +262,4 @@ front_found set well machine named images ready =
     ap (λ (l : List ℕ). found (wants (told set images)) 0 0 l)
     (append_assoc (stream_head ++ optional configuration machine) sections end_mark ∙ append_assoc stream_head (optional configuration machine)
     (sections ++ end_mark)) ∙ head.goes (Machine ∷ us) 0 (optional configuration machine ++ (sections ++ end_mark))
-    ∙ ap (behind []) (machine_found set well images us (sections ++ end_mark) (Lines lines) machine named (section_first set 0 set.devices images) tail
-    (length stream_head))
+    ∙ ap (behind []) (machine_found _ well images us _ _ _ named (section_first set 0 _ _) tail _)

@@ -43,11 +43,11 @@ pub record Passed (old mid : Walk) (bytes : List ℕ) : Type 0 where
 pub printed_goes : {w : Want} {old mid new : Walk} {bytes line : List ℕ} → Takes w old.id bytes mid.id (line ∷ []) → Passed old mid bytes → Prints mid new line
     → Goes (w ∷ []) old new
 printed_goes {w = w} {old = old} {mid = mid} {new = new} {bytes = bytes} {line = line} takes p prints =
-    goes w old new bytes (line ∷ []) (rw prints.id takes) (cc) (cc) (cc) (omega (arith, ap length prints.input)) cc
+    goes _ _ _ bytes (line ∷ []) (rw prints.id takes) (cc) (cc) (cc) (omega (arith, ap length prints.input)) cc
 
 pub number_goes : {old mid new : Walk} (path : List ℕ) (kind : Kind) (z : ℤ) → InRange kind z → Passed old mid (code kind z) → mid.id ≡ old.id
     → Prints mid new (number_line path z) → Goes (Number path kind ∷ []) old new
-number_goes {old = old} path kind z fits p id prints = printed_goes (rw id (takes_number path kind z old.id fits)) p prints
+number_goes {old = old} path kind z fits p id prints = printed_goes (rw id (takes_number _ _ _ _ fits)) p prints
 
 -- ---- one step after the other
 
@@ -101,7 +101,7 @@ module _ {X : Type 0} (one : X → List Want) where
 
 -- one after the other, whatever the stop
 pub why_before : (ws vs : List Want) (a c : Walk) (stop : Stop) → WhyStopped ws a c stop → WhyStopped (ws ++ vs) a c stop
-why_before ws vs a c stops.Differs s = stops_before ws vs a c s
+why_before ws vs a c stops.Differs s = stops_before _ _ _ _ s
 why_before ws vs a c stops.NoMemory s = tt
 
 pub why_then : {ws : List Want} {a b : Walk} (vs : List Want) (c : Walk) (stop : Stop) → Goes ws a b → WhyStopped vs b c stop → WhyStopped (ws ++ vs) a c stop
@@ -111,7 +111,7 @@ why_then vs c stops.NoMemory g s = tt
 -- whatever the result
 pub walks_then : {ws : List Want} {a b : Walk} (vs : List Want) (c : Walk) (r : Result (Unit {0}) Stop) → Goes ws a b → Walks vs b c r → Walks (ws ++ vs) a c r
 walks_then vs c (Ok u) g h = goes_then g h
-walks_then vs c (Err stop) g h = why_then vs c stop g h
+walks_then vs c (Err stop) g h = why_then _ _ _ g h
 
 -- a line is printed last
 pub prints_walk : {ws : List Want} {line : List ℕ} {a b c : Walk} (r : Result (Unit {0}) Stop) → (Prints b c line → Goes ws a c) → OnOk r (Prints b c line)
@@ -213,8 +213,7 @@ pub head_goes : (old mid new : Walk) (name : List ℕ) (instance version : ℕ) 
     → IsInside old → mid.place ≡ old.place + length (section_head mid.id name instance version) → mid.text ≡ old.text → mid.input.now ≡ old.input.now
     → Prints mid new (section_line name instance version) → Goes (Head name instance version ∷ []) old new
 head_goes old mid new name instance version e small inside place text input prints =
-    printed_goes (takes_head name instance version old.id mid.id small)
-    (passed (section_head mid.id name instance version) old mid inside e place text input) prints
+    printed_goes (takes_head _ _ _ _ _ small) (passed _ _ _ inside e place text input) prints
 
 -- the machine
 pub machine_passes : (old : Walk) → IsInside old → (get_or (left old) 0 0 == 7) ≡ false → Goes (Machine ∷ []) old old

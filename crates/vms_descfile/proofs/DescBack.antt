@@ -1,14 +1,13 @@
 -- Descriptions, subsections, devices and sets can be read back from their files.
 use Rattle.vms_descfile.proofs.Facade.{◌≡◌, ℕ, ◌≤◌, List, ◌∷◌, get_or, length, map, Bool, true, false, ◌&&◌, ◌==◌, nat_le, Option}
 use Rattle.vms_descfile.proofs.Facade.{Some, None, refl, ◌∙◌, codes, arith, [], slice_get, and_parts, leb-true, false≢true, Data, string, ◌++◌}
-use Rattle.vms_descfile.proofs.Facade.{is_one_of, get, as_str, items_of, Formula, Field, Desc, Count, Counted, nodes, is_small_test, is_small_optional}
-use Rattle.vms_descfile.proofs.Facade.{is_small_item, is_steady_in, is_earlier_in, names_well, nobody, test_names_well, count_names_well, is_counting}
-use Rattle.vms_descfile.proofs.Facade.{defaults_well, counts_well, counted, has_few, Clean, good, names_of, text_or_none, maybe_at, u32_of, text_of, Scope}
-use Rattle.vms_descfile.proofs.Facade.{names_if, number_in, DEEPEST, test_of, field_of, desc_needs, desc_allows, Head, head_of, minimum_or, rest_of, struct_of}
-use Rattle.vms_descfile.proofs.Facade.{FitsTest, FitsOptional, FitsDesc, list_file, natural_file, own_names, counter_in, test_file, field_file, desc_members}
-use Rattle.vms_descfile.proofs.Facade.{struct_file, set_file, Sub, Device, Set, WellFormed, struct_depths, struct_rules, sub_rules, device_rules, struct_clean}
-use Rattle.vms_descfile.proofs.Facade.{device_parts, sub_clean, sub_of, Whole, whole_of, device_of, set_of, parts_of, FitsSub, FitsWhole, FitsDevice, FitsSet}
-use Rattle.vms_descfile.proofs.Facade.{sub_file, whole_file, device_file}
+use Rattle.vms_descfile.proofs.Facade.{is_one_of, get, as_str, items_of, Formula, Field, Desc, Count, nodes, is_small_test, is_small_optional, is_small_item}
+use Rattle.vms_descfile.proofs.Facade.{is_steady_in, is_earlier_in, names_well, nobody, test_names_well, count_names_well, defaults_well, counts_well, counted}
+use Rattle.vms_descfile.proofs.Facade.{has_few, Clean, good, names_of, text_or_none, maybe_at, u32_of, text_of, Scope, names_if, number_in, DEEPEST, test_of}
+use Rattle.vms_descfile.proofs.Facade.{field_of, desc_needs, desc_allows, Head, head_of, minimum_or, rest_of, struct_of, FitsTest, FitsOptional, FitsDesc}
+use Rattle.vms_descfile.proofs.Facade.{list_file, natural_file, own_names, counter_in, test_file, field_file, desc_members, struct_file, set_file, Sub, Device}
+use Rattle.vms_descfile.proofs.Facade.{Set, WellFormed, struct_depths, struct_rules, sub_rules, device_rules, struct_clean, device_parts, sub_clean, sub_of}
+use Rattle.vms_descfile.proofs.Facade.{Whole, whole_of, device_of, set_of, parts_of, FitsSub, FitsWhole, FitsDevice, FitsSet, sub_file, whole_file, device_file}
 use Rattle.vms_descfile.proofs.FieldBack.{field_table, field_tabled, field_back}
 use Rattle.vms_descfile.proofs.ObjectLaws.{list_good, list_or_good, natural_good, Table, members_in, object_of, found, found_behind, or_none, got, table_fits}
 use Rattle.vms_descfile.proofs.ObjectLaws.{kept, listed, unless_if, list_if}
@@ -32,26 +31,19 @@ own_test_back : (asks : Bool) (names : List (List ℕ)) (may : ℕ → Bool)
     → (t : Formula) → is_small_test t ≡ true → FitsTest t → names_well may nobody t ≡ true
     → test_of (own_scope asks names) (test_file names [] t) ≡ good (test_shown asks t)
 own_test_back asks names may found t small fits well =
-    test_back asks names [] may nobody (own_scope asks names) (record {
-      found =
-          found;
-      found_above = λ k e. absurd (false≢true e);
-    }) DEEPEST t (shallow t small) fits well
+    test_back asks names [] may nobody (own_scope asks names) (record { found = found; found_above = λ k e. absurd (false≢true e) }) DEEPEST t (shallow t small) fits well
 
 -- ---- the fields of a description
 
 counter_back : (asks : Bool) (d : Desc) (i : ℕ) (c : Count) → Found asks d → count_names_well d i c ≡ true → (k : ℕ) → counter_in c ≡ Some k
     → number_in (asked asks (own_names d.fields)) (get_or (own_names d.fields) k []) ≡ good (number_shown asks k)
-counter_back asks d i (Counted by capacity) found well k is =
-    let same : by ≡ k = cc in
-    rw same at (earlier_found asks d i by found (and_parts (is_earlier_in d i by) (is_counting (slice_get d.fields by)) well).0)
-counter_back asks d i _ found well k is = cc
+counter_back asks d i c found well k is = grind (arith, earlier_found)
 
 field_test_back : (asks : Bool) (d : Desc) (i : ℕ) (o : Option Formula) → Found asks d → test_names_well d i o ≡ true → is_small_optional o ≡ true
     → FitsOptional o
     → (t : Formula) → o ≡ Some t → test_of (own_scope asks (own_names d.fields)) (test_file (own_names d.fields) [] t) ≡ good (test_shown asks t)
 field_test_back asks d i o found well small fits t is =
-    own_test_back asks (own_names d.fields) (is_earlier_in d i) (λ k e. earlier_found asks d i k found e) t (rw is at small) (rw is at fits) (rw is at well)
+    own_test_back _ _ (is_earlier_in d i) (λ k e. earlier_found _ _ _ _ found e) _ (rw is at small) (rw is at fits) (rw is at well)
 
 module _ (asks : Bool) (n : ℕ) (d : Desc) (rules : List Bool) (c : Clean n d rules) (found : Found asks d) (fits : FitsDesc d) where
   fields_back : (i : ℕ) (f : Field) → slice_get d.fields i ≡ Some f
@@ -94,11 +86,7 @@ desc_table d =
     ∷ []
 
 pub desc_tabled : (d : Desc) → desc_members d ≡ members_in (desc_table d)
-desc_tabled d =
-    rw (
-      list_if (codes "validate") (test_file (own_names d.fields) []) d.validate _,
-      unless_if (d.minimum == d.version) (codes "minimum") (natural_file d.minimum) _,
-    )
+desc_tabled d = grind (arith, list_if, unless_if)
 
 -- the object has what the table has, under each key of a description
 abbrev pub HasDesc : Desc → Data → Type 0
@@ -110,10 +98,7 @@ pub has_behind : (d : Desc) (j : List ℕ) (e : Option Data) → is_one_of (desc
 has_behind d j e other k known = got k ((j, e) ∷ desc_table d) _ (found_behind (desc_needs ++ desc_allows) k j e (desc_table d) known other)
 
 pub names_asked : (asks : Bool) (d : Desc) (o : Data) → HasDesc d o → names_if asks o ≡ asked asks (own_names d.fields)
-names_asked false d o has = refl
-names_asked true d o has =
-    let fields : get (codes "fields") o ≡ Some (list_file (field_file (own_names d.fields)) d.fields) = has (codes "fields") refl in
-    cc (names_listed (own_names d.fields) d.fields)
+names_asked asks d o has = grind (arith, names_listed)
 
 abbrev minimum_kept : Bool → ℕ → Option ℕ
 minimum_kept true n = None
@@ -178,10 +163,7 @@ sub_scope asks own parent = record { own = asked asks own; parent = Some (asked 
 needed_back : (asks : Bool) (d e : Desc) (t : Formula) → Found asks d → Found asks e → is_small_test t ≡ true → FitsTest t
     → names_well (is_steady_in d) (is_steady_in e) t ≡ true
     → test_of (sub_scope asks (own_names d.fields) (own_names e.fields)) (test_file (own_names d.fields) (own_names e.fields) t) ≡ good (test_shown asks t)
-needed_back asks d e t found found_above small fits well =
-    test_back asks (own_names d.fields) (own_names e.fields) (is_steady_in d) (is_steady_in e) (sub_scope asks (own_names d.fields) (own_names e.fields))
-    (record { found = found.number; found_above = found_above.number }) DEEPEST t
-    (omega (arith, leb-true (depth t) 16 (and_parts (nat_le (nodes t) 64) (nat_le (depth t) 16) small).1)) fits well
+needed_back asks d e t found found_above small fits well = search (arith, test_back, shallow)
 
 -- subsection j of a device
 sub_back : (asks : Bool) (n j : ℕ) (d : Device) (s : Sub) → Found asks d.desc → Clean n s.desc (sub_rules d j s) → FitsSub s

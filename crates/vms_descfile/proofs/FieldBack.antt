@@ -1,11 +1,11 @@
 -- A field can be read back from its file.
 use Rattle.vms_descfile.proofs.Facade.{item_word, capacity_in, length_in, counter_in, equal_in, size_in, Answer, Front, test_file, front_file, field_file}
-use Rattle.vms_descfile.proofs.Facade.{◌≡◌, ℕ, ◌≤◌, List, [], ◌∷◌, get_or, map, Bool, true, false, not, ◌&&◌, ◌==◌}
+use Rattle.vms_descfile.proofs.Facade.{◌≡◌, ℕ, ◌≤◌, List, [], ◌∷◌, get_or, map, Bool, true, false, not, ◌&&◌, ◌==◌, natural}
 use Rattle.vms_descfile.proofs.Facade.{if◌then◌else◌, Option, Some, None, option_map, is_some, ℤ, pos, negsuc, int_le, int_lt, IfSome, refl, sym, ap}
-use Rattle.vms_descfile.proofs.Facade.{◌∙◌, codes, arith, and_parts, eqb-true, ints, Data, string, get, as_str, Kind, Item, Count, One, Formula, Field}
-use Rattle.vms_descfile.proofs.Facade.{in_range, defaults_well, same_number, ranges, Sort, good, fits, maybe_at, u16_of, u32_of, integer_of, text_of, Names}
-use Rattle.vms_descfile.proofs.Facade.{number_in, name_in, test_of, sort_named, counts_fit, values_fit, sort_fits, field_needs, field_allows, field_fits}
-use Rattle.vms_descfile.proofs.Facade.{count_as, count_of, item_as, front_of, field_after, field_in, field_of, FitsField, natural_file, integer_file, is_zero}
+use Rattle.vms_descfile.proofs.Facade.{◌∙◌, codes, arith, eqb-true, ints, Data, string, get, as_str, Kind, Item, Count, One, Formula, Field, in_range}
+use Rattle.vms_descfile.proofs.Facade.{defaults_well, same_number, ranges, Sort, good, fits, maybe_at, u16_of, u32_of, integer_of, text_of, Names, number_in}
+use Rattle.vms_descfile.proofs.Facade.{name_in, test_of, sort_named, counts_fit, values_fit, sort_fits, field_needs, field_allows, field_fits, count_as}
+use Rattle.vms_descfile.proofs.Facade.{count_of, item_as, front_of, field_after, field_in, field_of, FitsField, natural_file, integer_file, is_zero}
 use Rattle.vms_descfile.proofs.ObjectLaws.{list_if, found, number_named, judged_good, maybe_good, default_good, list_or_good, natural_good}
 use Rattle.vms_descfile.proofs.ObjectLaws.{integer_good, Table, members_in, object_of, or_none, got, table_fits, kept, listed, given_if, unless_if}
 use Rattle.vms_descfile.proofs.ShownLaws.{number_shown, test_shown, count_shown, field_shown, map_same}
@@ -38,25 +38,10 @@ field_table own f =
     ∷ front_table own f
 
 front_tabled : (own : List (List ℕ)) (f : Field) → front_file own f ≡ members_in (front_table own f)
-front_tabled own f =
-    rw (
-      list_if (codes "former") string f.former _,
-      given_if (codes "equal") integer_file (equal_in f.item) _,
-      unless_if (is_zero f.default) (codes "default") (integer_file f.default) _,
-      given_if (codes "counted") (λ k. string (get_or own k [])) (counter_in f.count) _,
-      given_if (codes "count") natural_file (length_in f.count) _,
-      given_if (codes "capacity") natural_file (capacity_in f.count) _,
-    )
+front_tabled own f = grind (arith, list_if, given_if, unless_if)
 
 pub field_tabled : (own : List (List ℕ)) (f : Field) → field_file own f ≡ object_of (field_table own f)
-field_tabled own f =
-    rw (
-      given_if (codes "test") (test_file own []) f.test _,
-      given_if (codes "struct") natural_file (struct_in f.item) _,
-      given_if (codes "size") natural_file (size_in f.item) _,
-      unless_if (f.since == 0) (codes "since") (natural_file f.since) _,
-      front_tabled own f,
-    )
+field_tabled own f = grind (arith, given_if, unless_if, front_tabled)
 
 -- ---- its keys
 
@@ -105,11 +90,7 @@ record AreKeys (item : Item) (z : ℤ) : Type 0 where
   pub values : values_by (option_map integer_file (equal_in item)) (kept (is_zero z) (integer_file z)) ≡ true
 
 item_keys : (item : Item) (z : ℤ) → defaults_well item z ≡ true → AreKeys item z
-item_keys (items.Equal kind y) z well =
-    record { sort = refl; values = rw (no_default z (and_parts (in_range kind y) (same_number z (pos 0)) well).1) }
-item_keys (items.Unused n) z well = record { sort = rw (no_default z well); values = refl }
-item_keys (items.Struct j) z well = record { sort = rw (no_default z well); values = refl }
-item_keys _ z well = record { sort = refl; values = refl }
+item_keys item z well = search (arith, no_default)
 
 -- ---- numbers of 64 bits
 
@@ -124,21 +105,12 @@ not_zero : (item : Item) (z : ℤ) → defaults_well item z ≡ true → is_zero
 not_zero item z well other = grind (arith, integer_good, in_64, zero_is)
 
 constant_good : (item : Item) (z : ℤ) → defaults_well item z ≡ true → (y : ℤ) → equal_in item ≡ Some y → integer_of (integer_file y) ≡ good y
-constant_good (items.Equal kind v) z well y is =
-    let same : v ≡ y = cc in
-    rw same at (integer_good v (in_64 kind v (and_parts (in_range kind v) (same_number z (pos 0)) well).0))
-constant_good _ z well y is = cc
+constant_good item z well y is = grind (arith, integer_good, in_64)
 
 -- ---- the parts of a field
 
-most_of : (most : ℕ) (o : Option ℕ) → IfSome o (λ n. n ≤ most) → (n : ℕ) → o ≡ Some n → n ≤ most
-most_of most o fits n is = rw is at fits
-
-size_good : (o : Option ℕ) → IfSome o (λ n. n ≤ 65535) → (n : ℕ) → o ≡ Some n → u16_of (natural_file n) ≡ good n
-size_good o fits n is = natural_good 65535 n (most_of 65535 o fits n is)
-
-number_good : (o : Option ℕ) → IfSome o (λ n. n ≤ 4294967295) → (n : ℕ) → o ≡ Some n → u32_of (natural_file n) ≡ good n
-number_good o fits n is = natural_good 4294967295 n (most_of 4294967295 o fits n is)
+up_to : (most : ℕ) (o : Option ℕ) → IfSome o (λ n. n ≤ most) → (n : ℕ) → o ≡ Some n → natural most (natural_file n) ≡ good n
+up_to most o fits n is = natural_good most n (rw is at fits)
 
 count_made : (asks : Bool) (c : Count)
     → count_as (option_map (λ n. n) (capacity_in c)) (option_map (λ n. n) (length_in c)) (option_map (number_shown asks) (counter_in c))
@@ -191,8 +163,8 @@ module _ (asks : Bool) (own : List (List ℕ)) (names : Names) (may : ℕ → Bo
     count_back : FitsField f → Named f → count_of names d ≡ good (count_shown asks f.count)
     count_back fits named =
         rw (
-          optional u32_of natural_file (λ n. n) (codes "capacity") (capacity_in f.count) (or_none _) (number_good (capacity_in f.count) fits.count.capacity),
-          optional u32_of natural_file (λ n. n) (codes "count") (length_in f.count) (or_none _) (number_good (length_in f.count) fits.count.length),
+          optional u32_of natural_file (λ n. n) (codes "capacity") (capacity_in f.count) (or_none _) (up_to 4294967295 (capacity_in f.count) fits.count.capacity),
+          optional u32_of natural_file (λ n. n) (codes "count") (length_in f.count) (or_none _) (up_to 4294967295 (length_in f.count) fits.count.length),
           optional (name_in names) (λ k. string (get_or own k [])) (number_shown asks) (codes "counted") (counter_in f.count) (or_none _) named.counter,
           count_made asks f.count,
         )
@@ -223,8 +195,8 @@ module _ (asks : Bool) (own : List (List ℕ)) (names : Names) (may : ℕ → Bo
           got (codes "name") table _ refl,
           default_good u32_of (codes "since") d (natural_file f.since) 0 f.since (f.since == 0) (got (codes "since") table _ (or_none _))
               (λ e. sym (eqb-true f.since 0 e)) (λ e. natural_good 4294967295 f.since fits.since),
-          optional u16_of natural_file (λ n. n) (codes "size") (size_in f.item) (or_none _) (size_good (size_in f.item) fits.item.bytes),
-          optional u32_of natural_file (λ n. n) (codes "struct") (struct_in f.item) (or_none _) (number_good (struct_in f.item) fits.item.number),
+          optional u16_of natural_file (λ n. n) (codes "size") (size_in f.item) (or_none _) (up_to 65535 (size_in f.item) fits.item.bytes),
+          optional u32_of natural_file (λ n. n) (codes "struct") (struct_in f.item) (or_none _) (up_to 4294967295 (struct_in f.item) fits.item.number),
           optional (test_of (record { own = names; parent = None })) (test_file own []) (test_shown asks) (codes "test") f.test (or_none _) named.test,
         )
         (ap good (field_made asks f))

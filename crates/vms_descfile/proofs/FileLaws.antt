@@ -82,11 +82,11 @@ module _ {C : Type 0} where
       → AreFine C n ms
       → AreFine C n (given_as k f o ms)
   given_fine n k f None ms all q = q
-  given_fine n k f (Some a) ms all q = put_fine k (f a) ms (all a refl) q
+  given_fine n k f (Some a) ms all q = put_fine _ _ _ (all a refl) q
 
   unless_fine : {n : ℕ} (b : Bool) (k : List ℕ) (d : Data) (ms : Members) → IsFine C n d → AreFine C n ms → AreFine C n (unless b k d ms)
   unless_fine true k d ms p q = q
-  unless_fine false k d ms p q = put_fine k d ms p q
+  unless_fine false k d ms p q = put_fine _ _ _ p q
 
   list_as_fine : {A : Type 0} (n : ℕ) (k : List ℕ) (f : A → Data) (xs : List A) (ms : Members)
       → ((i : ℕ) (x : A) → slice_get xs i ≡ Some x → IsFine C n (f x)) → AreFine C (suc n) ms → AreFine C (suc n) (list_as k f xs ms)
@@ -116,14 +116,8 @@ module _ {C : Type 0} where
   test_fine own parent (Cell Own k mask rel value) = let r = rel_fine rel in record { few = λ c. omega (arith, r.few c); whole = rw r.whole }
   test_fine own parent (Cell Parent k mask rel value) = let r = rel_fine rel in record { few = λ c. omega (arith, r.few c); whole = rw r.whole }
   test_fine own parent (Not t) = let inner = test_fine own parent t in record { few = λ c. omega (arith, inner.few c); whole = rw inner.whole }
-  test_fine own parent (And s t) =
-      let p = test_fine own parent s in
-      let q = test_fine own parent t in
-      record { few = λ c. omega (arith, p.few c, q.few c); whole = rw (p.whole, q.whole) }
-  test_fine own parent (Or s t) =
-      let p = test_fine own parent s in
-      let q = test_fine own parent t in
-      record { few = λ c. omega (arith, p.few c, q.few c); whole = rw (p.whole, q.whole) }
+  test_fine own parent (And s t) = search (arith, test_fine own parent s, test_fine own parent t)
+  test_fine own parent (Or s t) = search (arith, test_fine own parent s, test_fine own parent t)
 
   small_fine : {n : ℕ} (own parent : List (List ℕ)) (t : Formula) → 32 ≤ n → (C → is_small_test t ≡ true) → IsFine C n (test_file own parent t)
   small_fine own parent t le small =

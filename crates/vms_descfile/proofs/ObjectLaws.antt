@@ -98,10 +98,9 @@ has_is k table o is = ap is_some (got k table o is)
 
 put_known : (keys : List (List ℕ)) (k : List ℕ) (d : Data) (ms : Members) → is_one_of keys k ≡ true → has_no_others keys ms ≡ true
     → has_no_others keys (put k d ms) ≡ true
-put_known keys k d no_members known rest = and_from (is_one_of keys k) true known refl
+put_known keys k d no_members known rest = and_from _ true known refl
 put_known keys k d (member l e ms) known rest =
-    let parts = and_parts (is_one_of keys l) (has_no_others keys ms) rest in
-    let more = put_known keys k d ms known parts.1 in
+    let more = put_known keys k d ms known (and_parts (is_one_of keys l) (has_no_others keys ms) rest).1 in
     grind arith
 
 put_if_known : (keys : List (List ℕ)) (k : List ℕ) (o : Option Data) (ms : Members) → is_one_of keys k ≡ true → has_no_others keys ms ≡ true
@@ -188,7 +187,7 @@ each_good says file shown i (x ∷ xs) said =
 
 pub list_good : {A B : Type 0} (says : Data → Answer B) (file : A → Data) (shown : A → B) (xs : List A)
     → ((k : ℕ) (x : A) → slice_get xs k ≡ Some x → says (file x) ≡ good (shown x)) → list_of says (list_file file xs) ≡ good (map shown xs)
-list_good says file shown xs said = each_good says file shown 0 xs said
+list_good says file shown xs said = each_good says file shown 0 _ said
 
 pub list_or_good : {A B : Type 0} (says : Data → Answer B) (file : A → Data) (shown : A → B) (key : List ℕ) (d : Data) (xs : List A)
     → get key d ≡ listed file xs → ((k : ℕ) (x : A) → slice_get xs k ≡ Some x → says (file x) ≡ good (shown x))
@@ -266,4 +265,4 @@ mapped g P (x ∷ xs) all (suc i) y there = mapped g P xs (λ j z e. all (suc j)
 -- the same for an equal list
 pub mapped_of : {A B : Type 0} (g : A → B) (P : B → Type 0) (ys xs : List A) → ys ≡ xs → ((i : ℕ) (x : A) → slice_get ys i ≡ Some x → P (g x))
     → (i : ℕ) (y : B) → slice_get (map g xs) i ≡ Some y → P y
-mapped_of g P ys xs is all = mapped g P xs (rw is at all)
+mapped_of g P ys xs is all = mapped g P _ (rw is at all)

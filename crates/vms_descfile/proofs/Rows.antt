@@ -1,5 +1,5 @@
 -- What worked files say.
-use Rattle.vms_descfile.proofs.Facade.{◌≡◌, List, ℕ, codes, refl, digits, is_utf8, chars, serde_json_on_literals, here, first_fault, counted_set, tested_set}
+use Rattle.vms_descfile.proofs.Facade.{◌≡◌, List, ℕ, codes, digits, is_utf8, chars, serde_json_on_literals, here, first_fault, counted_set, tested_set}
 use Rattle.vms_descfile.proofs.Facade.{parts_of, Said, Parts, Syntax, Shape, IllFormed, file_said}
 use Rattle.vms_spec.specs.declared.Part.TheVariants as parts
 
@@ -7,88 +7,35 @@ unfoldable said : List ℕ → Said
 unfolding serde_json_on_literals digits chars is_utf8 first_fault parts_of file_said
 said text = file_said text
 
--- The box of the worked rows.
+record FileRows : Type 0 where
+  -- The box of the worked rows.
+  says_a_counted_array : said (codes "{\"devices\":[{\"desc\":{\"fields\":[{\"kind\":\"u8\",\"name\":\"n\"},{\"capacity\":2,\"counted\":\"n\",\"kind\":\"u16\",\"name\":\"v\"}],\"name\":\"box\",\"version\":1},\"instance\":0}],\"machines\":[\"lab\"],\"structs\":[]}")
+      ≡ Parts counted_set
+  says_tests_and_validations : said (codes "{\"devices\":[{\"desc\":{\"fields\":[{\"kind\":\"u8\",\"name\":\"f\"},{\"kind\":\"u8\",\"name\":\"g\",\"test\":{\"field\":\"f\",\"is\":\"eq\",\"mask\":255,\"value\":1}}],\"name\":\"box\",\"validate\":[{\"field\":\"f\",\"is\":\"lt\",\"mask\":255,\"value\":10}],\"version\":1},\"instance\":0}],\"machines\":[\"lab\"],\"structs\":[]}")
+      ≡ Parts tested_set
+  -- Texts that are no JSON value.
+  says_no_json : said (codes "{") ≡ Syntax
+  -- Shapes: first at the whole, then by key and by position.
+  says_a_key_too_many : said (codes "{\"devices\":[],\"machines\":[],\"more\":0,\"structs\":[]}") ≡ Shape (codes "file")
+  says_machine_of_another_type : said (codes "{\"devices\":[],\"machines\":[7],\"structs\":[]}") ≡ Shape (codes "machines.0")
+  says_keys_in_byte_order : said (codes "{\"structs\":7,\"machines\":7,\"devices\":[]}") ≡ Shape (codes "machines")
+  -- Numbers are whole ones of 64 bits.
+  says_float_as_version : said (codes "{\"devices\":[{\"desc\":{\"fields\":[],\"name\":\"box\",\"version\":1.0},\"instance\":0}],\"machines\":[],\"structs\":[]}")
+      ≡ Shape (codes "devices.0.desc.version")
+  -- Keys that exclude each other, or depend on the kind.
+  says_equal_with_default : said (codes "{\"devices\":[{\"desc\":{\"fields\":[{\"kind\":\"u8\",\"name\":\"f\"},{\"default\":1,\"equal\":1,\"kind\":\"u8\",\"name\":\"g\"}],\"name\":\"box\",\"version\":1},\"instance\":0}],\"machines\":[],\"structs\":[]}")
+      ≡ Shape (codes "devices.0.desc.fields.1")
+  says_unknown_kind : said (codes "{\"devices\":[{\"desc\":{\"fields\":[{\"kind\":\"u8\",\"name\":\"f\"},{\"kind\":\"u9\",\"name\":\"g\",\"size\":2}],\"name\":\"box\",\"version\":1},\"instance\":0}],\"machines\":[],\"structs\":[]}")
+      ≡ Shape (codes "devices.0.desc.fields.1.kind")
+  -- Names are looked up if nothing else is invalid, and only in the right lists.
+  says_name_that_is_not_there : said (codes "{\"devices\":[{\"desc\":{\"fields\":[],\"name\":\"box\",\"validate\":[{\"not\":{\"field\":\"f\",\"is\":\"eq\",\"mask\":1,\"value\":0}}],\"version\":1},\"instance\":0}],\"machines\":[],\"structs\":[]}")
+      ≡ Shape (codes "devices.0.desc.validate.0.not.field")
+  says_shapes_before_names : said (codes "{\"devices\":[{\"desc\":{\"fields\":[],\"name\":\"box\",\"validate\":[{\"field\":\"f\",\"is\":\"eq\",\"mask\":1,\"value\":0}],\"version\":1},\"instance\":0}],\"machines\":[],\"structs\":7}")
+      ≡ Shape (codes "structs")
+  -- The rules of sets.
+  says_minimum_above_version : said (codes "{\"devices\":[{\"desc\":{\"fields\":[],\"minimum\":2,\"name\":\"box\",\"version\":1},\"instance\":0}],\"machines\":[],\"structs\":[]}")
+      ≡ IllFormed (record { rule = 3; place = here (parts.Device 0) })
 
-says_a_counted_array :
-    said (codes "{\"devices\":[{\"desc\":{\"fields\":[{\"kind\":\"u8\",\"name\":\"n\"},{\"capacity\":2,\"counted\":\"n\",\"kind\":\"u16\",\"name\":\"v\"}],\"name\":\"box\",\"version\":1},\"instance\":0}],\"machines\":[\"lab\"],\"structs\":[]}")
-    ≡ Parts counted_set
+file_rows : FileRows
 unfolding said
-says_a_counted_array = refl
-
-says_tests_and_validations :
-    said (codes "{\"devices\":[{\"desc\":{\"fields\":[{\"kind\":\"u8\",\"name\":\"f\"},{\"kind\":\"u8\",\"name\":\"g\",\"test\":{\"field\":\"f\",\"is\":\"eq\",\"mask\":255,\"value\":1}}],\"name\":\"box\",\"validate\":[{\"field\":\"f\",\"is\":\"lt\",\"mask\":255,\"value\":10}],\"version\":1},\"instance\":0}],\"machines\":[\"lab\"],\"structs\":[]}")
-    ≡ Parts tested_set
-unfolding said
-says_tests_and_validations = refl
-
--- Texts that are no JSON value.
-
-says_no_json :
-    said (codes "{")
-    ≡ Syntax
-unfolding said
-says_no_json = refl
-
--- Shapes: first at the whole, then by key and by position.
-
-says_a_key_too_many :
-    said (codes "{\"devices\":[],\"machines\":[],\"more\":0,\"structs\":[]}")
-    ≡ Shape (codes "file")
-unfolding said
-says_a_key_too_many = refl
-
-says_machine_of_another_type :
-    said (codes "{\"devices\":[],\"machines\":[7],\"structs\":[]}")
-    ≡ Shape (codes "machines.0")
-unfolding said
-says_machine_of_another_type = refl
-
-says_keys_in_byte_order :
-    said (codes "{\"structs\":7,\"machines\":7,\"devices\":[]}")
-    ≡ Shape (codes "machines")
-unfolding said
-says_keys_in_byte_order = refl
-
--- Numbers are whole ones of 64 bits.
-
-says_float_as_version :
-    said (codes "{\"devices\":[{\"desc\":{\"fields\":[],\"name\":\"box\",\"version\":1.0},\"instance\":0}],\"machines\":[],\"structs\":[]}")
-    ≡ Shape (codes "devices.0.desc.version")
-unfolding said
-says_float_as_version = refl
-
--- Keys that exclude each other, or depend on the kind.
-
-says_equal_with_default :
-    said (codes "{\"devices\":[{\"desc\":{\"fields\":[{\"kind\":\"u8\",\"name\":\"f\"},{\"default\":1,\"equal\":1,\"kind\":\"u8\",\"name\":\"g\"}],\"name\":\"box\",\"version\":1},\"instance\":0}],\"machines\":[],\"structs\":[]}")
-    ≡ Shape (codes "devices.0.desc.fields.1")
-unfolding said
-says_equal_with_default = refl
-
-says_unknown_kind :
-    said (codes "{\"devices\":[{\"desc\":{\"fields\":[{\"kind\":\"u8\",\"name\":\"f\"},{\"kind\":\"u9\",\"name\":\"g\",\"size\":2}],\"name\":\"box\",\"version\":1},\"instance\":0}],\"machines\":[],\"structs\":[]}")
-    ≡ Shape (codes "devices.0.desc.fields.1.kind")
-unfolding said
-says_unknown_kind = refl
-
--- Names are looked up if nothing else is invalid, and only in the right lists.
-
-says_name_that_is_not_there :
-    said (codes "{\"devices\":[{\"desc\":{\"fields\":[],\"name\":\"box\",\"validate\":[{\"not\":{\"field\":\"f\",\"is\":\"eq\",\"mask\":1,\"value\":0}}],\"version\":1},\"instance\":0}],\"machines\":[],\"structs\":[]}")
-    ≡ Shape (codes "devices.0.desc.validate.0.not.field")
-unfolding said
-says_name_that_is_not_there = refl
-
-says_shapes_before_names :
-    said (codes "{\"devices\":[{\"desc\":{\"fields\":[],\"name\":\"box\",\"validate\":[{\"field\":\"f\",\"is\":\"eq\",\"mask\":1,\"value\":0}],\"version\":1},\"instance\":0}],\"machines\":[],\"structs\":7}")
-    ≡ Shape (codes "structs")
-unfolding said
-says_shapes_before_names = refl
-
--- The rules of sets.
-
-says_minimum_above_version :
-    said (codes "{\"devices\":[{\"desc\":{\"fields\":[],\"minimum\":2,\"name\":\"box\",\"version\":1},\"instance\":0}],\"machines\":[],\"structs\":[]}")
-    ≡ IllFormed (record { rule = 3; place = here (parts.Device 0) })
-unfolding said
-says_minimum_above_version = refl
+file_rows = search

@@ -6,9 +6,9 @@ use Rattle.vms_descfile.proofs.Facade.{nat_le, arith, position, position_or_len,
 use Rattle.vms_descfile.proofs.Facade.{length-map, bytes_eq-Decides, slice_get_within, all_names, are_new, is_one_of, is_steady, is_steady_in, is_earlier_in}
 use Rattle.vms_descfile.proofs.Facade.{has_few, Clean, good, number_in, own_names, ◌-◌, ◌<◌, subst, Result, unary_clauses, Data, formula, Test, Form}
 use Rattle.vms_descfile.proofs.Facade.{Fault, Answer, next, Refuses, Answers, Scope, test_within, test_as, form_of, max, Ordering, Equal, sym, codes, same_Some}
-use Rattle.vms_descfile.proofs.Facade.{nat_cmp, match_ordering, slice_cmp, array, object, no_items, item, Members, no_members, member, depth, members_depth}
-use Rattle.vms_descfile.proofs.Facade.{get, get_member, DEEPEST, bad, under, changed, member_of, Pair, key_of, joined, two_of, both, DepthLaw, string, put, Rel}
-use Rattle.vms_descfile.proofs.Facade.{Own, Parent, names_well, u32_of, u64_of, rel_of, parent_cell, with_parent, natural_file, rel_file}
+use Rattle.vms_descfile.proofs.Facade.{nat_cmp, match_ordering, slice_cmp, object, item, Members, no_members, member, depth, members_depth, get, get_member}
+use Rattle.vms_descfile.proofs.Facade.{DEEPEST, bad, under, changed, member_of, Pair, key_of, joined, two_of, both, DepthLaw, string, put, Rel, Own, Parent}
+use Rattle.vms_descfile.proofs.Facade.{names_well, rel_of, parent_cell, with_parent, rel_file}
 use Rattle.vms_descfile.proofs.ObjectLaws.{natural_good}
 use Rattle.vms_spec.specs.Rules.{depth as test_depth}
 use Rattle.vms_json.specs.declared.fault.Fault.TheVariants as faults
@@ -124,12 +124,11 @@ first_place : (fields : List Field) (k : ℕ) (f : Field) → slice_get fields k
     → position_or_len (λ n. bytes_eq n f.name) (own_names fields) ≡ k
 first_place [] k f there none = cc
 first_place (g ∷ fields) zero f there none =
-    let same : g ≡ f = cc in
-    here (λ n. bytes_eq n f.name) g.name (own_names fields) (ap (λ (h : Field). bytes_eq h.name f.name) same ∙ (bytes_eq-Decides f.name f.name).1 refl)
+    let same : g ≡ f = cc in rw (ap (λ (h : Field). bytes_eq h.name f.name) same ∙ (bytes_eq-Decides f.name f.name).1 refl)
 first_place (g ∷ fields) (suc k) f there none =
     let parts = or_parts (bytes_eq g.name f.name) (is_one_of (g.former ++ all_names (take k fields)) f.name) none in
-    later (λ n. bytes_eq n f.name) g.name (own_names fields) parts.0
-    ∙ one_more (first_place fields k f there (neither g.former (all_names (take k fields)) f.name parts.1))
+    let rest = first_place fields k f there (neither g.former (all_names (take k fields)) f.name parts.1) in
+    rw parts.0 (omega arith)
 
 name_got : (fields : List Field) (k : ℕ) (f : Field) → slice_get fields k ≡ Some f → get_or (own_names fields) k [] ≡ f.name
 name_got [] k f there = cc
@@ -142,7 +141,7 @@ number_found : (asks : Bool) (fields : List Field) (k : ℕ) (f : Field) → len
 number_found false fields k f few there none = refl
 number_found true fields k f few there none =
     let names = own_names fields in
-    let place = first_place fields k f there none in
+    let place = first_place _ _ _ there none in
     let least : min k 4294967295 ≡ k = omega (arith, slice_get_within fields k f there) in
     let is_position : position (λ n. bytes_eq n f.name) names ≡ Some k =
     cc (lt-ltb k (length names) (omega (arith, slice_get_within fields k f there, length-map fields (λ (g : Field). g.name)))) in
@@ -156,7 +155,7 @@ pub record Found (asks : Bool) (d : Desc) : Type 0 where
       → number_in (asked asks (own_names d.fields)) (get_or (own_names d.fields) k []) ≡ good (number_shown asks k)
 
 pub all_found : (asks : Bool) (n : ℕ) (d : Desc) (rules : List Bool) → Clean n d rules → has_few d ≡ true → Found asks d
-all_found asks n d rules c few = record { number = λ k steady. by_field k (slice_get d.fields k) refl steady }
+all_found asks n d rules c few = record { number = λ k steady. by_field _ _ refl steady }
   where
     by_field : (k : ℕ) (o : Option Field) → slice_get d.fields k ≡ o → is_steady d.minimum o ≡ true
         → number_in (asked asks (own_names d.fields)) (get_or (own_names d.fields) k []) ≡ good (number_shown asks k)
@@ -165,7 +164,7 @@ all_found asks n d rules c few = record { number = λ k steady. by_field k (slic
         let earlier = all_names (take k d.fields) in
         let new = and_parts (not (is_one_of earlier f.name)) (are_new (f.name ∷ earlier) f.former) (c.fields k f there).1.0 in
         let short = leb-true (length d.fields) 256 (and_parts (nat_le (length d.fields) 256) (nat_le (length d.validate) 16) few).0 in
-        number_found asks d.fields k f short there (not-true (is_one_of earlier f.name) new.0)
+        number_found _ _ _ _ short there (not-true (is_one_of earlier f.name) new.0)
 
 pub earlier_found : (asks : Bool) (d : Desc) (i k : ℕ) → Found asks d → is_earlier_in d i k ≡ true
     → number_in (asked asks (own_names d.fields)) (get_or (own_names d.fields) k []) ≡ good (number_shown asks k)
@@ -205,11 +204,7 @@ or_this p (good q) = q
 or_this p (bad path) = p
 
 pair_nests : (d : Data) (p : Pair) → two_of d ≡ good p → (depth p.first ≤ depth d) × (depth p.second ≤ depth d)
-pair_nests (array (item a (item b no_items))) p is =
-    let whole = depth (array (item a (item b no_items))) in
-    let same : (record { first = a; second = b }) ≡ p = ap (or_this p) is in
-    (subst (λ (q : Pair). depth q.first ≤ whole) same (omega arith), subst (λ (q : Pair). depth q.second ≤ whole) same (omega arith))
-pair_nests _ p is = absurd (cc)
+pair_nests d p is = search (arith)
 
 -- ---- what a value says depends on what its parts say
 
@@ -229,7 +224,7 @@ pair_same : (inner other : Data → Answer Formula) (key : List ℕ) (join : For
     (λ p. under key (both join (other p.first) (other p.second)))
 pair_same inner other key join None same = refl
 pair_same inner other key join (Some e) same =
-    two_same inner other key join (two_of e) (λ p is. let nest = pair_nests e p is in (same e refl p.first nest.0, same e refl p.second nest.1))
+    two_same inner other _ join _ (λ p is. let nest = pair_nests e p is in (same e refl p.first nest.0, same e refl p.second nest.1))
 
 as_same : (form : Form) (inner other : Data → Answer Formula) (scope : Scope) (d : Data)
     → ((e : Data) → suc (depth e) ≤ depth d → inner e ≡ other e)
@@ -237,7 +232,7 @@ as_same : (form : Form) (inner other : Data → Answer Formula) (scope : Scope) 
 as_same forms.Not inner other scope d same =
     ap (changed _) (of_same inner other (codes "not") (get (codes "not") d) (λ e is. same e (get_nests (codes "not") d e is)))
 as_same (forms.Two join) inner other scope d same =
-    pair_same inner other (key_of join) (joined join) (get (key_of join) d) (λ e is f nests. same f (omega (arith, get_nests (key_of join) d e is)))
+    pair_same inner other _ (joined join) _ (λ e is f nests. same f (omega (arith, get_nests (key_of join) d e is)))
 as_same (forms.Leaf leaf) inner other scope d same = refl
 
 -- a value without parts is no test
@@ -265,18 +260,13 @@ pub record Scoped (asks : Bool) (own parent : List (List ℕ)) (may may_parent :
 rel_good : (rel : Rel) → rel_of (rel_file rel) ≡ good rel
 rel_good rel = grind arith
 
-u32_good : (n : ℕ) → n ≤ 4294967295 → u32_of (natural_file n) ≡ good n
-u32_good n le = natural_good 4294967295 n le
-
-u64_good : (n : ℕ) → n ≤ 18446744073709551615 → u64_of (natural_file n) ≡ good n
-u64_good n le = natural_good 18446744073709551615 n le
-
 with_good : (o : Option Names) (name : List ℕ) (m mask : ℕ) (rel : Rel) (value : ℕ) → with_parent (λ names. number_in names name) o ≡ good m
     → mask ≤ 18446744073709551615 → value ≤ 18446744073709551615
     → with_parent (λ names. parent_cell names (object (put (codes "parent") (string name) (compared_file mask rel value)))) o ≡ good
     (Cell Parent m mask rel value)
 with_good None name m mask rel value found fits_mask fits_value = cc
-with_good (Some names) name m mask rel value found fits_mask fits_value = rw (rel_good rel, u64_good mask fits_mask, found, u64_good value fits_value)
+with_good (Some names) name m mask rel value found fits_mask fits_value =
+    rw (rel_good rel, natural_good 18446744073709551615 mask fits_mask, found, natural_good 18446744073709551615 value fits_value)
 
 module _ (asks : Bool) (own parent : List (List ℕ)) (may may_parent : ℕ → Bool) (scope : Scope)
     (scoped : Scoped asks own parent may may_parent scope) where
@@ -284,12 +274,11 @@ module _ (asks : Bool) (own parent : List (List ℕ)) (may may_parent : ℕ → 
       → test_within n scope (test_file own parent t) ≡ good (test_shown asks t)
   test_back zero (AtLeast m) deep fits well = absurd (omega arith)
   test_back zero _ deep fits well = absurd (omega arith)
-  test_back (suc n) (AtLeast m) deep fits well = rw (u32_good m fits)
-  test_back (suc n) (Below m) deep fits well = rw (u32_good m fits)
+  test_back (suc n) (AtLeast m) deep fits well = rw (natural_good 4294967295 m fits)
+  test_back (suc n) (Below m) deep fits well = rw (natural_good 4294967295 m fits)
   test_back (suc n) (Cell Own k mask rel value) deep fits well =
-      rw (scoped.found k well, rel_good rel, u64_good mask fits.0, u64_good value fits.1)
-  test_back (suc n) (Cell Parent k mask rel value) deep fits well =
-      with_good scope.parent (get_or parent k []) (number_shown asks k) mask rel value (scoped.found_above k well) fits.0 fits.1
+      rw (scoped.found k well, rel_good rel, natural_good 18446744073709551615 mask fits.0, natural_good 18446744073709551615 value fits.1)
+  test_back (suc n) (Cell Parent k mask rel value) deep fits well = with_good _ _ _ _ _ _ (scoped.found_above k well) fits.0 fits.1
   test_back (suc n) (Not t) deep fits well = rw (test_back n t (omega arith) fits well)
   test_back (suc n) (And s t) deep fits well =
       let parts = and_parts (names_well may may_parent s) (names_well may may_parent t) well in

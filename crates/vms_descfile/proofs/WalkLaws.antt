@@ -1,21 +1,18 @@
 -- The walk that looks up names, and what a description says if it names no field.
-use Rattle.vms_descfile.proofs.Facade.{◌≡◌, ℕ, ◌+◌, Bool, true, false, ◌&&◌, ◌||◌, List, [], Option, Some, None, is_some, option_and_then}
-use Rattle.vms_descfile.proofs.Facade.{refl, sym, ◌∙◌, codes, decimal, false≢true, or_parts, Data, Items, no_items, item, get, as_array, Answer, good}
-use Rattle.vms_descfile.proofs.Facade.{bad, under, next, changed, each_from, each_of, list_of, has, judged, member_of, member_or, at, at_or, maybe_at, u16_of}
-use Rattle.vms_descfile.proofs.Facade.{u32_of, text_of, Names, names_if, name_in, Front, sort_of, count_of, front_of, field_after, field_of, Head, head_of}
-use Rattle.vms_descfile.proofs.Facade.{rest_of, struct_in, sub_of, whole_in, asks_a_name, some_ask, asks_in, asks_names, zero, suc, pos, Formula, Set, DEEPEST}
-use Rattle.vms_descfile.proofs.Facade.{Form, Leaf, Fault, Refuses, integer_of, u64_of, Scope, key_of, rel_of, two_of, own_cell, parent_cell, with_parent}
-use Rattle.vms_descfile.proofs.Facade.{leaf_as, both, test_as, test_within, test_of, struct_of, whole_of, device_of, set_of, parts_of}
+use Rattle.vms_descfile.proofs.Facade.{◌≡◌, ℕ, ◌+◌, Bool, true, false, ◌&&◌, List, [], Option, Some, None, is_some, option_and_then, refl}
+use Rattle.vms_descfile.proofs.Facade.{◌∙◌, arith, codes, or_parts, Data, Items, no_items, item, get, as_array, Answer, good, bad, under, next, changed}
+use Rattle.vms_descfile.proofs.Facade.{each_from, each_of, list_of, has, judged, member_of, member_or, at, at_or, maybe_at, u16_of, u32_of, text_of, Names}
+use Rattle.vms_descfile.proofs.Facade.{names_if, name_in, Front, sort_of, count_of, front_of, field_after, field_of, Head, head_of, rest_of, struct_in, sub_of}
+use Rattle.vms_descfile.proofs.Facade.{whole_in, asks_a_name, some_ask, asks_in, asks_names, zero, suc, pos, Formula, Set, DEEPEST, Form, Leaf, Fault, Refuses}
+use Rattle.vms_descfile.proofs.Facade.{integer_of, u64_of, Scope, rel_of, own_cell, parent_cell, with_parent, leaf_as, both, test_as, test_within, test_of}
+use Rattle.vms_descfile.proofs.Facade.{struct_of, whole_of, device_of, set_of, parts_of}
 use Rattle.std.specs.Option.{option_map}
-use Rattle.vms_descfile.specs.declared.read.cells.Form.TheVariants as forms
 use Rattle.vms_descfile.specs.declared.read.cells.Leaf.TheVariants as leaves
-use Rattle.vms_json.specs.declared.fault.Fault.TheVariants as faults
 
 -- ---- a member that doesn't exist
 
 missing : {A : Type 0} (o : Option A) → is_some o ≡ false → o ≡ None
-missing None e = refl
-missing (Some a) e = absurd (false≢true (sym e))
+missing o e = grind arith
 
 module _ (names : Names) where
   field_same : (d : Data) → asks_a_name d ≡ false → field_of names d ≡ field_of None d
@@ -31,13 +28,7 @@ module _ (names : Names) where
 
   members_same : (o : Option Data) → asks_in (option_and_then as_array o) ≡ false
       → member_of (list_of (field_of names)) (codes "fields") o ≡ member_of (list_of (field_of None)) (codes "fields") o
-  members_same None none = refl
-  members_same (Some d) none = by_items (as_array d) none
-    where
-      by_items : (o : Option Items) → asks_in o ≡ false
-          → under (codes "fields") (each_of (field_of names) o) ≡ under (codes "fields") (each_of (field_of None) o)
-      by_items None none = refl
-      by_items (Some ds) none = rw (fields_same 0 ds none)
+  members_same o none = grind (arith, fields_same)
 
   -- ---- descriptions
 
@@ -45,24 +36,17 @@ module _ (names : Names) where
   head_same d none = rw (members_same (get (codes "fields") d) none)
 
   struct_same : (d : Data) → asks_names d ≡ false → struct_in None d ≡ struct_in names d
-  struct_same d none =
-      let parts = or_parts (has (codes "validate") d) (has (codes "subsections") d || asks_in (option_and_then as_array (get (codes "fields") d))) none in
-      let more = or_parts (has (codes "subsections") d) (asks_in (option_and_then as_array (get (codes "fields") d))) parts.1 in
-      simp (head_same d more.1, missing (get (codes "validate") d) parts.0)
+  struct_same d none = grind (arith, or_parts, head_same)
 
   whole_same : (asks : Bool) (d : Data) → asks_names d ≡ false → whole_in asks None d ≡ whole_in asks names d
-  whole_same asks d none =
-      let parts = or_parts (has (codes "validate") d) (has (codes "subsections") d || asks_in (option_and_then as_array (get (codes "fields") d))) none in
-      let more = or_parts (has (codes "subsections") d) (asks_in (option_and_then as_array (get (codes "fields") d))) parts.1 in
-      simp (head_same d more.1, missing (get (codes "subsections") d) more.0, missing (get (codes "validate") d) parts.0)
+  whole_same asks d none = grind (arith, or_parts, head_same)
 
 -- ---- a walk that looks up no names
 
 -- a walk that does has the names of the fields
 pub names_looked_up : (asks asked : Bool) (d : Data) (o : Names) → asked ≡ (asks && asks_names d) → asked ≡ true → o ≡ names_if true d
     → o ≡ names_if asks d
-names_looked_up true asked d o is true_is same = same
-names_looked_up false asked d o is true_is same = absurd (cc)
+names_looked_up asks asked d o is true_is same = grind arith
 
 pub struct_unasked : (asks : Bool) (d : Data) → (asks && asks_names d) ≡ false → struct_in None d ≡ struct_in (names_if asks d) d
 struct_unasked false d none = refl
@@ -93,27 +77,19 @@ never path y = record { holds = λ h. absurd h }
 
 next_then : {A B C D : Type 0} (x : Answer A) (y : Answer B) (f : A → Answer C) (g : B → Answer D) → Then x y → ((a : A) (b : B) → Then (f a) (g b))
     → Then (next x f) (next y g)
-next_then (good a) (good b) f g t c = c a b
-next_then (good a) (bad path) f g t c = record { holds = λ h. absurd (t.holds tt) }
-next_then (bad path) y f g t c = never path _
+next_then x y f g t c = grind arith
 
 next_same : {A C D : Type 0} (x : Answer A) (f : A → Answer C) (g : A → Answer D) → ((a : A) → Then (f a) (g a)) → Then (next x f) (next x g)
-next_same (good a) f g c = c a
-next_same (bad path) f g c = never path _
+next_same x f g c = grind arith
 
 changed_then : {A B C D : Type 0} (f : A → C) (g : B → D) (x : Answer A) (y : Answer B) → Then x y → Then (changed f x) (changed g y)
-changed_then f g (good a) (good b) t = always _ _
-changed_then f g (good a) (bad path) t = record { holds = λ h. absurd (t.holds tt) }
-changed_then f g (bad path) y t = never path _
+changed_then f g x y t = grind arith
 
 under_then : {A B : Type 0} (key : List ℕ) (x : Answer A) (y : Answer B) → Then x y → Then (under key x) (under key y)
-under_then key (good a) (good b) t = always _ _
-under_then key (good a) (bad path) t = record { holds = λ h. absurd (t.holds tt) }
-under_then key (bad path) y t = never _ _
+under_then key x y t = grind arith
 
 judged_then : {A B : Type 0} (b : Bool) (x : Answer A) (y : Answer B) → Then x y → Then (judged b x) (judged b y)
-judged_then true x y t = t
-judged_then false x y t = never [] _
+judged_then b x y t = grind arith
 
 -- ---- members and items
 
@@ -123,47 +99,41 @@ Thens says others = (d : Data) → Then (says d) (others d)
 
 of_then : {A B : Type 0} (says : Data → Answer A) (others : Data → Answer B) (key : List ℕ) (o : Option Data) → Thens says others
     → Then (member_of says key o) (member_of others key o)
-of_then says others key None t = never [] _
-of_then says others key (Some d) t = under_then key (says d) (others d) (t d)
+of_then says others key o t = grind (arith, under_then)
 
 at_then : {A B : Type 0} (says : Data → Answer A) (others : Data → Answer B) (key : List ℕ) → Thens says others → Thens (at says key) (at others key)
-at_then says others key t = λ d. of_then says others key (get key d) t
+at_then says others key t = λ d. of_then says others _ _ t
 
 else_then : {A B : Type 0} (x : A) (y : B) (says : Data → Answer A) (others : Data → Answer B) (key : List ℕ) (o : Option Data) → Thens says others
     → Then (member_or x says key o) (member_or y others key o)
-else_then x y says others key None t = always _ _
-else_then x y says others key (Some d) t = under_then key (says d) (others d) (t d)
+else_then x y says others key o t = grind (arith, under_then)
 
 or_then : {A B : Type 0} (x : A) (y : B) (says : Data → Answer A) (others : Data → Answer B) (key : List ℕ) → Thens says others
     → Thens (at_or x says key) (at_or y others key)
-or_then x y says others key t = λ d. else_then x y says others key (get key d) t
+or_then x y says others key t = λ d. else_then _ _ says others _ _ t
 
 maybe_then : {A B : Type 0} (says : Data → Answer A) (others : Data → Answer B) (key : List ℕ) → Thens says others
     → Thens (maybe_at says key) (maybe_at others key)
-maybe_then {A = A} {B = B} says others key t =
-    or_then {A =
-    Option A} {B =
-    Option B} None None (λ d. changed Some (says d)) (λ d. changed Some (others d)) key (λ d. changed_then Some Some (says d) (others d) (t d))
+maybe_then {A} {B} says others key t =
+    or_then {A = Option A} {B = Option B} None None (λ d. changed Some (says d)) (λ d. changed Some (others d)) key (λ d. changed_then _ _ _ _ (t d))
 
 each_then : {A B : Type 0} (says : Data → Answer A) (others : Data → Answer B) (i : ℕ) (ds : Items) → Thens says others
     → Then (each_from says i ds) (each_from others i ds)
 each_then says others i no_items t = always _ _
-each_then says others i (item d ds) t =
-    next_then (under (decimal i) (says d)) (under (decimal i) (others d)) _ _ (under_then (decimal i) (says d) (others d) (t d))
-    (λ a b. changed_then _ _ (each_from says (i + 1) ds) (each_from others (i + 1) ds) (each_then says others (i + 1) ds t))
+each_then says others i (item d ds) t = grind (arith, next_then, under_then, changed_then, each_then says others (i + 1) ds t)
 
 all_then : {A B : Type 0} (says : Data → Answer A) (others : Data → Answer B) (o : Option Items) → Thens says others
     → Then (each_of says o) (each_of others o)
 all_then says others None t = never [] _
-all_then says others (Some ds) t = each_then says others 0 ds t
+all_then says others (Some ds) t = each_then says others 0 _ t
 
 list_then : {A B : Type 0} (says : Data → Answer A) (others : Data → Answer B) → Thens says others → Thens (list_of says) (list_of others)
-list_then says others t = λ d. all_then says others (as_array d) t
+list_then says others t = λ d. all_then says others _ t
 
 -- ---- names and tests
 
 name_then : (names : Names) → Thens (name_in names) (name_in None)
-name_then names = λ d. next_same (text_of d) _ _ (λ name. always _ _)
+name_then names = λ d. next_same _ _ _ (λ name. always _ _)
 
 -- no names are looked up
 abbrev blind : Scope → Scope
@@ -195,11 +165,7 @@ both_then join x y z w t u =
 
 as_then : (form : Form) (inner others : Data → Answer Formula) (scope : Scope) → Thens inner others
     → Thens (test_as form inner scope) (test_as form others (blind scope))
-as_then forms.Not inner others scope t = λ d. changed_then _ _ _ _ (at_then inner others (codes "not") t d)
-as_then (forms.Two join) inner others scope t = λ d.
-    next_same (at two_of (key_of join) d) _ _
-    (λ p. under_then (key_of join) _ _ (both_then _ (inner p.first) (inner p.second) (others p.first) (others p.second) (t p.first) (t p.second)))
-as_then (forms.Leaf leaf) inner others scope t = leaf_then leaf scope
+as_then form inner others scope t = grind (arith, changed_then, at_then, next_same, under_then, both_then, leaf_then)
 
 within_then : (depth : ℕ) (scope : Scope) (d : Data) → Then (test_within depth scope d) (test_within depth (blind scope) d)
 within_then zero scope d = never [] _
@@ -274,8 +240,7 @@ set_then = λ d.
 -- ---- what a value says, by the walk that looks up names
 
 passes : {A B : Type 0} (x : Answer A) (y : Answer B) → IsGood x → next x (λ a. y) ≡ y
-passes (good a) y h = refl
-passes (bad path) y h = absurd h
+passes x y h = grind arith
 
 pub asked_is : (d : Data) (set : Set) → set_of true d ≡ good set → parts_of d ≡ good set
 unfolding parts_of
@@ -287,5 +252,4 @@ later_is d unasked fault e h = rw e h
 
 pub first_is : (d : Data) (fault : Fault) → Refuses (set_of false d) fault → Refuses (parts_of d) fault
 unfolding parts_of
-first_is d (faults.Shape path) h = rw h
-first_is d faults.NoMemory h = tt
+first_is d fault h = grind arith

@@ -72,7 +72,7 @@ at_any_depth k o a ts n = value_is n (token_of k ∷ ts) ∙ sym (value_is 0 (to
 
 module _ {said : Option (Data × List Token)} {laid : Laid} where
   pub under_below : {ts : List Token} → IsUnder said laid ts → AreBelow laid.begun.items (length laid.rows.items)
-  under_below is = starts_below is.frames laid.rows.items laid.begun.items is.rows
+  under_below is = starts_below _ _ _ is.rows
 
   pub ended_below : {ts : List Token} → HasEnded said laid ts → AreBelow laid.begun.items (length laid.rows.items)
   ended_below is =
@@ -89,17 +89,17 @@ module _ {said : Option (Data × List Token)} {laid : Laid} where
       at [] says rows inner enough = record { frames = []; says = says; rows = rows; inner = inner; enough = λ m lt. tt }
       at (in_list n done ∷ fs) says rows inner enough = record {
         frames = in_list (n - 1) done ∷ fs;
-        says = says ∙ item_due n done fs ts enough.0 going;
+        says = says ∙ item_due _ _ _ _ enough.0 going;
         rows = rows;
         inner = inner;
-        enough = λ m lt. (omega (arith, enough.0), enough_fewer fs (length ts) m (omega arith) enough.1);
+        enough = λ m lt. (omega (arith, enough.0), enough_fewer _ _ _ (omega arith) enough.1);
       }
       at (in_object n found k ∷ fs) says rows inner enough = record {
         frames = in_object n found k ∷ fs;
         says = says;
         rows = rows;
         inner = inner;
-        enough = λ m lt. (omega (arith, enough.0), enough_fewer fs (length ts) m (omega arith) enough.1);
+        enough = λ m lt. (omega (arith, enough.0), enough_fewer _ _ _ (omega arith) enough.1);
       }
 
   pub none_left : IsUnder said laid [] → said ≡ None
@@ -114,8 +114,8 @@ module _ {said : Option (Data × List Token)} {laid : Laid} where
       record {
         frames = b.frames;
         value = rows_view (r ∷ []);
-        says = b.says ∙ value_ends b.frames (t ∷ ts) ts (rows_view (r ∷ [])) (row.says (room b.frames) ts);
-        rows = rw (rows_are, open_are) (run_laid b.frames laid.rows.items b.rows (row_laid t r row));
+        says = b.says ∙ value_ends _ _ _ _ (row.says (room b.frames) ts);
+        rows = rw (rows_are, open_are) (run_laid _ _ b.rows (row_laid t r row));
         inner = flag_is ∙ b.inner;
         enough = b.enough (length ts) (omega arith);
       }
@@ -142,7 +142,7 @@ module _ {said : Option (Data × List Token)} {laid : Laid} where
       record {
         frames = in_list (length ts) [] ∷ b.frames;
         says = b.says ∙ list_begins b.frames ts (omega (arith, open_count b.frames laid.rows.items laid.begun.items b.rows));
-        rows = rw (rows_are, open_are) (begun b.frames laid.rows.items laid.begun.items rows.List n no_items_laid b.rows);
+        rows = rw (rows_are, open_are) (begun _ _ _ rows.List _ no_items_laid b.rows);
         inner = flag_is;
         enough = (omega arith, b.enough (length ts) (omega arith));
       }
@@ -159,10 +159,10 @@ module _ {said : Option (Data × List Token)} {laid : Laid} where
           record {
             frames = fs;
             value = array (before done no_items);
-            says = says ∙ list_ends n done fs (Token.end_array ∷ ts) ts enough.0 refl;
+            says = says ∙ list_ends _ _ _ _ _ enough.0 refl;
             rows = both.0;
             inner = both.1;
-            enough = enough_fewer fs (suc (length ts)) (length ts) (omega arith) enough.1;
+            enough = enough_fewer _ _ _ (omega arith) enough.1;
           }
       at _ says rows inner enough = absurd (cc)
 
@@ -259,7 +259,7 @@ module _ {said : Option (Data × List Token)} {laid : Laid} where
       }
 
   pub member_no_key : {ts : List Token} → Member said laid ts → read_key ts ≡ None → said ≡ None
-  member_no_key {ts} m none = m.says ∙ no_key m.turns m.found m.around ts none
+  member_no_key {ts} m none = m.says ∙ no_key _ _ _ _ none
 
   -- the next key: its value is due
   pub member_goes_on : {now : Laid} {ts rest : List Token} (k : Bor (List ℕ)) → Member said laid ts → read_key ts ≡ Some (Some k.now, rest)
@@ -283,10 +283,10 @@ module _ {said : Option (Data × List Token)} {laid : Laid} where
       record {
         frames = m.around;
         value = object m.found;
-        says = m.says ∙ object_ends m.turns m.found m.around ts rest m.enough over;
+        says = m.says ∙ object_ends _ _ _ _ _ m.enough over;
         rows = both.0;
         inner = both.1;
-        enough = enough_fewer m.around (length ts) (length rest) (omega (arith, read_key-shorter ts None rest over)) m.more;
+        enough = enough_fewer _ _ _ (omega (arith, read_key-shorter ts None rest over)) m.more;
       }
 
 -- ---- The end of a list or an object: the count is put into its row, and the innermost is the one
@@ -299,18 +299,11 @@ at_end (r ∷ ss) s = at_end ss s
 pub at_last : (ss : List ℕ) (s : ℕ) → slice_get (ss ++ s ∷ []) (length (ss ++ s ∷ []) - 1) ≡ Some s
 at_last ss s = ap (slice_get (ss ++ s ∷ [])) (omega (arith, length-append ss (s ∷ []))) ∙ at_end ss s
 
-abbrev unwrap : ℕ → Option ℕ → ℕ
-unwrap d None = d
-unwrap d (Some s) = s
-
 pub one_place : (r s : ℕ) → Some r ≡ Some s → r ≡ s
-one_place r s e = ap (unwrap r) e
-
-no_place : {P : Type 0} (s : ℕ) → None ≡ Some s → P
-no_place s e = absurd (cc)
+one_place r s e = cc
 
 pub below_at : (ss : List ℕ) (m i s : ℕ) → AreBelow ss m → Some s ≡ slice_get ss i → s < m
-below_at [] m i s are e = no_place s (sym e)
+below_at [] m i s are e = absurd (cc)
 below_at (r ∷ ss) m zero s are e = rw (one_place s r e) are.0
 below_at (r ∷ ss) m (suc i) s are e = below_at ss m i s are.1 e
 

@@ -81,23 +81,7 @@ a_level fs ts = ap (λ n. converted of_json (value n ts)) (omega arith)
 pub item_due : (n : ℕ) (done : List Data) (fs : List Frame) (ts : List Token) → length ts ≤ n → after_end_array ts ≡ None
     → items_due n done fs ts ≡ value_due (in_list (n - 1) done ∷ fs) ts
 unfolding items
-item_due zero done fs [] enough going = rw (no_tokens (max_depth - suc (length fs)))
-item_due zero done fs (t ∷ ts) enough going = absurd (omega arith)
-item_due (suc m) done fs ts enough going =
-    let one : suc m - 1 ≡ m = omega arith in
-    rw (one, item_is (inside fs) m ts going, a_level fs ts) (by_value (converted of_json (value (max_depth - suc (length fs)) ts)))
-  where
-    by_items : (d : Data) (o : Option (Items × List Token)) → option_and_then (λ p. after fs (array (before done p.0)) p.1) (parse_map (item d) o)
-        ≡ option_and_then (λ p. after fs (array (before (done ++ d ∷ []) p.0)) p.1) o
-    by_items d None = refl
-    by_items d (Some q) = rw (before_one done d q.0)
-
-    by_value : (o : Option (Data × List Token))
-        → option_and_then (λ p. after fs (array (before done p.0)) p.1)
-        (option_and_then (λ q. parse_map (item q.0) (converted of_items (items (inside fs) m q.1))) o)
-        ≡ option_and_then (λ p. after (in_list m done ∷ fs) p.0 p.1) o
-    by_value None = refl
-    by_value (Some q) = by_items q.0 (converted of_items (items (inside fs) m q.1))
+item_due n done fs ts enough going = grind (arith, no_tokens, item_is, inside, a_level, converted, value, after, before, item, before_one, items)
 
 -- ---- the members of an object
 
@@ -127,13 +111,7 @@ same_after o = grind arith
 pub whole_due : (text : List ℕ) (laid : Laid) (ts : List Token) → ts ≡ tokens text → laid.rows.items ≡ [] → laid.begun.items ≡ []
     → laid.in_list ≡ false
     → IsUnder (said_by text) laid ts
-whole_due text laid ts all no_rows none_open outside = record {
-  frames = [];
-  says = rw all (same_after (said_by text));
-  rows = (no_rows, none_open);
-  inner = outside;
-  enough = tt;
-}
+whole_due text laid ts all no_rows none_open outside = search (arith, same_after)
 
 pub nothing_said : (text : List ℕ) → said_by text ≡ None → read text ≡ None
 nothing_said text none = whole_refused (value max_depth (tokens text)) none

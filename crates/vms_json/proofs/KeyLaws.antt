@@ -6,8 +6,7 @@ use Rattle.vms_json.proofs.Facade.{list_all, list_any, bytes_eq, is_utf8, and-fa
 use Rattle.vms_json.proofs.Facade.{is_utf8-from_IsUtf8, Data, object, Members, no_members, member, put, Items, no_items, item, as_object, Row, front, data_in}
 use Rattle.vms_json.proofs.Facade.{members_in, tree_view, is_one_of, one_of_both, has, has_all, has_no_others, Fault, Answer, good, bad, under, next, changed}
 use Rattle.vms_json.proofs.Facade.{each_from, Refuses, read, value_in, Tree, NoNode, ◌≤◌, cond, eqb, ltb, option_and_then, length, codes, arith, position}
-use Rattle.vms_json.proofs.Facade.{position_or_len, length-append, position_or_len_push, prefix_len-le-length, get, as_str, or_else, at_name, text_or_none}
-use Rattle.vms_json.proofs.Facade.{names_of, first_of}
+use Rattle.vms_json.proofs.Facade.{length-append, position_or_len_push, prefix_len-le-length, get, as_str, or_else, at_name, text_or_none, names_of, first_of}
 use Rattle.vms_json.specs.Answers.{IsUnder}
 use Rattle.vms_json.specs.declared.node.Row.TheVariants as rows
 use Rattle.vms_json.specs.declared.fault.Fault.TheVariants as faults
@@ -86,7 +85,7 @@ pub stops : {A : Type 0} (says : Data → Answer A) (i : ℕ) {now : Items} (res
     → whole ≡ before done (each_from says i now) → now ≡ item d rest → Refuses (says d) fault → IsUnder (decimal i) fault result
     → Refuses whole result
 stops says i rest d done fault result e is said under_it =
-    rw (e, is) (refused done (decimal i) (says d) (λ a. changed (λ list. a ∷ list) (each_from says (i + 1) rest)) fault result said under_it)
+    rw (e, is) (refused _ _ _ (λ a. changed (λ list. a ∷ list) (each_from says (i + 1) rest)) _ _ said under_it)
 
 pub ends : {A : Type 0} (says : Data → Answer A) (i : ℕ) {now : Items} {whole : Answer (List A)} (done : List A)
     → whole ≡ before done (each_from says i now) → now ≡ no_items → whole ≡ good done
@@ -102,7 +101,7 @@ no_value_if text true e no_read = no_read (IsUtf8-from_is_utf8 text e)
 no_value_if text false e no_read = refl
 
 pub has_none : (text : List ℕ) → (IsUtf8 text → read text ≡ None) → value_in text ≡ None
-has_none text no_read = no_value_if text (is_utf8 text) refl no_read
+has_none text no_read = no_value_if _ _ refl no_read
 
 -- ---- the result of reading a text
 
@@ -128,8 +127,7 @@ one_more n q b le = grind arith
 
 pub position_push : {X : Type 0} (p : X → Bool) (xs : List X) (y : X)
     → position p (xs ++ y ∷ []) ≡ or_else (position p xs) (if p y then Some (length xs) else None)
-position_push p xs y =
-    rw (length-append xs (y ∷ []), position_or_len_push p xs y) (one_more (length xs) (position_or_len p xs) (p y) (prefix_len-le-length _ xs))
+position_push p xs y = rw (length-append xs (y ∷ []), position_or_len_push p xs y) (one_more _ _ _ (prefix_len-le-length _ xs))
 
 -- ---- the names of fields
 

@@ -63,24 +63,13 @@ no_items_left rs none = grind arith
 pub an_item_left : (rs first rest : List Row) → 0 < length rs → first ≡ take (front rs) rs → rest ≡ drop (front rs) rs
     → items_in (2 * length rs + 1) rs ≡ item (rows_view first) (items_in (2 * length rest + 1) rest)
 unfolding items_in
-an_item_left [] first rest some a b = absurd (omega arith)
-an_item_left (r ∷ rs) first rest some a b =
-    let xs = r ∷ rs in
-    let one : 2 * length xs + 1 ≡ suc (2 * length xs) = omega arith in
-    rw (one, a, b)
-    (ap₂ item (data_enough _ _ _ (omega (arith, taken_few xs)) (omega arith)) (items_enough _ _ _ (omega (arith, dropped_fewer r rs)) (omega arith)))
+an_item_left rs first rest some a b = grind (arith, item, data_enough, taken_few, items_enough, dropped_fewer)
 
 pub a_member_left : (rs inside first rest : List Row) (k : Bor (List ℕ)) (found : Members) → rs ≡ rows.Key k ∷ inside
     → first ≡ take (front inside) inside → rest ≡ drop (front inside) inside
     → members_in (2 * length rs + 1) rs found ≡ members_in (2 * length rest + 1) rest (put k.now (rows_view first) found)
 unfolding members_in
-a_member_left rs inside first rest k found is a b =
-    let n = 2 * length (rows.Key k ∷ inside) in
-    let one : n + 1 ≡ suc n = omega arith in
-    rw (is, one, a, b)
-    (ap (λ d. members_in n (drop (front inside) inside) (put k.now d found))
-    (data_enough n (2 * length (take (front inside) inside)) (take (front inside) inside) (omega (arith, taken_few inside)) (omega arith))
-    ∙ members_enough n (2 * length (drop (front inside) inside) + 1) (drop (front inside) inside) _ (omega (arith, dropped_few inside)) (omega arith))
+a_member_left rs inside first rest k found is a b = grind (arith, front, put, data_enough, taken_few, members_enough, dropped_few)
 
 -- a row that isn't a key ends the members
 pub no_member_at : (rs inside : List Row) (r : Row) (found : Members) → rs ≡ r ∷ inside → key_at r ≡ None
@@ -250,16 +239,7 @@ row_laid t r is = record { some = omega arith; all = all_of r [] is.one; says = 
 
 pub begun : (fs : List Frame) (rs : List Row) (starts : List ℕ) {Own : List Row → Type 0} (row : ℕ → Row) (n : ℕ) → Own [] → IsLaid fs rs starts
     → IsOpen (IsLaid fs) row Own (rs ++ row n ∷ []) (starts ++ length rs ∷ [])
-begun fs rs starts row n none laid = record {
-  below = rs;
-  own = [];
-  places = starts;
-  count = n;
-  are = refl;
-  begins = refl;
-  inside = none;
-  laid = laid;
-}
+begun fs rs starts row n none laid = search (arith)
 
 pub key_laid : (n : ℕ) {found : Members} (fs : List Frame) {rs : List Row} {starts : List ℕ} (k : Bor (List ℕ)) → InObject (IsLaid fs) found rs starts
     → IsLaid (in_object n found k.now ∷ fs) (rs ++ rows.Key k ∷ []) starts

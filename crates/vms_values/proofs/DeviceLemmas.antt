@@ -1,19 +1,16 @@
 -- Devices that are read one after the other: their images, their subsections, and what is judged of them.
 use Rattle.std.proofs.Common.{ap₂}
 use Rattle.vms_values.proofs.Facade.{AtLeast, no_desc, length-take-le, ◌≡◌, ℕ, ◌+◌, ◌<◌, true, zero, suc, List, [], ◌∷◌, ◌++◌, Some}
-use Rattle.vms_values.proofs.Facade.{length, ap, sym, ◌∙◌, subst, arith, length-append, Option, None, Result, Ok, Err, refl, rules, Bool, map, take, drop}
-use Rattle.vms_values.proofs.Facade.{if◌then◌else◌, append_assoc, append-nil, slice_set, flat_map, slice_get, length-map, drop_more, drop_all, take_more}
-use Rattle.vms_values.proofs.Facade.{take_all, map-append, take_more_set, ForSome, Set, Device, Sub, Typed, state_of, default_at, IsOfDevice, IsImageOf}
-use Rattle.vms_values.proofs.Facade.{device_cells, desc_cells, struct_cells, device_at, is_well_formed, few_cells, sub_next, HasSpot, IsKept, place_of, IsAlike}
-use Rattle.vms_values.proofs.Facade.{said_read, sub_read, SubReached, SubsReached, first_line, BadLine, ReadDevice, ReadAll, ValuesRead, read_devices, ended}
-use Rattle.vms_values.proofs.Facade.{values_read, after_machine, machine_named, Standing, ReadSubs, read_subs, section_line, is_line, with_device, read_device}
-use Rattle.vms_values.proofs.Facade.{or_bad, judge_device, judge_devices, sub_said, also, read_sub, LineFault, StartsAt, NamesMachine, Start, machine_of, Image}
-use Rattle.vms_values.proofs.Facade.{own_cells, Reading, bad_of, found, device_read, start_of, DeviceRead, AllRead, or_bad_assoc, first_cell, sub_at, Taken}
-use Rattle.vms_values.proofs.Facade.{ReadsBy}
+use Rattle.vms_values.proofs.Facade.{length, ap, sym, ◌∙◌, subst, arith, length-append, Option, None, Result, Ok, Err, refl, map, take, drop}
+use Rattle.vms_values.proofs.Facade.{append_assoc, append-nil, slice_set, flat_map, slice_get, length-map, drop_more, drop_all, take_more, take_all, map-append}
+use Rattle.vms_values.proofs.Facade.{take_more_set, ForSome, Set, Device, Sub, Typed, state_of, default_at, IsOfDevice, IsImageOf, device_cells, desc_cells}
+use Rattle.vms_values.proofs.Facade.{struct_cells, device_at, is_well_formed, few_cells, sub_next, HasSpot, IsKept, place_of, IsAlike, said_read, sub_read}
+use Rattle.vms_values.proofs.Facade.{SubReached, SubsReached, first_line, BadLine, ReadDevice, ReadAll, ValuesRead, read_devices, ended, values_read}
+use Rattle.vms_values.proofs.Facade.{after_machine, machine_named, Standing, ReadSubs, read_subs, with_device, read_device, or_bad, judge_device, judge_devices}
+use Rattle.vms_values.proofs.Facade.{sub_said, also, read_sub, LineFault, StartsAt, Start, machine_of, Image, own_cells, Reading, bad_of, device_read, start_of}
+use Rattle.vms_values.proofs.Facade.{DeviceRead, AllRead, or_bad_assoc, first_cell, sub_at, Taken, ReadsBy}
 use Rattle.vms_values.specs.declared.fault.Values.{Values}
-use Rattle.vms_spec.specs.ValuesReading.{device_read as device_reads}
 use Rattle.vms_spec.specs.declared.Part.TheVariants as parts
-use Rattle.vms_spec.specs.declared.ValuesReason.TheVariants as reasons
 use Rattle.vms_values.specs.declared.fault.LineFault.TheVariants as faults
 
 pub alike_kept : (a b : Typed) → IsKept a b → IsAlike a b
@@ -53,8 +50,7 @@ pub record AreFirstImages (set : Set) (n : ℕ) (images : List Typed) : Type 0 w
 pub first_more : (set : Set) (n : ℕ) (images more : List Typed) (image : Typed) → AreFirstImages set n images → IsImageOf set n image → more ≡ images ++ image ∷ [] → AreFirstImages set (n + 1) more
 first_more set n images more image a o e = record {
   count = rw (e, length-append images (image ∷ []), a.count);
-  each = λ k other f.
-      at_more (IsImageOf set) images image a.each (rw a.count o) k other (rw (sym e) (f));
+  each = λ k other f. at_more (IsImageOf set) _ image a.each (rw a.count o) _ _ (rw (sym e) (f));
 }
 
 -- ---- Devices that are read one after the other, and what the whole text says.
@@ -71,27 +67,11 @@ pub record Said (set : Set) (v : ValuesRead) (start : Start) : Type 0 where
 
 from_start : (set : Set) (text : List ℕ) (start : Start) (o : Option (List ℕ)) (v : ValuesRead) → v ≡ after_machine set text o → StartsAt set.machines text o start
     → Said set v start
-from_start set text start None v e s =
-    record {
-      name = None;
-      is = rw (s.1, s.2) e;
-      machine = rw s.0;
-      known = rw s.0 (search rules);
-    }
-from_start set text start (Some name) v e s = by start.machine refl s.0 where
-  by : (m : Option ℕ) → start.machine ≡ m → NamesMachine set.machines name m → Said set v start
-  by None q h = absurd h
-  by (Some m) q h =
-      record {
-        name = Some name;
-        is = rw (s.1, s.2) e;
-        machine = rw (q, h.1);
-        known = rw q (search (rules, h.0));
-      }
+from_start set text start o v e s = search (arith)
 
 pub top : (set : Set) (machines : List (List ℕ)) (text : List ℕ) (start : Start) → machines ≡ set.machines → StartsAt machines text (machine_named machines (first_line text)) start → Said set (values_read set text) start
 unfolding values_read
-top set machines text start same s = from_start set text start (machine_named set.machines (first_line text)) (values_read set text) refl (rw same at s)
+top set machines text start same s = from_start _ _ _ _ _ refl (rw same at s)
 
 pub said_so : (set : Set) (text : List ℕ) (v : ValuesRead) (result : Result Values LineFault) → values_read set text ≡ v → ReadsBy set v result → ReadsBy set (values_read set text) result
 said_so set text v result e r = rw e r
@@ -102,13 +82,8 @@ abbrev after_device : (ℕ → List ℕ → Result ReadAll BadLine) → Result (
 after_device go (Ok (r, p)) = with_device r (go p.line p.rest)
 after_device go (Err b) = Err b
 
-by_result : (d : Device) (line : ℕ) (t : Bool) (x : Result ReadSubs BadLine) (go : ℕ → List ℕ → Result ReadAll BadLine)
-    → (if t then device_reads d line x go else Err (record { line = line; reason = reasons.Form }))
-    ≡ after_device go (if t then found d line x else Err (record { line = line; reason = reasons.Form }))
-by_result d line t x go = grind arith
-
 one_device : (set : Set) (d : Device) (p : Standing) (go : ℕ → List ℕ → Result ReadAll BadLine) → read_device set d p go ≡ after_device go (device_read set d p)
-one_device set d p go = by_result d p.line (is_line (section_line d) (first_line p.rest)) _ go
+one_device set d p go = grind arith
 
 or_none : (o : Option BadLine) → or_bad o None ≡ o
 or_none o = grind arith
@@ -163,9 +138,7 @@ module _ (set : Set) (i : ℕ) (lt : i < length set.devices) where
   pub gathered_refused : (start : Result ReadAll BadLine) (first judged : Option BadLine) (images : List Image) (begun old new : Reading) (e : LineFault)
       → Gathered set i start first judged images (read_devices set (drop i set.devices) old.lines.line old.lines.rest.now)
       → DeviceRead set (device_at set i) (device_read set (device_at set i) (start_of set (device_at set i) old)) old new (Err e) → AllRead set start begun new (Err e)
-  gathered_refused start first judged images begun old new e g h =
-      let d = device_at set i in
-      refused (device_read set d (start_of set d old)) start g.done (λ line rest. read_devices set (drop (i + 1) set.devices) line rest) begun old new e (ap (with_devices g.done) (sym (next_device old)) ∙ g.whole) h
+  gathered_refused start first judged images begun old new e g h = grind (arith, next_device)
 
   pub gathered_next : (start : Result ReadAll BadLine) (first : Option BadLine) (images more : List Image) (old new : Reading) (image : Image)
       → Gathered set i start first (bad_of old.judged) images (read_devices set (drop i set.devices) old.lines.line old.lines.rest.now)
@@ -246,19 +219,12 @@ module _ (set : Set) (i j : ℕ) (lt : j < length (device_at set i).subs) where
       → j < length old.image.came → sub_read set (sub_at (device_at set i) j) (first_cell set (parts.Sub i j)) (place_of old) ≡ Ok (o, q) → q ≡ place_of new
       → new.image.came ≡ slice_set old.image.came j o → more ≡ lines ++ old.lines.line ∷ []
       → Follows start (j + 1) new.image.came more (read_subs set (first_cell set (parts.Sub i (j + 1))) (drop (j + 1) (device_at set i).subs) (place_of new))
-  follows_next start old new lines more o q f room r e c m =
-      let rest = λ (p : Standing). read_subs set (first_cell set (parts.Sub i (j + 1))) (drop (j + 1) (device_at set i).subs) p in
-      let left = next_sub set i j (place_of old) lt ∙ ap (after_sub old.lines.line rest) r in
-      record {
-        whole = rw (ap (take (j + 1)) c ∙ take_more_set old.image.came j o room, m, sym e) (sym (more_subs (take j old.image.came) lines o old.lines.line (rest q)) ∙ ap (with_subs (take j old.image.came) lines) (sym left) ∙ f.whole);
-      }
+  follows_next start old new lines more o q f room r e c m = search (arith, next_sub, take_more_set, more_subs)
 
   pub follows_stop : (start : Result ReadSubs BadLine) (old : Taken) (lines : List ℕ) (b : BadLine)
       → Follows start j old.image.came lines (read_subs set (first_cell set (parts.Sub i j)) (drop j (device_at set i).subs) (place_of old))
       → sub_read set (sub_at (device_at set i) j) (first_cell set (parts.Sub i j)) (place_of old) ≡ Err b → start ≡ Err b
-  follows_stop start old lines b f r =
-      let rest = λ (p : Standing). read_subs set (first_cell set (parts.Sub i (j + 1))) (drop (j + 1) (device_at set i).subs) p in
-      sym f.whole ∙ ap (with_subs (take j old.image.came) lines) (next_sub set i j (place_of old) lt ∙ ap (after_sub old.lines.line rest) r)
+  follows_stop start old lines b f r = grind (arith, next_sub)
 
 pub record Came (r : Result (Option ℕ × Standing) BadLine) (j : ℕ) (old new : Taken) : Type 0 where
   pub o : Option ℕ
@@ -284,9 +250,6 @@ subs_bad start r j old new mid lines e h f = grind arith
 
 pub alike_more : (a b c : Typed) → IsAlike a b → IsAlike b c → IsAlike a c
 alike_more a b c h k = record { version = k.version ∙ h.version; subs = k.subs ∙ h.subs; cells = k.cells ∙ h.cells; kinds = k.kinds ∙ h.kinds }
-
-pub alike_none : (a : Typed) → IsAlike a a
-alike_none a = record { version = refl; subs = refl; cells = refl; kinds = refl }
 
 pub of_alike : (set : Set) (i : ℕ) (a b : Typed) → IsOfDevice set i (state_of a) → IsAlike a b → IsOfDevice set i (state_of b)
 of_alike set i a b h k = record { is_device = h.is_device; cells = k.cells ∙ h.cells; subs = k.subs ∙ h.subs; few = rw k.cells h.few }

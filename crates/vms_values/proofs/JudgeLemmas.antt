@@ -9,7 +9,7 @@ use Rattle.vms_values.proofs.Facade.{desc_slots, field_cells, numbers_of, all_ho
 use Rattle.vms_values.proofs.Facade.{or_bad, if_bad, sub_fails, is_said_well, judge_subs, judge_device, CellForm, form_of, desc_of, formula, steps_of}
 use Rattle.vms_values.proofs.Facade.{spot_slots, no_form, settle, steps_hold, sub_judged, sub_defaults, Item, cells_first, one_more, Test, PartAt, ◌*◌}
 use Rattle.vms_values.proofs.Facade.{◌^◌, sum_by, Ok, Err, Result, sum_by-cons, ForSome, FitsHeads, Device, values_read, ValuesRead, Values, Bad, ReadAll}
-use Rattle.vms_values.proofs.Facade.{ended, judged, answer_of, Refused, Reads, state_of, is_well_formed, few_cells, few_devices, fit_of, few_subs, line_holds}
+use Rattle.vms_values.proofs.Facade.{ended, judged, answer_of, Refused, state_of, is_well_formed, few_cells, few_devices, fit_of, few_subs, line_holds}
 use Rattle.vms_values.proofs.Facade.{read_holds, ReadsBy, MeansAs, LineFault, Reading, machine_of, bad_of, AllRead, ToldAs}
 use Rattle.vms_values.specs.{declared.fault.Values.Values as Given, declared.judge.BadLine.BadLine as Found}
 use Rattle.vms_parts.specs.declared.types.Desc.{Desc as Described}
@@ -54,12 +54,9 @@ pub bare_defaults : (set : Set) (i j : ℕ) (numbers : List ℤ) → j < length 
     → settle [] (map form_of (device_cells set (device_at set i))) numbers (first_cell set (parts.Sub i j)) (own_cell_count set (sub_at (device_at set i) j).desc) ≡ sub_defaults set i j numbers
 bare_defaults set i j numbers lt room =
     let d = device_at set i in
-    let at = first_cell set (parts.Sub i j) in
-    let cells = desc_cells (struct_cells set) (sub_at d j).desc in
     let rest = flat_map (λ s. desc_cells (struct_cells set) s.desc) (drop (j + 1) d.subs) in
-    settle_defaults cells (map form_of (device_cells set d)) (map form_of rest) numbers at
-    (drop-map form_of at (device_cells set d)
-    ∙ ap (map form_of) (cells_from_sub set (desc_cells (struct_cells set) d.desc) (own_cells set d) d.subs j _ refl lt) ∙ map-append form_of cells rest)
+    settle_defaults _ _ _ _ _ (drop-map form_of (first_cell set (parts.Sub i j)) (device_cells set d)
+    ∙ ap (map form_of) (cells_from_sub set _ _ _ _ _ refl lt) ∙ map-append form_of (desc_cells (struct_cells set) (sub_at d j).desc) rest)
     room
 
 -- the first bad line of the subsections from number j on
@@ -118,21 +115,15 @@ module _ (ms : List Meaning) (all : AllTrue ms) where
   item_true : (item : Item) (caps : List ℕ) (n : List ℤ) (at : ℕ) → rules_are_true (item_slots ms item caps n at) ≡ true
   item_true item caps n at = grind arith
 
-  field_true : (fields : List Field) (v : ℕ) (own : ℕ → ℕ) (n : List ℤ) (i at : ℕ) (f : Field) → rules_are_true (field_slots ms fields v own n i at f) ≡ true
-  field_true fields v own n i at f = grind (arith, times_true, item_true)
-
   fields_true : (fields : List Field) (v : ℕ) (own : ℕ → ℕ) (n : List ℤ) (i at : ℕ) (fs : List Field) → rules_are_true (slots_from ms fields v own n i at fs) ≡ true
   fields_true fields v own n i at [] = refl
   fields_true fields v own n i at (f ∷ fs) =
       let next = at + length (field_cells (map (λ m. m.cells) ms) fields i f) in
-      true_append (field_slots ms fields v own n i at f) (slots_from ms fields v own n (suc i) next fs) (field_true fields v own n i at f)
+      true_append (field_slots ms fields v own n i at f) (slots_from ms fields v own n (suc i) next fs) (grind (arith, times_true, item_true))
       ∙ fields_true fields v own n (suc i) next fs
 
   desc_true : (d : Desc) (v : ℕ) (n : List ℤ) (at : ℕ) → rules_are_true (desc_slots ms d v n at) ≡ all_hold d.validate v (numbers_of (map (λ m. m.cells) ms) d n at)
-  desc_true d v n at =
-      let own = numbers_of (map (λ m. m.cells) ms) d n at in
-      true_append (slots_from ms d.fields v own n 0 at d.fields) (Rule (all_hold d.validate v own) ∷ []) (fields_true d.fields v own n 0 at d.fields)
-      ∙ and-true (all_hold d.validate v own)
+  desc_true d v n at = grind (arith, true_append, fields_true, and-true)
 
 meanings_true : (ds : List Desc) → ((k : ℕ) → (get_or ds k no_desc).validate ≡ []) → (k : ℕ) → AllTrue (meanings ds k)
 unfolding first
@@ -146,7 +137,7 @@ meanings_true ds none (suc k) j n at =
 -- no structure has validations
 unruled_at : (ds : List Described) → list_all (λ d. length d.validate == 0) ds ≡ true → (k : ℕ) → (get_or (map desc_of ds) k no_desc).validate ≡ []
 unruled_at [] h k = refl
-unruled_at (d ∷ ds) h k = by d.validate (list_all (λ d. length d.validate == 0) ds) h (unruled_at ds) k where
+unruled_at (d ∷ ds) h k = by _ (list_all (λ d. length d.validate == 0) ds) h (unruled_at ds) _ where
   by : (ts : List Test) (rest : Bool) → ((length ts == 0) && rest) ≡ true → (rest ≡ true → (k : ℕ) → (get_or (map desc_of ds) k no_desc).validate ≡ [])
       → (k : ℕ) → (get_or (record { name = d.name; version = d.version; minimum = d.minimum; fields = (desc_of d).fields; validate = map formula ts } ∷ map desc_of ds) k no_desc).validate ≡ []
   by [] rest h later zero = refl
@@ -158,7 +149,7 @@ pub own_rules : (set : Set) (ds : List Described) (spot : PartAt) (n : List ℤ)
 own_rules set ds spot n same h =
     let none : (k : ℕ) → (get_or set.structs k no_desc).validate ≡ [] = λ k. rw (sym same) (unruled_at ds h k) in
     let d = desc_at set spot.part in
-    rw (sym (cells_first set.structs (length set.structs))) (sym (desc_true (meanings set.structs (length set.structs)) (meanings_true set.structs none (length set.structs)) d spot.version n spot.base))
+    rw (sym (cells_first set.structs (length set.structs))) (sym (desc_true _ (meanings_true set.structs none (length set.structs)) d spot.version n spot.base))
 
 abbrev no_device : Device
 no_device = record { instance = 0; desc = no_desc; subs = [] }
@@ -178,17 +169,11 @@ line_fits set well heads text line reason h = go (values_read set text) refl h w
 
 -- what is read of a text is what it means
 pub read_means : (set : Set) → is_well_formed set ≡ true → FitsHeads set → (text : List ℕ) (v : Given) → ReadsBy set (values_read set text) (Ok v) → MeansAs set text (Ok v)
-read_means set well heads text v h = go (values_read set text) (read_holds set text (fit_of set well heads)) h where
-  go : (r : ValuesRead) → Reads set text r → ReadsBy set r (Ok v) → MeansAs set text (Ok v)
-  go (Values machine images) m h = rw h.1 (rw h.0 m)
-  go (Bad l why) m h = absurd h
+read_means set well heads text v h = grind (arith, read_holds, fit_of)
 
 pub bad_means : (set : Set) → is_well_formed set ≡ true → FitsHeads set → (text : List ℕ) (line : ℕ) (reason : ValuesReason) → ReadsBy set (values_read set text) (Err (faults.Bad line reason))
     → Refused set text line reason
-bad_means set well heads text line reason h = go (values_read set text) (read_holds set text (fit_of set well heads)) h where
-  go : (r : ValuesRead) → Reads set text r → ReadsBy set r (Err (faults.Bad line reason)) → Refused set text line reason
-  go (Values machine images) m h = absurd h
-  go (Bad l why) m h = rw h.0 (rw h.1 m)
+bad_means set well heads text line reason h = grind (arith, read_holds, fit_of)
 
 -- ---- What the whole text says, by its devices and their second pass.
 

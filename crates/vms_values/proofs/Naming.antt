@@ -69,13 +69,13 @@ module _ (set : Set) where
   all_names part h =
       let d = desc_at set part in
       let own = numbers_of (cells_in (usable set part)) d [] 0 in
-      desc_names_are (usable set part) (walked_in part h) d 0 [] 0 ∙ (fields_walk (usable set part) (walked_in part h) d.fields 0 0 own no_parent [] [] 0 0 0 d.fields).names
+      desc_names_are _ (walked_in part h) d 0 [] 0 ∙ (fields_walk (usable set part) (walked_in part h) d.fields 0 0 own no_parent [] [] 0 0 0 d.fields).names
 
   item_step : (part : Part) → HasPart set part → (item : Item) → uses_below (reach set part) item ≡ true
       → item_size (cells_in (usable set part)) item ≡ size_in set item
   item_step part h item uses =
       sym (long_in (usable set part) (walked_in part h) item) ∙ ap (λ t. length (names_of (item_elements t item [] (pos 0) [] 0))) (usable_is part h)
-      ∙ ap length (item_in (reach set part) (reach_whole set part h) item uses [] (pos 0) [] 0) ∙ item_long item
+      ∙ ap length (item_in _ (reach_whole set part h) _ uses [] _ [] 0) ∙ item_long item
 
   field_long : (part : Part) → HasPart set part → (k : ℕ) (f : Field) → uses_below (reach set part) f.item ≡ true
       → length (names_of (field_elements (usable set part) (desc_at set part).fields 0 no_parent [] k 0 f)) ≡ capacity_of f.count * size_in set f.item
@@ -145,7 +145,7 @@ module _ (set : Set) where
       by_part : (part : Part) → HasPart set part → length (desc_cells (first desc_cells set.structs (reach set part)) (desc_at set part)) ≡ own_cell_count set (desc_at set part)
       by_part parts.Set h = absurd h
       by_part (parts.Struct j) lt =
-          ap length (sym (first_at desc_cells set.structs [] (length set.structs) j lt))
+          ap length (sym (first_at desc_cells _ [] _ _ lt))
           ∙ ap (λ cs. length (get_or cs j [])) (sym (cells_table set)) ∙ struct_size set well j lt
       by_part _ h = refl
 
@@ -196,7 +196,7 @@ device_names set d c =
 
 module _ (set : Set) (well : is_well_formed set ≡ true) (i : ℕ) (lt : i < length set.devices) where
   own_long : length (desc_names_of set (device_at set i).desc) ≡ own_cell_count set (device_at set i).desc
-  own_long = part_long set well (parts.Device i) lt
+  own_long = part_long _ well (parts.Device i) lt
 
   sub_long : (j : ℕ) → j < length (device_at set i).subs → length (desc_names_of set (sub_at (device_at set i) j).desc) ≡ own_cell_count set (sub_at (device_at set i) j).desc
   sub_long j lt' = part_long set well (parts.Sub i j) (lt, lt')
@@ -267,7 +267,7 @@ module _ (kinds : List Kind) (at : ℕ) (xs ys : List Cell) (s : AreKinds kinds 
   pub rest_kinds : AreKinds kinds (at + length xs) ys
   rest_kinds = record {
     more = s.more;
-    is = rw (sym (length-map xs (λ (c : Cell). c.kind))) (drop_on kinds at (kinds_in xs) (kinds_in ys ++ s.more) apart);
+    is = rw (sym (length-map xs (λ (c : Cell). c.kind))) (drop_on _ _ _ _ apart);
   }
 
 -- cells of the same kinds
@@ -280,13 +280,10 @@ bare cs item caps z = grind arith
 elements_kinds : (cs : List (List Cell)) (item : Item) (caps : List ℕ) (z : ℤ) (kinds : List Kind) (n at a step : ℕ)
     → AreKinds kinds at (times n (λ _. item_cells cs item caps z) a step) → ElementKinds cs item kinds at n
 elements_kinds cs item caps z kinds zero at a step s i lt = absurd (omega arith)
-elements_kinds cs item caps z kinds (suc n) at a step s zero lt =
-    let cells = item_cells cs item caps z in
-    subst (λ (p : ℕ). AreKinds kinds p (item_cells cs item [] (pos 0))) (omega arith)
-    (same_kinds kinds at cells (item_cells cs item [] (pos 0)) (bare cs item caps z) (front_kinds kinds at cells (times n (λ _. cells) (a + step) step) s))
+elements_kinds cs item caps z kinds (suc n) at a step s zero lt = grind (arith, same_kinds, front_kinds)
 elements_kinds cs item caps z kinds (suc n) at a step s (suc i) lt =
     let cells = item_cells cs item caps z in
-    let later = times n (λ _. cells) (a + step) step in
+    let later = times _ (λ _. cells) _ step in
     let size = item_size cs item in
     let rest : AreKinds kinds (at + size) later = rw (size_same cs item caps z) at (rest_kinds kinds at cells later s) in
     let next : (at + size) + i * size ≡ at + suc i * size = grind arith in
@@ -304,7 +301,7 @@ field_kinds cs fields kinds k at f left more e s =
     let later = cells_from cs fields (suc k) more in
     let both : AreKinds kinds at (here ++ later) = rw e at s in
     record {
-      here = elements_kinds cs f.item (counted k fields) f.default kinds (capacity_of f.count) at 0 0 (front_kinds kinds at here later both);
+      here = elements_kinds cs f.item (counted k fields) f.default _ _ _ 0 0 (front_kinds _ _ _ later both);
       later = subst (λ (j : ℕ). AreKinds kinds (at + capacity_of f.count * item_size cs f.item) (cells_from cs fields j more)) (omega arith)
           (rw (field_size cs fields k f) at (rest_kinds kinds at here later both));
     }
@@ -335,7 +332,7 @@ module _ (set : Set) (i : ℕ) (kinds : List Kind) (are : kinds ≡ kinds_at set
   all_kinds = record { more = []; is = are ∙ sym (append-nil (kinds_in (own ++ others))) }
 
   pub own_kinds : AreKinds kinds 0 (part_cells set (parts.Device i))
-  own_kinds = rw (cells_table set) (front_kinds kinds 0 own others all_kinds)
+  own_kinds = rw (cells_table set) (front_kinds _ 0 _ others all_kinds)
 
   pub sub_kinds : (j : ℕ) → j < length d.subs → AreKinds kinds (first_cell set (parts.Sub i j)) (part_cells set (parts.Sub i j))
   sub_kinds j lt =

@@ -5,13 +5,13 @@ use Rattle.vms_values.proofs.Facade.{drop_more, Item, Struct, Count, One, Field,
 use Rattle.vms_values.proofs.Facade.{field_cells, numbers_of, elements_of, struct_cells, capacity_of, Printer, no_printer, printer, printers, item_lines}
 use Rattle.vms_values.proofs.Facade.{element_lines, array_lines, field_lines, desc_lines, line_end, version_text, sub_lines, device_lines, ItemBelow}
 use Rattle.vms_values.proofs.Facade.{FieldsBelow, all_below, item_cells_same, field_cells_same, own_same, row_same, first_cells, first_same, first_at}
-use Rattle.vms_values.proofs.Facade.{is_well_formed, struct_clean, reach, MOST_ITEMS, uses_below, field_size, elements_fit, one_fits, room_for_less}
-use Rattle.vms_values.proofs.Facade.{place_first, desc_of, field_of, field_at, own_numbers, first_cell, desc_at, sub_at, found_field, here_fields, sub_next}
-use Rattle.vms_values.proofs.Facade.{sub_inside, own_inside_device, few_cells, PartAt, HasSpot, size_in, table, cells_in, item_rank, part_rank, reach_whole}
-use Rattle.vms_values.proofs.Facade.{uses_more, rank_below, next_field, cells_table, start_after, cell_of, fields_at, IsRun, run_lines, IsOf, section_text}
-use Rattle.vms_values.proofs.Facade.{whole_sub, Image, own_cells, sub_place, device_at, take-take, Result, length-drop, take, length-take, Bor, is_ok}
-use Rattle.vms_values.proofs.Facade.{joined, Outlet, Wrote, devices_lines, AreOf, below, below_part, Stays, take-append-le, Part, HasPart}
-use Rattle.vms_values.proofs.Facade.{few_structs, field_clean, LONGEST_PATH, PART_ROOM}
+use Rattle.vms_values.proofs.Facade.{is_well_formed, struct_clean, reach, uses_below, field_size, elements_fit, one_fits, room_for_less, place_first, desc_of}
+use Rattle.vms_values.proofs.Facade.{field_of, field_at, own_numbers, first_cell, desc_at, sub_at, found_field, here_fields, sub_next, sub_inside}
+use Rattle.vms_values.proofs.Facade.{own_inside_device, few_cells, PartAt, HasSpot, size_in, table, cells_in, item_rank, part_rank, reach_whole, uses_more}
+use Rattle.vms_values.proofs.Facade.{rank_below, next_field, cells_table, start_after, cell_of, fields_at, IsRun, run_lines, IsOf, section_text, whole_sub}
+use Rattle.vms_values.proofs.Facade.{Image, own_cells, sub_place, device_at, take-take, Result, length-drop, take, length-take, Bor, is_ok, joined, Outlet}
+use Rattle.vms_values.proofs.Facade.{Wrote, devices_lines, AreOf, below, below_part, Stays, take-append-le, Part, HasPart, few_structs, field_clean}
+use Rattle.vms_values.proofs.Facade.{LONGEST_PATH, PART_ROOM}
 use Rattle.vms_spec.specs.Sets.{AtLeast}
 use Rattle.vms_parts.specs.{declared.types.Desc.Desc as CodeDesc, declared.types.Field.Field as CodeField}
 use Rattle.std.proofs.Common.{take_all}
@@ -36,10 +36,9 @@ module _ (j : ℕ) (ps Ps : List Printer) (agree : (i : ℕ) → i < j → get_o
       rw (item_same item (path ++ codes "[" ++ decimal i ++ codes "]") n at e, elements_same item path n (at + step) step (suc i) m e)
 
   array_same : (item : Item) (c : Count) (own : ℕ → ℕ) (path : List ℕ) (n : List ℤ) (at : ℕ) → ItemBelow j item → array_lines ps item c own path n at ≡ array_lines Ps item c own path n at
-  array_same item One own path n at e = item_same item path n at e
+  array_same item One own path n at e = item_same _ _ _ _ e
   array_same item c own path n at e =
-      rw (item_cells_same j (cells_of ps) (cells_of Ps) cells item [] (pos 0) e)
-      (elements_same item path n at (item_size (cells_of Ps) item) 0 (elements_of c own) e)
+      rw (item_cells_same j (cells_of ps) (cells_of Ps) cells item [] (pos 0) e) (elements_same _ _ _ _ _ 0 _ e)
 
   fields_same : (fields : List Field) (own : ℕ → ℕ) (path : List ℕ) (n : List ℤ) (i at : ℕ) (fs : List Field) → FieldsBelow j fs → field_lines ps fields own path n i at fs ≡ field_lines Ps fields own path n i at fs
   fields_same fields own path n i at [] b = refl
@@ -52,7 +51,7 @@ module _ (j : ℕ) (ps Ps : List Printer) (agree : (i : ℕ) → i < j → get_o
 
   desc_same : (d : Desc) (path : List ℕ) (n : List ℤ) (at : ℕ) → FieldsBelow j d.fields → desc_lines ps d path n at ≡ desc_lines Ps d path n at
   desc_same d path n at b =
-      rw (own_same j (cells_of ps) (cells_of Ps) cells d n at b) (fields_same d.fields (numbers_of (cells_of Ps) d n at) path n 0 at d.fields b)
+      rw (own_same j (cells_of ps) (cells_of Ps) cells d n at b) (fields_same d.fields (numbers_of (cells_of Ps) d n at) _ _ 0 at _ b)
 
 -- the lines of one element of a structure are those of its description
 pub struct_lines : (set : Set) → is_well_formed set ≡ true → (j : ℕ) → j < length set.structs → (path : List ℕ) (n : List ℤ) (at : ℕ)
@@ -70,13 +69,7 @@ struct_lines set well j lt path n at =
 pub elements_left : (ps : List Printer) (item : Item) (path named : List ℕ) (n : List ℤ) (at step width i count : ℕ) → i < count
     → named ≡ path ++ codes "[" ++ decimal i ++ codes "]" → width ≡ step → element_lines ps item path n at step i (count - i)
     ≡ item_lines ps item named n at ++ element_lines ps item path n (at + width) step (i + 1) (count - (i + 1))
-elements_left ps item path named n at step width i count lt is same =
-    let e : count - i ≡ suc (count - (i + 1)) = omega arith in
-    let one : suc i ≡ i + 1 = omega arith in
-    rw (e, one, is, same)
-
-pub no_elements : (ps : List Printer) (item : Item) (path : List ℕ) (n : List ℤ) (at step i left : ℕ) → left ≡ 0 → element_lines ps item path n at step i left ≡ []
-no_elements ps item path n at step i left e = rw e
+elements_left ps item path named n at step width i count lt is same = grind arith
 
 -- the lines of a field, by how many of its elements are counted
 pub run_is : (ps : List Printer) (f : Field) (c : Count) (own : ℕ → ℕ) (count : ℕ) (path : List ℕ) (n : List ℤ) (at : ℕ) → count ≡ elements_of c own
@@ -85,7 +78,7 @@ run_is ps f c own count path n at e = grind arith
 
 module _ (set : Set) where
   pub printed_cells : cells_of (printers set) ≡ struct_cells set
-  printed_cells = first_cells (λ (p : Printer). p.cells) printer (λ ps d. refl) set.structs (length set.structs)
+  printed_cells = first_cells (λ (p : Printer). p.cells) printer (λ ps d. refl) _ _
 
   pub printed_size : (item : Item) → item_size (cells_of (printers set)) item ≡ size_in set item
   printed_size item = rw (printed_cells ∙ sym (cells_table set))
@@ -118,7 +111,7 @@ module _ (set : Set) where
       let all = (desc_at set spot.part).fields in
       let ps = printers set in
       let own = numbers_of (cells_of ps) (desc_at set spot.part) n spot.base in
-      let next = next_field set well spot n h k cell lt begins in
+      let next = next_field _ well _ _ h _ _ lt begins in
       let fewer : count ≤ capacity_of f.count = omega (arith, elements_fit f.count (own_numbers set spot.part n spot.base)) in
       let uses : uses_below (reach set spot.part) f.item ≡ true = rw is next.uses in
       let some : 1 ≤ capacity_of f.count = rw is next.some in
@@ -127,12 +120,12 @@ module _ (set : Set) where
       let width : length (field_cells (cells_of ps) all k f) ≡ capacity_of f.count * size_in set f.item =
       rw (field_size (cells_of ps) all k f, printed_size f.item) in
       let one : suc k ≡ k + 1 = omega arith in
-      let after : cell + capacity_of f.count * size_in set f.item ≡ cell_of set spot (k + 1) = rw is (start_after set spot k cell begins lt) in
+      let after : cell + capacity_of f.count * size_in set f.item ≡ cell_of set spot (k + 1) = rw is (start_after set spot _ _ begins lt) in
       record {
         run = record {
-          reaches = uses_more (reach set spot.part) (length set.structs) f.item (reach_whole set spot.part h.part) uses;
-          small = one_fits (capacity_of f.count) (size_in set f.item) cell (length n) MOST_ITEMS some fits h.few;
-          room = room_for_less count (capacity_of f.count) (size_in set f.item) cell (length n) fewer fits;
+          reaches = uses_more _ _ _ (reach_whole set spot.part h.part) uses;
+          small = one_fits _ _ _ _ _ some fits h.few;
+          room = room_for_less _ _ _ _ _ fewer fits;
           single = λ e. rw e at there;
           few = h.few;
         };
@@ -150,14 +143,12 @@ module _ (set : Set) where
       → desc_of d ≡ desc_at set spot.part → fields ≡ d.fields → f ≡ get_or fields k f → count ≡ elements_of (field_at set spot.part k).count (own_numbers set spot.part n spot.base)
       → cell ≡ cell_of set spot k → FoundRun spot path n k cell count f
   found_run well spot path n h k cell count d fields f lt desc are is there begins =
-      let found = found_field fields (desc_at set spot.part).fields k f (here_fields set spot.part d fields desc are) lt is in
+      let found = found_field _ _ _ _ (here_fields set spot.part _ _ desc are) lt is in
       let count_is = there ∙ ap (λ x. elements_of x.count (own_numbers set spot.part n spot.base)) (sym found) in
-      record { found = found; next = next_run well spot path n h k cell count (field_of f) lt found count_is begins }
+      record { found = found; next = next_run well _ _ _ h _ _ _ _ lt found count_is begins }
 
   pub no_fields : (spot : PartAt) (path : List ℕ) (n : List ℤ) (k : ℕ) → k ≡ length (desc_at set spot.part).fields → fields_left spot path n k ≡ []
-  no_fields spot path n k e =
-      let d = desc_at set spot.part in
-      rw (drop_all k d.fields (omega (arith, numbers_of (cells_of (printers set)) d n spot.base)))
+  no_fields spot path n k e = grind (arith, drop_all)
 
 -- ---- The lines of subsections, one after the other, and of a whole device.
 
@@ -272,7 +263,7 @@ below_reach set part h = grind arith
 pub field_short : (set : Set) → is_well_formed set ≡ true → (part : Part) → HasPart set part → (k : ℕ) → k < length (desc_at set part).fields
     → (f : Field) → f ≡ field_at set part k → (length f.name ≤ 32) × (below f.item + PART_ROOM ≤ below_part set part)
 field_short set well part h k lt f is =
-    let clean = field_clean set well part h k lt in
+    let clean = field_clean _ well _ h _ lt in
     let uses : uses_below (reach set part) f.item ≡ true = rw is clean.uses in
     (omega (arith, ap (λ (x : Field). length x.name) is), omega (arith, below_reach set part h, below_uses (reach set part) f.item uses))
 

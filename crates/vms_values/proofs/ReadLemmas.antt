@@ -148,10 +148,7 @@ module _ (path : List ℕ) (kind : Kind) (caps : List ℕ) (cell : ℕ) (default
   judged_there : (text rest number : List ℕ) (line : NextLine) (result : Result ℤ ValuesReason) → line.text.now ≡ text → begins_with (path ++ codes " = ") line.text.now ≡ true
       → number ≡ drop (length (path ++ codes " = ")) line.text.now → result ≡ number_judged caps default present (held kind (number_spelled number))
       → reads (Some (text, rest)) ≡ taken_number cell p rest result
-  judged_there text rest number line result t n is j =
-      begun text rest true (ap (begins_with front) (sym t) ∙ n) ∙ put_judged rest (number_spelled (drop (length front) text))
-      ∙ ap (λ l. taken_number cell p rest (number_judged caps default present (held kind (number_spelled l)))) (sym (is ∙ ap (drop (length front)) t))
-      ∙ ap (taken_number cell p rest) (sym j)
+  judged_there text rest number line result t n is j = grind (arith, put_judged)
 
   pub number_there : (o : Option (List ℕ × List ℕ)) (line : NextLine) (number : List ℕ) (z : ℤ) (now : Standing) → IsFirstLine o (Some line)
       → begins_with (path ++ codes " = ") line.text.now ≡ true → number ≡ drop (length (path ++ codes " = ")) line.text.now

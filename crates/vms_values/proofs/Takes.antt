@@ -1,11 +1,11 @@
 -- What is read of structures, arrays and parts.
 use Rattle.vms_values.proofs.Facade.{refl, ◌∙◌, ◌≡◌, ℕ, zero, suc, ◌+◌, ◌<◌, Bool, true, ◌&&◌, List, [], ◌∷◌, ◌++◌, length}
-use Rattle.vms_values.proofs.Facade.{get_or, pos, arith, codes, ◌-◌, ◌*◌, drop, Option, sym, decimal, CellLine, exceeds_least, Typed, IsKept, run_read}
-use Rattle.vms_values.proofs.Facade.{Item, Num, Struct, Count, One, Field, Desc, Set, is_there, no_desc, no_parent, first, item_size, field_cells, numbers_of}
-use Rattle.vms_values.proofs.Facade.{elements_of, counted, no_field, struct_cells, capacity_of, Reader, Standing, Read, ◌>>=◌, no_reader, reader, readers}
-use Rattle.vms_values.proofs.Facade.{cells_of, read_item, read_elements, read_array, read_field, read_fields, read_desc, put_line, ItemBelow, FieldsBelow}
-use Rattle.vms_values.proofs.Facade.{all_below, item_cells_same, field_cells_same, own_same, row_same, first_same, readers_cells, first_at, is_well_formed}
-use Rattle.vms_values.proofs.Facade.{struct_clean, first_line, field_size, least_of, size_in, capacities_of, cells_table, fields_at}
+use Rattle.vms_values.proofs.Facade.{get_or, pos, arith, codes, ◌-◌, ◌*◌, drop, Option, sym, decimal, exceeds_least, Typed, IsKept, run_read, Item, Num}
+use Rattle.vms_values.proofs.Facade.{Struct, Count, One, Field, Desc, Set, is_there, no_desc, no_parent, first, item_size, field_cells, numbers_of, elements_of}
+use Rattle.vms_values.proofs.Facade.{counted, no_field, struct_cells, capacity_of, Reader, Standing, Read, ◌>>=◌, no_reader, reader, readers, cells_of}
+use Rattle.vms_values.proofs.Facade.{read_item, read_elements, read_array, read_field, read_fields, read_desc, ItemBelow, FieldsBelow, all_below}
+use Rattle.vms_values.proofs.Facade.{item_cells_same, field_cells_same, own_same, row_same, first_same, readers_cells, first_at, is_well_formed, struct_clean}
+use Rattle.vms_values.proofs.Facade.{field_size, least_of, size_in, capacities_of, cells_table, fields_at}
 
 pub kept_none : (a : Typed) → IsKept a a
 kept_none a = record { version = refl; came = refl; long = refl; kinds = refl }
@@ -34,19 +34,18 @@ module _ (j : ℕ) (rs Rs : List Reader) (agree : (i : ℕ) → i < j → get_or
   elements_same f caps path present at step i zero p e = refl
   elements_same f caps path present at step i (suc m) p e =
       then_same _ _ (λ q. read_elements rs f caps path present (at + step) step (suc i) m q) (λ q. read_elements Rs f caps path present (at + step) step (suc i) m q)
-      (item_same f caps (path ++ codes "[" ++ decimal i ++ codes "]") present at f.item p e) (λ q. elements_same f caps path present (at + step) step (suc i) m q e)
+      (item_same f _ _ _ _ _ _ e) (λ q. elements_same f caps path present (at + step) step (suc i) m q e)
 
   array_same : (f : Field) (caps path : List ℕ) (present : Bool) (at : ℕ) (c : Count) (own : ℕ → ℕ) (p : Standing) → ItemBelow j f.item
       → read_array rs f caps path present at c own p ≡ read_array Rs f caps path present at c own p
-  array_same f caps path present at One own p e = item_same f caps path present at f.item p e
+  array_same f caps path present at One own p e = item_same f _ _ _ _ _ _ e
   array_same f caps path present at c own p e =
-      rw (item_cells_same j (cells_of rs) (cells_of Rs) cells f.item [] (pos 0) e)
-      (elements_same f caps path present at (item_size (cells_of Rs) f.item) 0 (elements_of c own) p e)
+      rw (item_cells_same j (cells_of rs) (cells_of Rs) cells f.item [] (pos 0) e) (elements_same f _ _ _ _ _ 0 _ _ e)
 
   field_same : (d : Desc) (v : ℕ) (path : List ℕ) (present : Bool) (base i at : ℕ) (f : Field) (p : Standing) → FieldsBelow j d.fields → ItemBelow j f.item
       → read_field rs d v path present base i at f p ≡ read_field Rs d v path present base i at f p
   field_same d v path present base i at f p b e =
-      rw (own_same j (cells_of rs) (cells_of Rs) cells d p.numbers base b) (array_same f (counted i d.fields) (path ++ f.name) (present && is_there f.test f.since v (numbers_of (cells_of Rs) d p.numbers base) no_parent) at f.count (numbers_of (cells_of Rs) d p.numbers base) p e)
+      rw (own_same j (cells_of rs) (cells_of Rs) cells d p.numbers base b) (array_same f _ _ _ _ _ (numbers_of (cells_of Rs) d p.numbers base) _ e)
 
   fields_same : (d : Desc) (v : ℕ) (path : List ℕ) (present : Bool) (base i at : ℕ) (fs : List Field) (p : Standing) → FieldsBelow j d.fields → FieldsBelow j fs
       → read_fields rs d v path present base i at fs p ≡ read_fields Rs d v path present base i at fs p
@@ -70,13 +69,10 @@ struct_reads set well j lt f caps path present at p =
 
 -- ---- The elements of an array and the fields of a part that remain to be read.
 
-put_least : (path : List ℕ) (cell : ℕ) (spot : CellLine) (p : Standing) (o : Option (List ℕ × List ℕ)) → put_line path (record spot { capacities = capacities_of (least_of spot.capacities) }) p o ≡ put_line path spot p o
-put_least path cell spot p o = grind (arith, exceeds_least)
-
 item_least : (rs : List Reader) (f : Field) (caps path : List ℕ) (present : Bool) (at : ℕ) (item : Item) (p : Standing)
     → read_item rs f (capacities_of (least_of caps)) path present at item p ≡ read_item rs f caps path present at item p
 item_least rs f caps path present at (Num kind) p =
-    put_least path at (record { cell = at; kind = kind; capacities = caps; default = f.default; present = present }) p (first_line p.rest)
+    grind (arith, exceeds_least)
 item_least rs f caps path present at _ p = refl
 
 elements_least : (rs : List Reader) (f : Field) (caps path : List ℕ) (present : Bool) (at step i n : ℕ) (p : Standing)
@@ -91,10 +87,7 @@ pub elements_left : (rs : List Reader) (f : Field) (caps path : List ℕ) (prese
     → read_item rs f caps (path ++ codes "[" ++ decimal i ++ codes "]") present at f.item p ≡ r
     → read_elements rs f caps path present at step i (count - i) p
     ≡ (r >>= λ q. read_elements rs f caps path present (at + step) step (i + 1) (count - (i + 1)) q)
-elements_left rs f caps path present step at i count p r lt here =
-    let e : count - i ≡ suc (count - (i + 1)) = omega arith in
-    let one : suc i ≡ i + 1 = omega arith in
-    rw (e, one, here)
+elements_left rs f caps path present step at i count p r lt here = grind arith
 
 run_is : (rs : List Reader) (f : Field) (c : Count) (own : ℕ → ℕ) (count : ℕ) (caps path : List ℕ) (present : Bool) (at : ℕ) (p : Standing) → count ≡ elements_of c own
     → read_array rs f caps (path ++ f.name) present at c own p ≡ run_read rs f c (capacities_of (least_of caps)) path present at count p

@@ -116,7 +116,7 @@ not_both s v e =
 
 one_came : (s t : Sub) (o p : Option ℕ) → s ≡ t → IsAtVersion s o → IsAtVersion t p → sub_line s o ≡ sub_line t p → o ≡ p
 one_came s t None None same a b e = refl
-one_came s t (Some v) (Some w) same a b e = rw (a, b, same) refl
+one_came s t (Some v) (Some w) same a b e = rw (a, b, same)
 one_came s t None (Some w) same a b e = absurd (not_both t w (rw same at e))
 one_came s t (Some v) None same a b e = absurd (not_both t v (sym (rw same at e)))
 
@@ -162,7 +162,7 @@ devices_same set [] [] (i ∷ images') a b u u' m = absurd b
 devices_same set (d ∷ devices) (i ∷ images) [] a b u u' m = absurd b
 devices_same set (d ∷ devices) (i ∷ images) (j ∷ images') a b u u' m =
     let p = parted _ _ _ _ _ _ (whole_own set d i a.0.versions) (whole_own set d j b.0.versions) (begins_new set _ images) (begins_new set _ _) m.2 in
-    rw (device_same set d i j a.0 b.0 u.0 u'.0 p.inside, devices_same set devices images images' a.1 b.1 u.1 u'.1 p.rest) refl
+    rw (device_same set d i j a.0 b.0 u.0 u'.0 p.inside, devices_same set devices images images' a.1 b.1 u.1 u'.1 p.rest)
 devices_same set _ _ images' a b u u' m = absurd a
 
 -- ---- A text in which no line is bad says a state; the second pass finds its first bad part, or the state is ready.

@@ -90,7 +90,7 @@ section_read d text None e h line = cc
 section_read d text (Some (first, rest)) e h line =
     let is : first ≡ section_line d d.desc.version = (bytes_eq-Decides first _).0 h in
     moved_one line text (record { demand = ForSection d; line = section_line d d.desc.version }) _
-    (line_taken text _ rest (e ∙ ap (λ (l : List ℕ). Some (l, rest)) is)) (ap (λ l. reason_for (ForSection d) (Some (l, []))) (sym is) ∙ rw h refl)
+    (line_taken text _ rest (e ∙ ap (λ (l : List ℕ). Some (l, rest)) is)) (ap (λ l. reason_for (ForSection d) (Some (l, []))) (sym is) ∙ rw h)
 
 pub section_not : (d : Device) (o : Option (List ℕ × List ℕ)) → is_line (section_line d d.desc.version) o ≡ false
     → reason_for (ForSection d) o ≡ Some reasons.Form
@@ -113,7 +113,7 @@ is_short_one z h = grind (arith, or_right, and_from)
 
 pub are_short : (n : List ℤ) → AreShort n → list_all is_short n ≡ true
 are_short [] h = refl
-are_short (z ∷ n) h = let e = is_short_one z (h 0) in let f = are_short n (λ c. h (suc c)) in rw (e, f) refl
+are_short (z ∷ n) h = let e = is_short_one z (h 0) in let f = are_short n (λ c. h (suc c)) in rw (e, f)
 
 pub short_are : (n : List ℤ) → list_all is_short n ≡ true → AreShort n
 short_are [] e c = omega arith
@@ -189,7 +189,7 @@ module _ (set : Set) (d : Device) (devices : List Device) (line : ℕ) (text : L
       → (images : List Image) → AreShaped set (d ∷ devices) images → Follows taken P (devices_entries set (d ∷ devices) images)
   each_state taken P h [] shaped = absurd shaped
   each_state taken P h (i ∷ images) shaped =
-      subst (λ x. Follows taken P (device_entries set d x ++ devices_entries set devices images)) (rw (← shaped.0.version) refl) (h i images shaped.0 shaped.1)
+      subst (λ x. Follows taken P (device_entries set d x ++ devices_entries set devices images)) (rw (← shaped.0.version)) (h i images shaped.0 shaped.1)
 
   shaped_as : {came : List (Option ℕ)} {numbers : List ℤ} {line' : ℕ} {rest : List ℕ} {Then : List Entry → List Entry → Type 0}
       → DeviceWent set d line text came numbers line' rest Then → IsShaped set d (state_of d came numbers)
@@ -199,7 +199,7 @@ module _ (set : Set) (d : Device) (devices : List Device) (line : ℕ) (text : L
         subs = w.one_each;
         versions = w.versions;
         cells = cc (length-map (device_cells set d) (λ c. c.default));
-        short = are_short numbers (rw (w.told.numbers) (short_all (default_numbers set d) w.said w.told.short good));
+        short = are_short numbers (rw w.told.numbers (short_all (default_numbers set d) w.said w.told.short good));
       }
 
   stopped_here : (e : BadLine) → AreGoodDevices set devices → DeviceComes set d line text (Err e) → AllStop set (d ∷ devices) line text e

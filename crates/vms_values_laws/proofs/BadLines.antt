@@ -159,7 +159,7 @@ module _ (set : Set) (text : List ℕ) (machine : Option (List ℕ)) (line : ℕ
     is = refl;
   })
   -- something comes after the last line
-  by_rest all (b ∷ rest) e a = inl (first_bad _ a.whole (λ es is. rw (is, e) refl))
+  by_rest all (b ∷ rest) e a = inl (first_bad _ a.whole (λ es is. rw (is, e)))
 
   by_end : (o : Result ReadAll BadLine) → AllCome set set.devices line after o → FirstPass set text (ended set machine o)
   by_end (Ok all) a = by_rest all _ refl a
@@ -172,14 +172,14 @@ machine_first : (machines : List (List ℕ)) (o : Option (List ℕ × List ℕ))
 machine_first machines None name e = cc
 machine_first machines (Some (line, rest)) name e =
     let p = some_if (begins_with (codes "machine ") line && is_one_of machines (drop 8 line)) _ _ e in
-    (rest, rw (begun (codes "machine ") line (and_parts _ _ p.0).0, p.1) refl)
+    (rest, rw (begun (codes "machine ") line (and_parts _ _ p.0).0, p.1))
 
 name_moved : (set : Set) (text name : List ℕ) → machine_named set.machines (first_line text) ≡ Some name
     → Moved 1 text (machine_taken (Some name)) 2 (rest_of (first_line text))
 name_moved set text name e =
     let line = machine_first _ _ name e in
     moved_one 1 text (record { demand = ForMachine name; line = codes "machine " ++ name }) (rest_of (first_line text))
-    (line_taken text (codes "machine " ++ name) line.0 line.1) (rw ((bytes_eq-Decides _ _).1 refl) refl)
+    (line_taken text (codes "machine " ++ name) line.0 line.1) (rw ((bytes_eq-Decides _ _).1 refl))
 
 by_machine : (set : Set) (text : List ℕ) → AreSound set.structs → AreGoodDevices set set.devices → (machine : Option (List ℕ))
     → machine_named set.machines (first_line text) ≡ machine → FirstPass set text (after_machine set text machine)

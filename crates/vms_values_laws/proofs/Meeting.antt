@@ -98,19 +98,19 @@ meet [] [] after rest rest' o o' f clean fine fine' e ends = grind arith
 meet [] (x ∷ before) after rest rest' o o' f clean fine fine' e ends =
     let is : rest ≡ entry_line x ++ 10 ∷ (text_of (map entry_line before) ++ rest') =
     e ∙ append_assoc (entry_line x) (10 ∷ text_of (map entry_line before)) rest' in
-    absurd (not_ended o x _ _ _ (fine_feed _ _ clean.0 (fine_entry x fine'.0)) (fine_entry x fine'.0) (rw (is) at f))
+    absurd (not_ended o x _ _ _ (fine_feed _ _ clean.0 (fine_entry x fine'.0)) (fine_entry x fine'.0) (rw is at f))
 meet (t ∷ taken) [] [] rest rest' o o' f clean fine fine' e ends = absurd f
 meet (t ∷ taken) [] (x ∷ after) rest rest' o o' f clean fine fine' e ends =
-    let same : reason_for (demand_of x) (Some (t.line, [])) ≡ None = rw (f.0) fine.0 in
+    let same : reason_for (demand_of x) (Some (t.line, [])) ≡ None = rw f.0 fine.0 in
     let is : rest' ≡ t.line ++ 10 ∷ (text_of (lines_of taken) ++ rest) = cc (append_assoc t.line (10 ∷ text_of (lines_of taken)) rest) in
-    absurd (not_ended o' x after t.line _ (fine_feed _ t.line clean.0 same) same (rw (is) at ends))
+    absurd (not_ended o' x after t.line _ (fine_feed _ t.line clean.0 same) same (rw is at ends))
 meet (t ∷ taken) (x ∷ before) after rest rest' o o' f clean fine fine' e ends =
     let feed' = fine_feed _ _ clean.0 (fine_entry x fine'.0) in
-    let feed = fine_feed _ t.line clean.0 (rw (f.0) fine.0) in
+    let feed = fine_feed _ t.line clean.0 (rw f.0 fine.0) in
     let texts = sym (append_assoc t.line (10 ∷ text_of (lines_of taken)) rest) ∙ e ∙ append_assoc (entry_line x) (10 ∷ text_of (map entry_line before)) rest' in
     let both = some_pair_parts t.line _ _ _ (sym (line_first t.line _ feed) ∙ ap first_line texts ∙ line_first _ _ feed') in
     let more = meet taken before after rest rest' o o' (f.1 (sym both.0)) clean.1 fine.1 fine'.1 both.1 ends in
-    record { long = ap suc more.long; lines = rw (both.0, more.lines) refl; reason = more.reason }
+    record { long = ap suc more.long; lines = rw (both.0, more.lines); reason = more.reason }
 
 -- ---- The entries of a set whose names have no line feed.
 

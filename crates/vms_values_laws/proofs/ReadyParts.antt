@@ -16,7 +16,7 @@ use Rattle.vms_spec.specs.Layout as slots
 -- ---- The entries of a state, beside its cells and slots.
 
 pub bytes_same : (a b : List ℕ) → a ≡ b → if_not (bytes_eq a b) reasons.Form ≡ None
-bytes_same a b e = rw ((bytes_eq-Decides a b).1 e) refl
+bytes_same a b e = rw ((bytes_eq-Decides a b).1 e)
 
 two_none : (a b : Bool) → or_else (if_not a reasons.Invalid) (if_not b reasons.Needed) ≡ None → (a ≡ true) × (b ≡ true)
 two_none a b e = let p = or_else_none _ _ e in (if_none a _ p.0, if_none b _ p.1)
@@ -71,9 +71,9 @@ module _ (set : Set) (d : Device) (image : Image) (short : AreShort image.number
         (RulesHold (sub_slots set s v n at) × (is_needed set d image s j ≡ true))
     came_known v same =
         let ss = sub_slots set s v n at in
-        head_known (OfSub d image j s at (Some v)) (λ k. refl) (rw (same, (bytes_eq-Decides (sub_line s (Some s.desc.version)) _).1 refl) refl)
+        head_known (OfSub d image j s at (Some v)) (λ k. refl) (rw (same, (bytes_eq-Decides (sub_line s (Some s.desc.version)) _).1 refl))
         (λ g. let p = two_none _ _ g in ((rules_decide ss).0 (sym (desc_rules set s.desc v n at) ∙ p.0), well_come _ v _ p.1))
-        (λ m. rw (desc_rules set s.desc v n at ∙ (rules_decide ss).1 m.0, m.1) refl) (rw same its)
+        (λ m. rw (desc_rules set s.desc v n at ∙ (rules_decide ss).1 m.0, m.1)) (rw same its)
 
     away_known : Known set n at (OfSub d image j s at None ∷ number_entries set s.desc n at) own [] (is_needed set d image s j ≡ false)
     away_known = record {
@@ -86,7 +86,7 @@ module _ (set : Set) (d : Device) (image : Image) (short : AreShort image.number
       right = λ r m.
           let line = or_right (bytes_eq (sub_line s None) (sub_line s (Some s.desc.version))) _ ((bytes_eq-Decides (sub_line s None) _).1 refl) in
           let p = its.right (record { right = λ c k lt e. right_by (λ h. refl) (r.right c k lt e) }) tt in
-          ((rw line refl, p.0), (rw (m, ((desc_bare set n short s.desc s.desc.version at).1 (λ c k lt e f. (r.right c k lt e).absent refl))) refl, p.1));
+          ((rw line, p.0), (rw (m, ((desc_bare set n short s.desc s.desc.version at).1 (λ c k lt e f. (r.right c k lt e).absent refl))), p.1));
     }
 
   subs_known : (j at : ℕ) (subs : List Sub) (came : List (Option ℕ)) → length came ≡ length subs → AreAtVersions subs came
@@ -117,7 +117,7 @@ module _ (set : Set) (d : Device) (image : Image) (short : AreShort image.number
       let rules = desc_rules set d.desc _ n 0 in
       let own : Known set n 0 (OfSection d image ∷ number_entries set d.desc n 0) (desc_cells (struct_cells set) d.desc) ss (RulesHold ss) =
       head_known _ (λ k. refl) line (λ g. (rules_decide ss).0 (sym rules ∙ if_none _ _ g))
-      (λ m. rw (rules ∙ (rules_decide ss).1 m) refl) (rw version (desc_part set n short d.desc _ 0)) in
+      (λ m. rw (rules ∙ (rules_decide ss).1 m)) (rw version (desc_part set n short d.desc _ 0)) in
       known_both (λ a b. (rules_append ss later a b.0, b.1)) (λ m. let r = rules_split ss later m.0 in (r.0, (r.1, m.1))) (omega arith) own
       (subs_known 0 _ d.subs _ long versions)
 
@@ -172,8 +172,8 @@ first_part set line (e ∷ es) b h = go _ refl h (λ g. first_part set (suc line
         before = e ∷ p.before;
         entry = p.entry;
         after = p.after;
-        is = rw (p.is);
-        good = rw (is, p.good) refl;
+        is = rw p.is;
+        good = rw (is, p.good);
         number = omega arith;
         bad = p.bad;
       }
@@ -186,7 +186,7 @@ pub bad_part_found : (set : Set) (line : ℕ) (before : List Entry) (entry : Ent
     → part_reason set entry ≡ Some reason → parts_from set line (before ++ entry ∷ after) ≡ Some (record { line = line + length before; reason = reason })
 bad_part_found set line [] entry after reason good bad =
     let same : line ≡ line + 0 = omega arith in
-    rw (bad, ← same) refl
+    rw (bad, ← same)
 bad_part_found set line (e ∷ before) entry after reason good bad =
     let here : part_reason set e ≡ None = cc in
     let same : line + suc (length before) ≡ suc line + length before = omega arith in
@@ -194,7 +194,7 @@ bad_part_found set line (e ∷ before) entry after reason good bad =
 
 pub good_none : (set : Set) (line : ℕ) (es : List Entry) → AreGood set es → parts_from set line es ≡ None
 good_none set line [] g = refl
-good_none set line (e ∷ es) g = rw (g.0) (good_none set (suc line) es g.1)
+good_none set line (e ∷ es) g = rw g.0 (good_none set (suc line) es g.1)
 
 -- ---- Ready images are what their text says, and no part of them is bad.
 

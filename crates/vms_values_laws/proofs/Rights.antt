@@ -20,7 +20,7 @@ begins_itself (b ∷ front) text = grind (arith, begins_itself front text)
 
 by_front : (front line text : List ℕ) (what : What) (present : Bool) → line ≡ front ++ text
     → (if begins_with front line then element_reason what present (drop (length front) line) else Some reasons.Form) ≡ element_reason what present text
-by_front front line text what present e = rw (e, begins_itself front text, drop-append_seam front text) refl
+by_front front line text what present e = rw (e, begins_itself front text, drop-append_seam front text)
 
 -- the line of a number is judged by this number
 pub line_number : (x : Element) (n : List ℤ) (cell : Cell) → x.what ≡ Number cell → IsShort (get_or n x.cell (pos 0))
@@ -28,7 +28,7 @@ pub line_number : (x : Element) (n : List ℤ) (cell : Cell) → x.what ≡ Numb
 line_number x n cell e short =
     let z = get_or n x.cell (pos 0) in
     by_front (x.name ++ codes " = ") (number_line n x) (signed_decimal z) x.what x.present (sym (append_assoc x.name (codes " = ") (signed_decimal z)))
-    ∙ rw (e, number_holds z short) refl
+    ∙ rw (e, number_holds z short)
 
 -- a number that fits its cell, and is the default if it is absent
 pub record IsFitting (cell : Cell) (present : Bool) (z : ℤ) : Type 0 where
@@ -194,8 +194,8 @@ module _ (set : Set) (n : List ℤ) (short : AreShort n) (x : Element) (cell : C
     outside = λ k h.
         let ne : x.cell ≡ k → ⊥ = λ e. (let g : at + 1 ≤ k = h (omega arith) in omega arith) in
         let e = ne_eqb x.cell k ne in (
-          if_both (λ l. has_line (of_numbers n l) k ≡ false) t _ [] (rw e refl) refl,
-          if_both (λ l. has_cell l k ≡ false) b _ [] (rw e refl) refl,
+          if_both (λ l. has_line (of_numbers n l) k ≡ false) t _ [] (rw e) refl,
+          if_both (λ l. has_cell l k ≡ false) b _ [] (rw e) refl,
         );
     unsaid = λ k e. number_unsaid k b t c e;
     said = λ f g d bare. (
@@ -257,9 +257,9 @@ defaults_are n at (x ∷ xs) up = by_what x.what (λ next u. defaults_are n next
   by_what (Number cell) later u = (
     λ h c k lt e f.
         let q = and_parts (same_number (get_or n x.cell (pos 0)) cell.default) _ h in
-        first_bare n at cell (cells_of xs) c k lt e (rw (u.0) at (same_number_is _ cell.default q.0)) ((later (at + 1) u.1).0 q.1),
+        first_bare n at cell (cells_of xs) c k lt e (rw u.0 at (same_number_is _ cell.default q.0)) ((later (at + 1) u.1).0 q.1),
     λ b.
-        let is : get_or n x.cell (pos 0) ≡ cell.default = rw (u.0) (b 0 at (omega arith) (omega arith) refl) in
+        let is : get_or n x.cell (pos 0) ≡ cell.default = rw u.0 (b 0 at (omega arith) (omega arith) refl) in
         and_from _ _ (is_same _ cell.default is) ((later (at + 1) u.1).1 (λ i k lt e f. b (suc i) k (omega arith) (omega arith) refl)),
   )
   by_what _ later u = later at u

@@ -33,7 +33,7 @@ pub meets_all : (said : List Said) (left : List Element) (n : List ℤ) (xs : Li
     → xs ≡ map (λ (s : Said). s.element) said ++ left
 meets_all [] left n xs a h = h
 meets_all (s ∷ said) left n [] a h = absurd h
-meets_all (s ∷ said) left n (x ∷ xs) a h = rw (h.0, meets_all said left n xs a.1 (h.1 a.0)) refl
+meets_all (s ∷ said) left n (x ∷ xs) a h = rw (h.0, meets_all said left n xs a.1 (h.1 a.0))
 
 -- a further number
 pub agrees_put : (said : List Said) (cell : ℕ) (n : List ℤ) (z : ℤ) → AreBelow cell said → Agrees said n → Agrees said (slice_set n cell z)
@@ -90,7 +90,7 @@ told_none low n = record { agrees = tt; from = tt; numbers = refl; long = refl; 
 pub told_both : {low high : ℕ} {n m k : List ℤ} {said more : List Said} → Told low n said m → Told high m more k → low ≤ high → AreBelow high said
     → Told low n (said ++ more) k
 told_both {low = low} {high = high} {n = n} {m = m} {k = k} {said = said} {more = more} f g le below = record {
-  agrees = all_both _ said more (rw (g.numbers) (agrees_kept said more high m below g.from f.agrees)) g.agrees;
+  agrees = all_both _ said more (rw g.numbers (agrees_kept said more high m below g.from f.agrees)) g.agrees;
   from = all_both _ said more f.from (all_more more g.from (λ s ge. omega arith));
   numbers = rw (g.numbers, f.numbers) (sym (put_more n said more));
   long = cc;
@@ -170,7 +170,7 @@ module _ (steps : List (ℕ × ℕ)) (path : List ℕ) (present : Bool) (at : �
     text = drop (length front) line
 
     wanted : (o : Option ℤ) → number_spelled text ≡ o → wanted_reason (OfNumber here []) (Some (line, rest)) ≡ spelled_reason c present o
-    wanted o e = rw (begins, e) refl
+    wanted o e = rw (begins, e)
 
     refused : (z : ℤ) (reason : Rattle.vms_spec.specs.declared.ValuesReason.ValuesReason) → number_spelled text ≡ Some z
         → number_reason c present z ≡ Some reason → NotPut here p (Some (line, rest)) (record { line = p.line; reason = reason })
@@ -193,10 +193,10 @@ module _ (steps : List (ℕ × ℕ)) (path : List ℕ) (present : Bool) (at : �
     -- by the three tests on a number
     judged : (z : ℤ) → number_spelled text ≡ Some z → (a b d : Bool) → in_range c.kind z ≡ a → exceeds c.capacities z ≡ b
         → (present || same_number z c.default) ≡ d → Stepped here p (Some (line, rest)) (put_number its p rest (Some z))
-    judged z e false b d ra eb pd = rw ra (refused z reasons.Number e (rw ra refl))
-    judged z e true true d ra eb pd = rw (ra, eb) (refused z reasons.Count e (rw (ra, eb) refl))
-    judged z e true false false ra eb pd = rw (ra, eb, pd) (refused z reasons.Absent e (rw (ra, eb, pd) refl))
-    judged z e true false true ra eb pd = rw (ra, eb, pd) (taken z e ra (rw (ra, eb, pd) refl))
+    judged z e false b d ra eb pd = rw ra (refused z reasons.Number e (rw ra))
+    judged z e true true d ra eb pd = rw (ra, eb) (refused z reasons.Count e (rw (ra, eb)))
+    judged z e true false false ra eb pd = rw (ra, eb, pd) (refused z reasons.Absent e (rw (ra, eb, pd)))
+    judged z e true false true ra eb pd = rw (ra, eb, pd) (taken z e ra (rw (ra, eb, pd)))
 
     spelled : (o : Option ℤ) → number_spelled text ≡ o → Stepped here p (Some (line, rest)) (put_number its p rest o)
     spelled None e = record { line = refl; bad = wanted None e }
@@ -229,7 +229,7 @@ said_of x p q put = record { element = x; number = put.number }
 
 told_one : (x : Element) (p q : Standing) (put : Put x p q) → x.cell < length p.numbers → Told x.cell p.numbers (said_of x p q put ∷ []) q.numbers
 told_one x p q put inside =
-    rw (put.numbers)
+    rw put.numbers
     (record {
       agrees = (get_or-set_same p.numbers x.cell put.number (pos 0) inside, tt);
       from = (omega arith, tt);

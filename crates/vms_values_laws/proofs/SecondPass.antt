@@ -62,7 +62,7 @@ defaults_same n at (x ∷ xs) up room = by_what x.what (λ next. defaults_same n
       → (has_default n x.cell w && have_defaults n xs) ≡ are_defaults (cells_with w (cells_of xs)) (drop at n)
   by_what (Number cell) more up room =
       let next : suc at ≡ at + 1 = omega arith in
-      rw (drop-cons n at (pos 0) (omega arith), up.0, next, more (at + 1) up.1 (omega arith)) refl
+      rw (drop-cons n at (pos 0) (omega arith), up.0, next, more (at + 1) up.1 (omega arith))
   by_what _ more up room = more at up room
 
 module _ (set : Set) where
@@ -74,7 +74,7 @@ module _ (set : Set) where
       → have_defaults n (elements_in set d v n at) ≡ are_defaults (desc_cells (struct_cells set) d) (drop at n)
   desc_defaults d v n at room =
       let cells = (walks set d v v n n at at).cells_are in
-      defaults_same n at (elements_in set d v n at) (walks set d v v n n at at).up (rw cells room) ∙ rw cells refl
+      defaults_same n at (elements_in set d v n at) (walks set d v v n n at at).up (rw cells room) ∙ rw cells
 
   sub_same : (s : Sub) (o : Option ℕ) (n : List ℤ) (at : ℕ) → sub_fails set s o n at ≡ not (sub_holds set s o n at)
   sub_same s None n at = refl
@@ -198,14 +198,14 @@ follows_meets (s ∷ said) left n [] more P short said-short h p = absurd h
 follows_meets (s ∷ said) left n (x ∷ xs) more P short said-short h p = (
   ap ForNumber h.0,
   λ e. follows_meets said left n xs more P short said-short.1
-      (h.1 (number_same _ _ _ (short s.element.cell) said-short.0 (rw (h.0) at e))) p,
+      (h.1 (number_same _ _ _ (short s.element.cell) said-short.0 (rw h.0 at e))) p,
 )
 
 pub along_meets : (said : List Said) (left : List Element) (n : List ℤ) (xs : List Element) (more : List Entry) (P : List Entry → Type 0) → Agrees said n
     → Meets said left n xs → P (of_numbers n left ++ more) → Along (all_taken said) P (of_numbers n xs ++ more)
 along_meets [] left n xs more P a h p = rw h p
 along_meets (s ∷ said) left n [] more P a h p = absurd h
-along_meets (s ∷ said) left n (x ∷ xs) more P a h p = (rw (h.0, a.0) refl, along_meets said left n xs more P a.1 (h.1 a.0) p)
+along_meets (s ∷ said) left n (x ∷ xs) more P a h p = (rw (h.0, a.0), along_meets said left n xs more P a.1 (h.1 a.0) p)
 
 -- ---- a description that was read, or not
 

@@ -43,7 +43,7 @@ module _ {set : Set} {text : List ℕ} {machine' : Option (List ℕ)} {taken : L
 
   against : {line : ℕ} {reason : ValuesReason} (x : IsBadLine set text line reason) → AreClean (entries set x.machine x.images)
       → Same taken x.before o (Some reason)
-  against x clean = beside _ _ _ _ x.rest _ x.named x.shaped x.state (rw (x.state) at clean) x.fine x.begins x.bad
+  against x clean = beside _ _ _ _ x.rest _ x.named x.shaped x.state (rw x.state at clean) x.fine x.begins x.bad
 
   its_lines : WellFormed set → (machine : Option (List ℕ)) (images : List Image) → Says set text machine images
       → Same taken (entries set machine images) o None
@@ -83,7 +83,7 @@ module _ (set : Set) (well : WellFormed set) (text : List ℕ) (machine : Option
 
   pub says_answers : (v : ValuesRead) → FirstPass set text v → v ≡ answer_by machine images (parts_from set 1 (entries set machine images))
   says_answers v (inl b) = let e = (its_lines b.took well _ images says).reason in cc
-  says_answers v (inr n) = none_answers set text v n ∙ rw (same_machine v n, same_images v n) refl
+  says_answers v (inr n) = none_answers set text v n ∙ rw (same_machine v n, same_images v n)
 
 -- ---- The laws of reading, as they are stated.
 
@@ -113,7 +113,7 @@ by_parts set text machine images None fit says e = record {
 }
 
 by_pass : (set : Set) (text : List ℕ) (v : ValuesRead) → IsFit set → FirstPass set text v → Reads set text v
-by_pass set text v fit (inl b) = rw (b.is) (inl b.is_bad)
+by_pass set text v fit (inl b) = rw b.is (inl b.is_bad)
 by_pass set text v fit (inr n) = rw (none_answers set text v n) (by_parts set text _ _ _ fit (none_says set text v n) refl)
 
 pub read_holds : ReadLaw
@@ -126,7 +126,7 @@ text_back : (set : Set) (text : List ℕ) (machine : Option (List ℕ)) (images 
     → values_read set text ≡ Values machine images
 text_back set text machine images fit t =
     let s = text_says set text _ images t in
-    says_answers set fit.well text _ images s.says _ (its_first_pass set text fit) ∙ rw (good_none set 1 _ s.good) refl
+    says_answers set fit.well text _ images s.says _ (its_first_pass set text fit) ∙ rw (good_none set 1 _ s.good)
 
 refused_back : (set : Set) (text : List ℕ) (line : ℕ) (reason : ValuesReason) → IsFit set → Refused set text line reason
     → values_read set text ≡ Bad line reason
@@ -134,7 +134,7 @@ refused_back set text line reason fit (inl x) =
     bad_back set text line reason x (clean_entries set fit.well _ _ (named_machine set text _ x.named)) _ (its_first_pass set text fit)
 refused_back set text line reason fit (inr x) =
     let here : 1 + length x.before ≡ line = omega (arith, x.number) in
-    says_answers set fit.well text _ _ x.says _ (its_first_pass set text fit) ∙ rw (x.state, bad_part_found set 1 _ _ _ reason x.good x.bad, here) refl
+    says_answers set fit.well text _ _ x.says _ (its_first_pass set text fit) ∙ rw (x.state, bad_part_found set 1 _ _ _ reason x.good x.bad, here)
 
 pub only_holds : OnlyLaw
 only_holds set text (Values machine images) fit r = text_back set text _ images fit r

@@ -11,7 +11,7 @@ use Rattle.vms_values_laws.proofs.SecondPass.{AreShort, NumbersRead, NumbersStop
 use Rattle.vms_spec.specs.declared.ValuesReason.TheVariants as reasons
 
 pub line_taken : (text line rest : List ℕ) → first_line text ≡ Some (line, rest) → text ≡ line ++ 10 ∷ rest_of (first_line text)
-line_taken text line rest e = line_splits text line rest e ∙ rw e refl
+line_taken text line rest e = line_splits text line rest e ∙ rw e
 
 -- what a line says of a subsection
 pub record SaidSub (s : Sub) (o : Option (List ℕ × List ℕ)) (came : Option ℕ) : Type 0 where
@@ -27,7 +27,7 @@ SubLine s o (Some came) = SaidSub s o came
 
 said_by : (s : Sub) (line rest : List ℕ) (came : Option ℕ) → line ≡ sub_line s came → reason_for (ForSub s) (Some (line, [])) ≡ None → IsAtVersion s came
     → SaidSub s (Some (line, rest)) came
-said_by s line rest came is fine version = record { rest = rest; is = rw is refl; fine = rw is at fine; version = version }
+said_by s line rest came is fine version = record { rest = rest; is = rw is; fine = rw is at fine; version = version }
 
 sub_line_is : (s : Sub) (o : Option (List ℕ × List ℕ)) → SubLine s o (sub_said s o)
 sub_line_is s None = refl

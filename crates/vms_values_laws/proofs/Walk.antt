@@ -29,7 +29,7 @@ module _ (f u v : Element → Element) (same : (x : Element) → u (f x) ≡ v x
   printed_map (x ∷ xs) = rw (kept x) (go _ (printed_map xs)) where
     go : (b : Bool) → map u (printed (map f xs)) ≡ map v (printed xs)
         → map u (if b then f x ∷ printed (map f xs) else printed (map f xs)) ≡ map v (if b then x ∷ printed xs else printed xs)
-    go true more = rw (same x, more) refl
+    go true more = rw (same x, more)
     go false more = more
 
 module _ (steps : List (ℕ × ℕ)) (text : List ℕ) (present : Bool) where
@@ -39,14 +39,14 @@ module _ (steps : List (ℕ × ℕ)) (text : List ℕ) (present : Bool) where
   pub wrapped_behind : (step : ℕ × ℕ) (name : List ℕ) (p : Bool) (xs : List Element)
       → wrapped steps text present (map (behind step name true p) xs) ≡ wrapped (steps ++ step ∷ []) (text ++ name) (present && p) xs
   wrapped_behind step name p xs =
-      printed_map _ _ _ (λ x. rw (append_assoc steps (step ∷ []) x.path, append_assoc text name x.name, and_assoc present p x.present) refl) (λ x. refl) xs
+      printed_map _ _ _ (λ x. rw (append_assoc steps (step ∷ []) x.path, append_assoc text name x.name, and_assoc present p x.present)) (λ x. refl) xs
 
   pub wrapped_none : (step : ℕ × ℕ) (name : List ℕ) (p : Bool) (xs : List Element) → wrapped steps text present (map (behind step name false p) xs) ≡ []
   wrapped_none step name p [] = refl
   wrapped_none step name p (x ∷ xs) = wrapped_none step name p xs
 
   pub wrapped_dotted : (xs : List Element) → wrapped steps text present (map dotted xs) ≡ wrapped steps (text ++ codes ".") present xs
-  wrapped_dotted xs = printed_map dotted _ _ (λ x. rw (append_assoc text (codes ".") x.name) refl) (λ x. refl) xs
+  wrapped_dotted xs = printed_map dotted _ _ (λ x. rw (append_assoc text (codes ".") x.name)) (λ x. refl) xs
 
 -- ---- Reading the fields of a description, beside its elements.
 
@@ -120,7 +120,7 @@ module _ (total : List ℤ → List Element) (start : Standing) (low : ℕ) wher
         → Came end (single_cell item at) said left (read_item rs f caps path present at item p)
     item_comes f (Num kind) caps steps path present at end p said left e room a =
         rw e (by_read total start low _ p said left (omega arith)
-        (at_left total start low (λ m g. ap (λ x. x ∷ left m) (rw (append-nil steps, append-nil path, and-true present) refl)) a) _
+        (at_left total start low (λ m g. ap (λ x. x ∷ left m) (rw (append-nil steps, append-nil path, and-true present))) a) _
         (one_line steps path present at (record { kind = kind; capacities = caps; default = f.default }) p))
     item_comes f (Struct j) caps steps path present at end p said left e room a =
         (reads j).shape_comes steps (path ++ codes ".") present at end p said left (omega (arith, ap length (cells_get rs j))) room
@@ -204,7 +204,7 @@ module _ (total : List ℤ → List Element) (start : Standing) (low : ℕ) wher
           let settled : (m : List ℤ) → Agrees said m → (j : ℕ) → IsEarlier d.fields i j → own m j ≡ old j = λ m g j x.
           rw ((known j x).known m p.numbers g a.agrees) in
           let same : (m : List ℤ) → Agrees said m → stand_of i f v (own m) ≡ stand = λ m g.
-          rw (elements_same d.fields i old (own m) (settled m g) f.count sound.count, (there_same _ i v _ old _ (settled m g) f.test sound.test)) refl in
+          rw (elements_same d.fields i old (own m) (settled m g) f.count sound.count, (there_same _ i v _ old _ (settled m g) f.test sound.test)) in
           array_comes f stand caps steps path present old f.count refl refl at end p said left (omega (arith, field_size (cells_of rs) d.fields i f)) room
           (at_left total start low (λ m g. rw (cells, same m g)) a)
 

@@ -1,10 +1,9 @@
+use Rattle.vms_analyze.proofs.Facade.{arith}
 use Rattle.vms_analyze.proofs.{Facade.intake, One.lists_taken, One.is_too_much}
 use Rattle.vms_analyze.proofs.call.list_source.Goals as goal
 
 pub returns-in-Ok : goal.returns-in-Ok
-returns-in-Ok g c =
-    lists_taken (intake g.S.Source c.args.source.now) (intake g.S.Source c.read_input.new.source) c.in-Ok.input.items c.in-Ok.ensures c.list.result
-    (rw c.deref.ensures.value at c.list.ensures)
+returns-in-Ok g c = grind (arith, lists_taken)
 
 pub returns-in-Err-TooLong : goal.returns-in-Err-TooLong
 returns-in-Err-TooLong g c =

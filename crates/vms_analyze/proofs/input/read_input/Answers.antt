@@ -3,16 +3,10 @@ use Rattle.vms_analyze.proofs.One.{piece_ends, piece_few, piece_grows, piece_fai
 use Rattle.vms_analyze.proofs.input.read_input.Goals as goal
 
 pub loop-piece-init : goal.loop-piece-init
-loop-piece-init g c = record {
-  few = search rules;
-  takes = takes_as (sym c.new-input.ensures.items) (takes_none _ (g.met.S.Source.counted c.args.source.now));
-}
+loop-piece-init g c = search (rules, takes_as, takes_none, g.met.S.Source.counted)
 
 pub returns-in-Err : goal.returns-in-Err
-returns-in-Err g c =
-    let full : length (take c.min-room.result c.loop-piece.piece) ≡ c.min-room.result = search rules in
-    piece_fails _ _ _ c.loop-piece.input.items c.read_piece.new.input.items _ c.in-Err.none c.loop-piece.invariant.takes c.in-Err.ensures
-    (first_of (omega arith, search rules))
+returns-in-Err g c = search (rules, piece_fails)
 
 pub returns-then-done : goal.returns-then-done
 returns-then-done g c =
@@ -28,6 +22,4 @@ loop-piece-preserved g c =
     }
 
 pub loop-piece-smaller : goal.loop-piece-smaller
-loop-piece-smaller g c =
-    let full : length (take c.min-room.result c.loop-piece.piece) ≡ c.min-room.result = search rules in
-    omega (arith, piece_grows c.in-Ok.ensures c.if-done.false)
+loop-piece-smaller g c = grind (arith, piece_grows)

@@ -1,12 +1,12 @@
-use Rattle.vms_analyze.proofs.{Facade.device_of, Facade.found, One.lists_as, One.text_behind, DevicesRead.tells_if, DevicesRead.not_told}
 use Rattle.vms_analyze.proofs.Facade.{wants, ◌≡◌, ◌+◌, map, take, drop, None, sym, value_in, Tells, listing_of, IsRead, HasNoShape, next, devices_in}
+use Rattle.vms_analyze.proofs.{Facade.device_of, Facade.found, One.lists_as, One.text_behind, DevicesRead.tells_if, DevicesRead.not_told}
 use Rattle.vms_analyze.proofs.list.list_at.Goals as goal
 
 pub show-requires : goal.show-requires
 show-requires c =
     let input = c.args.input.now in
     let place = c.args.place in
-    rw (c.deref.ensures.value) ((tells_if input place (map device_of c.in-Ok.devices.items) (rw (sym (text_behind input (place + 5))) (c.in-Ok.ensures))).good)
+    rw c.deref.ensures.value ((tells_if input place (map device_of c.in-Ok.devices.items) (rw (sym (text_behind input (place + 5))) (c.in-Ok.ensures))).good)
 
 pub returns-in-Ok : goal.returns-in-Ok
 returns-in-Ok c =

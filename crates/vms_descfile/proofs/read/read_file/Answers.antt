@@ -1,4 +1,4 @@
-use Rattle.vms_descfile.proofs.Facade.{Err, subst, view, tree_view, parts_of, Said, Gives}
+use Rattle.vms_descfile.proofs.Facade.{Err, subst, tree_view, Said, Gives}
 use Rattle.vms_descfile.proofs.FileLaws.{no_json, said_by, shape_said}
 use Rattle.vms_descfile.proofs.read.read_file.Goals as goal
 
@@ -12,4 +12,4 @@ returns-in-Ok-read_parts c =
 pub returns : goal.returns
 returns c =
     subst (λ (s : Said). Gives s (Err c.of.result)) (rw c.root.ensures (said_by c.args.text.now (tree_view c.in-Ok.value) c.in-Ok.ensures))
-    (shape_said (parts_of (view c.root.result)) c.in-Err-read_parts.fault c.of.result c.in-Err-read_parts.ensures c.of.ensures)
+    (shape_said _ _ _ c.in-Err-read_parts.ensures c.of.ensures)

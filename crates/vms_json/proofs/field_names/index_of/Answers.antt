@@ -8,13 +8,12 @@ loop-field-init c = ([], (search rules), refl, refl, omega arith)
 pub loop-field-preserved : goal.loop-field-preserved
 loop-field-preserved c =
     let l = c.loop-field.invariant in
-    let i = c.loop-field.i in
     let name = c.name_of.result.now in (
       l.0 ++ name ∷ [],
       record {
-        first = λ q. rw (one_named l.0 name q i l.3, ← l.1.first q) (c.in_ok-put_first.ensures q);
+        first = λ q. rw (one_named l.0 name q c.loop-field.i l.3, ← l.1.first q) (c.in_ok-put_first.ensures q);
       },
-      names_on l.0 l.2 c.in-Some.ensures.value c.name_of.ensures,
+      names_on _ l.2 c.in-Some.ensures.value c.name_of.ensures,
       omega (arith, length-append l.0 (name ∷ [])),
       omega (arith, l.4, c.in-Some.ensures.fewer),
     )

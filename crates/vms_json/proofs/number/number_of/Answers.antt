@@ -1,4 +1,4 @@
-use Rattle.vms_json.proofs.Facade.{◌≡◌, drop, true, false, sym, ap, ◌∙◌, arith, take_all, length-drop, scan, number_of, number_from}
+use Rattle.vms_json.proofs.Facade.{rules, ◌≡◌, drop, true, sym, ap, ◌∙◌, arith, take_all, length-drop, scan, number_of, number_from}
 use Rattle.vms_json.proofs.number.number_of.Goals as goal
 
 pub returns-then-has_minus : goal.returns-then-has_minus
@@ -10,7 +10,4 @@ returns-then-has_minus c =
 
 pub returns-else-has_minus : goal.returns-else-has_minus
 unfolding number_of
-returns-else-has_minus c =
-    let s = c.as_bytes-bytes.result.now in
-    let read : number_from false (scan s) ≡ number_of s = rw (sym c.if-has_minus.ensures.value) in
-    c.positive.ensures ∙ ap (number_from false) c.scan-else-has_minus.ensures.parts ∙ read ∙ ap number_of c.as_bytes-bytes.ensures.value
+returns-else-has_minus c = search rules

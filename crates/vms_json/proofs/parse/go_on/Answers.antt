@@ -1,6 +1,6 @@
+use Rattle.vms_json.proofs.Facade.{◌≡◌, List, Option, Some, None, Data, Token, refl, sym, arith, eqb-true, eqb-false, nil_from_length, read_key}
 use Rattle.vms_json.proofs.{Facade.read_key-shorter, Facade.HasEnded, parse.go_on.Goals.After-next_key}
 use Rattle.vms_json.proofs.DueLaws.{Member, item_ended, whole_ended, member_ended, member_no_key, member_goes_on, member_was_last}
-use Rattle.vms_json.proofs.Facade.{◌≡◌, List, Option, Some, None, Data, Token, refl, sym, arith, eqb-true, eqb-false, nil_from_length, read_key}
 use Rattle.vms_json.proofs.parse.go_on.Goals as goal
 
 pub returns-then-is_empty-clause-ok : goal.returns-then-is_empty-clause-ok

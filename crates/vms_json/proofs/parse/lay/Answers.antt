@@ -19,9 +19,7 @@ returns-then-len-ge-DEEPEST-clause-err c = λ said is why.
     too_deep refl (rw c.in-BeginArray.is at is) (omega arith) (ap (converted of_json) (value_is 0 _))
 
 pub returns-in_ok-begin-in-BeginArray-clause-ok : goal.returns-in_ok-begin-in-BeginArray-clause-ok
-returns-in_ok-begin-in-BeginArray-clause-ok c = λ said is.
-    let b = c.in_ok-begin-in-BeginArray.ensures in
-    list_opened 0 (rw c.in-BeginArray.is at is) (omega arith) b.rows b.begun refl
+returns-in_ok-begin-in-BeginArray-clause-ok c = grind (arith, list_opened)
 
 pub returns-in_err-row_of-in_default : goal.returns-in_err-row_of-in_default
 returns-in_err-row_of-in_default c = record {
@@ -31,7 +29,7 @@ returns-in_err-row_of-in_default c = record {
       let d = c.in_default in
       let refused : c.row_of.result ≡ Err Syntax = grind arith in
       token_refused (no_end c.args.token d.not-EndArray c.args.reader.now) is
-      (λ n. ap (converted of_json) (at_any_depth c.args.token d.not-BeginObject d.not-BeginArray c.args.reader.now n) ∙ c.row_of.ensures.err refused c.args.reader.now);
+      (λ n. ap (converted of_json) (at_any_depth _ d.not-BeginObject d.not-BeginArray _ _) ∙ c.row_of.ensures.err refused c.args.reader.now);
 }
 
 pub returns-in_ok-push-in_default : goal.returns-in_ok-push-in_default

@@ -1,6 +1,6 @@
-use Rattle.vms_json.proofs.{Facade.IsUnder, Facade.HasEnded, FrameLaws.said_by, FrameLaws.whole_due, FrameLaws.nothing_said}
+use Rattle.vms_json.proofs.{Facade.IsUnder, Facade.HasEnded, FrameLaws.said_by, FrameLaws.whole_due}
 use Rattle.vms_json.proofs.DueLaws.{none_left, under_below, ended_below, item_ended}
-use Rattle.vms_json.proofs.Facade.{◌≡◌, [], ◌∷◌, Bool, true, false, refl, arith, rules, MatchBool, MatchBool-at_true, MatchBool-at_false, token_of}
+use Rattle.vms_json.proofs.Facade.{◌≡◌, Bool, true, false, refl, arith, rules, MatchBool, MatchBool-at_true, MatchBool-at_false}
 use Rattle.vms_json.proofs.parse.read_node.Goals.{else-is_value-via-then-is_value+else-not-laid, else-is_value-via-else-is_value, After-next, In_ok-is_value}
 use Rattle.vms_json.proofs.parse.read_node.Goals as goal
 
@@ -14,17 +14,13 @@ under c = let going : c.loop-is_done.is_done ≡ false = search rules in MatchBo
 laid : (c : In_ok-is_value) → IsUnder (said_by c.args.text.now) c.loop-is_done.laid c.loop-is_done.reader
     → MatchBool c.in_ok-is_value.is_value (HasEnded (said_by c.args.text.now) c.lay.new.laid c.lay.new.reader)
     (IsUnder (said_by c.args.text.now) c.lay.new.laid c.lay.new.reader)
-laid c due =
-    let first : c.loop-is_done.reader ≡ token_of c.in_ok-token.token ∷ c.next.new.self = grind arith in
-    c.in_ok-is_value.ensures.ok (said_by c.args.text.now) (rw first at due)
+laid c due = grind arith
 
 pub loop-is_done-init : goal.loop-is_done-init
-loop-is_done-init c = whole_due c.args.text.now _ _ (search rules) (search rules) (search rules) refl
+loop-is_done-init c = whole_due _ _ _ (search rules) (search rules) (search rules) refl
 
 pub returns-in_err-token-clause-err : goal.returns-in_err-token-clause-err
-returns-in_err-token-clause-err c why =
-    let empty : c.loop-is_done.reader ≡ [] = grind arith in
-    nothing_said c.args.text.now (none_left (rw empty at (under (goal.at.returns-in_err-token-clause-err c).After-next)))
+returns-in_err-token-clause-err c why = grind (arith, none_left)
 
 pub lay-requires : goal.lay-requires
 lay-requires c = under_below (under (goal.at.lay-requires c).After-next)

@@ -14,8 +14,7 @@ pub returns-in-Some-clause-ok : goal.returns-in-Some-clause-ok
 returns-in-Some-clause-ok c = rw c.in-Number.is (number_row c.in-Number.text.now c.in-Some.number c.in-Some.ensures)
 
 pub returns-in-None-clause-err : goal.returns-in-None-clause-err
-returns-in-None-clause-err c refused = λ ts.
-    rw c.in-Number.is (no_number c.in-Number.text.now 0 ts c.in-None.ensures)
+returns-in-None-clause-err c refused = λ ts. rw c.in-Number.is (no_number _ 0 _ c.in-None.ensures)
 
 pub returns-in_default-clause-err : goal.returns-in_default-clause-err
-returns-in_default-clause-err c refused = let d = c.in_default in no_row c.args.token d.not-String d.not-Number d.not-Bool d.not-Null
+returns-in_default-clause-err c refused = let d = c.in_default in no_row _ d.not-String d.not-Number d.not-Bool d.not-Null

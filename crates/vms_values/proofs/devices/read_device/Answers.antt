@@ -1,25 +1,23 @@
+use Rattle.vms_values.proofs.Facade.{rules, length, ap, ◌∙◌, described, IsImageOf, IsOfDevice, Typed, state_of}
 use Rattle.vms_values.proofs.{Naming.own_kinds, devices.read_device.Goals.In_ok-read_subs, devices.read_device.Goals.Start}
 use Rattle.vms_values.proofs.DeviceLemmas.{default_of, own_spot, alike_kept, of_alike, subs_alike}
-use Rattle.vms_values.proofs.Facade.{rules, length, ap, ◌∙◌, described, IsImageOf, IsOfDevice, Typed, state_of}
 use Rattle.vms_values.proofs.devices.read_device.Goals as goal
 
 -- the image with its defaults is the device's
 begun : (c : Start) → IsOfDevice (described c.args.set.now) c.args.device (state_of c.args.taken.now.image)
-begun c = default_of (described c.args.set.now) c.args.set.now.well_formed c.args.device c.requires.known c.args.taken.now.image c.requires.defaults
+begun c = default_of _ c.args.set.now.well_formed _ c.requires.known c.args.taken.now.image c.requires.defaults
 
 pub read_part-requires : goal.read_part-requires
 read_part-requires c =
-    let set = described c.args.set.now in
     record {
-      spot = own_spot set c.args.device c.version.result c.args.taken.now.image (begun (goal.at.read_part-requires c).Start);
-      kinds = own_kinds set c.args.device c.args.taken.now.image.kinds (ap (λ (x : Typed). x.kinds) c.requires.defaults);
+      spot = own_spot _ _ _ c.args.taken.now.image (begun (goal.at.read_part-requires c).Start);
+      kinds = own_kinds (described c.args.set.now) c.args.device _ (ap (λ (x : Typed). x.kinds) c.requires.defaults);
     }
 
 pub read_subs-requires : goal.read_subs-requires
 read_subs-requires c =
     record {
-      device =
-          of_alike (described c.args.set.now) c.args.device _ _ (begun (goal.at.read_subs-requires c).Start) (alike_kept _ _ c.in_ok-read_part.ensures.kept);
+      device = of_alike _ _ _ _ (begun (goal.at.read_subs-requires c).Start) (alike_kept _ _ c.in_ok-read_part.ensures.kept);
       kinds = c.in_ok-read_part.ensures.kept.kinds ∙ ap (λ (x : Typed). x.kinds) c.requires.defaults;
       none = c.requires.none;
     }
@@ -27,9 +25,9 @@ read_subs-requires c =
 pub judge_device-reading-requires : goal.judge_device-reading-requires
 judge_device-reading-requires c =
     let set = described c.args.set.now in
-    let kept = of_alike set c.args.device _ _ (begun (goal.at.judge_device-reading-requires c).Start) (alike_kept _ _ c.in_ok-read_part.ensures.kept) in
+    let kept = of_alike _ _ _ _ (begun (goal.at.judge_device-reading-requires c).Start) (alike_kept _ _ c.in_ok-read_part.ensures.kept) in
     record {
-      device = of_alike set c.args.device _ _ kept (subs_alike _ _ _ _ c.in_ok-read_subs.ensures.read);
+      device = of_alike _ _ _ _ kept (subs_alike _ _ _ _ c.in_ok-read_subs.ensures.read);
       lines = ap length c.deref.ensures.value ∙ c.in_ok-read_subs.ensures.count;
     }
 
@@ -37,11 +35,10 @@ judge_device-reading-requires c =
 is_image : (c : goal.In_ok-read_subs) → IsImageOf (described c.args.set.now) c.args.device c.read_subs.new.taken.image
 is_image c =
     let set = described c.args.set.now in
-    let image = c.args.taken.now.image in
-    let of = default_of set c.args.set.now.well_formed c.args.device c.requires.known image c.requires.defaults in
+    let of = default_of _ c.args.set.now.well_formed _ c.requires.known c.args.taken.now.image c.requires.defaults in
     let kept = c.in_ok-read_part.ensures.kept in
     let subs = subs_alike _ _ _ _ c.in_ok-read_subs.ensures.read in
-    let all = of_alike set c.args.device _ _ (of_alike set c.args.device _ _ of (alike_kept _ _ kept)) subs in
+    let all = of_alike _ _ _ _ (of_alike _ _ _ _ of (alike_kept _ _ kept)) subs in
     record { subs = all.subs; cells = all.cells; kinds = subs.kinds ∙ kept.kinds ∙ ap (λ (x : Typed). x.kinds) c.requires.defaults }
 
 pub returns-then-is_none : goal.returns-then-is_none

@@ -1,5 +1,5 @@
-use Rattle.vms_values.proofs.Facade.{◌≡◌, ◌<◌, ◌∷◌, ◌++◌, [], length, map, ap, ◌∙◌, arith, err_from_is_err_and, length-map, map-append, device_of, described}
-use Rattle.vms_values.proofs.Facade.{state_of, sym}
+use Rattle.vms_values.proofs.Facade.{◌≡◌, ◌<◌, ◌∷◌, ◌++◌, [], length, map, ap, ◌∙◌, arith, err_from_is_err_and, length-map}
+use Rattle.vms_values.proofs.Facade.{map-append, device_of, described, state_of, sym}
 use Rattle.vms_values.proofs.DeviceLemmas.{gathered_next, gathered_refused, gathered_all, first_more}
 use Rattle.vms_values.proofs.devices.read_images.Goals as goal
 
@@ -12,9 +12,9 @@ loop-device-preserved c =
     let lt : i < length set.devices = omega (arith, ap length c.as_slice.ensures, ap (λ s. length s.devices) c.parts.ensures, length-map c.parts.result.now.devices device_of) in
     let pushed : c.push_image.new.images.items ≡ before ++ image ∷ [] = c.in_ok-push_image.ensures in
     record {
-      gathered = gathered_next set i lt _ _ (map state_of before) (map state_of c.push_image.new.images.items) c.loop-device.reading c.read_image.new.reading (state_of image) c.loop-device.invariant.gathered
+      gathered = gathered_next _ _ lt _ _ _ _ _ _ _ c.loop-device.invariant.gathered
           c.in_ok-image.ensures.read (ap (map state_of) pushed ∙ map-append state_of before (image ∷ []));
-      of = first_more set i before c.push_image.new.images.items image c.loop-device.invariant.of c.in_ok-image.ensures.of pushed;
+      of = first_more _ _ _ _ image c.loop-device.invariant.of c.in_ok-image.ensures.of pushed;
     }
 
 pub returns-in_err-image : goal.returns-in_err-image
@@ -24,7 +24,7 @@ returns-in_err-image c =
     let lt : i < length set.devices = omega (arith, ap length c.as_slice.ensures, ap (λ s. length s.devices) c.parts.ensures, length-map c.parts.result.now.devices device_of) in
     let p = err_from_is_err_and c.from_residual.result c.from_residual.ensures.1 in
     record {
-      read = rw (p.1, p.2) (gathered_refused set i lt _ _ _ _ c.args.reading.now c.loop-device.reading c.read_image.new.reading c.in_err-image.field-0.0 c.loop-device.invariant.gathered c.in_err-image.ensures.read);
+      read = rw (p.1, p.2) (gathered_refused _ _ lt _ _ _ _ _ _ _ _ c.loop-device.invariant.gathered c.in_err-image.ensures.read);
       of = rw p.1 tt;
     }
 
@@ -33,6 +33,6 @@ returns c =
     let set = described c.args.set.now in
     let end : length set.devices ≡ c.loop-device.device = omega (arith, ap length c.as_slice.ensures, ap (λ s. length s.devices) c.parts.ensures, length-map c.parts.result.now.devices device_of) in
     record {
-      read = gathered_all set c.loop-device.device _ (map state_of c.loop-device.images.items) c.args.reading.now c.loop-device.reading end c.loop-device.invariant.gathered;
+      read = gathered_all _ _ _ _ _ _ end c.loop-device.invariant.gathered;
       of = record { one_each = c.loop-device.invariant.of.count ∙ sym end; each = c.loop-device.invariant.of.each };
     }

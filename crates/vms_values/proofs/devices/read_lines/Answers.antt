@@ -12,8 +12,7 @@ read_machine-start-requires c =
 -- what the text says, from the machine's line on
 said : (c : After-read_machine-start) → Said (described c.args.set.now) (values_read (described c.args.set.now) c.args.text.now) c.read_machine-start.result
 said c =
-    top (described c.args.set.now) c.as_slice.result.now c.args.text.now c.read_machine-start.result
-    (c.as_slice.ensures ∙ ap (λ x. x.machines) c.parts.ensures) c.read_machine-start.ensures
+    top _ _ _ _ (c.as_slice.ensures ∙ ap (λ x. x.machines) c.parts.ensures) c.read_machine-start.ensures
 
 pub returns-in_err-images : goal.returns-in_err-images
 returns-in_err-images c =
@@ -21,18 +20,17 @@ returns-in_err-images c =
     let s = said (goal.at.returns-in_err-images c).After-read_machine-start in
     let p = err_from_is_err_and c.from_residual.result c.from_residual.ensures.1 in
     record {
-      read = rw (p.1, p.2) (said_so set c.args.text.now _ (Err c.in_err-images.field-0.0) s.is (text_refused set s.name _ _ _ _ c.in_err-images.ensures.read));
+      read = rw (p.1, p.2) (said_so _ _ _ (Err c.in_err-images.field-0.0) s.is (text_refused set s.name _ _ _ _ c.in_err-images.ensures.read));
       of = rw p.1 tt;
     }
 
 pub returns-then-not-is_empty : goal.returns-then-not-is_empty
 returns-then-not-is_empty c =
     let set = described c.args.set.now in
-    let s = said (goal.at.returns-then-not-is_empty c).After-read_machine-start in
     let new = c.read_images.new.reading in
     record {
-      read = said_so set c.args.text.now _ (Err c.bad.result) s.is
-          (rw c.bad.ensures (text_longer set s.name _ _ new _ c.in_ok-images.ensures.read (some_of new.lines.rest.now (sym c.is_empty.ensures ∙ c.if-not-is_empty.true))));
+      read = said_so set c.args.text.now _ (Err c.bad.result) (said (goal.at.returns-then-not-is_empty c).After-read_machine-start).is
+          (rw c.bad.ensures (text_longer set _ _ _ _ _ c.in_ok-images.ensures.read (some_of new.lines.rest.now (sym c.is_empty.ensures ∙ c.if-not-is_empty.true))));
       of = tt;
     }
 
@@ -45,9 +43,8 @@ returns c =
     let set = described c.args.set.now in
     let s = said (goal.at.returns c).After-read_machine-start in
     let new = c.read_images.new.reading in
-    let v : Given = record { machine = c.read_machine-start.result.machine; images = c.in_ok-images.images } in
     record {
-      read = said_so set c.args.text.now _ c.told.result s.is
-          (text_told set s.name _ _ new v c.told.result c.in_ok-images.ensures.read (nil_from_length new.lines.rest.now (eqb-true (length new.lines.rest.now) 0 (sym c.is_empty.ensures ∙ c.if-not-is_empty.false))) refl s.machine s.known c.told.ensures);
-      of = told_of _ v c.told.result set c.told.ensures c.in_ok-images.ensures.of;
+      read = said_so _ _ _ _ s.is
+          (text_told _ _ _ _ _ _ _ c.in_ok-images.ensures.read (nil_from_length new.lines.rest.now (eqb-true (length new.lines.rest.now) 0 (sym c.is_empty.ensures ∙ c.if-not-is_empty.false))) refl s.machine s.known c.told.ensures);
+      of = told_of _ _ _ _ c.told.ensures c.in_ok-images.ensures.of;
     }

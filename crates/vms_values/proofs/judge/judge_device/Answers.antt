@@ -1,4 +1,5 @@
-use Rattle.vms_values.proofs.Facade.{◌≡◌, ◌<◌, true, length, get_or, refl, sym, ◌∙◌, arith, own_slots, rules_are_true, described, device_at, state_of, read_of}
+use Rattle.vms_values.proofs.Facade.{◌≡◌, ◌<◌, true, length, refl, sym, ◌∙◌, arith, own_slots, rules_are_true, described, device_at, state_of}
+use Rattle.vms_values.proofs.Facade.{read_of}
 use Rattle.vms_values.proofs.JudgeLemmas.{judged_next, judged_end, own_holds}
 use Rattle.vms_values.proofs.judge.judge_device.Goals.{After-sub_count-sub-end, In-loop-sub}
 use Rattle.vms_values.proofs.judge.judge_device.Goals as goal
@@ -18,13 +19,13 @@ returns-in-Some c =
     let h = goal.at.returns-in-Some c in
     let i = inside h.In-loop-sub in
     sym (own_holds (described c.args.set.now) c.args.device (read_of image c.args.line lines) (holds h.After-sub_count-sub-end) ∙ sym c.loop-sub.invariant
-    ∙ judged_next (described c.args.set.now) c.args.device image lines c.loop-sub.sub (get_or lines c.loop-sub.sub 0) i.0 i.1 i.2 refl _ (sym c.in-Some.ensures))
+    ∙ judged_next (described c.args.set.now) c.args.device image _ _ _ i.0 i.1 i.2 refl _ (sym c.in-Some.ensures))
 
 pub loop-sub-preserved : goal.loop-sub-preserved
 loop-sub-preserved c =
     let lines = c.args.sub_lines.now in
     let i = inside (goal.at.loop-sub-preserved c).In-loop-sub in
-    sym (judged_next (described c.args.set.now) c.args.device (state_of c.args.image.now) lines c.loop-sub.sub (get_or lines c.loop-sub.sub 0) i.0 i.1 i.2 refl _ (sym c.in_default.ensures)) ∙ c.loop-sub.invariant
+    sym (judged_next (described c.args.set.now) c.args.device (state_of c.args.image.now) _ _ _ i.0 i.1 i.2 refl _ (sym c.in_default.ensures)) ∙ c.loop-sub.invariant
 
 pub returns : goal.returns
 returns c =
@@ -32,4 +33,4 @@ returns c =
     let image = state_of c.args.image.now in
     let lines = c.args.sub_lines.now in
     let end : length (device_at set c.args.device).subs ≡ c.loop-sub.sub = omega arith in
-    sym (own_holds set c.args.device (read_of image c.args.line lines) (holds (goal.at.returns c).After-sub_count-sub-end) ∙ sym c.loop-sub.invariant ∙ judged_end set c.args.device image lines c.loop-sub.sub end)
+    sym (own_holds set c.args.device (read_of image c.args.line lines) (holds (goal.at.returns c).After-sub_count-sub-end) ∙ sym c.loop-sub.invariant ∙ judged_end set c.args.device image lines _ end)

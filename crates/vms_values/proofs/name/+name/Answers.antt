@@ -29,7 +29,7 @@ print_element-print_name-requires g t c =
     let lt : j < length set.structs = ltb-true j (length set.structs) (rw c.in-Struct.is at c.requires.reaches) in
     let small = rw c.in-Struct.is at c.requires.small in
     let cell = rw c.in-Struct.is at (inside g t (goal.at.print_element-print_name-requires g t c).After-item_cells-size).1 in
-    let size = struct_size set c.args.set.now.well_formed j lt in
+    let size = struct_size _ c.args.set.now.well_formed _ lt in
     λ κs h. (search rules, (search rules, record { part = lt; small = omega arith; cell = omega arith }))
 
 pub print_element-returns-in-Struct : goal.print_element-returns-in-Struct
@@ -52,18 +52,14 @@ pub print_element-returns-in_default : goal.print_element-returns-in_default
 print_element-returns-in_default g t c =
     let set = described c.args.set.now in
     let f = field_of c.args.field.now in
-    let step = c.item_cells-size.result in
-    let size = size_code set f.item step c.item_cells-size.ensures c.requires.small in
-    let path = path_text c.args.path.now ++ element_text f (c.args.cell / step) in
-    wrote_as c.write_path.result _ _
-    (sym (append-nil path) ∙ ap (λ l. path ++ l) (sym (nothing_after set f.item (c.args.cell % step) c.in_default.not-Struct))
-    ∙ element_is set f (path_text c.args.path.now) step c.args.cell size) c.write_path.ensures
+    let path = path_text c.args.path.now ++ element_text f (c.args.cell / c.item_cells-size.result) in
+    wrote_as _ _ _ (sym (append-nil path) ∙ ap (λ l. path ++ l) (sym (nothing_after set _ _ c.in_default.not-Struct))
+    ∙ element_is set f _ _ _ (size_code set _ _ c.item_cells-size.ensures c.requires.small)) c.write_path.ensures
 
 pub print_name-loop-field-init : goal.print_name-loop-field-init
 print_name-loop-field-init g t c =
-    let set = described c.args.set.now in
-    let all = all_names set c.args.part c.requires.part in
-    let long = part_long set c.args.set.now.well_formed c.args.part c.requires.part in
+    let all = all_names (described c.args.set.now) c.args.part c.requires.part in
+    let long = part_long _ c.args.set.now.well_formed _ c.requires.part in
     record {
       same = rw all;
       room = omega (arith, ap length all);

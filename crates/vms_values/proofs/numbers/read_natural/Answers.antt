@@ -1,5 +1,6 @@
-use Rattle.vms_values.proofs.Facade.{◌≡◌, ℕ, ◌-◌, true, List, length, take, drop, None, sym, ap, ◌∙◌, arith, option_and_then, read_from}
-use Rattle.vms_values.proofs.ReadLemmas.{unpadded, read_natural, read_rest, digit_next, digits_end}
+use Rattle.vms_values.proofs.Facade.{rules, ◌≡◌, ℕ, ◌-◌, true, List, length, take, drop, None, sym, ap, ◌∙◌, arith, option_and_then}
+use Rattle.vms_values.proofs.Facade.{read_from}
+use Rattle.vms_values.proofs.ReadLemmas.{read_natural, read_rest, digit_next, digits_end}
 use Rattle.vms_values.proofs.numbers.read_natural.Goals as goal
 
 -- the digits after the first few
@@ -21,13 +22,9 @@ loop-digit-init c =
 
 pub returns-in_err-value-2 : goal.returns-in_err-value-2
 returns-in_err-value-2 c =
-    let text = c.args.digits.now in
     rw c.from_residual-in_err-value-2.ensures
-    (sym (digit_next c.loop-digit.value c.loop-digit.digit-index _ (rest_of c.min-few.result text) _ c.loop-digit-test.true (sym c.next_value.ensures ∙ c.in_err-value-2.was))
-    ∙ c.loop-digit.invariant ∙ read_natural text (sym c.is_unpadded.ensures ∙ c.if-not-is_unpadded.false))
+    (sym (digit_next _ _ _ _ _ c.loop-digit-test.true (sym c.next_value.ensures ∙ c.in_err-value-2.was))
+    ∙ c.loop-digit.invariant ∙ read_natural c.args.digits.now (sym c.is_unpadded.ensures ∙ c.if-not-is_unpadded.false))
 
 pub returns : goal.returns
-returns c =
-    let text = c.args.digits.now in
-    let form : unpadded text ≡ true = sym c.is_unpadded.ensures ∙ c.if-not-is_unpadded.false in
-    digits_end c.loop-digit.value c.loop-digit.digit-index (rest_of c.min-few.result text) c.loop-digit-test.false ∙ c.loop-digit.invariant ∙ read_natural text form
+returns c = search (rules, digits_end, read_natural)

@@ -1,4 +1,4 @@
-use Rattle.vms_values.proofs.Facade.{err_from_is_err_and, stops_front, wrote_behind}
+use Rattle.vms_values.proofs.Facade.{arith, err_from_is_err_and, stops_front, wrote_behind}
 use Rattle.vms_values.proofs.path.+write_path.Goals as goal
 
 pub returns-in_err-write_path-in-Field : goal.returns-in_err-write_path-in-Field
@@ -6,12 +6,10 @@ returns-in_err-write_path-in-Field g t c =
     rw (c.in-Field.is, (err_from_is_err_and c.from_residual.result c.from_residual.ensures.1).1) (stops_front _ c.in_err-write_path-in-Field.ensures)
 
 pub returns-in_ok-write_path-in-Field : goal.returns-in_ok-write_path-in-Field
-returns-in_ok-write_path-in-Field g t c = rw c.in-Field.is (wrote_behind c.write_element.result _ _ c.in_ok-write_path-in-Field.ensures c.write_element.ensures)
+returns-in_ok-write_path-in-Field g t c = rw c.in-Field.is (wrote_behind _ _ _ c.in_ok-write_path-in-Field.ensures c.write_element.ensures)
 
 pub returns-in_err-write_path-in-Inside : goal.returns-in_err-write_path-in-Inside
-returns-in_err-write_path-in-Inside g t c =
-    let p = err_from_is_err_and c.from_residual-in_err-write_path-in-Inside.result c.from_residual-in_err-write_path-in-Inside.ensures.1 in
-    rw (c.in-Inside.is, p.1) (stops_front _ c.in_err-write_path-in-Inside.ensures)
+returns-in_err-write_path-in-Inside g t c = grind (arith, err_from_is_err_and, stops_front)
 
 pub returns-in_ok-write_path-in-Inside : goal.returns-in_ok-write_path-in-Inside
-returns-in_ok-write_path-in-Inside g t c = rw c.in-Inside.is (wrote_behind c.write_all_of.result _ _ c.in_ok-write_path-in-Inside.ensures c.write_all_of.ensures)
+returns-in_ok-write_path-in-Inside g t c = rw c.in-Inside.is (wrote_behind _ _ _ c.in_ok-write_path-in-Inside.ensures c.write_all_of.ensures)

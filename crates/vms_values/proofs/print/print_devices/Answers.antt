@@ -1,6 +1,6 @@
+use Rattle.vms_values.proofs.Facade.{◌≡◌, ◌+◌, ◌<◌, ◌++◌, length, drop, sym, ap, ◌∙◌, arith, map, length-map, device_lines}
+use Rattle.vms_values.proofs.Facade.{devices_lines, device_of, described, device_at, state_of, states_long, state_at, IsOf, AreOf, leaves_rest, leaves_stop}
 use Rattle.vms_values.proofs.{print.print_devices.Given.Over, print.print_devices.Goals.After-print_device-arg-1}
-use Rattle.vms_values.proofs.Facade.{◌≡◌, ◌+◌, ◌<◌, ◌++◌, length, drop, sym, ap, ◌∙◌, arith, map, length-map, device_lines, devices_lines}
-use Rattle.vms_values.proofs.Facade.{device_of, described, device_at, state_of, states_long, state_at, IsOf, AreOf, leaves_rest, leaves_stop}
 use Rattle.vms_values.proofs.Printers.{device_left, images_at, of_next, of_room, devices_next, err_is}
 use Rattle.vms_values.proofs.print.print_devices.Goals as goal
 
@@ -22,9 +22,9 @@ here g c =
     let image = state_of c.index-images-device.result in
     let long : length c.as_slice.result.now ≡ length set.devices = ap length c.as_slice.ensures ∙ sym (length-map c.parts.result.now.devices device_of) ∙ ap (λ s. length s.devices) c.parts.ensures in
     let lt : k < length set.devices = omega arith in
-    let more : k < length states = of_room set k set.devices states c.loop-device.invariant.of lt in
-    let at = images_at states k image more (state_at c.args.images.now k c.index-images-device.result (omega (arith, states_long c.args.images.now)) c.index-images-device.is) in
-    (of_next set k set.devices states (device_at set k) image (device_left set k lt) at c.loop-device.invariant.of, devices_next set k set.devices states (device_at set k) image (device_left set k lt) at)
+    let more : k < length states = of_room _ _ _ _ c.loop-device.invariant.of lt in
+    let at = images_at _ _ image more (state_at c.args.images.now k c.index-images-device.result (omega (arith, states_long c.args.images.now)) c.index-images-device.is) in
+    (of_next _ k set.devices states _ _ (device_left set k lt) at c.loop-device.invariant.of, devices_next set k set.devices states _ _ (device_left set k lt) at)
 
 pub print_device-requires : goal.print_device-requires
 print_device-requires g c =

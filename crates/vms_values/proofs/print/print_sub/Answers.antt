@@ -1,5 +1,5 @@
-use Rattle.vms_values.proofs.Facade.{◌≡◌, [], None, get_or, ap, ◌∙◌, puts_as, stops_as, stops_front, wrote_as, wrote_behind, Desc}
-use Rattle.vms_values.proofs.Facade.{printers, desc_lines, first_cell, described, device_at, sub_at, state_of, sub_text}
+use Rattle.vms_values.proofs.Facade.{◌≡◌, [], None, get_or, ap, ◌∙◌, puts_as, stops_as, stops_front, wrote_as, wrote_behind, Desc, printers}
+use Rattle.vms_values.proofs.Facade.{desc_lines, first_cell, described, device_at, sub_at, state_of, sub_text}
 use Rattle.vms_spec.specs.declared.Part.TheVariants as parts
 use Rattle.vms_values.proofs.Printers.{sub_spot, err_is}
 use Rattle.vms_values.proofs.print.print_sub.Goals as goal
@@ -17,7 +17,7 @@ pub print_lines-requires : goal.print_lines-requires
 print_lines-requires g c =
     let set = described c.args.shown.set.now in
     record {
-      spot = sub_spot set c.args.shown.set.now.well_formed c.args.device (state_of c.args.shown.image.now) c.requires.of c.desc-desc.result.now.version c.args.sub c.first_cell.result c.requires.is_device c.requires.is_sub c.first_cell.ensures;
+      spot = sub_spot _ c.args.shown.set.now.well_formed _ _ c.requires.of _ _ _ c.requires.is_device c.requires.is_sub c.first_cell.ensures;
     }
 
 pub returns : goal.returns
@@ -27,6 +27,5 @@ returns g c =
     let image = state_of c.args.shown.image.now in
     let line : sub_text c.as_bytes.result.now c.came.result ≡ sub_text s.desc.name (get_or image.came c.args.sub None) =
     rw (c.as_bytes.ensures ∙ ap (λ (d : Desc). d.name) c.desc-desc.ensures, c.came.ensures) in
-    let text = desc_lines (printers set) s.desc [] image.numbers (first_cell set (parts.Sub c.args.device c.args.sub)) in
-    wrote_behind c.print_lines.result _ text (puts_as line c.in_ok-print_sub_line.ensures)
-    (wrote_as c.print_lines.result _ _ (ap (desc_lines (printers set) s.desc [] image.numbers) c.first_cell.ensures) c.print_lines.ensures)
+    wrote_behind _ _ _ (puts_as line c.in_ok-print_sub_line.ensures)
+    (wrote_as _ _ _ (ap (desc_lines (printers set) s.desc [] image.numbers) c.first_cell.ensures) c.print_lines.ensures)

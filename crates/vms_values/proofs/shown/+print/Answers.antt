@@ -1,33 +1,23 @@
 use Rattle.vms_values.proofs.{Facade.LONGEST_PATH, Printers.stays_is, Printers.stays_then, Printers.stays_element, Printers.cut_is, Printers.field_short}
 use Rattle.vms_values.proofs.Facade.{INDEX_ROOM, PART_ROOM, rules, arith, ◌≡◌, ◌+◌, ◌*◌, ◌-◌, ◌<◌, ◌≤◌, ◌++◌, ℕ, length}
-use Rattle.vms_values.proofs.Facade.{length-append, codes, refl, sym, ap, ◌∙◌, ltb-true, decimal, printers, element_lines, field_of, described, desc_at}
-use Rattle.vms_values.proofs.Facade.{size_in, size_code, start_code, struct_size, room_at, run_lines, below, wrote_as, leaves_all, leaves_rest, leaves_stop}
-use Rattle.vms_values.proofs.Facade.{leaves_none}
-use Rattle.vms_values.proofs.Printers.{struct_lines, FoundRun, array_run, elements_left, no_elements, fields_left, fields_whole, no_fields, found_run, stays, err_is}
+use Rattle.vms_values.proofs.Facade.{length-append, codes, refl, sym, ap, ◌∙◌, decimal, printers, field_of, described, desc_at, size_in, size_code}
+use Rattle.vms_values.proofs.Facade.{start_code, struct_size, room_at, run_lines, below, wrote_as, leaves_all, leaves_rest, leaves_stop, leaves_none}
+use Rattle.vms_values.proofs.Printers.{struct_lines, FoundRun, array_run, elements_left, fields_left, fields_whole, no_fields, found_run, stays, err_is}
 use Rattle.vms_values.proofs.shown.+print.Given.{Over}
 use Rattle.vms_values.proofs.shown.+print.Goals.{print_elements-After-print_item-arg-in-loop-index-1, print_part-After-print_field-arg-in-loop-field-1}
 use Rattle.vms_values.proofs.shown.+print.Goals as goal
 
 pub print_elements-loop-index-init : goal.print_elements-loop-index-init
-print_elements-loop-index-init g t c =
-    let set = described c.args.shown.set.now in
-    let all : c.args.run.count - 0 ≡ c.args.run.count = omega arith in
-    record {
-      owes = leaves_all _ _ _ (ap (λ k. element_lines (printers set) c.args.item.now c.args.line.now c.args.shown.image.now.numbers c.args.run.first (size_in set c.args.item.now) 0 k) (sym all));
-      line = stays c.args.line.now;
-      here = grind arith;
-    }
+print_elements-loop-index-init g t c = search (rules, leaves_all, stays)
 
 -- the path of the next element
 element : (g : Over) (t : ℕ) (c : goal.print_elements-After-print_item-arg-in-loop-index-1 g t) → (c.push_index.new.self ≡ c.args.line.now ++ codes "[" ++ decimal c.loop-index.index ++ codes "]") × (length c.push_index.new.self ≤ length c.args.line.now + INDEX_ROOM)
-element g t c =
-    let kept = cut_is c.args.line.now c.loop-index.line c.cut.new.self c.len-kept.result c.cut.ensures c.len-kept.ensures c.loop-index.invariant.line in
-    (c.push_index.ensures.text ∙ ap (λ l. l ++ codes "[" ++ decimal c.loop-index.index ++ codes "]") kept, omega (arith, ap length kept))
+element g t c = grind (arith, cut_is)
 
 pub print_elements-print_item-requires : goal.print_elements-print_item-requires
 print_elements-print_item-requires g t c =
     let set = described c.args.shown.set.now in
-    let room = room_at c.loop-index.index c.args.run.count (size_in set c.args.item.now) c.args.run.first c.loop-index.cell (length c.args.shown.image.now.numbers) c.loop-index-test.true c.loop-index.invariant.here c.requires.room in
+    let room = room_at _ _ _ _ _ _ c.loop-index-test.true c.loop-index.invariant.here c.requires.room in
     λ κs h. (search rules, (search rules, record { reaches = c.requires.reaches; room = room; few = c.requires.few; short = omega (arith, (element g t c).1) }))
 
 pub print_elements-returns-in_err-print_item : goal.print_elements-returns-in_err-print_item
@@ -35,40 +25,34 @@ print_elements-returns-in_err-print_item g t c =
     let set = described c.args.shown.set.now in
     let ps = printers set in
     let item = c.args.item.now in
-    let n = c.args.shown.image.now.numbers in
     let i = c.loop-index.index in
     let path = (element g t (goal.at.print_elements-returns-in_err-print_item g t c).After-print_item-arg-in-loop-index-1).0 in
     record {
       written = rw (err_is _ _ c.from_residual.ensures.1) (leaves_stop _
-          (elements_left ps item c.args.line.now _ n c.loop-index.cell (size_in set item) _ i c.args.run.count c.loop-index-test.true path refl)
+          (elements_left ps item _ _ c.args.shown.image.now.numbers c.loop-index.cell (size_in set item) _ _ _ c.loop-index-test.true path refl)
           c.loop-index.invariant.owes c.in_err-print_item.ensures.written);
-      line = stays_then _ _ _ (stays_element c.args.line.now (decimal i) c.push_index.new.self path) c.in_err-print_item.ensures.line;
+      line = stays_then _ _ _ (stays_element _ _ _ path) c.in_err-print_item.ensures.line;
     }
 
 pub print_elements-overflow_add-cell : goal.print_elements-overflow_add-cell
 print_elements-overflow_add-cell g t c =
-    let set = described c.args.shown.set.now in
-    let item = c.args.item.now in
-    let room = room_at c.loop-index.index c.args.run.count (size_in set item) c.args.run.first c.loop-index.cell (length c.args.shown.image.now.numbers) c.loop-index-test.true c.loop-index.invariant.here c.requires.room in
-    omega (arith, size_code set item c.item_cells-size.result c.item_cells-size.ensures c.requires.small)
+    let room = room_at _ _ _ _ _ _ c.loop-index-test.true c.loop-index.invariant.here c.requires.room in
+    omega (arith, size_code (described c.args.shown.set.now) c.args.item.now c.item_cells-size.result c.item_cells-size.ensures c.requires.small)
 
 pub print_elements-loop-index-preserved : goal.print_elements-loop-index-preserved
 print_elements-loop-index-preserved g t c =
     let set = described c.args.shown.set.now in
     let item = c.args.item.now in
     let i = c.loop-index.index in
-    let cell = c.loop-index.cell in
-    let ps = printers set in
     let path = c.args.line.now in
-    let n = c.args.shown.image.now.numbers in
-    let size : c.item_cells-size.result ≡ size_in set item = size_code set item c.item_cells-size.result c.item_cells-size.ensures c.requires.small in
+    let size : c.item_cells-size.result ≡ size_in set item = size_code set _ _ c.item_cells-size.ensures c.requires.small in
     let one : (i + 1) * size_in set item ≡ i * size_in set item + size_in set item = grind arith in
     let named = (element g t (goal.at.print_elements-loop-index-preserved g t c).After-print_item-arg-in-loop-index-1).0 in
     record {
       owes = leaves_rest _
-          (elements_left ps item path _ n cell (size_in set item) _ i c.args.run.count c.loop-index-test.true named size)
+          (elements_left (printers set) item _ _ c.args.shown.image.now.numbers c.loop-index.cell _ _ _ _ c.loop-index-test.true named size)
           c.loop-index.invariant.owes c.in_ok-print_item.ensures.written;
-      line = stays_then _ _ _ (stays_element path (decimal i) c.push_index.new.self named) c.in_ok-print_item.ensures.line;
+      line = stays_then _ _ _ (stays_element _ _ _ named) c.in_ok-print_item.ensures.line;
       here = omega arith;
     }
 
@@ -78,7 +62,7 @@ print_elements-returns g t c =
     let none : c.args.run.count - c.loop-index.index ≡ 0 = omega arith in
     record {
       written = leaves_none
-          (no_elements (printers set) c.args.item.now c.args.line.now c.args.shown.image.now.numbers c.loop-index.cell (size_in set c.args.item.now) c.loop-index.index (c.args.run.count - c.loop-index.index) none) c.loop-index.invariant.owes;
+          (rw none) c.loop-index.invariant.owes;
       line = c.loop-index.invariant.line;
     }
 
@@ -101,34 +85,27 @@ print_field-print_elements-requires g t c =
 
 pub print_field-returns-in_default : goal.print_field-returns-in_default
 print_field-returns-in_default g t c =
-    let set = described c.args.shown.set.now in
     let f = field_of c.args.field.now in
     let named : c.push.new.self ≡ c.args.line.now ++ f.name = c.push.ensures ∙ ap (λ l. c.args.line.now ++ l) c.as_bytes.ensures in
     record {
-      line = stays_then _ _ _ (stays_is c.args.line.now f.name c.push.new.self named) c.print_elements.ensures.line;
-      written = wrote_as c.print_elements.result _ _
-          (rw named (array_run set f c.args.run.count c.args.line.now c.args.shown.image.now.numbers c.args.run.first c.in_default.not-One))
+      line = stays_then _ _ _ (stays_is _ _ _ named) c.print_elements.ensures.line;
+      written = wrote_as _ _ _ (rw named (array_run (described c.args.shown.set.now) f _ _ _ _ c.in_default.not-One))
           c.print_elements.ensures.written;
     }
 
 pub print_item-print_struct-requires : goal.print_item-print_struct-requires
-print_item-print_struct-requires g t c =
-    let set = described c.args.shown.set.now in
-    let j = c.in-Struct.number in
-    let room = rw c.in-Struct.is at c.requires.room in
-    let short = rw c.in-Struct.is at c.requires.short in
-    λ κs h. (search rules, (search rules, record { reaches = ltb-true j (length set.structs) (rw c.in-Struct.is at c.requires.reaches); room = room; few = c.requires.few; short = short }))
+print_item-print_struct-requires g t c = search rules
 
 pub print_item-returns-in-Struct : goal.print_item-returns-in-Struct
 print_item-returns-in-Struct g t c =
-    record { written = wrote_as c.print_struct.result _ _ (rw (sym c.in-Struct.is)) c.print_struct.ensures.written; line = c.print_struct.ensures.line }
+    record { written = wrote_as _ _ _ (rw (sym c.in-Struct.is)) c.print_struct.ensures.written; line = c.print_struct.ensures.line }
 
 pub print_struct-print_part-requires : goal.print_struct-print_part-requires
 print_struct-print_part-requires g t c =
     let set = described c.args.shown.set.now in
     let j = c.args.number in
     let lt = c.requires.reaches in
-    let size = struct_size set c.args.shown.set.now.well_formed j lt in
+    let size = struct_size _ c.args.shown.set.now.well_formed _ lt in
     let grown : length c.push.new.self + PART_ROOM * (j + 1) ≤ LONGEST_PATH = omega (arith, ap length c.push.ensures, length-append c.args.line.now (codes ".")) in
     λ κs h. (search rules, (search rules, record { spot = record { part = lt; few = c.requires.few; room = omega arith }; short = grown }))
 
@@ -138,15 +115,13 @@ print_struct-returns g t c =
     let j = c.args.number in
     let n = c.args.shown.image.now.numbers in
     record {
-      written = wrote_as c.print_part.result _ _
-          (rw (c.push.ensures) (sym (struct_lines set c.args.shown.set.now.well_formed j c.requires.reaches c.args.line.now n c.args.cell))) c.print_part.ensures.written;
-      line = stays_then _ _ _ (stays_is c.args.line.now (codes ".") c.push.new.self c.push.ensures) c.print_part.ensures.line;
+      written = wrote_as _ _ _
+          (rw (c.push.ensures) (sym (struct_lines _ c.args.shown.set.now.well_formed _ c.requires.reaches _ _ _))) c.print_part.ensures.written;
+      line = stays_then _ _ _ (stays_is _ _ _ c.push.ensures) c.print_part.ensures.line;
     }
 
 pub print_part-loop-field-init : goal.print_part-loop-field-init
-print_part-loop-field-init g t c =
-    let set = described c.args.shown.set.now in
-    record { owes = leaves_all _ _ _ (fields_whole set c.args.spot c.args.line.now c.args.shown.image.now.numbers); line = stays c.args.line.now }
+print_part-loop-field-init g t c = search (arith, leaves_all, fields_whole, stays)
 
 -- the next field
 record Turn (g : Over) (t : ℕ) (c : goal.print_part-After-print_field-arg-in-loop-field-1 g t) : Type 0 where
@@ -173,7 +148,7 @@ print_part-field_start-requires-clause-few g t c = omega arith
 pub print_part-print_field-requires : goal.print_part-print_field-requires
 print_part-print_field-requires g t c =
     let s = turn g t c in
-    let short = field_short (described c.args.shown.set.now) c.args.shown.set.now.well_formed c.args.spot.part c.requires.spot.part c.loop-field.field s.inside (field_of c.index-as_slice-field.result) s.run.found in
+    let short = field_short _ c.args.shown.set.now.well_formed _ c.requires.spot.part _ s.inside _ s.run.found in
     λ κs h. (search rules, (search rules, record { fits = s.run.next.run; name = short.0; short = omega (arith, ap length s.kept) }))
 
 -- its lines, under the path of the code, and those of the fields after it

@@ -10,5 +10,5 @@ pieced path a b d line e f is g h =
 
 pub returns : goal.returns
 returns g c =
-    let line = pieced c.args.line.now _ _ (signed_decimal c.args.number) c.push-3.new.self _ c.push.ensures (c.as_bytes.ensures.value ∙ c.spelled.ensures.text ∙ ap signed_decimal (to_z-of_z {w = w128} c.ranges.number)) c.push-2.ensures c.push-3.ensures in
-    record { written = wrote_as c.write_all_of.result _ _ (c.text.ensures ∙ line) c.write_all_of.ensures; line = stays_is _ _ _ line }
+    let line = pieced _ _ _ _ _ _ c.push.ensures (c.as_bytes.ensures.value ∙ c.spelled.ensures.text ∙ ap signed_decimal (to_z-of_z {w = w128} c.ranges.number)) c.push-2.ensures c.push-3.ensures in
+    record { written = wrote_as _ _ _ (c.text.ensures ∙ line) c.write_all_of.ensures; line = stays_is _ _ _ line }

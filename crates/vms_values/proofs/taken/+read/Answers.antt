@@ -13,9 +13,7 @@ use Rattle.vms_values.proofs.taken.+read.Goals as goal
 
 -- the path of the next element
 element : (t : ℕ) (c : goal.read_elements-After-read_item-arg-in-loop-index-1 t) → (c.push_index.new.self ≡ c.args.path.now ++ codes "[" ++ decimal c.loop-index.index ++ codes "]") × (length c.push_index.new.self ≤ length c.args.path.now + INDEX_ROOM)
-element t c =
-    let front = cut_is c.args.path.now c.loop-index.path c.cut.new.self c.len-kept.result c.cut.ensures c.len-kept.ensures c.loop-index.invariant.path in
-    (c.push_index.ensures.text ∙ ap (λ l. l ++ codes "[" ++ decimal c.loop-index.index ++ codes "]") front, omega (arith, ap length front))
+element t c = grind (arith, cut_is)
 
 pub read_elements-returns-in_err-read_item : goal.read_elements-returns-in_err-read_item
 read_elements-returns-in_err-read_item t c =
@@ -26,10 +24,9 @@ read_elements-returns-in_err-read_item t c =
       read = rw (err_is _ _ c.from_residual.ensures.1) (stopped _ _ _ _ _
           (λ b same. sym c.loop-index.invariant.reads ∙ elements_left (readers set) f (capacities_of c.args.run.most) c.args.path.now c.args.run.present
           (size_in set f.item) c.loop-index.first c.loop-index.index c.args.run.count (place_of c.loop-index.taken) (Err b)
-          c.loop-index-test.true (rw (sym path) (same)))
-          c.in_err-read_item.ensures.read);
+          c.loop-index-test.true (rw (sym path) (same))) c.in_err-read_item.ensures.read);
       kept = kept_more _ _ _ c.loop-index.invariant.kept c.in_err-read_item.ensures.kept;
-      path = stays_then _ _ _ (stays_element c.args.path.now (decimal c.loop-index.index) c.push_index.new.self path) c.in_err-read_item.ensures.path;
+      path = stays_then _ _ _ (stays_element _ _ _ path) c.in_err-read_item.ensures.path;
     }
 
 pub read_elements-overflow_add-first : goal.read_elements-overflow_add-first
@@ -63,9 +60,8 @@ read_elements-loop-index-preserved t c =
 pub read_elements-read_item-requires : goal.read_elements-read_item-requires
 read_elements-read_item-requires t c =
     let set = described c.args.set.now in
-    let item = c.args.run.field.now.item in
-    let room = room_at c.loop-index.index c.args.run.count (size_in set item) c.args.run.first c.loop-index.first _ (omega arith) c.loop-index.invariant.here c.requires.fits.room in
-    let here : AreKinds c.args.taken.now.image.kinds c.loop-index.first (element_cells (cells_in (table set)) item) =
+    let room = room_at _ _ _ _ _ _ (omega arith) c.loop-index.invariant.here c.requires.fits.room in
+    let here : AreKinds c.args.taken.now.image.kinds c.loop-index.first (element_cells (cells_in (table set)) c.args.run.field.now.item) =
     rw c.loop-index.invariant.here (c.requires.kinds c.loop-index.index (omega arith)) in (
       omega arith,
       record {
@@ -80,7 +76,6 @@ read_elements-read_item-requires t c =
 pub read_field-read_item-requires : goal.read_field-read_item-requires
 read_field-read_item-requires t c =
     let set = described c.args.set.now in
-    let cs = cells_in (table set) in
     let item = c.args.run.field.now.item in
     let width : c.args.run.count * size_in set item ≡ 1 * size_in set item = rw (c.requires.fits.single c.in-One.is) in
     let named : c.push.new.self ≡ c.args.path.now ++ (field_of c.args.run.field.now).name = c.push.ensures ∙ ap (λ l. c.args.path.now ++ l) c.as_bytes.ensures in
@@ -118,7 +113,7 @@ read_field-returns-in_default t c =
       read = rw (ap (λ (l : List ℕ). read_elements (readers set) f (capacities_of c.args.run.most) l c.args.run.present c.args.run.first (size_in set f.item) 0 c.args.run.count p) named
           ∙ array_read set f c.args.run.count (capacities_of c.args.run.most) c.args.path.now c.args.run.present c.args.run.first p c.in_default.not-One) at c.read_elements.ensures.read;
       kept = c.read_elements.ensures.kept;
-      path = stays_then _ _ _ (stays_is c.args.path.now f.name c.push.new.self named) c.read_elements.ensures.path;
+      path = stays_then _ _ _ (stays_is _ _ _ named) c.read_elements.ensures.path;
     }
 
 pub read_item-read_under-requires : goal.read_item-read_under-requires
@@ -127,7 +122,7 @@ read_item-read_under-requires t c =
     let j = c.in-Struct.number in
     let lt : j < length set.structs = ltb-true j (length set.structs) (rw c.in-Struct.is at c.requires.reaches) in
     let room = rw c.in-Struct.is at c.requires.room in
-    let size = struct_size set c.args.set.now.well_formed j lt in
+    let size = struct_size _ c.args.set.now.well_formed _ lt in
     let spot : HasSpot set (record { part = parts.Struct j; version = c.desc.result.now.version; base = c.args.run.first }) c.args.taken.now.image.numbers =
     record { part = lt; few = c.requires.few; room = omega arith } in
     let short = rw c.in-Struct.is at c.requires.short in
@@ -135,7 +130,7 @@ read_item-read_under-requires t c =
       search rules,
       record {
         spot = spot;
-        kinds = struct_kinds set c.args.set.now.well_formed j lt c.args.taken.now.image.kinds c.args.run.first (rw c.in-Struct.is at c.requires.kinds);
+        kinds = struct_kinds _ c.args.set.now.well_formed _ lt _ _ (rw c.in-Struct.is at c.requires.kinds);
         short = grown;
       },
     )
@@ -143,7 +138,7 @@ read_item-read_under-requires t c =
 pub read_item-read_number_line-requires : goal.read_item-read_number_line-requires
 read_item-read_number_line-requires t c = record {
   room = search rules;
-  of_kind = number_kind (cells_in (table (described c.args.set.now))) c.args.taken.now.image.kinds c.args.run.first c.in-Num.kind (rw c.in-Num.is at c.requires.kinds);
+  of_kind = number_kind (cells_in (table (described c.args.set.now))) _ _ _ (rw c.in-Num.is at c.requires.kinds);
 }
 
 pub read_item-returns-in-Struct : goal.read_item-returns-in-Struct
@@ -166,18 +161,7 @@ read_item-returns-in-Struct t c =
     }
 
 pub read_under-loop-field-init : goal.read_under-loop-field-init
-read_under-loop-field-init t c =
-    let set = described c.args.set.now in
-    let d = desc_at set c.args.spot.part in
-    let path = c.args.path.now in
-    let p = place_of c.args.taken.now in
-    let first = place_first (cells_in (table set)) d.fields 0 c.args.spot.base d.fields in
-    record {
-      reads = rw first;
-      kinds = rw first c.requires.kinds;
-      kept = kept_none c.args.taken.now.image;
-      path = stays path;
-    }
+read_under-loop-field-init t c = search (rules, place_first, kept_none, stays)
 
 -- the next field, with the numbers so far
 record Turn (t : ℕ) (c : goal.read_under-After-read_field-arg-in-loop-field-1 t) : Type 0 where
@@ -204,27 +188,25 @@ turn t c =
     let k = c.loop-field.field in
     let cell = c.field_start.result in
     let d = desc_at set spot.part in
-    let cs = cells_in (table set) in
-    let numbers = c.loop-field.taken.image.numbers in
     let kinds = c.loop-field.taken.image.kinds in
     let lt : k < length d.fields = omega arith in
     let long = c.loop-field.invariant.kept.long in
-    let has : HasSpot set spot numbers = record {
+    let has : HasSpot set spot c.loop-field.taken.image.numbers = record {
       part = c.requires.spot.part;
       few = rw long c.requires.spot.few;
       room = rw long c.requires.spot.room;
     } in
-    let begins = start_code set spot k cell c.field_start.ensures in
-    let run = found_run set c.args.set.now.well_formed spot c.args.path.now numbers has k cell c.elements.result c.desc.result.now c.as_slice.result.now
-    c.index-as_slice-field.result lt c.desc.ensures c.as_slice.ensures c.index-as_slice-field.is c.elements.ensures begins in
-    let here : AreKinds kinds cell (cells_from cs d.fields k (drop k d.fields)) = rw begins c.loop-field.invariant.kinds in
+    let begins = start_code set spot k _ c.field_start.ensures in
+    let run = found_run _ c.args.set.now.well_formed _ c.args.path.now _ has _ _ _ _ _
+    _ lt c.desc.ensures c.as_slice.ensures c.index-as_slice-field.is c.elements.ensures begins in
+    let here : AreKinds kinds cell (cells_from (cells_in (table set)) d.fields k (drop k d.fields)) = rw begins c.loop-field.invariant.kinds in
     record {
       run = run;
-      after = ap (λ (x : Field). cell + capacity_of x.count * size_in set x.item) run.found ∙ start_after set spot k cell begins lt;
+      after = ap (λ (x : Field). cell + capacity_of x.count * size_in set x.item) run.found ∙ start_after set spot _ _ begins lt;
       reads = rw begins (c.loop-field.invariant.reads);
       comes = record { inside = lt; found = run.found; counts = c.elements.ensures; least = c.most.ensures; is = c.is_present.ensures };
-      kinds = rw run.found (field_kinds cs d.fields kinds k cell (field_at set spot.part k) (drop k d.fields) (drop (k + 1) d.fields) (fields_at d.fields k lt) here);
-      front = cut_is c.args.path.now c.loop-field.path c.cut.new.self c.len-kept.result c.cut.ensures c.len-kept.ensures c.loop-field.invariant.path;
+      kinds = rw run.found (field_kinds _ _ _ _ _ _ _ _ (fields_at d.fields k lt) here);
+      front = cut_is _ _ _ _ c.cut.ensures c.len-kept.ensures c.loop-field.invariant.path;
     }
 
 pub read_under-field_start-requires-clause-few : goal.read_under-field_start-requires-clause-few
@@ -234,7 +216,7 @@ pub read_under-read_field-requires : goal.read_under-read_field-requires
 read_under-read_field-requires t c =
     let s = turn t c in
     let fewer : c.elements.result ≤ capacity_of c.index-as_slice-field.result.count = omega (arith, ap (λ x. capacity_of x.count) s.run.found, elements_fit (field_at (described c.args.set.now) c.args.spot.part c.loop-field.field).count (own_numbers (described c.args.set.now) c.args.spot.part c.loop-field.taken.image.numbers c.args.spot.base)) in
-    let short = field_short (described c.args.set.now) c.args.set.now.well_formed c.args.spot.part c.requires.spot.part c.loop-field.field s.comes.inside (field_of c.index-as_slice-field.result) s.run.found in (
+    let short = field_short _ c.args.set.now.well_formed _ c.requires.spot.part _ s.comes.inside _ s.run.found in (
       omega arith,
       record {
         fits = s.run.next.run;
@@ -251,24 +233,19 @@ read_under-returns-in_err-read_field t c =
     let s = turn t (goal.at.read_under-returns-in_err-read_field t c).After-read_field-arg-in-loop-field-1 in
     record {
       read = rw (err_is _ _ c.from_residual.ensures.1) (stopped _ _ _ _ _
-          (λ b same. sym s.reads ∙ fields_left set c.args.path.now c.field_start.result _ (Err b) s.comes s.after same)
-          (rw s.front at c.in_err-read_field.ensures.read));
+          (λ b same. sym s.reads ∙ fields_left _ _ _ _ _ s.comes s.after same) (rw s.front at c.in_err-read_field.ensures.read));
       kept = kept_more _ _ _ c.loop-field.invariant.kept c.in_err-read_field.ensures.kept;
       path = stays_then _ _ _ (rw s.front (stays c.args.path.now)) c.in_err-read_field.ensures.path;
     }
 
 pub read_under-loop-field-preserved : goal.read_under-loop-field-preserved
 read_under-loop-field-preserved t c =
-    let set = described c.args.set.now in
-    let spot = c.args.spot in
     let k = c.loop-field.field in
-    let d = desc_at set spot.part in
-    let left = cells_from (cells_in (table set)) d.fields (k + 1) (drop (k + 1) d.fields) in
+    let d = desc_at (described c.args.set.now) c.args.spot.part in
     let s = turn t (goal.at.read_under-loop-field-preserved t c).After-read_field-arg-in-loop-field-1 in
     let kept = c.in_ok-read_field.ensures.kept in
     record {
-      reads = sym (fields_left set c.args.path.now c.field_start.result _ (Ok (place_of c.read_field.new.taken)) s.comes s.after
-          (reached _ _ (rw s.front at c.in_ok-read_field.ensures.read))) ∙ s.reads;
+      reads = sym (fields_left _ _ _ _ _ s.comes s.after (reached _ _ (rw s.front at c.in_ok-read_field.ensures.read))) ∙ s.reads;
       kinds = rw kept.kinds (rw s.after at s.kinds.later);
       kept = kept_more _ _ _ c.loop-field.invariant.kept kept;
       path = stays_then _ _ _ (rw s.front (stays c.args.path.now)) c.in_ok-read_field.ensures.path;

@@ -3,10 +3,9 @@ use Rattle.vms_values.proofs.text.is_joined.Goals as goal
 
 pub returns-in-None : goal.returns-in-None
 returns-in-None c =
-    sym (joined_next c.loop-piece.rest.now _ _ _ _ false (joined_at c.args.pieces.now c.loop-piece.piece-index _ c.loop-piece-test.true)
-    c.in-None.ensures.cases refl) ∙ c.loop-piece.invariant
+    sym (joined_next _ _ _ _ _ false (joined_at _ _ _ c.loop-piece-test.true) c.in-None.ensures.cases refl) ∙ c.loop-piece.invariant
 
 pub loop-piece-preserved : goal.loop-piece-preserved
 loop-piece-preserved c =
-    sym (joined_next c.loop-piece.rest.now _ _ _ _ true (joined_at c.args.pieces.now c.loop-piece.piece-index _ c.loop-piece-test.true)
+    sym (joined_next _ _ _ _ _ true (joined_at _ _ _ c.loop-piece-test.true)
     c.in-Some.ensures.cases.0 c.in-Some.ensures.cases.1) ∙ c.loop-piece.invariant

@@ -18,5 +18,5 @@ loop-item-preserved g c =
 
 pub returns-in-Err : goal.returns-in-Err
 returns-in-Err g c =
-    one_stops g.T.Sought.wants c.args.items.now c.loop-item.item-index c.item-item.result
-    c.args.self.now c.loop-item.self c.seek.new.walk c.in-Err.stop c.loop-item-test.true c.loop-item.invariant (rw c.item-item.is at c.in-Err.ensures)
+    one_stops g.T.Sought.wants _ _ c.item-item.result
+    _ _ _ _ c.loop-item-test.true c.loop-item.invariant (rw c.item-item.is at c.in-Err.ensures)

@@ -5,7 +5,7 @@ pub returns-in-Ok : goal.returns-in-Ok
 returns-in-Ok c = asked_is (view c.args.value.now) _ c.in-Ok.ensures
 
 pub returns-in-Ok-read_walk : goal.returns-in-Ok-read_walk
-returns-in-Ok-read_walk c = later_is (view c.args.value.now) _ c.in-Err.fault c.in-Ok-read_walk.ensures c.in-Err.ensures
+returns-in-Ok-read_walk c = later_is _ _ _ c.in-Ok-read_walk.ensures c.in-Err.ensures
 
 pub returns-in-Err-read_walk : goal.returns-in-Err-read_walk
 returns-in-Err-read_walk c = first_is (view c.args.value.now) c.in-Err-read_walk.first c.in-Err-read_walk.ensures

@@ -1,5 +1,5 @@
+use Rattle.vms_descfile.proofs.Facade.{◌≡◌, ◌-◌, sym, ap, arith, Err, view, good, under, at, scope_seen, form_of, test_within, two_of, key_of}
 use Rattle.vms_descfile.proofs.{Facade.joined, Facade.both, Facade.pair_seen, ShownLaws.by_form, ShownLaws.refused_next}
-use Rattle.vms_descfile.proofs.Facade.{◌≡◌, ◌-◌, refl, sym, ap, arith, Err, view, good, under, at, scope_seen, form_of, test_within, two_of, key_of}
 use Rattle.vms_descfile.specs.declared.read.cells.Form.TheVariants as forms
 use Rattle.vms_descfile.specs.declared.read.cells.Leaf.TheVariants as leaves
 use Rattle.vms_descfile.proofs.read.tests.+read_test.Goals as goal
@@ -12,21 +12,18 @@ returns-in-Some t c =
 
 pub returns-in-Leaf : goal.returns-in-Leaf
 returns-in-Leaf t c =
-    by_form c.args.depth (scope_seen c.args.scope) (view c.args.value.now) (forms.Leaf c.in-Leaf.leaf) c.read_leaf.result (omega arith)
-    c.in-Leaf.ensures c.read_leaf.ensures
+    by_form _ _ _ _ _ (omega arith) c.in-Leaf.ensures c.read_leaf.ensures
 
 pub returns-in-Some-get : goal.returns-in-Some-get
 returns-in-Some-get t c =
     let scope = scope_seen c.args.scope in
-    let inner = test_within (c.args.depth - 1) scope in
     by_form c.args.depth scope (view c.args.value.now) forms.Not c.negated.result (omega arith) c.in-Not.ensures
-    (rw (← c.in-Some-get.ensures) (c.negated.ensures (inner (view c.in-Some-get.inner)) c.read_test.ensures))
+    (rw (← c.in-Some-get.ensures) (c.negated.ensures ((test_within (c.args.depth - 1) scope) (view c.in-Some-get.inner)) c.read_test.ensures))
 
 pub returns-in-None : goal.returns-in-None
 returns-in-None t c =
-    let scope = scope_seen c.args.scope in
-    by_form c.args.depth scope (view c.args.value.now) forms.Not (Err c.here-in-None.result) (omega arith) c.in-Not.ensures
-    (rw (← c.in-None.ensures, c.here-in-None.ensures) refl)
+    by_form c.args.depth (scope_seen c.args.scope) (view c.args.value.now) forms.Not (Err c.here-in-None.result) (omega arith) c.in-Not.ensures
+    (rw (← c.in-None.ensures, c.here-in-None.ensures))
 
 pub returns-in-Ok : goal.returns-in-Ok
 returns-in-Ok t c =

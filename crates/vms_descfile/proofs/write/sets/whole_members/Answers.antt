@@ -8,5 +8,5 @@ returns-clause-file c = whole_built c.args.device.now _ _ _ _ c.as_slice.ensures
 pub returns-clause-fits : goal.returns-clause-fits
 returns-clause-fits c = record {
   desc = c.in_ok-members.ensures.fits;
-  subs = mapped_of sub_of FitsSub c.as_slice-2.result.now c.args.device.now.subs c.as_slice-2.ensures c.in_ok-put_list.ensures.fits;
+  subs = mapped_of sub_of FitsSub _ _ c.as_slice-2.ensures c.in_ok-put_list.ensures.fits;
 }

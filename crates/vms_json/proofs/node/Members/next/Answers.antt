@@ -7,7 +7,7 @@ pub returns-in_default-clause-value : goal.returns-in_default-clause-value
 returns-in_default-clause-value c found = no_member_left c.args.self.now.rows.now found (grind arith)
 
 pub returns-in_default-key-clause-value : goal.returns-in_default-key-clause-value
-returns-in_default-key-clause-value c found = no_member_at _ c.in-Some.rows.now c.in-Some.row.now found (grind arith) (sym c.in_default-key.ensures)
+returns-in_default-key-clause-value c found = no_member_at _ c.in-Some.rows.now _ _ (grind arith) (sym c.in_default-key.ensures)
 
 pub returns-clause-value : goal.returns-clause-value
 returns-clause-value c found =

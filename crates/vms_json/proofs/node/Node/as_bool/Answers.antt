@@ -6,4 +6,4 @@ pub returns-in-Some : goal.returns-in-Some
 returns-in-Some c = c.flag.ensures ∙ sym (says c.args.self.rows.now c.in-Some._inside.now c.in-Some.row.now (grind arith)).flag
 
 pub returns-in-None : goal.returns-in-None
-returns-in-None c = sym (none_in as_bool c.args.self.rows.now (grind arith) refl)
+returns-in-None c = sym (none_in as_bool _ (grind arith) refl)

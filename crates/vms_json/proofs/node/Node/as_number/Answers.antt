@@ -6,4 +6,4 @@ pub returns-in-Some : goal.returns-in-Some
 returns-in-Some c = c.number.ensures ∙ sym (says c.args.self.rows.now c.in-Some._inside.now c.in-Some.row.now (grind arith)).number
 
 pub returns-in-None : goal.returns-in-None
-returns-in-None c = sym (none_in as_number c.args.self.rows.now (grind arith) refl)
+returns-in-None c = sym (none_in as_number _ (grind arith) refl)

@@ -1,11 +1,11 @@
-use Rattle.vms_json.proofs.{DueLaws.below_front, DueLaws.IsTold, DueLaws.ended, LaidLaws.list_laid, LaidLaws.object_laid}
 use Rattle.vms_json.proofs.Facade.{◌≡◌, ◌-◌, ◌<◌, length, slice_set, ◌∙◌, arith, length-set, Row, AreBelow}
+use Rattle.vms_json.proofs.{DueLaws.below_front, DueLaws.IsTold, DueLaws.ended, LaidLaws.list_laid, LaidLaws.object_laid}
 use Rattle.vms_json.proofs.parse.Laid.end.Goals.{then-self, else-self, In-Some, After-len, After-is_in_list-self}
 use Rattle.vms_json.proofs.parse.Laid.end.Goals as goal
 
 -- the remaining open ones begin below the innermost, which begins below the end
 below : (c : goal.In-Some) → AreBelow c.pop.new.self.items (length c.args.self.now.rows.items) × (c.in-Some.at < length c.args.self.now.rows.items)
-below c = below_front c.pop.new.self.items c.in-Some.at (length c.args.self.now.rows.items) (rw c.in-Some.ensures.items at c.requires)
+below c = below_front _ _ _ (rw c.in-Some.ensures.items at c.requires)
 
 within : (c : goal.In-Some) (r : Row) → AreBelow c.pop.new.self.items (length (slice_set c.args.self.now.rows.items c.in-Some.at r))
 within c r = rw (length-set c.args.self.now.rows.items c.in-Some.at r) (below c).0
