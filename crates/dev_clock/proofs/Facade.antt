@@ -1,5 +1,5 @@
 -- The names of other crates, and of this crate's `specs`, that the proofs use.
-pub use Rattle.std.proofs.Common.{Bool, Err, List, Ok, Result, [], ap, arith, cond, false, nat_le, refl, subst, sym, true, ℕ, ℤ, ◌*◌, ◌+◌, ◌<◌, ◌==◌, ◌∙◌, ◌∷◌}
+pub use Rattle.std.proofs.Common.{Bool, Err, List, Ok, Result, [], ap, arith, nat_le, refl, subst, sym, ℕ, ℤ, ◌<◌, ◌==◌, ◌∙◌, ◌∷◌}
 pub use Rattle.std.proofs.Common.{◌≡◌, ◌≤◌}
 pub use Rattle.vms_hooks.specs.Numbers.{Numbers}
 pub use Rattle.vms_rtc.proofs.{StepLaws.version_stays, StepLaws.calls_keep_sound, SavedLaws.same-chip, SavedLaws.restored-own, SavedLaws.saved_is_restored}
@@ -13,7 +13,7 @@ pub use Rattle.dev_board.proofs.{WireLaws.wires_stay, RestoredLaws.chip-ok, Rest
 pub use Rattle.dev_board.proofs.SavedLaws.{stays-alike, same-is, same-refl}
 pub use Rattle.dev_board.specs.{Laws.AnswersAlike, Laws.AreEvents, Laws.IsEvent, Laws.moment_left, Saved.lines_agree, Saved.moment_of, State.State}
 pub use Rattle.dev_board.specs.{declared.cells.BoardCells.BoardCells, declared.event.Answer.Answer, declared.event.Event.Event, declared.misfit.Misfit.Misfit}
-pub use Rattle.dev_board.specs.declared.event.Event.TheVariants.{Ack, Byte, Read, Wait, Wire, Write}
+pub use Rattle.dev_board.specs.declared.event.Event.TheVariants.{Read, Wait, Wire, Write}
 unfoldable pub use Rattle.dev_board.specs.{Saved.agreed, Saved.by_chip, Saved.by_device, Saved.timed, Step.after_by, Step.names_wire}
 pub use Rattle.dev_clock.specs.{SheetNumbers.NumbersAre, State.ClockState, Step.after_all, Step.clock_read, Step.clock_written, Step.on_board, View.clock_view}
 pub use Rattle.dev_clock.specs.{declared.cells.ClockCells.ClockCells, declared.devices.TheConstants.CLOCK_INPUT, Sound.Alike, Sound.HasDevices, Sound.IsSound}
@@ -23,8 +23,8 @@ pub use Rattle.dev_clock.specs.SavedLaws.{ComesBack, IsTold, RestoredIsSound, Sa
 pub use Rattle.dev_clock.specs.declared.saved.TheConstants.{CLOCK_DEVICE, LINES_CELL, LINE_RULE}
 unfoldable pub use Rattle.dev_clock.specs.{State.power_on, Step.acted, Step.follows_line, Step.step, Step.waited}
 unfoldable pub use Rattle.dev_clock.specs.Saved.{carried, joined, saved, with_line}
-pub use Rattle.dev_pic.proofs.{SavedLaws.carried-saved}
-pub use Rattle.dev_pic.specs.{Cells.rules, Pair.int_of, Sound.IsSoundPair, declared.chip.Chip.Chip, declared.pair.PicPair.PicPair}
+pub use Rattle.dev_pic.proofs.SavedLaws.{carried-saved}
+pub use Rattle.dev_pic.specs.{Cells.rules, Sound.IsSoundPair, declared.chip.Chip.Chip, declared.pair.PicPair.PicPair}
 unfoldable pub use Rattle.dev_pic.specs.{Cells.chip_of, Pair.chip_on, Pair.lines_of, Saved.pair_of}
 pub use Rattle.dev_pit.specs.declared.pit.Pit.{Pit}
 pub use Rattle.dev_serial.specs.Port.{Port}

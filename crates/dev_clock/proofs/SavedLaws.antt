@@ -3,17 +3,16 @@ use Rattle.dev_clock.proofs.Facade.{SavedAreCells, ComesBack, SavedComesBack, Sa
 use Rattle.dev_clock.proofs.Facade.{◌==◌, ap, arith, ℤ, ◌≤◌, Bool, List, Result, Ok, refl, sym, subst, ◌∙◌, has, lines_of, IsSoundPair}
 use Rattle.dev_clock.proofs.Facade.{PicPair, CLOCK_INPUT, hook-ok, number_at, NEWEST, same-refl, by_device, State, Misfit, carried-saved, Numbers}
 use Rattle.dev_clock.proofs.Facade.{saved_is_restored, saved_cells, line_of, CanRestore, hook_restored, Rtc, MaySaveUnder, saved, carried, AreSavedCells}
-use Rattle.dev_clock.proofs.Facade.{AreClockCells, numbers_back, slave_line, with_line, joined, restored, nat_le, Err, either, LAST_MOMENT, timed, by_chip}
-use Rattle.dev_clock.proofs.Facade.{lines_agree, agreed, moment_of, BoardCells, pair_of, Chip, Pit, Port, IsPlaced, clock_back, judged-ok, ok-hook, same, AreOf}
-use Rattle.dev_clock.proofs.Facade.{IsUpTo, chip-ok, device-ok, same-is, chip_of, rules, kinds, NEWEST_CLOCK, RestoredIsSound, ClockCells, LINE_RULE, AllTrue}
-use Rattle.dev_clock.proofs.Facade.{none_failing, same-chip, restored-own, IsTold, SoundMeetsRules}
-use Rattle.dev_clock.proofs.StepLaws.{alike_stays, newest-is}
+use Rattle.dev_clock.proofs.Facade.{AreClockCells, numbers_back, slave_line, with_line, joined, restored, Err, either, timed, by_chip, agreed, moment_of}
+use Rattle.dev_clock.proofs.Facade.{BoardCells, pair_of, Chip, Pit, Port, IsPlaced, clock_back, judged-ok, ok-hook, same, AreOf, IsUpTo, chip-ok, device-ok}
+use Rattle.dev_clock.proofs.Facade.{same-is, chip_of, rules, kinds, NEWEST_CLOCK, RestoredIsSound, ClockCells, AllTrue, none_failing, same-chip, restored-own}
+use Rattle.dev_clock.proofs.{Facade.IsTold, Facade.SoundMeetsRules, StepLaws.alike_stays, StepLaws.newest-is}
 use Rattle.dev_board.proofs.RestoredLaws.{let-through, restored_is_sound as board-is-sound, made_of as board_made_of, sound_meets_rules as board-meets}
 use Rattle.dev_board.proofs.SavedLaws.{saved_are_cells as board-saved, saved_comes_back as board-comes-back}
 use Rattle.dev_board.specs.{Saved.restored as board_restored, SavedLaws.ComesBack as BoardComesBack, Sound.IsSound as IsSoundBoard}
 use Rattle.dev_board.specs.Saved.{saved as board_saved, carried as board_carried, MaySaveUnder as MaySaveBoard, joined as board_joined}
 use Rattle.dev_pic.proofs.SavedLaws.{made_of as pair_made_of}
-use Rattle.dev_pic.specs.Cells.{saved_cells as chip_cells, carried as pic_carried}
+use Rattle.dev_pic.specs.Cells.{saved_cells as chip_cells}
 use Rattle.vms_rtc.proofs.SavedLaws.{saved_are_cells as clock-saved, restored_is_sound as clock-is-sound, sound_meets_rules as clock-meets}
 use Rattle.vms_rtc.specs.{Cells.carried as clock_carried, Sound.IsSound as IsSoundClock}
 use Rattle.vms_rtc.specs.Saved.{restored as clock_restored, rules as clock_rules, chip_of as clock_chip}
@@ -69,27 +68,19 @@ module _ (set : ℕ) (m : ClockState) (s : IsSound m) (may : MaySaveUnder m.cloc
       subst (λ level. BoardComesBack level (board_carried NEWEST (board_saved NEWEST m.board)) m.board) s.devices.level
       (board-comes-back.back NEWEST m.board s.board may-board)
 
-  -- The slave's line.
-  lines-there : number_at (pic_carried NEWEST (chip_cells NEWEST m.board.pair.slave)) LINES_CELL ≡ m.board.pair.slave.lines
-  unfolding chip_cells
-  lines-there = ap (λ (cells : List ℤ). number_at cells LINES_CELL) (carried-saved m.board.pair.level NEWEST _ m.board.pair.slave le s.board.pair.slave)
-    where
-      le : m.board.pair.level ≤ NEWEST
-      le = let e = s.board.devices.pair_level in let l = s.devices.level in omega (arith, e, l)
-
   line-there : slave_line (board_carried NEWEST (board_saved NEWEST m.board)).slave.items ≡ line_of m.clock
-  unfolding board_carried board_saved
-  line-there = ap (λ (lines : ℕ). has lines 0) lines-there ∙ sym (slave-bit m.board.pair s.board.pair) ∙ s.line
-
-  carried-are : AreClockCells (carried set (saved set m))
-  unfolding carried saved
-  carried-are = record { clock = clock-both.0.of_kinds; board = board-back.may }
+  unfolding board_carried board_saved chip_cells
+  line-there = grind (arith, has, slave-bit, number_at, carried-saved)
 
   back : restored m.clock.version (carried set (saved set m)) ≡ Ok (record { clock = m.clock; board = board-back.back })
   unfolding carried saved
   back =
       both-kept m.clock board-back.back _ _
       (device-kept CLOCK_DEVICE m.clock _ (line-kept _ m.clock _ (hook-ok _ m.clock clock-both.1) line-there)) board-back.restored
+
+  carried-are : AreClockCells (carried set (saved set m))
+  unfolding carried saved
+  carried-are = record { clock = clock-both.0.of_kinds; board = board-back.may }
 
   pub comes-back : ComesBack m.clock.version (carried set (saved set m)) m
   comes-back = record {
@@ -119,10 +110,6 @@ abbrev MayBePlaced : {D : Type 0} → Result D Misfit → Type 0
 MayBePlaced (Ok device) = Unit {0}
 MayBePlaced (Err misfit) = IsPlaced misfit
 
-of-moment : (moment : ℕ) → MayBePlaced (timed moment)
-unfolding timed
-of-moment moment = either MayBePlaced (nat_le moment LAST_MOMENT) _ _ tt (omega arith)
-
 of-chips : (level : ℕ) (master slave : Result Chip ℕ) → MayBePlaced (by_chip (pair_of level master slave))
 unfolding by_chip pair_of
 of-chips level master slave = grind arith
@@ -131,19 +118,14 @@ of-device : {D : Type 0} (place : ℕ) (outcome : Result D ℕ) → place ≤ 4 
 unfolding by_device
 of-device place outcome l = grind arith
 
-of-lines : (m : State) → MayBePlaced (agreed m)
-unfolding agreed
-of-lines m = either MayBePlaced (lines_agree m) _ _ tt (omega arith)
-
 of-all : (level : ℕ) (moment : Result ℕ Misfit) (pair : Result PicPair Misfit) (pit : Result Pit Misfit) (port : Result Port Misfit) → MayBePlaced moment
     → MayBePlaced pair → MayBePlaced pit → MayBePlaced port → MayBePlaced (board_joined level moment pair pit port)
-unfolding board_joined
-of-all level moment pair pit port a b c d = grind (arith, of-lines)
+unfolding board_joined agreed
+of-all level moment pair pit port a b c d = grind (arith, either)
 
 pub placed : (level : ℕ) (cells : BoardCells) (misfit : Misfit) → board_restored level cells ≡ Err misfit → IsPlaced misfit
-placed level cells misfit e =
-    subst MayBePlaced e
-    (of-all level _ _ _ _ (of-moment _) (of-chips level _ _) (of-device _ _ (omega arith)) (of-device _ _ (omega arith)))
+unfolding timed
+placed level cells misfit e = grind (arith, of-all, of-chips, of-device, either)
 
 -- ---- the devices
 
@@ -154,8 +136,7 @@ pub record IsMadeOf (of_clock : Result Rtc Misfit) (of_board : Result State Misf
 
 pub made_of : (of_clock : Result Rtc Misfit) (of_board : Result State Misfit) (m : ClockState) → joined of_clock of_board ≡ Ok m → IsMadeOf of_clock of_board m
 unfolding joined
-made_of (Ok clock) (Ok board) m e = record { clock = cc; board = cc }
-made_of _ _ m e = cc
+made_of of_clock of_board m e = search arith
 
 -- A chip whose line the slave remembers.
 pub record IsLined (line : Bool) (outcome : Result Rtc ℕ) (clock : Rtc) : Type 0 where
@@ -164,10 +145,7 @@ pub record IsLined (line : Bool) (outcome : Result Rtc ℕ) (clock : Rtc) : Type
 
 lined : (line : Bool) (outcome : Result Rtc ℕ) (clock : Rtc) → with_line line outcome ≡ Ok clock → IsLined line outcome clock
 unfolding with_line
-lined line (Err rule) clock e = cc
-lined line (Ok found) clock e =
-    let is = let-through (same line (line_of found)) found clock LINE_RULE e in
-    record { found = rw (is.1); kept = same-is line (line_of found) is.0 ∙ ap line_of is.1 }
+lined line outcome clock e = search (arith, let-through, same, same-is)
 
 pub clock-lined : (version : ℕ) (line : Bool) (cells : List ℤ) (clock : Rtc) → clock_back version line cells ≡ Ok clock
     → IsLined line (clock_restored version cells) clock
@@ -178,10 +156,6 @@ pub clock-sound : (version : ℕ) (line : Bool) (cells : List ℤ) (clock : Rtc)
 clock-sound version line cells clock v are e =
     clock-is-sound.sound (numbers_back version 0) cells clock (record { pass = record { is_version = v; newest_set = refl }; of_kinds = are })
     (ok-hook _ clock (clock-lined version line cells clock e).found)
-
-clock-version : (version : ℕ) (line : Bool) (cells : List ℤ) (clock : Rtc) → clock_back version line cells ≡ Ok clock → clock.version ≡ version
-clock-version version line cells clock e =
-    clock-is-sound.version (numbers_back version 0) cells clock (ok-hook _ clock (clock-lined version line cells clock e).found)
 
 -- The slave's lines.
 slave-lines : (level : ℕ) (cells : BoardCells) (board : State) → board_restored level cells ≡ Ok board
@@ -206,6 +180,10 @@ both-sound version cells clock board v are a b =
           ∙ (clock-lined version _ cells.clock.items clock a).kept;
     }
 
+clock-version : (version : ℕ) (line : Bool) (cells : List ℤ) (clock : Rtc) → clock_back version line cells ≡ Ok clock → clock.version ≡ version
+clock-version version line cells clock e =
+    clock-is-sound.version (numbers_back version 0) cells clock (ok-hook _ clock (clock-lined version line cells clock e).found)
+
 pub restored_is_sound : RestoredIsSound
 restored_is_sound = record {
   sound = λ version cells m v are e. let made = made_of _ _ m e in both-sound version cells m.clock m.board v are made.clock made.board;
@@ -221,10 +199,6 @@ slave-there board s = sym (slave-bit board.pair s.pair)
 
 -- Sound devices.
 module _ (m : ClockState) (s : IsSound m) where
-  chip-own : clock_restored m.clock.version (saved_cells NEWEST_CLOCK m.clock) ≡ Ok m.clock
-  unfolding saved_cells
-  chip-own = restored-own m.clock s.devices.clock
-
   board-own : (back : State) × (board_restored NEWEST (board_saved NEWEST m.board) ≡ Ok back)
   board-own =
       subst (λ level. (back : State) × (board_restored level (board_saved NEWEST m.board) ≡ Ok back)) s.devices.level
@@ -232,6 +206,10 @@ module _ (m : ClockState) (s : IsSound m) where
 
   told : IsTold m
   told = record { clock = ((clock-meets.chip m.clock).0 s.devices.clock).0; board = ((board-meets.board m.board).0 s.board).0; level = s.devices.level }
+
+  chip-own : clock_restored m.clock.version (saved_cells NEWEST_CLOCK m.clock) ≡ Ok m.clock
+  unfolding saved_cells
+  chip-own = restored-own m.clock s.devices.clock
 
   own-back : (n : ClockState) × (restored m.clock.version (saved NEWEST_CLOCK m) ≡ Ok n)
   unfolding saved
@@ -258,11 +236,11 @@ module _ (m : ClockState) (t : IsTold m) (n : ClockState) (e : restored m.clock.
   judged =
       judged-ok (clock_rules m.clock.version (saved_cells NEWEST_CLOCK m.clock)) (clock_chip m.clock.version (saved_cells NEWEST_CLOCK m.clock)) n.clock is-lined.found
 
-  same-clock : n.clock ≡ m.clock
-  same-clock = sym judged.1 ∙ same-chip m.clock t.clock
-
   sound-clock : IsSoundClock m.clock
   sound-clock = (clock-meets.chip m.clock).1 (t.clock, none_failing (clock_rules m.clock.version (saved_cells NEWEST_CLOCK m.clock)) judged.0)
+
+  same-clock : n.clock ≡ m.clock
+  same-clock = sym judged.1 ∙ same-chip m.clock t.clock
 
   sound : IsSound m
   sound = record {

@@ -1,10 +1,10 @@
 -- What each event keeps, and that devices that are alike give equal answers.
 use Rattle.std.proofs.lemmas.Bool.Decides.{nat_tests}
-use Rattle.dev_clock.proofs.Facade.{refl, NumbersAre, ◌≡◌, ℕ, ◌==◌, ◌∙◌, either, moment_left, Answer, Event, Read, Write, Wait, Wire}
-use Rattle.dev_clock.proofs.Facade.{version_stays, is_port, line_of, AnswersTellInt, ClockGoesOn, ClockState, waited, acted, follows_line, step, CLOCK_INPUT}
-use Rattle.dev_clock.proofs.Facade.{◌<◌, Bool, List, [], ◌∷◌, arith, IsLevel, IsUpTo, NEWEST, wires_stay, IsEvent, AreEvents, State, after_by}
-use Rattle.dev_clock.proofs.Facade.{chip_on, lines_of, calls_keep_sound, read_of, passed, NEWEST_CLOCK, Rtc, SoundStays, HasDevices, IsSound, power_on}
-use Rattle.dev_clock.proofs.Facade.{on_board, clock_read, clock_written, after_all, ap, stays-alike, AnswersAlike, AlikeStays, Alike}
+use Rattle.dev_clock.proofs.Facade.{refl, NumbersAre, ◌≡◌, ℕ, ◌∙◌, either, moment_left, Answer, Event, Wait, Wire, version_stays, line_of}
+use Rattle.dev_clock.proofs.Facade.{AnswersTellInt, ClockGoesOn, ClockState, waited, acted, follows_line, step, CLOCK_INPUT, ◌<◌, Bool, List, [], ◌∷◌}
+use Rattle.dev_clock.proofs.Facade.{arith, IsLevel, IsUpTo, NEWEST, wires_stay, IsEvent, AreEvents, State, after_by, chip_on, lines_of, calls_keep_sound}
+use Rattle.dev_clock.proofs.Facade.{read_of, passed, NEWEST_CLOCK, Rtc, SoundStays, HasDevices, IsSound, power_on, on_board, clock_read, clock_written}
+use Rattle.dev_clock.proofs.Facade.{after_all, ap, stays-alike, AnswersAlike, AlikeStays, Alike}
 use Rattle.dev_board.proofs.SavedLaws.{alike_stays as board_alike}
 use Rattle.dev_board.proofs.SoundLaws.{answers_tell_int as board_tells_int, clock_goes_on as board_goes_on, sound_stays_on as board_stays}
 use Rattle.dev_board.specs.{Sound.IsSound as IsSoundBoard, Sound.Alike as AlikeBoards, State.power_on as board_on, Step.step as board_step}
@@ -27,12 +27,9 @@ module _ (m : ClockState) where
   abbrev Keeps : Event → Answer × ClockState → Type 0
   Keeps event = IsAt (moment_left event m.board.moment) m.clock.version
 
-  on-board-clock : (event : Event) → Keeps event (on_board event m)
-  on-board-clock event = record { moment_is = board_goes_on.moment event m.board; version_is = refl }
-
   acted-clock : (event : Event) → Keeps event (acted event m)
   unfolding acted waited
-  acted-clock event = search (arith, nat_tests, on-board-clock, version_stays.read, version_stays.write, version_stays.passed, board_goes_on.moment)
+  acted-clock event = search (arith, nat_tests, version_stays.read, version_stays.write, version_stays.passed, board_goes_on.moment)
 
 follows-clock : (moment version : ℕ) (done : Answer × ClockState) → IsAt moment version done → IsAt moment version (follows_line done)
 unfolding follows_line
@@ -117,14 +114,7 @@ on-board event m e s = record { devices = board-has event m s.devices; board = b
 
 acted-kept : (event : Event) (m : ClockState) → IsEvent event → IsSound m → IsKept (acted event m)
 unfolding acted waited
-acted-kept (Read port) m e s =
-    either IsKept (is_port port) _ _ (record { devices = read-has port m s.devices; board = s.board }) (on-board (Read port) m e s)
-acted-kept (Write port value) m e s =
-    either IsKept (is_port port) _ _ (record { devices = written-has port value m e s.devices; board = s.board }) (on-board (Write port value) m e s)
-acted-kept (Wait ns) m e s = record { devices = waited-has ns m s.devices; board = board_stays.event (Wait ns) m.board e s.board }
-acted-kept (Wire input up) m e s =
-    either IsKept (input == CLOCK_INPUT) _ _ (record { devices = s.devices; board = s.board }) (on-board (Wire input up) m e s)
-acted-kept event m e s = on-board event m e s
+acted-kept event m e s = search (arith, either, read-has, on-board, written-has, waited-has)
 
 -- ---- whole events
 
@@ -157,11 +147,6 @@ module _ (m : ClockState) (board : State) (a : AlikeBoards m.board board) where
   abbrev other : ClockState
   other = record m { board = board }
 
-  on_board-alike : (event : Event) → AnswersAlike Alike (on_board event m) (on_board event other)
-  on_board-alike event =
-      let answers = board_alike.event event m.board board a in
-      record { value = answers.value; alike = record { clock = refl; board = answers.alike } }
-
   waited-alike : (ns : ℕ) → AnswersAlike Alike (waited ns m) (waited ns other)
   unfolding waited
   waited-alike ns =
@@ -170,6 +155,11 @@ module _ (m : ClockState) (board : State) (a : AlikeBoards m.board board) where
         value = answers.value;
         alike = record { clock = rw (ap (λ (s : State). s.moment) answers.alike.same, ap (λ (s : State). s.moment) a.same); board = answers.alike };
       }
+
+  on_board-alike : (event : Event) → AnswersAlike Alike (on_board event m) (on_board event other)
+  on_board-alike event =
+      let answers = board_alike.event event m.board board a in
+      record { value = answers.value; alike = record { clock = refl; board = answers.alike } }
 
   acted-alike : (event : Event) → AnswersAlike Alike (acted event m) (acted event other)
   unfolding acted

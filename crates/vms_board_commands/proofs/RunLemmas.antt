@@ -12,8 +12,6 @@ use Rattle.vms_board_commands.proofs.Facade.{TextEnds, next, comes_to_nothing, e
 use Rattle.vms_board_commands.specs.{Save.ending_by as save_ending, Runs.Runs, Runs.RunsBehind, Runs.Task, Runs.moment, Runs.unread_task}
 use Rattle.vms_commands.proofs.EndLemmas.{same_keeps}
 use Rattle.vms_commands.specs.{Steps.HasBy, Steps.HasText}
-use Rattle.vms_board.specs.declared.save.SaveFault.TheVariants as saves
-use Rattle.vms_session.specs.declared.line.PlayFault.TheVariants as plays
 use Rattle.vms_load.specs.declared.fault.LoadFault.TheVariants as loads
 
 -- ---- lists of statuses

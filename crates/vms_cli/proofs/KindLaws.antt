@@ -10,11 +10,10 @@ use Rattle.vms_board_streams.specs.Streams.{BoardsGoOn, after_events}
 use Rattle.vms_commands.specs.Kinds.{first_set, newest_of, set_of}
 use Rattle.vms_commands.specs.declared.kinds.BoardKind.{BoardKind, TheVariants.Isa, TheVariants.Clock}
 use Rattle.std.proofs.lemmas.Bool.{cond_both}
-use Rattle.vms_cli.proofs.Facade.{compatible_text, verdict, ClockSetsLaw, Check, asked_of, of_both, pair_of, zero, ◌++◌, if◌then◌else◌, [], ◌∷◌}
-use Rattle.vms_cli.proofs.Facade.{Option, Some, None, codes, ap, sym, subst, option_map, bytes_eq, decimal_digit, sets_are_compatible, Mismatch, done, SetOf}
-use Rattle.vms_cli.proofs.Facade.{Shipped, first_kind, kinds, set_front, named_set, number_after, set_word, HasText, ◌<◌, Bool, true, false, IfSome}
-use Rattle.vms_cli.proofs.Facade.{decimal, nat_tests, IsLevel, ReachesSet, or_else, ShippedSet, SetWord, is_set_of, is_shelf_name, Asked, BoardWord, BoardOf}
-use Rattle.vms_cli.proofs.Facade.{Save, board_word, ◌&&◌, board_front, drill_of, isa_level, save_of, save_on, with_file, CanBeAsked, IsBoard, MaySaveOn}
+use Rattle.vms_cli.proofs.Facade.{verdict, ClockSetsLaw, Check, asked_of, of_both, pair_of, zero, ◌++◌, if◌then◌else◌, [], ◌∷◌, Option, Some}
+use Rattle.vms_cli.proofs.Facade.{None, codes, ap, option_map, bytes_eq, decimal_digit, sets_are_compatible, done, SetOf, Shipped, first_kind, kinds, set_front}
+use Rattle.vms_cli.proofs.Facade.{named_set, number_after, set_word, ◌<◌, Bool, IfSome, decimal, IsLevel, or_else, ShippedSet, SetWord, is_shelf_name}
+use Rattle.vms_cli.proofs.Facade.{Asked, BoardWord, BoardOf, board_word, board_front, drill_of, isa_level, save_of, save_on, with_file, CanBeAsked, IsBoard}
 use Rattle.vms_cli.specs.Kinds.{IsSoundOf, StateOf, family_of}
 
 -- ---- the laws of the kinds of boards
@@ -80,17 +79,12 @@ by_kinds word (kind ∷ of) = cc (by_digits _ _ _ word (numbers_of kind).few, by
 first : set_word (codes "@c1") ≡ Some (Shipped (SetOf Clock 1))
 first = ap (named_set (codes "@c1")) (by_kinds (codes "@c1") kinds)
 
-second : set_word (codes "@c2") ≡ Some (Shipped (SetOf Clock 2))
-second = ap (named_set (codes "@c2")) (by_kinds (codes "@c2") kinds)
-
 asks : asked_of (codes "check" ∷ codes "@c1" ∷ codes "@c2" ∷ []) ≡ Some (Check (Shipped (SetOf Clock 1)) (Shipped (SetOf Clock 2)))
 unfolding pair_of
-asks = rw first (ap (of_both Check (Some (Shipped (SetOf Clock 1)))) second)
+asks = rw first (ap (of_both Check (Some (Shipped (SetOf Clock 1)))) (ap (named_set (codes "@c2")) (by_kinds (codes "@c2") kinds)))
 
 pub clock_sets_hold : ClockSetsLaw
-clock_sets_hold input held =
-    rw asks (subst (λ (m : Option Mismatch). HasText held (verdict m) (done compatible_text held 0))
-    (sym (sets_are_compatible.newest 1 (omega arith) (omega arith))) refl)
+clock_sets_hold input held = grind (arith, asks, verdict, done, sets_are_compatible)
 
 -- ---- words name boards that there are
 
@@ -106,13 +100,13 @@ after-range front word first (suc count) n e =
     (λ t e. let same : first ≡ n = cc in (omega arith, omega arith))
     (λ t e. let r = after-range front word (suc first) count n e in (omega arith, omega arith)) e
 
-either-there : (x y : Option BoardWord) → IsThere x → IsThere y → IsThere (or_else x y)
-either-there x y p q = grind arith
-
 named : (kind : BoardKind) (word : List ℕ) (o : Option ℕ) → number_after (board_front kind) 1 (newest_of kind) word ≡ o
     → IsThere (option_map (BoardOf kind) o)
 named kind word None e = tt
 named kind word (Some number) e = let r = after-range _ word 1 _ number e in record { first = r.0; last = omega arith }
+
+either-there : (x y : Option BoardWord) → IsThere x → IsThere y → IsThere (or_else x y)
+either-there x y p q = grind arith
 
 among : (word : List ℕ) (of : List BoardKind)
     → IsThere (first_kind (λ kind. option_map (BoardOf kind) (number_after (board_front kind) 1 (newest_of kind) word)) of)
@@ -126,11 +120,8 @@ word-board word = among word kinds
 abbrev pub HasLevel : Option ℕ → Type 0
 HasLevel level = IfSome level IsLevel
 
-level-of : (board : Option BoardWord) → IsThere board → HasLevel (isa_level board)
-level-of board is = grind arith
-
 pub word-level : (word : List ℕ) → HasLevel (isa_level (board_word word))
-word-level word = level-of _ (word-board word)
+word-level word = grind arith
 
 -- ---- commands
 
@@ -156,14 +147,8 @@ pub all-some : {A : Type 0} {P : A → Type 0} (what : Option A) → ((a : A) �
 all-some None all = tt
 all-some (Some a) all = all a
 
-under-asked : (board : BoardWord) (newest number set : ℕ) (script : List ℕ) (same b : Bool) → (same && is_set_of newest number set) ≡ b → IsBoard board
-    → (ReachesSet newest number set → MaySaveOn board set) → CanBeAsked (option_map (λ (number : ℕ). Save board number script) (if b then Some set else None))
-under-asked board newest number set script same true e is may =
-    (is, may (record { level_le_set = grind (arith, nat_tests, e); set_le_newest = grind (arith, nat_tests, e) }))
-under-asked board newest number set script same false e is may = tt
-
 on-asked : (script : List ℕ) (board : Option BoardWord) (set : Option ShippedSet) → IsThere board → CanBeAsked (save_on script board set)
-on-asked script (Some (BoardOf kind number)) (Some (SetOf of set)) is = under-asked _ _ number set script _ _ refl is (λ may. may)
+on-asked script (Some (BoardOf kind number)) (Some (SetOf of set)) is = grind arith
 on-asked script _ _ is = tt
 
 pub save-asked : (board : Option BoardWord) (set : Option ShippedSet) (script : List ℕ) → IsThere board → CanBeAsked (save_of board set script)

@@ -1,13 +1,12 @@
 -- From how a command ends, and why, to what is proved of its row.
-use Rattle.vms_cli.proofs.Facade.{cond, subst, Play, ◌==◌, next, ◌≡◌, ◌⊎◌, ℕ, true, false, List, [], ◌∷◌, Option, Some, refl, IfSome, IsBytes}
+use Rattle.vms_cli.proofs.Facade.{cond, Play, ◌==◌, next, ◌≡◌, ◌⊎◌, ℕ, true, false, List, [], ◌∷◌, Option, Some, refl, IfSome, IsBytes}
 use Rattle.vms_cli.proofs.Facade.{Held, HoldsAll, Outcome, is_among, Task, Entry, HasOne, arith, nat_tests, inl, inr, none-some, sym, Ends, Gives, HasBy}
-use Rattle.vms_cli.proofs.Facade.{IsSound, Step, Untold, done, ended, one_text, None, ◌∙◌, Bool, ◌++◌, ap, Keeps, Appends, EndsSo, Risen, of_shelf}
-use Rattle.vms_cli.proofs.Facade.{text_course, wrong, draws_none, Asked, course_of, Looks, looks_reaches, Intake, Outlet, Stock, Ending, BadText, NotCompatible}
-use Rattle.vms_cli.proofs.Facade.{ReadFault, WriteFault, NoMemory, BadWords, Caused, status_of, Tells, line_of, among_left, shelf_has, WriteCause, WritesBy}
-use Rattle.vms_cli.proofs.Facade.{Rose, SeenAs, Does, DoesOrStops, Outside, around, kept_none, outcome_so, same_keeps, Runs, moment, task_of, CanAnswer}
-use Rattle.vms_cli.proofs.Facade.{ComesSeen, DoesSeen, HasCause, bad_words, out_of_memory, read_fault, shelf_fault, write_fault}
+use Rattle.vms_cli.proofs.Facade.{IsSound, Step, Untold, done, ended, one_text, None, Bool, ◌++◌, Keeps, Appends, EndsSo, Risen, of_shelf, text_course}
+use Rattle.vms_cli.proofs.Facade.{wrong, draws_none, Asked, course_of, Looks, looks_reaches, Intake, Outlet, Stock, Ending, Caused, status_of, Tells, line_of}
+use Rattle.vms_cli.proofs.Facade.{among_left, shelf_has, WritesBy, Rose, SeenAs, Does, DoesOrStops, Outside, around, kept_none, outcome_so, same_keeps, Runs}
+use Rattle.vms_cli.proofs.Facade.{moment, task_of, CanAnswer, ComesSeen, DoesSeen, HasCause, bad_words, out_of_memory, read_fault, shelf_fault, write_fault}
 use Rattle.vms_board_commands.specs.Runs.{text_task}
-use Rattle.vms_commands.specs.{Courses.Course, declared.ending.Ending.TheVariants.ShelfFault}
+use Rattle.vms_commands.specs.Courses.{Course}
 
 -- ---- the lists of a course
 
@@ -93,12 +92,7 @@ text_row step sound gives = record {
 module _ (i i' : Intake) (o o' : Outlet) (s s' : Stock) where
   -- the cause of an ending, as the outcome wants it
   pub caused_so : (course : Course) → Fits course → (e : Option Ending) → EndsSo i i' o o' s s' course e → Caused i i' o o' s s' e
-  caused_so course fits None h = tt
-  caused_so course fits (Some NoMemory) h = tt
-  caused_so course fits (Some ReadFault) h = (h.risen, h.out (fits.unwritten 5 refl))
-  caused_so course fits (Some WriteFault) h = h.risen
-  caused_so course fits (Some ShelfFault) h = h.risen
-  caused_so course fits e h = (h.out (fits.unwritten (status_of e) refl), h.held (fits.unstored (status_of e) refl))
+  caused_so course fits e h = grind arith
 
 -- the statuses of a command that writes a text, and that of sets that are compared
 abbrev own_of : Bool → List ℕ
@@ -115,18 +109,10 @@ module _ (i : Intake) (o o' : Outlet) (s s' : Stock) (refuses asks compares : Bo
   abbrev IsOf : List ℕ → Option Ending → Type 0
   IsOf all e = (is_among all (status_of e) ≡ true) × Risen i i o o' s s' e × (is_among (0 ∷ 6 ∷ []) (status_of e) ≡ false → Keeps o.written o'.written)
 
-  text_so : (e : Option Ending) → WriteCause refuses compares o o' e → IsOf (own_of compares ++ of_shelf asks) e
-  text_so None c = (own_has compares asks 0 refl, tt, λ f. absurd (wrong f))
-  text_so (Some (BadText line)) c = (shelf_has (own_of compares) asks 3 (so c.0) refl, tt, λ f. c.1)
-  text_so (Some (NotCompatible line)) c = (rw c.0 refl, tt, λ f. c.1)
-  text_so (Some WriteFault) c = (own_has compares asks 6 refl, c, λ f. absurd (wrong f))
-  text_so (Some NoMemory) c = (own_has compares asks 10 refl, tt, λ f. c)
-  text_so e c = absurd c
-
   -- if the shelf was only read
   pub text_ends : (e : Option Ending) → WritesBy refuses compares o o' e → Looks s s' → (asks ≡ false → s' ≡ s)
       → EndsSo i i o o' s s' (text_course (own_of compares) [] asks) e
-  text_ends e w looks unasked = search (arith, text_so, draws_none, looks_reaches)
+  text_ends e w looks unasked = search (arith, own_has, wrong, shelf_has, draws_none, looks_reaches)
 
 -- ---- from how a command ends and why to its row
 
@@ -142,9 +128,7 @@ module _ (i i' : Intake) (o o' n n' : Outlet) (s s' : Stock) where
   Told e status = ((status ≡ status_of e) × Appends n.written n'.written (line_of e)) ⊎ ((status ≡ 6) × Rose n.faults n'.faults)
 
   told : (e : Option Ending) (status : ℕ) → Tells n n' e status → Told e status
-  told None status t = inl (t.0, kept_none n.written n'.written (same_keeps n n' t.1))
-  told e status (inl t) = inl t
-  told e status (inr t) = inr (t.0, t.1)
+  told e status t = grind (arith, kept_none, same_keeps)
 
   -- why a status was answered
   abbrev Holds : ℕ → Type 0
@@ -156,31 +140,15 @@ module _ (i i' : Intake) (o o' n n' : Outlet) (s s' : Stock) where
       (cond (k == 10) (Appends n.written n'.written out_of_memory) (Unit {0}))))))
 
   holds : (course : Course) (e : Option Ending) (status : ℕ) → EndsSo i i' o o' s s' course e → Tells n n' e status → Holds status
-  holds course None status h t = rw t.0 t.1
-  holds course (Some BadWords) status h (inl t) = rw t.0 t.1
-  holds course (Some ReadFault) status h (inl t) = rw t.0 (h.risen, t.1)
-  holds course (Some WriteFault) status h (inl t) = rw t.0 (inl (h.risen, t.1))
-  holds course (Some ShelfFault) status h (inl t) = rw t.0 (h.risen, t.1)
-  holds course (Some NoMemory) status h (inl t) = rw t.0 t.1
-  holds course e status h (inl t) = rw t.0 tt
-  holds course e status h (inr t) = rw t.0 (inr t.1)
+  holds course e status h t = grind arith
 
   has_cause : (status : ℕ) → Holds status → HasCause status old new
-  has_cause status h = record {
-    done = λ is. rw is at h;
-    words = λ is. rw is at h;
-    input = λ is. rw is at h;
-    sink = λ is. rw is at h;
-    shelf = λ is. rw is at h;
-    memory = λ is. rw is at h;
-  }
+  has_cause status h = search arith
 
   -- what holds at the status of an ending, but at those of a list, holds at the status that was answered
   but_at : (l : List ℕ) → HasSix l → (e : Option Ending) (status : ℕ) → Told e status → (P : Type 0) → (is_among l (status_of e) ≡ false → P)
       → is_among l status ≡ false → P
-  but_at [] six e status t P h none = h refl
-  but_at (k ∷ l) six e status (inl t) P h none = h (subst (λ s. is_among (k ∷ l) s ≡ false) t.0 none)
-  but_at (k ∷ l) six e status (inr t) P h none = absurd (wrong (sym six ∙ subst (λ s. is_among (k ∷ l) s ≡ false) t.0 none))
+  but_at l six e status t P h none = grind (arith, is_among, wrong)
 
   can_be : (statuses : List ℕ) → is_among statuses 6 ≡ true → (e : Option Ending) (status : ℕ) → Told e status → is_among statuses (status_of e) ≡ true
       → is_among statuses status ≡ true
@@ -193,27 +161,16 @@ module _ (i i' : Intake) (o o' n n' : Outlet) (s s' : Stock) where
   abbrev IsSeen : ℕ → Type 0
   IsSeen status = (status ≡ 0) ⊎ (status ≡ 1) ⊎ (status ≡ 11)
 
-  ended_among : (e : Option Ending) (status : ℕ) → Told e status → IsSeen status → is_among (0 ∷ 1 ∷ 6 ∷ 11 ∷ []) (status_of e) ≡ true
-  ended_among e status said which = grind arith
-
   does_so : (status : ℕ) (x : Outcome) → DoesOrStops status old new x → IsSeen status → Does status old new x
   does_so status x does which = grind arith
 
   seen_so : (P : List ℕ → Outcome → Type 0) (e : Option Ending) (status : ℕ) → SeenAs P i i' o o' s s' e → Caused i i' o o' s s' e → Tells n n' e status
       → IsSeen status → DoesSeen P status old new
-  seen_so P e status seen cause t which = search (arith, ended_among, does_so, outcome_so)
+  seen_so P e status seen cause t which = search (arith, does_so, outcome_so)
 
   stopped_so : (P : List ℕ → Outcome → Type 0) (e : Option Ending) (status : ℕ) → SeenAs P i i' o o' s s' e → Caused i i' o o' s s' e → Tells n n' e status
       → status ≡ 6 → ComesSeen P status old new ⊎ Rose old.notes.faults new.notes.faults
-  stopped_so P None status seen cause t six = absurd (omega arith)
-  stopped_so P e status seen cause (inr t) six = inr t.1
-  stopped_so P e status seen cause (inl t) six =
-      let v = seen (ap (is_among (0 ∷ 1 ∷ 6 ∷ 11 ∷ [])) (sym t.0 ∙ six)) in
-      inl (record {
-        outcome = v.outcome;
-        sees = v.sees;
-        comes = outcome_so i i' o o' n n' s s' e status _ v.ends cause (inl t);
-      })
+  stopped_so P e status seen cause t six = search (arith, is_among, outcome_so)
 
   -- the row
   pub row_so : (asked : Option Asked) → Fits (course_of asked) → (e : Option Ending) (status : ℕ)

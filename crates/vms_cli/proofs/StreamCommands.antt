@@ -1,12 +1,11 @@
 -- The commands that write a stream: `pack` and `convert`.
-use Rattle.vms_cli.proofs.Facade.{◌≡◌, ℕ, ◌<◌, List, length, map, Option, Some, None, Ok, refl, subst, arith, [], ForSome, slice_get-get_or, Held}
-use Rattle.vms_cli.proofs.Facade.{Outlet, at_option, Set, AreReady, IsFit, ValuesRead, Values, Bad, values_read, state_of, machine_of, ReadsAs, accepted_holds}
-use Rattle.vms_cli.proofs.Facade.{Ending, SetText, fetched, fetched_set, longest_file, set_in, word_set, SetWord, TextEnds, WrittenAs, Step, Gives, next}
-use Rattle.vms_cli.proofs.Facade.{IsSound, sound_fetch, sound_next, sound_set, sound_word, described_stream, named_parts, packed, packed_by, packed_parts}
-use Rattle.vms_cli.proofs.Facade.{packs, with_values, sees_as, ConvertGives, ConvertsBy, agrees, newest, Err, ◌+◌, ◌≤◌, ap, Intake, Stock, Outcome}
-use Rattle.vms_cli.proofs.Facade.{StepAs, Both, both, Untold, Ends, HasBy, first_err, then_as, most_given, IsGiven, SeenAs, WithGiven, kept_so, wrote_so}
-use Rattle.vms_cli.proofs.Facade.{draws_none, draws_took, ◌⊎◌, zero, suc, ◌∷◌, get_or, ℤ, inl, inr, sym, ◌∙◌, ◌^◌, Bool, false, Result}
-use Rattle.vms_cli.proofs.Facade.{IfSome, length-map, string_bytes, Image, device_cells, written, device_at, AreKept, described_text, carried, Compatible}
+use Rattle.vms_cli.proofs.Facade.{◌≡◌, ℕ, ◌<◌, List, length, map, Option, Some, None, Ok, refl, arith, [], ForSome, slice_get-get_or, Held, Outlet}
+use Rattle.vms_cli.proofs.Facade.{at_option, Set, AreReady, IsFit, ValuesRead, Values, Bad, values_read, state_of, machine_of, ReadsAs, accepted_holds, Ending}
+use Rattle.vms_cli.proofs.Facade.{fetched, longest_file, word_set, SetWord, TextEnds, WrittenAs, Step, Gives, next, IsSound, sound_fetch, sound_next, sound_set}
+use Rattle.vms_cli.proofs.Facade.{sound_word, described_stream, packed, packs, sees_as, ConvertGives, ConvertsBy, agrees, newest, Err, ◌+◌, ap, Intake}
+use Rattle.vms_cli.proofs.Facade.{Stock, Outcome, StepAs, Both, both, Untold, Ends, HasBy, first_err, then_as, SeenAs, WithGiven, kept_so, wrote_so, draws_none}
+use Rattle.vms_cli.proofs.Facade.{draws_took, ◌⊎◌, zero, suc, ◌∷◌, get_or, ℤ, inl, inr, sym, ◌∙◌, ◌^◌, Bool, false, Result, IfSome}
+use Rattle.vms_cli.proofs.Facade.{length-map, string_bytes, Image, device_cells, written, device_at, AreKept, described_text, carried, Compatible}
 use Rattle.vms_cli.proofs.Facade.{first_mismatch, IsStreamFor, LosesFirst, AreBack, recast_each, KeepsAll, Loses, OfCell, OfDevice, OfMachine, first_cell}
 use Rattle.vms_cli.proofs.Facade.{numbers_in, answered, same_backs, one_lost, newest_kinds, recast_long, fit_word, Isa, SetOf, Shipped, IsInNewest, Converts}
 use Rattle.vms_cli.proofs.Facade.{ConvertsStream, ConvertsWith, IsDone, IsLost, IsMismatch, LacksLine, LacksMemory, NamesCell, Rewrites, WouldLose, agreed}
@@ -38,38 +37,20 @@ pub named : (set : Set) (machine : Option ℕ) → ForSome machine (λ m. m < le
 named set None h = refl
 named set (Some m) h = slice_get-get_or set.machines m [] (h m refl)
 
--- a text that was read, and a write of its stream
-read_by : (set : Set) (r : ValuesRead) (v : Given) (o o' : Outlet) (e : Option Ending) → ReadsAs set r (Ok v)
-    → WrittenAs (described_stream set (at_option set.machines v.machine) (map state_of v.images.items)) o o' e → TextEnds (packed_by set r) o o' e
-read_by set (Values machine images) v o o' e reads w = subst (λ l. WrittenAs l o o' e) (cc (named set _ reads.2)) w
-read_by set (Bad line reason) v o o' e reads w = absurd reads
-
 module _ (set : Set) (text : List ℕ) (o o' : Outlet) where
   pub packs_read : (v : Given) (e : Option Ending) → ReadsAs set (values_read set text) (Ok v)
       → WrittenAs (described_stream set (at_option set.machines v.machine) (map state_of v.images.items)) o o' e → TextEnds (packed set text) o o' e
-  packs_read v e reads w = read_by set _ v o o' e reads w
+  packs_read v e reads w = grind (arith, named)
 
 -- ---- what the words name
 
 module _ (held : Option Held) (word : SetWord) (name : List ℕ) (set : Set) (text stream : List ℕ) where
-  gives_by : (t : Step SetText) → next t set_in ≡ Gives set → fetched longest_file held name ≡ Gives text → packed set text ≡ Gives stream
-      → next (next t (with_values held name)) packed_parts ≡ Gives stream
-  gives_by (Gives t) there values reads = cc
-  gives_by _ there values reads = absurd (cc)
-
   pub pack_gives : word_set held word ≡ Gives set → fetched longest_file held name ≡ Gives text → packed set text ≡ Gives stream
       → packs held word name ≡ Gives stream
-  pack_gives there values reads = gives_by _ there values reads
-
-sound_read : (held : Option Held) (set : Set) (r : ValuesRead) → IsSound held (packed_by set r)
-sound_read held set r = grind arith
+  pack_gives there values reads = grind arith
 
 pub sound_pack : (held : Option Held) (word : SetWord) (name : List ℕ) → IsSound held (packs held word name)
-sound_pack held word name =
-    sound_next held (named_parts held word name) _
-    (sound_next held (fetched_set held word) _ (sound_word held word)
-    (λ t. sound_next held (fetched longest_file held name) _ (sound_fetch held _ name)
-    (λ values. sound_next held (set_in t) _ (sound_set held t) (λ set. tt)))) (λ parts. sound_read held parts.set (values_read parts.set parts.values))
+sound_pack held word name = grind (arith, sound_next, sound_word, sound_fetch, sound_set)
 
 -- ---- Two steps, one after the other: what is said of the first that ends the command, or of what both give.
 
@@ -82,9 +63,7 @@ module _ {A T U : Type 0} (m : T → A) (n : U → Both A) where
 
   -- both gave something
   pub two_of : (s r : Step A) (t v : T) (u : U) → n u ≡ record { old = m t; new = m v } → StepAs m s (Ok t) → StepAs m r (Ok v) → StepAs n (both s r) (Ok u)
-  two_of s r t v u is h k =
-      then_as m n (λ a. next r (λ b. Gives (record { old = a; new = b }))) s t (Ok u) h
-      (then_as m n (λ b. Gives (record { old = m t; new = b })) r v (Ok u) k is)
+  two_of s r t v u is h k = search (arith, then_as, next)
 
 -- ---- `convert`, by the step that gives its set and the one that compares it.
 
@@ -98,31 +77,18 @@ pub converts_next : (input : Option (List ℕ)) (held : Option Held) (s : Step S
 converts_next input held s x h = grind arith
 
 module _ {A B T : Type 0} (m : T → A) (f : A → Step B) where
-  -- what the second step gave, both gave
-  given_next : (s : Step A) (t : T) (b : B) → StepAs m s (Ok t) → IsGiven (f (m t)) b → IsGiven (next s f) b
-  given_next Untold t b h g = tt
-  given_next (Gives a) t b h g = rw h at g
-  given_next (Ends status line) t b h g = absurd h
-
   pub seen_next : (P : B → List ℕ → Outcome → Type 0) {i i' : Intake} {o o' : Outlet} {shelf shelf' : Stock} (e : Option Ending) (s : Step A) (t : T)
       → StepAs m s (Ok t) → SeenAs (WithGiven (f (m t)) P) i i' o o' shelf shelf' e → SeenAs (WithGiven (next s f) P) i i' o o' shelf shelf' e
-  seen_next P e s t h seen = λ among.
-      sees_as {P = WithGiven (f (m t)) P} {Q = WithGiven (next s f) P} (λ bytes x p. (p.0, given_next s t p.0 h p.1, p.2)) (seen among)
+  seen_next P e s t h seen = grind (arith, sees_as, next)
 
 -- ---- how many bytes the input gives
 
 pub gives_none : (step : Step Set) (i : Intake) → ConvertGives step i i
-gives_none Untold i = omega arith
-gives_none (Gives to) i = omega arith
-gives_none (Ends status line) i = refl
-
-gives_few : (step : Step Set) (i i' : Intake) → ConvertGives step i i' → i'.given ≤ i.given + most_given newest
-gives_few (Ends status line) i i' h = omega (arith, ap (λ x. x.given) h)
-gives_few _ i i' h = h
+gives_none step i = grind arith
 
 pub gives_next : {A T : Type 0} (m : T → A) (f : A → Step Set) (s : Step A) (t : T) (i i' : Intake) → StepAs m s (Ok t) → ConvertGives (f (m t)) i i'
     → ConvertGives (next s f) i i'
-gives_next m f Untold t i i' h g = gives_few _ i i' g
+gives_next m f Untold t i i' h g = grind arith
 gives_next {A} m f (Gives a) t i i' h g = rw h at g
 gives_next m f (Ends status line) t i i' h g = absurd h
 
@@ -287,34 +253,14 @@ module _ (to : Set) (fit : IsFit to) (i i' : Intake) (o o' : Outlet) where
   left_by _ _ (LacksLine m) c s s' same = Nothing refl (λ x. comes_to_nothing o o' s s' _ (same_keeps o o' c.2) same)
   left_by _ _ _ c s s' same = Saw c.0 (stream_seen to _ same c.1.reads c.1.converts.is c.1.converts.puts)
 
-  -- the outcome of a known input
-  content_by : (s s' : Stock) (e : Option Ending) (x : Outcome) → Left s s' e → IfSome i.left IsBytes → i.given < 2 ^ 64
-      → ConvertsBy (agrees to) i.left s.held x → EndsAs i i' o o' s s' e x
-  content_by s s' e x (Saw compatible v) ok few has =
-      content_seen {o = o} {o' = o'} {s = s} {s' = s'} {P = λ bytes y. Converts to bytes s.held y} e x
-      (λ bytes y octets p q. converts_same to fit compatible bytes s.held octets x y p q) ok v (rw (agreed_gives to compatible) at has)
-  content_by s s' e x (Unlike {m} {line} said first none) ok few has =
-      rw none (ends_with 4 (string_bytes line) i x few ((rw (ap (agreed to) first) at has) ∙ ap (λ l. ended 4 l 0) (sym said)))
-  content_by s s' e x (Nothing other h) ok few has = h x
-
   -- what is seen, under a set that is well formed and that the newest reads
   seen_by : (s s' : Stock) (e : Option Ending) → Left s s' e → SeenAs (ConvertsWith (agrees to) s.held) i i' o o' s s' e
-  seen_by s s' e (Saw compatible v) = λ among.
-      rw (agreed_gives to compatible)
-      (sees_as {P = λ bytes y. Converts to bytes s.held y} {Q = ConvertsWith (Gives to) s.held} (λ bytes y p. (to, refl, (fit, compatible, p))) v)
-  seen_by s s' e (Unlike said first none) = other_seen e refl
-  seen_by s s' e (Nothing other h) = other_seen e other
+  seen_by s s' e left = grind (arith, agreed_gives, sees_as, other_seen)
 
   -- ---- known or unknown
 
   convert_given : (r : Result (Unit {0}) ConvertFault) → Calls to newest i i' o o' r → ConvertGives (agrees to) i i'
-  convert_given (Err (faults.NotCompatible m)) c = rw (ap (agreed to) c.0) c.1
-  convert_given (Err faults.NoMemory) c = nothing _ c.0
-    where
-      nothing : (step : Step Set) → i' ≡ i → ConvertGives step i i'
-      nothing (Ends status line) e = e
-      nothing step e = omega (arith, ap (λ x. x.given) e)
-  convert_given _ c = rw (agreed_gives to c.0) (omega arith)
+  convert_given r c = grind (arith, agreed, agreed_gives)
 
   -- ---- what it touches
 
@@ -335,6 +281,16 @@ module _ (to : Set) (fit : IsFit to) (i i' : Intake) (o o' : Outlet) where
       wrote_so s (convert_course asks) (Some endings.WriteFault) refl (draws_took c.1.reads.takes) put.bytes put.puts put.puts.rose refl (λ f. absurd (wrong f))
   convert_so _ _ LacksMemory c s asks = kept_so s (convert_course asks) (Some endings.NoMemory) refl (rw c.0 (draws_none i)) c.1 tt (λ f. c.0)
   convert_so _ _ (LacksLine m) c s asks = kept_so s (convert_course asks) (Some endings.NoMemory) refl (rw c.1 (draws_none i)) c.2 tt (λ f. c.1)
+
+  -- the outcome of a known input
+  content_by : (s s' : Stock) (e : Option Ending) (x : Outcome) → Left s s' e → IfSome i.left IsBytes → i.given < 2 ^ 64
+      → ConvertsBy (agrees to) i.left s.held x → EndsAs i i' o o' s s' e x
+  content_by s s' e x (Saw compatible v) ok few has =
+      content_seen {o = o} {o' = o'} {s = s} {s' = s'} {P = λ bytes y. Converts to bytes s.held y} e x
+      (λ bytes y octets p q. converts_same to fit compatible bytes s.held octets x y p q) ok v (rw (agreed_gives to compatible) at has)
+  content_by s s' e x (Unlike {m} {line} said first none) ok few has =
+      rw none (ends_with 4 (string_bytes line) i x few ((rw (ap (agreed to) first) at has) ∙ ap (λ l. ended 4 l 0) (sym said)))
+  content_by s s' e x (Nothing other h) ok few has = h x
 
   pub converts_stream : (r : Result (Unit {0}) ConvertFault) (e : Option Ending) → EndsLike r e → Calls to newest i i' o o' r → IfSome i.left IsBytes
       → i.given < 2 ^ 64 → ConvertsStream to i i' o o' e

@@ -1,5 +1,4 @@
-use Rattle.dev_clock.proofs.Facade.{Bool, sym, ap, ◌∙◌, NEWEST, clock_back}
-use Rattle.dev_clock.proofs.SavedLaws.{placed, both-sound}
+use Rattle.dev_clock.proofs.{Facade.Bool, Facade.sym, Facade.ap, Facade.◌∙◌, Facade.NEWEST, Facade.clock_back, SavedLaws.placed, SavedLaws.both-sound}
 use Rattle.dev_clock.proofs.devices.ClockDevices.of_cells.Goals as goal
 
 pub returns-in-Ok-clause-sound : goal.returns-in-Ok-clause-sound
