@@ -2,7 +2,7 @@
 use Rattle.vms_check.proofs.Facade.{◌≡◌, ℕ, Bool, true, refl, sym, ◌∙◌, ◌||◌, and-true, and-false, or-true, or-false, and_parts, Formula}
 use Rattle.vms_check.proofs.Facade.{AtLeast, Below, Cell, Not, And, Or, truth, Reduced, Known, Open, not_reduced, and_reduced, or_reduced, reduced, truth_of}
 use Rattle.vms_check.proofs.Facade.{Rel, Own, Parent, names_well, nobody, ◌≤◌, List, ◌∷◌, min, Some, None, arith, [], Item, Counted, counted, Field}
-use Rattle.vms_check.proofs.Facade.{least_from, zero, suc, AllByRecursion, slice_get, all_right, eq-eqb, least_of, absent_hold, bound, greatest, has_room}
+use Rattle.vms_check.proofs.Facade.{least_from, zero, suc, AllByRecursion, slice_get, all_right, least_of, absent_hold, bound, greatest, has_room}
 use Rattle.vms_check.proofs.PairLaws.{at_every, room_needed}
 use Rattle.std.proofs.Common.{not, ◌&&◌}
 use Rattle.vms_check.specs.Comparing as comparing
@@ -103,9 +103,7 @@ all_none (m ∷ caps) n e = absurd (cc (some_least m caps))
 pub counted_at : (P : ℕ → Type 0) (i : ℕ) (fs : List Field) (k : ℕ) (g : Field) (most : ℕ) → slice_get fs k ≡ Some g → g.count ≡ Counted i most
     → AllByRecursion P (counted i fs) → P most
 counted_at P i [] k g most there is h = cc
-counted_at P i (f ∷ fs) zero g most there is h =
-    let count : f.count ≡ Counted i most = (let same : f ≡ g = cc in rw same is) in
-    (rw (count, eq-eqb i i refl) at h).0
+counted_at P i (f ∷ fs) zero g most there is h = grind arith
 counted_at P i (f ∷ fs) (suc k) g most there is h = counted_at P i fs k g most there is (all_right P _ (counted i fs) h)
 
 all_hold : (fields : List Field) (v i n : ℕ) → AllByRecursion (λ k. n ≤ k) (counted i fields) → absent_hold v i n fields ≡ true

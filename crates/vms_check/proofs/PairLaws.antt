@@ -1,14 +1,12 @@
 -- Two fields of the same position, tests over lists, and the positions of present fields.
 use Rattle.vms_check.proofs.Facade.{◌≡◌, ℕ, suc, ◌+◌, List, ◌∷◌, Bool, true, false, Option, Some, None, refl, arith, [], slice_get, list_all}
-use Rattle.vms_check.proofs.Facade.{Place, first_answer, both_none, failing_pair, in_new, each, ◌≤◌, ◌&&◌, ◌==◌, if◌then◌else◌, and_parts}
-use Rattle.vms_check.proofs.Facade.{AllByRecursion, and_from, cases_Bool, eq-eqb, eqb-true, inl, inr, nat_tests, leb-true, le-leb, Formula, Field, Desc}
-use Rattle.vms_check.proofs.Facade.{is_nothing, same_rest, same_reduced, Comparer, Entry, absent_hold, bound, has_room, holds_as_much, is_absent, is_covered}
-use Rattle.vms_check.proofs.Facade.{pair_rules, uncovered_rules, Reduced, Known, left_of, presence, tree_of, field_reduced, Struct, Count, Counted, Part}
-use Rattle.vms_check.proofs.Facade.{counted, AreAlike, ArePaired, in_old, IsFirst, Present, Side, zero, ◌<◌, ◌++◌, length, get_or, take, map, replicate}
-use Rattle.vms_check.proofs.Facade.{sym, ap, ◌∙◌, drop, add-one, not, ne_eqb, slice_get-get_or, slice_get-map, slice_get_past, length-map, map-append}
-use Rattle.vms_check.proofs.Facade.{take-map, take_more, drop_more, no_field, field_of, get_map_at, entry_of, position_from, fields_from, count_present}
-use Rattle.vms_check.proofs.Facade.{position_in, desc_on}
-use Rattle.std.specs.Prelude.{nat_le}
+use Rattle.vms_check.proofs.Facade.{Place, first_answer, both_none, failing_pair, in_new, each, ◌≤◌, ◌==◌, if◌then◌else◌, and_parts}
+use Rattle.vms_check.proofs.Facade.{AllByRecursion, and_from, cases_Bool, eq-eqb, inl, inr, nat_tests, leb-true, Formula, Field, Desc, is_nothing, same_rest}
+use Rattle.vms_check.proofs.Facade.{same_reduced, Comparer, Entry, absent_hold, has_room, holds_as_much, is_absent, is_covered, pair_rules, uncovered_rules}
+use Rattle.vms_check.proofs.Facade.{Reduced, left_of, presence, tree_of, field_reduced, Struct, Count, Counted, Part, AreAlike, ArePaired, in_old, IsFirst}
+use Rattle.vms_check.proofs.Facade.{Present, Side, zero, ◌<◌, ◌++◌, length, get_or, take, map, replicate, sym, ap, ◌∙◌, drop, add-one, not}
+use Rattle.vms_check.proofs.Facade.{ne_eqb, slice_get-get_or, slice_get-map, slice_get_past, length-map, map-append, take-map, take_more, drop_more, no_field}
+use Rattle.vms_check.proofs.Facade.{field_of, get_map_at, entry_of, position_from, fields_from, count_present, position_in, desc_on}
 use Rattle.vms_parts.specs.declared.types.Field.{Field as CodeField}
 
 -- ---- tests over lists and numbered rules, and what they say of each place
@@ -42,8 +40,7 @@ same_at xs i x y e f = cc
 -- ---- two fields of the same position: The rests of the tests of two present fields.
 
 pub presence_is : (v : ℕ) (test : Option Formula) (since : ℕ) → presence v test since ≡ left_of (field_reduced v test since)
-presence_is v None since = elim (nat_le since v) as (λ b. (if b then Some None else None) ≡ left_of (Known b)) [ true ↦ refl | false ↦ refl ]
-presence_is v (Some t) since = refl
+presence_is v test since = grind arith
 
 -- where both are there
 pub left_same : (o n : ℕ → Option ℕ) (r q : Reduced) → is_nothing (left_of r) ≡ false → is_nothing (left_of q) ≡ false
@@ -56,11 +53,7 @@ room_there : (w i n : ℕ) (g : Field) (most : ℕ) → is_absent w g ≡ true �
 room_there w i n g most absent e = leb-true n most (rw (eq-eqb i i refl, absent) at e)
 
 pub room_needed : (w i n : ℕ) (g : Field) (c : Count) → ((most : ℕ) → is_absent w g ≡ true → c ≡ Counted i most → n ≤ most) → has_room w i n g c ≡ true
-room_needed w i n g (Counted by most) h = elim (cases_Bool (by == i && is_absent w g)) [
-  | inl e ↦ let p = and_parts (by == i) (is_absent w g) e in rw e (le-leb n most (h most p.1 (rw (eqb-true by i p.0))))
-  | inr e ↦ rw e
-]
-room_needed w i n g _ h = refl
+room_needed w i n g c h = grind arith
 
 -- ---- one pair
 
@@ -75,8 +68,7 @@ module _ (same : ℕ → ℕ → Bool) (structs : List Comparer) (a b : Desc) (v
       → ((i j : ℕ) → e.field.item ≡ Struct i → f.field.item ≡ Struct j → same i j ≡ true) → AreAlike same a b v w e f
   alike_so e f p q none structs_same =
       let r = passes (uncovered e f) p q none in
-      let n = bound e.field.item (counted e.index a.fields) in
-      let room = and_parts (holds_as_much e.field.count f.field.count) (absent_hold w f.index n b.fields) r.1.1.1.1.0 in
+      let room = and_parts (holds_as_much e.field.count f.field.count) (absent_hold w f.index _ b.fields) r.1.1.1.1.0 in
       record {
         counts = r.0;
         kinds = r.1.0;
@@ -84,18 +76,13 @@ module _ (same : ℕ → ℕ → Bool) (structs : List Comparer) (a b : Desc) (v
         names = r.1.1.1.0;
         capacities = room.0;
         room = λ k g most there absent is.
-            room_there w f.index n g most absent (rw is at (each (λ (g : Field). has_room w f.index n g g.count) b.fields k g room.1 there));
+            room_there w f.index _ g most absent (rw is at (each (λ (g : Field). has_room w f.index _ g g.count) b.fields k g room.1 there));
         constants = r.1.1.1.1.1.0;
         structs = structs_same;
       }
 
   so_alike : (e f : Entry) (p q : Place) → AreAlike same a b v w e f → failing_pair (uncovered e f) p q ≡ None
-  so_alike e f p q h =
-      let n = bound e.field.item (counted e.index a.fields) in
-      let hold : absent_hold w f.index n b.fields ≡ true =
-      at_every (λ (g : Field). has_room w f.index n g g.count) b.fields
-      (λ k g there. room_needed w f.index n g g.count (λ most absent is. h.room k g most there absent is)) in
-      pass (uncovered e f) p q (h.counts, (h.kinds, (h.tests, (h.names, (and_from _ _ h.capacities hold, (h.constants, tt))))))
+  so_alike e f p q h = grind (arith, at_every, room_needed, pass, and_from)
 
   pub paired_so : (e f : Entry) (p q : Place) → failing_pair (rules e f) p q ≡ None
       → ((i j : ℕ) → e.field.item ≡ Struct i → f.field.item ≡ Struct j → same i j ≡ true) → ArePaired same a b v w e f
@@ -112,9 +99,7 @@ module _ (same : ℕ → ℕ → Bool) (structs : List Comparer) (a b : Desc) (v
 
 next_is : (v p i : ℕ) (f : Field) (fs : List Field) (k : ℕ) → position_from p (fields_from v i (f ∷ fs)) k
     ≡ (if is_absent v f then position_from p (fields_from v (suc i) fs) k else (if i == k then Some p else position_from (suc p) (fields_from v (suc i) fs) k))
-next_is v p i f fs k = elim (presence v f.test f.since) as (λ o. position_from p (entry_of i 0 f o ++ fields_from v (suc i) fs) k
-    ≡ (if is_nothing o then position_from p (fields_from v (suc i) fs) k else (if i == k then Some p else position_from (suc p) (fields_from v (suc i) fs) k)))
-    [ None ↦ refl | Some rest ↦ refl ]
+next_is v p i f fs k = grind arith
 
 none_before : (v p i : ℕ) (fs : List Field) (k : ℕ) → k < i → position_from p (fields_from v i fs) k ≡ None
 none_before v p i [] k lt = refl
@@ -127,14 +112,11 @@ spot v (Some f) n = if is_absent v f then None else Some n
 
 spot_from : (v p i : ℕ) (fs : List Field) (k j : ℕ) → j ≡ i + k → position_from p (fields_from v i fs) j ≡ spot v (slice_get fs k) (count_present v (take k fs) + p)
 spot_from v p i [] k j e = refl
-spot_from v p i (f ∷ fs) zero j e =
-    let z : 0 + p ≡ p = omega arith in
-    rw (next_is v p i f fs j, eq-eqb i j (omega arith), none_before v p (suc i) fs j (omega arith), z)
+spot_from v p i (f ∷ fs) zero j e = grind (arith, next_is, none_before)
 spot_from v p i (f ∷ fs) (suc k) j e =
-    let c = count_present v (take k fs) in
     rw (next_is v p i f fs j, ne_eqb i j (λ h. omega (arith, h)))
     (elim (is_absent v f) as (λ b. (if b then position_from p (fields_from v (suc i) fs) j else position_from (suc p) (fields_from v (suc i) fs) j)
-    ≡ spot v (slice_get fs k) (((if b then 0 else 1) + c) + p)) [
+    ≡ spot v (slice_get fs k) (((if b then 0 else 1) + (count_present v (take k fs))) + p)) [
       | true ↦ spot_from v p (suc i) fs k j (omega arith) ∙ ap (spot v (slice_get fs k)) (omega arith)
       | false ↦ spot_from v (suc p) (suc i) fs k j (omega arith) ∙ ap (spot v (slice_get fs k)) (omega arith)
     ])
@@ -229,9 +211,8 @@ module _ (side : Side) (fields : List CodeField) (same : map field_of fields ≡
   first_found from p number field le e present is_present holds =
       let v = side.version in
       let there' : is_absent v (field_of f) ≡ false = flipped (is_absent v (field_of f)) true (sym is_present ∙ holds) in
-      let here = rw (← field_is) at (finds v (desc_on side).fields i inside (rw (← field_is) there')) in
       record {
         on = record { inside = rw number inside; is = rw (field, number) field_is; there = rw field there' };
         later = rw number le;
-        entries = sym e ∙ rw (number, field) here;
+        entries = sym e ∙ rw (number, field) (rw (← field_is) at (finds v (desc_on side).fields i inside (rw (← field_is) there')));
       }

@@ -1,19 +1,17 @@
 -- A well-formed set is compatible to itself.
-use Rattle.vms_check.proofs.{PairLaws.presence_is, PairLaws.spot_is, PairLaws.same_at, SetsFit.so_fits}
+use Rattle.vms_check.proofs.{PairLaws.spot_is, PairLaws.same_at, SetsFit.so_fits}
 use Rattle.vms_check.proofs.CapacityLaws.{IfOpen, IsByParts, all_least, counted_at, open_reduced}
-use Rattle.vms_check.proofs.Facade.{◌≡◌, ℕ, zero, suc, ◌≤◌, List, ◌∷◌, ◌++◌, Bool, true, false, Some, refl, sym, ap, ◌∙◌, arith}
-use Rattle.vms_check.proofs.Facade.{[], Option, None, inr, ◌+◌, ◌<◌, length, get_or, ◌==◌, ◌&&◌, nat_lt, slice_get, eq-eqb, and_parts, le-leb}
-use Rattle.vms_check.proofs.Facade.{leb-true, and_from, eqb-true, or_left, or_right, slice_get-get_or, bytes_eq, bytes_eq-Decides, any_passes_from_place, Item}
-use Rattle.vms_check.proofs.Facade.{Count, Counted, counted, no_desc, Field, Formula, Cell, Desc, Sub, Device, Set, bound, holds_as_much, is_absent}
-use Rattle.vms_check.proofs.Facade.{same_constant, same_count, same_item, same_place, same_reduced, same_rest, same_test, Compatible, Entry, entry_of, is_found}
-use Rattle.vms_check.proofs.Facade.{Own, has_no_test, is_num, is_one, is_steady, is_steady_in, names_well, nobody, count_names_well, is_counting, is_earlier_in}
-use Rattle.vms_check.proofs.Facade.{test_names_well, untested, Clean, struct_clean, device_parts, sub_clean, device_found, sub_found, Reduced, left_of}
-use Rattle.vms_check.proofs.Facade.{presence, reduced, field_reduced, position_in, fields_from, Rel, find_device, is_version_of, is_one_of, WellFormed}
-use Rattle.vms_check.proofs.Facade.{struct_rules, device_rules, sub_rules, ArePaired, DescsFit, DevicesFit, IsSubFor, fields_at, AllByRecursion}
+use Rattle.vms_check.proofs.Facade.{◌≡◌, ℕ, zero, suc, ◌≤◌, List, ◌∷◌, ◌++◌, Bool, true, false, Some, refl, ap, arith, [], Option, None}
+use Rattle.vms_check.proofs.Facade.{inr, ◌+◌, ◌<◌, length, get_or, ◌==◌, ◌&&◌, nat_lt, slice_get, eq-eqb, and_parts, le-leb, leb-true, and_from}
+use Rattle.vms_check.proofs.Facade.{eqb-true, or_left, or_right, slice_get-get_or, bytes_eq, bytes_eq-Decides, any_passes_from_place, Item, Count, Counted}
+use Rattle.vms_check.proofs.Facade.{counted, no_desc, Field, Formula, Desc, Sub, Device, Set, bound, holds_as_much, is_absent, same_constant, same_count}
+use Rattle.vms_check.proofs.Facade.{same_item, same_place, same_reduced, same_rest, same_test, Compatible, Entry, entry_of, is_found, has_no_test, is_num}
+use Rattle.vms_check.proofs.Facade.{is_one, is_steady, is_steady_in, names_well, nobody, count_names_well, is_counting, is_earlier_in, test_names_well}
+use Rattle.vms_check.proofs.Facade.{untested, Clean, struct_clean, device_parts, sub_clean, device_found, sub_found, Reduced, presence, reduced, field_reduced}
+use Rattle.vms_check.proofs.Facade.{position_in, fields_from, find_device, is_version_of, is_one_of, WellFormed, struct_rules, device_rules, sub_rules}
+use Rattle.vms_check.proofs.Facade.{ArePaired, DescsFit, DevicesFit, IsSubFor, fields_at, AllByRecursion}
 use Rattle.vms_check.specs.Comparing.{least_of}
 use Rattle.std.specs.Prelude.{nat_le}
-use denote.Enum.Bare.{true_same}
-use Rattle.vms_spec.specs.contracts.Rel.{the_type as rel_type}
 
 -- ---- What a number can be is at most each capacity that it counts.
 
@@ -56,28 +54,17 @@ module _ (o : ℕ → Option ℕ) where
   IsSelf r = IfOpen IsSame r
 
   same_by_parts : IsByParts IsSame
-  same_by_parts = record {
-    of_not = λ t h. h;
-    of_and = λ s t h g. and_from (same_test o o s s) (same_test o o t t) h g;
-    of_or = λ s t h g. and_from (same_test o o s s) (same_test o o t t) h g;
-  }
+  same_by_parts = search (arith, and_from)
 
   pub reduced_self : (ok : ℕ → Bool) → ((k : ℕ) → ok k ≡ true → HasPosition o k) → (v : ℕ) (t : Formula) → names_well ok nobody t ≡ true → IsSelf (reduced v t)
-  reduced_self ok has v t e = open_reduced IsSame same_by_parts ok cell v t e where
-    cell : (k mask : ℕ) (rel : Rel) (value : ℕ) → ok k ≡ true → IsSame (Cell Own k mask rel value)
-    cell k mask rel value e =
-        let p = has k e in
-        rw (same_here (o k) p.0 p.1, itself mask, true_same rel_type rel rel refl) (itself value)
+  reduced_self ok has v t e = grind (arith, open_reduced, same_by_parts, same_here, itself)
 
   pub same_self : (r : Reduced) → IsSelf r → same_reduced o o r r ≡ true
   same_self r h = grind arith
 
-  rest_by : (r : Reduced) (rest : Option Formula) → IsSelf r → left_of r ≡ Some rest → same_rest o o rest rest ≡ true
-  rest_by r rest h e = grind arith
-
   pub rest_self : (v : ℕ) (test : Option Formula) (since : ℕ) (rest : Option Formula) → IsSelf (field_reduced v test since)
       → presence v test since ≡ Some rest → same_rest o o rest rest ≡ true
-  rest_self v test since rest h e = rest_by (field_reduced v test since) rest h (sym (presence_is v test since) ∙ e)
+  rest_self v test since rest h e = grind arith
 
   -- ---- counts
 

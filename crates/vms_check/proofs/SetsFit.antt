@@ -1,12 +1,12 @@
 -- Two descriptions and two sets: no rule fails exactly where they fit as the rules say.
-use Rattle.vms_check.proofs.Facade.{◌≡◌, inl, inr, ℕ, zero, suc, List, [], ◌∷◌, length, get_or, Bool, true, false, Option, Some, None, refl, sym}
+use Rattle.vms_check.proofs.Facade.{◌≡◌, inl, inr, ℕ, zero, suc, List, [], ◌∷◌, length, get_or, Bool, true, Option, Some, None, refl, sym}
 use Rattle.vms_check.proofs.Facade.{◌∙◌, arith, nat_tests, AllZip, AllZip-long, AllZip-left, ◌+◌, ◌<◌, slice_get, is_none, ltb-true}
 use Rattle.vms_check.proofs.Facade.{slice_get-get_or, Item, Struct, Part, no_desc, struct_cells, or_else, first_answer, uses_below, Formula, Desc, Sub, Device}
 use Rattle.vms_check.proofs.Facade.{Set, here, in_field, WellFormed, struct_rules, device_rules, sub_rules, Comparer, Entry, compare_desc, compare_fields}
-use Rattle.vms_check.proofs.Facade.{failing_pair, is_covered, is_kept, no_comparer, pair_rules, pair_structs, Compatible, compare_device, compare_sub}
-use Rattle.vms_check.proofs.Facade.{compare_subs, is_in, ArePaired, DescsFit, IsKept, fields_at, in_old, in_new, DevicesFit, Fits, IsSubFor, SetsFit, Reduced}
-use Rattle.vms_check.proofs.Facade.{Known, reduced, Mismatch, or_else_none, answers_none, both_none, find_device, find_sub, index, is_one_of, Clean}
-use Rattle.vms_check.proofs.Facade.{struct_clean, device_parts, sub_clean, none_is, AreRules, table, device_mismatch, lost_mismatch, machines_mismatch, each}
+use Rattle.vms_check.proofs.Facade.{failing_pair, is_kept, no_comparer, pair_rules, pair_structs, Compatible, compare_device, compare_sub, compare_subs, is_in}
+use Rattle.vms_check.proofs.Facade.{ArePaired, DescsFit, IsKept, fields_at, in_old, in_new, DevicesFit, Fits, IsSubFor, SetsFit, Reduced, Known, reduced}
+use Rattle.vms_check.proofs.Facade.{Mismatch, or_else_none, answers_none, both_none, find_device, find_sub, index, is_one_of, Clean, struct_clean, device_parts}
+use Rattle.vms_check.proofs.Facade.{sub_clean, none_is, AreRules, table, device_mismatch, lost_mismatch, machines_mismatch, each}
 use Rattle.vms_check.proofs.PairLaws.{passes, pass, at_every, none_answers, paired_so, so_paired}
 use Rattle.vms_check.proofs.WholeLaws.{desc_split, AllBelow, all_uses, structs_are, whole_is}
 use Rattle.vms_spec.specs.Layout.{Cell}
@@ -54,8 +54,7 @@ module _ (same : ℕ → ℕ → Bool) (structs : List Comparer) (k : ℕ) (a b 
 
   -- structures are never covered
   paired_structs : (e f : Entry) → ArePaired same a b v w e f → (i j : ℕ) → e.field.item ≡ Struct i → f.field.item ≡ Struct j → same i j ≡ true
-  paired_structs e f h i j is_i is_j =
-      let uncovered : is_covered e.field.item e.field.count f.field.item ≡ false = rw is_i in (h.alike uncovered).structs i j is_i is_j
+  paired_structs e f h i j is_i is_j = grind arith
 
   so_fields : Meant → (es fs : List Entry) → AllBelow k fs → length es ≡ length fs
       → ((p : ℕ) (e f : Entry) → slice_get es p ≡ Some e → slice_get fs p ≡ Some f → ArePaired same a b v w e f) → compares es fs ≡ None
@@ -94,11 +93,7 @@ module _ (same : ℕ → ℕ → Bool) (structs : List Comparer) (k : ℕ) (a b 
       }
 
   pub so_descs : (x y : List (List Cell)) → Meant → AllBelow k (fields_at b w) → DescsFit same a b v w → compare_desc structs x y a b v w in_a in_b ≡ None
-  so_descs x y meant below h =
-      desc_split structs x y a b v w in_a in_b
-      ∙ both_none _ _ (so_fields meant (fields_at a v) (fields_at b w) below h.as_many h.pairs)
-      (pass ((15, _) ∷ []) (here in_a) (here in_b)
-      (at_every (λ (t : Formula). keeps (reduced w t)) b.validate (λ i t e. so_kept (reduced w t) (h.validations i t e)), tt))
+  so_descs x y meant below h = grind (arith, desc_split, both_none, so_fields, pass, at_every, so_kept)
 
 -- ---- Two sets: the walk finds no mismatch exactly where all rules hold.
 
@@ -164,11 +159,10 @@ module _ (old new : Set) (well : WellFormed new) where
   device_fits i k d e there none =
       let p = or_else_none _ _ none in
       let q = or_else_none _ _ p.1 in
-      let v = d.desc.version in
       record {
         version = (passes ((4, _) ∷ []) _ _ p.0).0;
-        fits = descs_so same structs count d.desc e.desc v v (parts.Device i) (parts.Device k) (struct_cells old) (struct_cells new) (said count)
-            (device_below k v e there) q.0;
+        fits = descs_so same structs count d.desc e.desc _ _ (parts.Device i) (parts.Device k) (struct_cells old) (struct_cells new) (said count)
+            (device_below k _ e there) q.0;
         subs = λ j s inside. sub_fits i k (0 + j) e s there (find_sub 0 e.subs s.desc.name)
             (slice_get e.subs (index (find_sub 0 e.subs s.desc.name))) refl refl (answers_none (compare_subs old new i k e) 0 d.subs q.1 j s inside);
       }
@@ -212,38 +206,26 @@ module _ (old new : Set) (well : WellFormed new) where
     so_sub : (i k j : ℕ) (e : Device) (s : Sub) → slice_get new.devices k ≡ Some e → (l : ℕ) (t : Sub) → IsSubFor with s e l t
         → compare_subs old new i k e j s ≡ None
     so_sub i k j e s device l t h =
-        let v = s.desc.version in
         rw (h.found, h.there)
         (both_none _ _ (pass ((14, _) ∷ []) _ _ (h.version, tt))
-        (so_descs with structs count s.desc t.desc v v (parts.Sub i j) (parts.Sub k l) (struct_cells old) (struct_cells new) meant
-        (sub_below k l v e t device h.there) h.fits))
+        (so_descs with structs count s.desc t.desc _ _ (parts.Sub i j) (parts.Sub k l) (struct_cells old) (struct_cells new) meant
+        (sub_below k l _ e t device h.there) h.fits))
 
     so_device : (i k : ℕ) (d e : Device) → slice_get new.devices k ≡ Some e → DevicesFit with d e → compare_device old new i d (Some k) (Some e) ≡ None
     so_device i k d e there h =
-        let v = d.desc.version in
         both_none _ _ (pass ((4, _) ∷ []) _ _ (h.version, tt))
-        (both_none _ _ (so_descs with structs count d.desc e.desc v v (parts.Device i) (parts.Device k) (struct_cells old) (struct_cells new) meant
-        (device_below k v e there) h.fits)
+        (both_none _ _ (so_descs with structs count d.desc e.desc _ _ (parts.Device i) (parts.Device k) (struct_cells old) (struct_cells new) meant
+        (device_below k _ e there) h.fits)
         (none_answers (compare_subs old new i k e) 0 d.subs
         (λ j s inside. let found = h.subs j s inside in so_sub i k (0 + j) e s there found.0 found.1 found.2)))
 
     so_found : (i : ℕ) (d : Device) → slice_get old.devices i ≡ Some d → (found : Option ℕ) (there : Option Device)
         → find_device 0 new.devices d.desc.name d.instance ≡ found → slice_get new.devices (index found) ≡ there
         → compare_device old new (0 + i) d found there ≡ None
-    so_found i d inside (Some k) (Some e) is is' = so_device (0 + i) k d e is' (fit.devices i k d e inside is is')
-    so_found i d inside _ _ is is' = refl
+    so_found i d inside found there is is' = grind (arith, so_device)
 
     so_compatible : Compatible old new
-    so_compatible =
-        whole_is old new ∙ both_none _ _ (pass ((1, _) ∷ []) _ _ (at_every (is_one_of new.machines) old.machines fit.machines, tt))
-        (both_none _ _ (both_none _ _
-        (none_answers (λ i d. failing_pair ((2, is_in new d) ∷ []) (here (parts.Device i)) (here parts.Set)) 0 old.devices
-        (λ i d e. pass ((2, _) ∷ []) _ _ (fit.kept i d e, tt)))
-        (none_answers (λ i d. failing_pair ((3, is_in old d) ∷ []) (here parts.Set) (here (parts.Device i))) 0 new.devices
-        (λ i d e. pass ((3, _) ∷ []) _ _ (fit.known i d e, tt))))
-        (none_answers (device_mismatch old new) 0 old.devices
-        (λ i d e. so_found i d e (find_device 0 new.devices d.desc.name d.instance)
-        (slice_get new.devices (index (find_device 0 new.devices d.desc.name d.instance))) refl refl)))
+    so_compatible = grind (arith, whole_is, both_none, pass, at_every, none_answers, so_found)
 
   pub so_fits : Fits old new → Compatible old new
   so_fits h = so_compatible h.0 h.1

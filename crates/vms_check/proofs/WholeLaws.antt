@@ -105,9 +105,7 @@ module _ (s t : Side) where
 
   pub passes_whole : (p q : Present) (o : Option ℕ) → o ≡ failing_number (rules_on s t p q) → o ≡ None → ((i : ℕ) → p.field.now.item ≡ Struct i → ⊥)
       → None ≡ pair_mismatch s t p q
-  passes_whole p q o is none h =
-      rw (failing_none (rules_on s t p q) (in_field s.part p.number) (in_field t.part q.number) (sym is ∙ none))
-      (sym (no_structs p.field.now.item q.field.now.item h))
+  passes_whole p q o is none h = grind (arith, failing_none, no_structs)
 
 -- ---- The structures of two sets: how one compares is known from those of smaller numbers, so the whole table says it too. The
 -- end of a table isn't used.
@@ -151,8 +149,7 @@ module _ (old new : Set) (well : is_well_formed new ≡ true) where
   rows k = first at_number new.structs k
 
   agrees : (j : ℕ) → j < length new.structs → (l : ℕ) → l < j → get_or (rows j) l no_comparer ≡ get_or (table old new) l no_comparer
-  agrees j lt l less =
-      first_at at_number new.structs no_comparer j l less ∙ sym (first_at at_number new.structs no_comparer (length new.structs) l (omega arith))
+  agrees j lt l less = grind (arith, first_at)
 
   -- each side at its own version
   pub structs_are : (i j v w : ℕ) → j < length new.structs → v ≡ (get_or old.structs i no_desc).version → w ≡ (get_or new.structs j no_desc).version
@@ -162,10 +159,8 @@ module _ (old new : Set) (well : is_well_formed new ≡ true) where
   structs_are i j v w lt is_v is_w =
       let a = get_or old.structs i no_desc in
       let b = get_or new.structs j no_desc in
-      let x = struct_cells old in
-      let y = struct_cells new in
       rw (first_at at_number new.structs no_comparer (length new.structs) j lt, first_long at_number new.structs j, is_v, is_w)
-      (descs_same j (rows j) (table old new) (agrees j lt) a b a.version b.version (parts.Struct i) (parts.Struct j) x y
+      (descs_same j (rows j) (table old new) (agrees j lt) a b a.version b.version (parts.Struct i) (parts.Struct j) _ _
       (λ l f e. rw (get_or_from_slice_get b.fields l f no_field e) at ((struct_clean new well j lt).fields l (slice_get_within b.fields l f e)).uses))
 
 -- ---- which structures a part uses
@@ -182,9 +177,7 @@ uses_at set well part h k lt f is j e =
 pub whole_is : (old new : Set)
     → first_mismatch old new ≡ or_else (machines_mismatch old new) (or_else (lost_mismatch old new) (first_answer (device_mismatch old new) 0 old.devices))
 unfolding first_mismatch
-whole_is old new =
-    let one = first_answer (λ i d. failing_pair ((2, is_in new d) ∷ []) (here (parts.Device i)) (here parts.Set)) 0 old.devices in
-    ap (or_else (machines_mismatch old new)) (both one _ _)
+whole_is old new = grind arith
 
 -- ---- devices that a set doesn't have
 

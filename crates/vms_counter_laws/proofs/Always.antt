@@ -6,10 +6,10 @@ use Rattle.vms_counter_laws.proofs.Facade.{section_head, stream_head, configurat
 use Rattle.vms_counter_laws.proofs.Facade.{HasSection, SectionsSpell, Takes, lacking, subst, zero, suc, ◌+◌, ◌≤◌, slice_set, slice_get, length-set}
 use Rattle.vms_counter_laws.proofs.Facade.{slice_get_within, first_answer, IsBytes, FitsHeads, IsReady, written_section, written_sections, Accepted, WellFormed}
 use Rattle.vms_counter_laws.proofs.Facade.{here, reading_on, at_other, bytes_rest, Tail, Footed, Bare, judge, between, by_state, BeginsSection}
-use Rattle.vms_counter_laws.proofs.Facade.{section_read_holds, section_found_holds, compare_device, failing_pair, is_in, carried_device, ArePaired, compared}
-use Rattle.vms_counter_laws.proofs.Facade.{Pair, pair, back, device_stands, at_first, one_on, saved, ◌==◌, if◌then◌else◌, inl, inr, map, append-nil}
-use Rattle.vms_counter_laws.proofs.Facade.{ℤ, struct_cells, desc_cells, Spells, default_image, own_slots, own_cells, zeroed, IsVersionOf, magic, end_mark}
-use Rattle.vms_counter_laws.proofs.Facade.{foot, written, written_subs, AreReady, Magic, Version, find_device, few_devices, machine_short, falses, defaults_of}
+use Rattle.vms_counter_laws.proofs.Facade.{section_read_holds, section_found_holds, compare_device, failing_pair, is_in, ArePaired, compared, Pair, pair, back}
+use Rattle.vms_counter_laws.proofs.Facade.{device_stands, at_first, one_on, saved, ◌==◌, if◌then◌else◌, inl, inr, map, append-nil, ℤ, struct_cells}
+use Rattle.vms_counter_laws.proofs.Facade.{desc_cells, Spells, default_image, own_slots, own_cells, zeroed, IsVersionOf, magic, end_mark, foot, written}
+use Rattle.vms_counter_laws.proofs.Facade.{written_subs, AreReady, Magic, Version, find_device, few_devices, machine_short, falses, defaults_of}
 use Rattle.vms_counter_laws.proofs.Facade.{version_decides, well_good, device_found, Unknown, AtMagic, AtVersion, reading, Headed, at_start, unit_on}
 use Rattle.vms_counter_laws.proofs.Facade.{taken_holds, Mismatch, reduced, compare_fields, comparers, Comparer, Entry, first_mismatch, is_kept, present}
 use Rattle.vms_counter_laws.proofs.Facade.{position_from, FitsAt, fits_left, from_zero, fits_whole, devices_clash, at_map, default_images, machine_for}
@@ -80,14 +80,7 @@ first_byte set footed images (k ∷ order) sections more spelled h = by _ _ spel
 by_machine : (names : List (List ℕ)) (machine : Option (List ℕ)) (name named more more' : List ℕ) → is_one_of names name ≡ false → length name < 2 ^ 32
     → IsConfiguration names machine named
     → (named ≡ [] → get_or more 0 0 ≡ 0x07 → ⊥) → configuration name ++ more' ≡ named ++ more → ⊥
-by_machine names None name named more more' unknown short is no_mark h =
-    no_mark is (sym (ap (λ l. get_or (l ++ more) 0 0) is) ∙ sym (ap (λ l. get_or l 0 0) h))
-by_machine names (Some other) name named more more' unknown short is no_mark h =
-    let h' : configuration name ++ more' ≡ configuration other ++ more = rw is.2 at h in
-    let bytes : be32 (length name) ≡ be32 (length other) = cc in
-    let rest : name ++ more' ≡ other ++ more = cc in
-    let same = (apart name other more more' (same_be32 _ _ short (omega arith) bytes) rest).0 in
-    absurd (cc (is.0))
+by_machine names machine name named more more' unknown short is no_mark h = grind (arith, apart, same_be32)
 
 pub machine_untaken : (set : Set) (names : List (List ℕ)) (name more : List ℕ) → is_one_of names name ≡ false → length name < 2 ^ 32
     → (n : ℕ) (machine : Option (List ℕ)) (images : List Image) → Takes set names (stream_head ++ (configuration name ++ more)) n machine images → ⊥
@@ -159,13 +152,12 @@ module _ (old new : Set) (good_old : WellFormed old) (good_new : WellFormed new)
         record { in_old = at_i; in_new = p.stands; names = sym p.name_is; instances = sym p.instance_is; rules = none_here } in
         let section = device_stands old new good_old good_new i p.number x p.device paired im i (saved old x im (ready 0 x im refl refl)) (omega arith) in
         let inside = slice_get_within new.devices p.number p.device p.stands in
-        let carried = carried_device old new x p.device im in
-        let on = section_read_holds new names good_new heads p.number p.device carried p.stands None images came tail first after (omega arith)
+        let on = section_read_holds new names good_new heads p.number p.device _ p.stands None images came tail first after (omega arith)
         (waits i x p (omega arith) at_i) foots i place front rest section in
         rw (← s) (comes c (suc i) ds ims (one_on (slice_get old.devices) i devices_are) (omega arith) (λ j. ready (suc j))
         (λ j u lt f. let t : suc i + j ≡ i + suc j = omega arith in rw t (none (suc j) u (omega arith) f))
-        d image at_c im_c (slice_set images p.number carried) (slice_set came p.number true) Footed false false
-        (length-set images p.number carried ∙ images_long) (length-set came p.number true ∙ came_long) (waits_next came i x p at_i waits) (λ f. cc)
+        d image at_c im_c (slice_set images p.number _) (slice_set came p.number true) Footed false false
+        (length-set images p.number _ ∙ images_long) (length-set came p.number true ∙ came_long) (waits_next came i x p at_i waits) (λ f. cc)
         (place + length front) (bytes_rest front rest (subst IsBytes e ok))
         (sym on ∙ ap (reading_on (judge (by_state new names)) (between None images came tail first after) place) (sym e) ∙ h))
     comes _ i _ _ devices_are few ready none d image at_c im_c images came tail first after images_long came_long waits foots place ok h = absurd (cc)
@@ -265,11 +257,7 @@ module _ (old new : Set) (good_old : WellFormed old) (good_new : WellFormed new)
     -- ---- its version
 
     version_fails : Meets → m.rule ≡ 4 → ⊥
-    version_fails w four = elim (of_device old new i p.number d p.device m fails_here) [
-      | OfItsVersion r f ↦ absurd (cc ((version_decides p.device.desc d.desc.version).1 w.version))
-      | Own lt c ↦ omega arith
-      | Below lt n ↦ omega arith
-    ]
+    version_fails w four = grind (arith, of_device, fails_here, version_decides)
 
     -- ---- a constant
 

@@ -3,11 +3,10 @@ use Rattle.vms_counter_laws.proofs.Facade.{◌≡◌, ◌⊎◌, inl, inr, ℕ, 
 use Rattle.vms_counter_laws.proofs.Facade.{get_or, if◌then◌else◌, Option, Some, None, refl, arith, slice_get, list_all, Item, Struct, Part, Place}
 use Rattle.vms_counter_laws.proofs.Facade.{or_else, first_answer, Cell, first, no_desc, Desc, Sub, Device, Set, is_one_of, index, is_version_of, here, in_field}
 use Rattle.vms_counter_laws.proofs.Facade.{Mismatch, first_mismatch, comparing, compare_device, compare_sub, is_in, Entry, Comparer, no_comparer, comparer_of}
-use Rattle.vms_counter_laws.proofs.Facade.{comparers, compare_desc, compare_fields, compare_validations, failing_pair, is_covered, is_kept, pair_rules}
-use Rattle.vms_counter_laws.proofs.Facade.{pair_structs, present, same_rest, uncovered_rules, reduced, one_more, compared, ◌++◌, sym, ℤ, Kind}
-use Rattle.vms_counter_laws.proofs.Facade.{AllByRecursion, Equal, InRange, code, same_number, Formula, Field, field_cells, value_code, ConstantFits}
-use Rattle.vms_counter_laws.proofs.Facade.{ConstantsFit, is_same, presence, entry_of, present_from, same_constant, same_item, RestAt, at_first, one_on}
-use Rattle.vms_counter_laws.proofs.Facade.{kinds_same, Two, Clash, Clashes, Differ}
+use Rattle.vms_counter_laws.proofs.Facade.{comparers, compare_desc, compare_fields, compare_validations, failing_pair, is_covered, pair_rules, pair_structs}
+use Rattle.vms_counter_laws.proofs.Facade.{present, same_rest, uncovered_rules, one_more, compared, ◌++◌, sym, ℤ, Kind, AllByRecursion, Equal, InRange}
+use Rattle.vms_counter_laws.proofs.Facade.{code, same_number, Formula, Field, field_cells, value_code, ConstantFits, ConstantsFit, is_same, presence, entry_of}
+use Rattle.vms_counter_laws.proofs.Facade.{present_from, same_constant, same_item, RestAt, at_first, one_on, kinds_same, Two, Clash, Clashes, Differ}
 use Rattle.vms_spec.specs.declared.Part.TheVariants as parts
 
 -- ---- answers
@@ -75,8 +74,7 @@ AreLater (rule ∷ rules) = (4 < rule.0) × AreLater rules
 failing_within : (rules : List (ℕ × Bool)) (p q : Place) (m : Mismatch) → AreLater rules → failing_pair rules p q ≡ Some m → IsWithin p.part m
 failing_within [] p q m h e = absurd (cc)
 failing_within ((r, true) ∷ rules) p q m h e = failing_within rules p q m h.1 e
-failing_within ((r, false) ∷ rules) p q m h e =
-    within_of p.part (record { rule = r; in_old = p; in_new = q }) m (cc) (record { rule = h.0; place = inl refl })
+failing_within ((r, false) ∷ rules) p q m h e = search (arith, within_of)
 
 module _ (structs : List Comparer) (within : StructsWithin structs) (a b : Desc) (v w : ℕ) (part part' : Part) (o n : ℕ → Option ℕ) where
   pair_within : (e f : Entry) (m : Mismatch)
@@ -88,8 +86,7 @@ module _ (structs : List Comparer) (within : StructsWithin structs) (a b : Desc)
         later false = (omega arith, (omega arith, (omega arith, (omega arith, (omega arith, (omega arith, tt))))))
 
   structs_within : (i j : Item) (m : Mismatch) → pair_structs structs a b v w part part' o n i j ≡ Some m → (4 < m.rule) × IsStruct m.in_old.part
-  structs_within (Struct i) (Struct j) m h = within i j m h
-  structs_within _ _ m h = absurd (cc)
+  structs_within i j m h = grind arith
 
   pub fields_within : (es fs : List Entry) (m : Mismatch) → compare_fields structs a b v w part part' o n es fs ≡ Some m → IsWithin part m
   fields_within [] [] m h = absurd (cc)
@@ -106,8 +103,7 @@ module _ (structs : List Comparer) (within : StructsWithin structs) (a b : Desc)
   ]
 
   validations_within : (m : Mismatch) → compare_validations structs a b v w part part' o n ≡ Some m → IsWithin part m
-  validations_within m h =
-      failing_within ((15, list_all (λ t. is_kept structs a b v w part part' o n (reduced w t)) b.validate) ∷ []) _ _ m (omega arith, tt) h
+  validations_within m h = grind (arith, failing_within)
 
 pub desc_within : (structs : List Comparer) (x y : List (List Cell)) (a b : Desc) (v w : ℕ) (part part' : Part) (m : Mismatch) → StructsWithin structs
     → compare_desc structs x y a b v w part part' ≡ Some m → IsWithin part m
@@ -164,8 +160,7 @@ module _ (old new : Set) where
       ]
 
   compared_early : (i : ℕ) (d : Device) (o : Option ℕ) (p : Option Device) (m : Mismatch) → compare_device old new i d o p ≡ Some m → 3 < m.rule
-  compared_early i d (Some k) (Some e) m h = grind (arith, of_device)
-  compared_early i d _ _ m h = absurd (cc)
+  compared_early i d o p m h = grind (arith, of_device)
 
   -- ---- which rule is the first
 
@@ -276,8 +271,7 @@ module _ (two : Two) (m : Mismatch) (twelve : m.rule ≡ 12) where
       record { item = r.0.1.0; rest = r.0.1.1.0; constant = r.1; place = r.2 }
 
   structs_answer : (within : StructsWithin ks) (i j : Item) → pair_structs ks a b v w part part' o n i j ≡ Some m → IsStruct m.in_old.part
-  structs_answer within (Struct i) (Struct j) h = (within i j m h).1
-  structs_answer within _ _ h = absurd (cc)
+  structs_answer within i j h = search arith
 
   module _ (within : StructsWithin ks) (not_struct : IsStruct m.in_old.part → ⊥) (fits : ConstantsFit a.fields) (fits' : ConstantsFit b.fields)
       (plain : (j : ℕ) (f : Field) → m.in_old.field ≡ Some j → slice_get a.fields j ≡ Some f → presence v f.test f.since ≡ Some None) where

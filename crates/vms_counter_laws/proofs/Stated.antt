@@ -1,15 +1,15 @@
 -- The laws as they are stated, and worked pairs of sets.
 use Rattle.vms_counter_laws.proofs.Always.{shown}
-use Rattle.vms_counter_laws.proofs.Facade.{◌≡◌, ℕ, ◌==◌, true, false, List, [], ◌∷◌, Option, Some, None, IfSome, refl, if◌then◌else◌}
-use Rattle.vms_counter_laws.proofs.Facade.{or_left, or_right, bytes_eq-Decides, IsBytes, Set, Image, is_one_of, WellFormed, bytes_at, machine_bytes}
-use Rattle.vms_counter_laws.proofs.Facade.{written_are_bytes, Mismatch, lacking, machine_for, candidates, stream_of, Refusal, Answer, State, IsFirst, Here}
-use Rattle.vms_counter_laws.proofs.Facade.{Later, NoneShows, Counters, Agree, Lacks, Finds, Fault, one_fault_holds, OneAnswerLaw, subst, pos, codes, code, U8}
-use Rattle.vms_counter_laws.proofs.Facade.{U16, Struct, Counted, Place, first, Desc, Field, set_1, set_3, here, in_field, number, box, box_set, sub_of}
-use Rattle.vms_counter_laws.proofs.Facade.{counted_set, subsection_set, reading, between_at, behind_at, trailer_at, first_mismatch, default_images}
-use Rattle.vms_counter_laws.proofs.Facade.{AreCompatible, NoState, computed, NamedLaw, AlwaysLaw, ComputedLaw, zero, suc, Bool, length, arith, slice_get}
-use Rattle.vms_counter_laws.proofs.Facade.{Decides, Decides-and, Decides-like, Device, FitsHeads, Reading, Accepted, Refused, AreReady, IsReady, ready_decides}
-use Rattle.vms_counter_laws.proofs.Facade.{at_start, by_state, Taken, Faulty, state_refuses, accepted_holds, told_holds, either_holds, never_both_holds, Shows}
-use Rattle.vms_counter_laws.proofs.Facade.{all_ready, answer_to, first_refused, or_next, refused, refusal_of}
+use Rattle.vms_counter_laws.proofs.Facade.{◌≡◌, ℕ, true, false, List, [], ◌∷◌, Option, Some, None, IfSome, refl, if◌then◌else◌, or_left}
+use Rattle.vms_counter_laws.proofs.Facade.{or_right, bytes_eq-Decides, IsBytes, Set, Image, is_one_of, WellFormed, bytes_at, machine_bytes, written_are_bytes}
+use Rattle.vms_counter_laws.proofs.Facade.{Mismatch, lacking, machine_for, candidates, stream_of, Refusal, Answer, State, IsFirst, Here, Later, NoneShows}
+use Rattle.vms_counter_laws.proofs.Facade.{Counters, Agree, Lacks, Finds, Fault, one_fault_holds, OneAnswerLaw, subst, pos, codes, code, U8, U16, Struct}
+use Rattle.vms_counter_laws.proofs.Facade.{Counted, Place, first, Desc, Field, set_1, set_3, here, in_field, number, box, box_set, sub_of, counted_set}
+use Rattle.vms_counter_laws.proofs.Facade.{subsection_set, reading, between_at, behind_at, trailer_at, first_mismatch, default_images, AreCompatible, NoState}
+use Rattle.vms_counter_laws.proofs.Facade.{computed, NamedLaw, AlwaysLaw, ComputedLaw, zero, suc, Bool, length, arith, slice_get, Decides, Decides-and}
+use Rattle.vms_counter_laws.proofs.Facade.{Decides-like, Device, FitsHeads, Reading, Accepted, Refused, AreReady, IsReady, ready_decides, at_start, by_state}
+use Rattle.vms_counter_laws.proofs.Facade.{Taken, Faulty, state_refuses, accepted_holds, told_holds, either_holds, never_both_holds, Shows, all_ready}
+use Rattle.vms_counter_laws.proofs.Facade.{answer_to, first_refused, or_next, refused, refusal_of}
 use Rattle.vms_stream.specs.{State.State as Standing, StreamLaws.Answer as Either}
 use Rattle.vms_spec.specs.declared.Part.TheVariants as parts
 use Rattle.vms_spec.specs.declared.Reason.TheVariants as reasons
@@ -30,16 +30,11 @@ lacking_known names (m ∷ machines) =
     ]
 
 pub machine_known : (old new : Set) (m : Mismatch) → IfSome (machine_for old new m) (λ x. is_one_of old.machines x ≡ true)
-machine_known old new m =
-    elim (m.rule == 1) as (λ b. IfSome (if b then lacking new.machines old.machines else None) (λ x. is_one_of old.machines x ≡ true)) [
-      | true ↦ lacking_known new.machines old.machines
-      | false ↦ tt
-    ]
+machine_known old new m = grind (arith, lacking_known)
 
 pub stream_bytes : (old new : Set) → WellFormed old → (m : Mismatch) (images : List Image) → IsBytes (stream_of old new m images)
 stream_bytes old new well m images =
-    let machine = machine_for old new m in
-    bytes_at (stream_of old new m images) (written_are_bytes old well machine images None (machine_bytes old well machine (machine_known old new m)) tt)
+    bytes_at (stream_of old new m images) (written_are_bytes old well _ images None (machine_bytes old well _ (machine_known old new m)) tt)
 
 -- ---- Two sets have one answer.
 
@@ -144,8 +139,7 @@ first_shows old new m images _ (Here more s) = s
 first_shows old new m images _ (Later others more none first) = first_shows old new m images more first
 
 pub named_holds : NamedLaw
-named_holds old new m _ images refusal (Finds _ _ _ size e first fault) =
-    record { ready = (first_shows old new m images _ first).ready; size = size; fault = fault }
+named_holds old new m _ images refusal (Finds _ _ _ size e first fault) = search (arith, first_shows)
 
 -- ---- mismatches that always have one
 

@@ -11,12 +11,10 @@ split : (s r : Side) → desc_mismatch s r ≡ or_else (all_fields_on s r) (vali
 split s r = desc_split (table_on s r) _ _ (desc_on s) (desc_on r) s.version r.version s.part r.part
 
 pub compare_descs-returns-in-Some : goal.compare_descs-returns-in-Some
-compare_descs-returns-in-Some t c =
-    rw (split c.args.old c.args.new, ← c.compare_fields.ensures, c.in-Some.is)
+compare_descs-returns-in-Some t c = grind (arith, split)
 
 pub compare_descs-returns : goal.compare_descs-returns
-compare_descs-returns t c =
-    rw (split c.args.old c.args.new, ← c.compare_fields.ensures, c.in_default.is) c.compare_validations.ensures
+compare_descs-returns t c = grind (arith, split)
 
 -- ---- its fields
 
@@ -51,8 +49,7 @@ compare_pair-compare_structs-requires t c =
     (search rules, record { old = older.1; new = newer.1 })
 
 pub compare_pair-returns-in_default-2-2 : goal.compare_pair-returns-in_default-2-2
-compare_pair-returns-in_default-2-2 t c =
-    passes_whole c.args.old c.args.new c.args.one c.args.other c.failing_rule.result c.failing_rule.ensures c.in_default.is c.in_default-2.not-Struct-0
+compare_pair-returns-in_default-2-2 t c = grind (arith, passes_whole)
 
 pub compare_structs-returns : goal.compare_structs-returns
 compare_structs-returns t c =

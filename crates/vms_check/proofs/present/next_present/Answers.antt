@@ -1,4 +1,4 @@
-use Rattle.vms_check.proofs.Facade.{◌∙◌, length, ap, refl, arith, length-map, field_of, described, few_fields}
+use Rattle.vms_check.proofs.Facade.{rules, length, ap, arith, length-map, field_of, described, few_fields}
 use Rattle.vms_check.proofs.PairLaws.{skip_absent, first_found}
 use Rattle.vms_check.proofs.present.next_present.Goals as goal
 
@@ -15,13 +15,7 @@ overflow_cast-result c =
     )
 
 pub returns-then-is_present : goal.returns-then-is_present
-returns-then-is_present c =
-    first_found c.args.side _ c.fields_of-fields.ensures _ _ c.loop-number-test.true c.index-fields-number.is
-    c.args.from _ refl refl c.loop-number.invariant.later c.loop-number.invariant.same _ c.is_present.ensures c.if-is_present.true
+returns-then-is_present c = search (rules, first_found)
 
 pub loop-number-preserved : goal.loop-number-preserved
-loop-number-preserved c = record {
-  later = omega (arith, c.loop-number.invariant.later);
-  same = skip_absent c.args.side _ c.fields_of-fields.ensures _ _ c.loop-number-test.true c.index-fields-number.is _ c.is_present.ensures c.if-is_present.false
-      ∙ c.loop-number.invariant.same;
-}
+loop-number-preserved c = search (rules, skip_absent)

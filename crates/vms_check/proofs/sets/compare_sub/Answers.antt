@@ -1,5 +1,5 @@
-use Rattle.vms_check.proofs.{Facade.few_subs, Facade.part_mismatch, WholeLaws.sub_in, WholeLaws.sub_found, sets.compare_sub.Goals.After-as_slice}
 use Rattle.vms_check.proofs.Facade.{Side, ◌≡◌, length, map, ap, ◌∙◌, arith, length-map, Desc, Device, sub_of, described, device_at, sub_at}
+use Rattle.vms_check.proofs.{Facade.few_subs, Facade.part_mismatch, WholeLaws.sub_in, WholeLaws.sub_found, sets.compare_sub.Goals.After-as_slice}
 use Rattle.vms_spec.specs.declared.Part.TheVariants as parts
 use Rattle.vms_check.proofs.sets.compare_sub.Goals as goal
 
@@ -8,11 +8,10 @@ subs c = ap (map sub_of) c.as_slice.ensures ∙ ap (λ (d : Device). d.subs) c.d
 
 pub find_sub-requires : goal.find_sub-requires
 find_sub-requires c =
-    let same = subs (goal.at.find_sub-requires c).After-as_slice in
     omega (
       arith,
       length-map c.as_slice.result.now sub_of,
-      ap length same,
+      ap length (subs (goal.at.find_sub-requires c).After-as_slice),
       few_subs
           (described c.args.new.now) c.args.new.now.well_formed c.args.in_new c.requires.new,
     )

@@ -4,8 +4,7 @@ use Rattle.vms_check.proofs.sets.compare_subs.Goals as goal
 
 subs : (c : After-as_slice) → length c.as_slice.result.now ≡ length (device_at (described c.args.old.now) c.args.in_old).subs
 subs c =
-    let same = ap (map sub_of) c.as_slice.ensures ∙ ap (λ (d : Device). d.subs) c.device.ensures in
-    omega (arith, length-map c.as_slice.result.now sub_of, ap length same)
+    omega (arith, length-map c.as_slice.result.now sub_of, ap length (ap (map sub_of) c.as_slice.ensures ∙ ap (λ (d : Device). d.subs) c.device.ensures))
 
 pub overflow_cast-number : goal.overflow_cast-number
 overflow_cast-number c =
