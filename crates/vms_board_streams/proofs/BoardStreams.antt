@@ -6,8 +6,7 @@ use Rattle.vms_board_streams.proofs.Facade.{StreamsStand, WellFormed, alike_stay
 use Rattle.vms_board_streams.proofs.Facade.{clock_stands, devices_long, first, first_mismatch, formed, images_come_back, isa, isa_stands, list_all, ltb-true}
 use Rattle.vms_board_streams.proofs.Facade.{machine_of, nat_lt, none_is, refl, saved_images, sets_are_compatible, shipped_compatible, shipped_holds}
 use Rattle.vms_board_streams.proofs.Facade.{shipped_set, shipped_sets, suc, true, zero, ℕ, ◌<◌, ◌≡◌, ◌≤◌}
-use Rattle.vms_board_streams.proofs.FamilyBytes.{IsMachineName, IsSmall, family_bytes, family_short}
-use Rattle.vms_board_streams.proofs.FamilyLaws.{Laws}
+use Rattle.vms_board_streams.proofs.{FamilyBytes.IsMachineName, FamilyBytes.IsSmall, FamilyBytes.family_bytes, FamilyBytes.family_short, FamilyLaws.Laws}
 use Rattle.dev_board.proofs.SavedLaws.{alike_stays as isa_alike}
 use Rattle.dev_board.specs.Sound.{IsSound as IsSoundIsa, Alike as AlikeIsa}
 use Rattle.dev_images.proofs.Carried.{images_come_back as isa_images_back}

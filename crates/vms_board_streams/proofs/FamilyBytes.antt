@@ -1,14 +1,14 @@
 -- The streams of a family's boards are short, and are bytes.
 use Rattle.vms_board_streams.proofs.Facade.{AllByRecursion, AllParts, AllSubs, Allows, AreBytes, AreSpelled, Bool, Clean, Constant, Count, Desc, Device}
-use Rattle.vms_board_streams.proofs.Facade.{EachPart, Element, Entry, Family, Field, Filler, HasLetters, Image, IsSound, IsSpelled, ItemsHave, Kind, List}
-use Rattle.vms_board_streams.proofs.Facade.{MaySaveIn, None, Number, One, Option, Rule, STREAM_ROOM, Set, Some, StreamsAreBytes, StreamsAreShort, Sub}
-use Rattle.vms_board_streams.proofs.Facade.{WellFormed, What, [], all_both, all_from, all_parts, and_parts, arith, bytes_at, cell_entry, codes, counted}
-use Rattle.vms_board_streams.proofs.Facade.{decimal_good, desc_cells, described_text, described_tree, device_letters, device_parts, device_tree, device_trees}
-use Rattle.vms_board_streams.proofs.Facade.{devices_letters, devices_long, elements_each, entries_of, entry_of, false, get_none, get_or, get_or_from_slice_get}
-use Rattle.vms_board_streams.proofs.Facade.{images_saved, index_text, is_name, is_named, is_some, items_of, kind_letters, length, listed_if, no_desc, own_cells}
-use Rattle.vms_board_streams.proofs.Facade.{part_entries, parts_named, refl, saved_stream, saved_text, sent_entry, slice_get, slice_set, stream_le}
-use Rattle.vms_board_streams.proofs.Facade.{struct_cells, struct_clean, sub_clean, sub_letters, sub_trees, text_good, true, width, word, written}
-use Rattle.vms_board_streams.proofs.Facade.{written_are_bytes, ℕ, ℤ, ◌+◌, ◌<◌, ◌∷◌, ◌≡◌, ◌≤◌}
+use Rattle.vms_board_streams.proofs.Facade.{EachPart, Element, Entry, Family, Field, Filler, HasLetters, Image, IsSound, IsSpelled, ItemsHave, List, MaySaveIn}
+use Rattle.vms_board_streams.proofs.Facade.{None, Number, One, Option, Rule, STREAM_ROOM, Set, Some, StreamsAreBytes, StreamsAreShort, Sub, WellFormed, What}
+use Rattle.vms_board_streams.proofs.Facade.{[], all_both, all_from, all_parts, and_parts, arith, bytes_at, codes, counted, decimal_good, desc_cells}
+use Rattle.vms_board_streams.proofs.Facade.{described_text, described_tree, device_letters, device_parts, device_tree, device_trees, devices_letters}
+use Rattle.vms_board_streams.proofs.Facade.{devices_long, elements_each, entries_of, entry_of, get_none, get_or, get_or_from_slice_get, images_saved}
+use Rattle.vms_board_streams.proofs.Facade.{index_text, is_name, is_named, is_some, items_of, kind_letters, length, listed_if, no_desc, own_cells, part_entries}
+use Rattle.vms_board_streams.proofs.Facade.{parts_named, refl, saved_stream, saved_text, sent_entry, slice_get, slice_set, stream_le, struct_cells}
+use Rattle.vms_board_streams.proofs.Facade.{struct_clean, sub_clean, sub_letters, sub_trees, text_good, true, word, written, written_are_bytes, ℕ, ℤ}
+use Rattle.vms_board_streams.proofs.Facade.{◌+◌, ◌<◌, ◌∷◌, ◌≡◌, ◌≤◌}
 
 -- ---- a single byte as a list
 
@@ -38,6 +38,10 @@ of_bytes : (xs : List ℕ) → AreBytes xs → AllByRecursion Byte xs
 of_bytes [] p = tt
 of_bytes (x ∷ xs) p = (p.0, of_bytes xs p.1)
 
+index-bytes : (count : Count) (e : ℕ) → AllByRecursion Byte (index_text count e)
+index-bytes One e = tt
+index-bytes _ e = (omega arith, all_both Byte _ _ (decimal_good allows e) (omega arith, tt))
+
 -- a path of bytes
 abbrev HasBytes : Element → Type 0
 HasBytes x = AllByRecursion Byte x.name
@@ -45,23 +49,14 @@ HasBytes x = AllByRecursion Byte x.name
 abbrev IsNamed : Field → Type 0
 IsNamed f = AllByRecursion Byte f.name
 
-index-bytes : (count : Count) (e : ℕ) → AllByRecursion Byte (index_text count e)
-index-bytes One e = tt
-index-bytes _ e = (omega arith, all_both Byte _ _ (decimal_good allows e) (omega arith, tt))
-
 -- ---- their entries
 
 listed-entries : (b : Bool) (e : Entry) → IsSpelled Byte e → AreSpelled Byte (listed_if b e)
 listed-entries b e p = grind arith
 
-cell-listed : (present : Bool) (path : List ℕ) (kind : Kind) (z : ℤ) → AllByRecursion Byte path → IsSpelled Byte (cell_entry present path kind z)
-cell-listed true path kind z p = record { path = p; type = kind_letters allows kind }
-cell-listed false path kind z p = record { path = p; type = kind_letters allows kind }
-
 what-listed : (w : What) (counted present : Bool) (path : List ℕ) → AllByRecursion Byte path → AreSpelled Byte (entry_of w counted present path)
-what-listed (Number cell) counted present path p = listed-entries _ _ (cell-listed _ path _ _ p)
-what-listed (Constant kind z) counted present path p =
-    listed-entries present (sent_entry path (width kind) (codes "equal")) (record { path = p; type = word allows (codes "equal") refl })
+what-listed (Number cell) counted present path p = grind (arith, listed-entries, kind_letters, allows)
+what-listed (Constant kind z) counted present path p = search (arith, listed-entries, word, allows)
 what-listed (Filler n) counted present path p = listed-entries present (sent_entry path n (codes "unused")) (record { path = p; type = word allows (codes "unused") refl })
 what-listed (Rule holds) counted present path p = tt
 
@@ -113,10 +108,6 @@ clean_named k d rules c =
     all_from _ _ (λ i f e. of_bytes f.name (is_named 32 f.name (omega arith) (and_parts (is_name 32 f.name) _ (c.fields i f e).0).0).octets)
 
 module _ (set : Set) (well : WellFormed set) where
-  struct_named : (j : ℕ) (o : Option Desc) → slice_get set.structs j ≡ o → AllByRecursion IsNamed (get_or set.structs j no_desc).fields
-  struct_named j None e = rw (get_none set.structs j no_desc e) tt
-  struct_named j (Some d) e = rw (get_or_from_slice_get set.structs j d no_desc e) (clean_named j d _ (struct_clean set well j d e))
-
   parts_told : EachPart IsTold set.devices
   parts_told k d e =
       let named = parts_named set well k d e in (
@@ -126,6 +117,10 @@ module _ (set : Set) (well : WellFormed set) where
           fields = clean_named _ s.desc _ (sub_clean set well k j d s e f);
         },
       )
+
+  struct_named : (j : ℕ) (o : Option Desc) → slice_get set.structs j ≡ o → AllByRecursion IsNamed (get_or set.structs j no_desc).fields
+  struct_named j None e = rw (get_none set.structs j no_desc e) tt
+  struct_named j (Some d) e = rw (get_or_from_slice_get set.structs j d no_desc e) (clean_named j d _ (struct_clean set well j d e))
 
   pub text_is_bytes : (images : List Image) → AreBytes (described_text set images)
   text_is_bytes images = described-bytes set (λ j. struct_named j _ refl) images (all_parts IsTold set.devices parts_told)

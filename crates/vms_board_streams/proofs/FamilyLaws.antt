@@ -64,9 +64,6 @@ module _ {S : Type 0} (f : Family S) (well : WellFormed (f.set f.newest)) (heads
 
 -- ---- the stream of a board of a family restores a board like it: one accepted name
 
-named-alone : (name : List ℕ) → is_one_of (name ∷ []) name ≡ true
-named-alone name = rw ((bytes_eq-Decides name name).1 refl)
-
 -- a stream is read under other names too, if they include its machine
 configured_under : (names others : List (List ℕ)) (machine : Option (List ℕ)) (bytes : List ℕ) → IfSome machine (λ name. is_one_of others name ≡ true)
     → IsConfiguration names machine bytes → IsConfiguration others machine bytes
@@ -100,7 +97,7 @@ takes_under set names others input taken machine images h t =
     }
 
 alone : (set : Set) (names : List (List ℕ)) (input : List ℕ) (taken : ℕ) (name : List ℕ) (images : List Image) → Takes set names input taken (Some name) images → Takes set (name ∷ []) input taken (Some name) images
-alone set names input taken name images t = takes_under set names _ input taken _ images (named-alone name) t
+alone set names input taken name images t = takes_under set names _ input taken _ images (rw ((bytes_eq-Decides name name).1 refl)) t
 
 -- ---- the laws
 
@@ -122,11 +119,11 @@ module _ {S : Type 0} (f : Family S) (Alike : S → S → Type 0) {IsSound : S �
     least : 1 ≤ f.number m
     least = (stands.numbered m s).first
 
-    set-least : 1 ≤ set
-    set-least = let a = least in omega arith
-
     named : is_one_of (f.set set).machines (f.machine (f.number m)) ≡ true
     named = is_among (f.set set).machines (f.number m - 1) (f.machine (f.number m)) (stands.named (f.number m) set least may.level_le_set may.set_le_newest)
+
+    set-least : 1 ≤ set
+    set-least = let a = least in omega arith
 
     whole : IsWholeStream (f.set f.newest) (f.set f.newest).machines stream (Some (f.machine (f.number m))) images-back text
     unfolding stream_with
@@ -135,11 +132,8 @@ module _ {S : Type 0} (f : Family S) (Alike : S → S → Type 0) {IsSound : S �
         (Some (f.machine (f.number m))) text (images_saved f set m)
         named short (stands.ready set m s may)
 
-    taken-all : Takes (f.set f.newest) (f.set f.newest).machines stream (length stream) (Some (f.machine (f.number m))) images-back
-    taken-all = rw (append-nil stream) at (whole.taken [] (λ e. refl))
-
     takes : Takes (f.set f.newest) (f.machine (f.number m) ∷ []) stream (length stream) (Some (f.machine (f.number m))) images-back
-    takes = alone _ _ stream _ _ _ taken-all
+    takes = alone _ _ stream _ _ _ (rw (append-nil stream) at (whole.taken [] (λ e. refl)))
 
     abbrev back-to : S
     back-to = (st.back set m s may).back
@@ -167,10 +161,6 @@ module _ {S : Type 0} (f : Family S) (Alike : S → S → Type 0) {IsSound : S �
     never-refused bytes place section reason (inr misfit) = cc (same-restore _ place misfit.taken)
 
   -- ---- the stream of a board, with its own description
-
-  own : (set : ℕ) (m : S) → saved_stream f set m ≡ stream_with f set m (Some (saved_text f set m))
-  unfolding saved_stream stream_with
-  own set m = refl
 
   comes-back : (set : ℕ) (m : S) → IsSound m → MaySaveIn f m set → StreamComesBack f Alike set m
   unfolding saved_stream stream_with
@@ -205,6 +195,10 @@ module _ {S : Type 0} (f : Family S) (Alike : S → S → Type 0) {IsSound : S �
             let is = only-back set m text room s may _ taken goes.restored in
             (is.1, cc (is.0, same));
       }
+
+  own : (set : ℕ) (m : S) → saved_stream f set m ≡ stream_with f set m (Some (saved_text f set m))
+  unfolding saved_stream stream_with
+  own set m = refl
 
   pub laws : Laws f Alike IsSound
   laws = record { come_back = record { stream = comes-back }; go_on = record { on = goes-on; own = own }; one = bytes_are_one f stands.well stands.heads }
