@@ -290,7 +290,8 @@ module _ (to new : Set) (fit : IsFit to) (well : WellFormed new) (i k : ℕ) (d 
       → gives ps image.numbers (image_slots to d image) (map (λ c. c.default) (device_cells new e)) ≡ (carried_device to new d e image).numbers
   given_carried numbers image back =
       carried_stands to new fit.well well i k d e at_i at_k image (back_versions to d ps _ image back)
-      (gives ps image.numbers (image_slots to d image) (map (λ (c : Cell). c.default) (device_cells new e))) (given_all to new d e image (device_paired to new fit.well well i d e at_i))
+      (gives ps image.numbers (image_slots to d image) (map (λ (c : Cell). c.default) (device_cells new e)))
+      (given_all to new d e image (device_paired to new fit.well well i d e at_i))
 
 -- ---- as the calls have it
 

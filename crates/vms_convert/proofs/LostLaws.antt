@@ -98,7 +98,8 @@ module _ (to new : Set) (well_to : WellFormed to) (well_new : WellFormed new) (c
 
     module _ (wanted : List (List ℤ)) (long : length wanted ≡ length new.devices) where
       -- what the older device of its name carries of a device is all of it
-      known : (k : ℕ) → k < length new.devices → ((i : ℕ) → i < length to.devices → ArePaired to new i k → get_or wanted k [] ≡ carried_of to new backs i k)
+      known : (k : ℕ) → k < length new.devices
+          → ((i : ℕ) → i < length to.devices → ArePaired to new i k → get_or wanted k [] ≡ carried_of to new backs i k)
           → get_or wanted k [] ≡ get_or given k []
       known k lt h =
           let at : slice_get new.devices k ≡ Some (device_at new k) = slice_get-get_or new.devices k no_device lt in

@@ -52,8 +52,9 @@ abbrev pub first_slots : Set → Device → List (Option ℕ) → ℕ → List �
 first_slots set d came j n = own_slots set d d.desc.version n ++ came_slots set d n (own_cells set d) (take j d.subs) (take j came)
 
 -- a walk goes through one more
-pub walk_next : (f : WalkStep → List ℤ → List ℤ) (set : Set) (d : Device) (came : List (Option ℕ)) (j : ℕ) (s : Sub) (o : Option ℕ) (n before now next : List ℤ)
-    → slice_get d.subs j ≡ Some s → slice_get came j ≡ Some o → now ≡ changed f (steps_of (first_slots set d came j n)) before
+pub walk_next : (f : WalkStep → List ℤ → List ℤ) (set : Set) (d : Device) (came : List (Option ℕ)) (j : ℕ) (s : Sub) (o : Option ℕ)
+    (n before now next : List ℤ) → slice_get d.subs j ≡ Some s → slice_get came j ≡ Some o
+    → now ≡ changed f (steps_of (first_slots set d came j n)) before
     → next ≡ changed f (steps_of (one_slots set s o n (part_place set d j))) now → next ≡ changed f (steps_of (first_slots set d came (j + 1) n)) before
 walk_next f set d came j s o n before now next e h first more =
     let its = one_slots set s o n (part_place set d j) in

@@ -79,5 +79,4 @@ module _ (old new : Set) (m : Mismatch) (first : first_mismatch old new ≡ Some
   neither_found images none e t = Lacks m first (rw e (not_shown (default_images old) none, (not_shown images t, tt)))
 
 pub accepted_none : (o : Option Mismatch) → Accepted ≡ verdict_of o → o ≡ None
-accepted_none None e = refl
-accepted_none (Some m) e = cc
+accepted_none o e = grind arith

@@ -1,8 +1,8 @@
 -- The bytes of structures, fields and sections, and the room that is made for a stream.
 use Rattle.vms_counter.proofs.Facade.{◌≡◌, ℕ, ◌+◌, ◌*◌, ◌^◌, ◌<◌, true, List, [], ◌∷◌, ◌++◌, length, get_or, map, refl}
-use Rattle.vms_counter.proofs.Facade.{◌∙◌, arith, add-one, length-map, map-append, Item, Struct, capacity_of, first, no_desc, Field, Desc, Device, in_u32}
+use Rattle.vms_counter.proofs.Facade.{◌∙◌, arith, add-one, length-map, map-append, Item, capacity_of, first, no_desc, Field, Desc, Device, in_u32}
 use Rattle.vms_counter.proofs.Facade.{is_well_formed, desc_of, device_of, field_of, get_map_at, capped_product, capped_at, item_bytes, fields_bytes}
-use Rattle.vms_counter.proofs.Facade.{struct_bytes, subs_bytes, devices_most, most_small, subs_in, devices_in, LONGEST_SUB_HEAD, ◌≤◌, Option, Some, None}
+use Rattle.vms_counter.proofs.Facade.{struct_bytes, subs_bytes, devices_most, most_small, subs_in, devices_in, LONGEST_SUB_HEAD, ◌≤◌, Option, None}
 use Rattle.vms_counter.proofs.Facade.{IfSome, get_or_from_slice_get, slice_get_within, LONGEST_NAME, Image, Sub, Set, optional, configuration, written}
 use Rattle.vms_counter.proofs.Facade.{is_one_of, subs_long, devices_long, stream_le, AllSubs, AllParts, EachSub, EachPart, all_parts, BESIDE_SECTIONS}
 use Rattle.vms_counter.proofs.Facade.{machine_short, device_at, sub_at, device_is, well_of, device_short, sub_short, HasRoom}
@@ -11,8 +11,7 @@ use Rattle.vms_spec.specs.Sets as sets
 -- ---- bytes of structures, fields and sections, where those of structures end at 2 ^ 32 - 1
 
 capped_item : (bytes : List ℕ) (n : ℕ) (item : Item) → in_u32 (n * item_bytes (map in_u32 bytes) item) ≡ in_u32 (n * item_bytes bytes item)
-capped_item bytes n (Struct j) = rw (capped_at bytes j) (capped_product n (get_or bytes j 0))
-capped_item bytes n _ = refl
+capped_item bytes n item = grind (arith, capped_at, capped_product)
 
 capped_fields : (bytes : List ℕ) (fs : List sets.Field) → in_u32 (fields_bytes (map in_u32 bytes) fs) ≡ in_u32 (fields_bytes bytes fs)
 capped_fields bytes [] = refl
@@ -86,8 +85,7 @@ module _ (set : Set) where
   devices-short (d ∷ devices) short = omega (arith, short.0, subs-short d.subs short.1, devices-short devices short.2)
 
   config-long : (machine : Option (List ℕ)) → IfSome machine (λ m. length m ≤ 64) → length (optional configuration machine) ≤ 69
-  config-long None short = omega arith
-  config-long (Some name) short = omega (arith, short)
+  config-long machine short = grind arith
 
   -- no stream of images with a machine or none, and without a description, fills this room
   pub stream-short : (machine : Option (List ℕ)) (images : List Image) → IfSome machine (λ m. length m ≤ 64) → AllParts IsShort set.devices
@@ -109,8 +107,7 @@ module _ (set : Set) (well : is_well_formed set ≡ true) where
       (rw (← same) (omega arith), rw same at each)
 
   named_short : (machine : Option (List ℕ)) → IfSome machine (λ m. is_one_of set.machines m ≡ true) → IfSome machine (λ m. length m ≤ 64)
-  named_short None h = tt
-  named_short (Some name) h = machine_short set (well_of set well) name h
+  named_short machine h = grind (arith, machine_short, well_of)
 
   pub has_room : HasRoom set (BESIDE_SECTIONS + devices_most set set.devices)
   has_room machine images named ready = stream-short set machine images (named_short machine named) (all_parts IsShort set.devices short)

@@ -6,10 +6,9 @@ use Rattle.vms_walk.proofs.Facade.{FieldsBelow, all_below, struct_slots, struct_
 use Rattle.vms_walk.proofs.Facade.{is_well_formed, desc_at, reach, field_clean, struct_clean, PartAt, table, cells_in, HasSpot, spot_numbers, spot_slots}
 use Rattle.vms_walk.proofs.Facade.{slots_at, present_of, size_in, elements_slots, steps_of, item_rank, part_rank, reach_whole, uses_more, rank_below, place_of}
 use Rattle.vms_walk.proofs.Facade.{place_after, place_within, field_start, cell_of, all_hold, holds_at, zero, suc, ◌-◌, [], ◌∷◌, None, append_assoc}
-use Rattle.vms_walk.proofs.Facade.{append-nil, Kind, Num, WalkStep, Number, run_of, capacities_of, length-append, if_there, false, ne_eqb, get_or-map, Desc}
-use Rattle.vms_walk.proofs.Facade.{has_cell, Slot, Meaning, no_meaning, field_slots, cells_from, field_cells, numbers_of, first, meanings, field_size}
-use Rattle.vms_walk.proofs.Facade.{elements_fit, one_more, meaning, Rule, min, Some, pos, negsuc, nat_lt, ◌||◌, or-false, or_assoc, exceeds, is_above}
-use Rattle.vms_walk.proofs.Facade.{same_tests, lesser, least_from, Ok, Does}
+use Rattle.vms_walk.proofs.Facade.{append-nil, Kind, Num, WalkStep, Number, run_of, capacities_of, length-append, if_there, false, get_or-map, Desc, has_cell}
+use Rattle.vms_walk.proofs.Facade.{Slot, Meaning, no_meaning, field_slots, cells_from, field_cells, first, meanings, field_size, elements_fit, one_more}
+use Rattle.vms_walk.proofs.Facade.{meaning, Rule, min, nat_lt, ◌||◌, or-false, or_assoc, exceeds, is_above, same_tests, lesser, least_from, Ok, Does}
 use Rattle.vms_walk.proofs.Walking.{slots_next, fields_at, present_slots, present_fits, steps_bare, times_split, Among}
 use Rattle.vms_spec.specs.declared.Part.TheVariants as parts
 use Rattle.vms_spec.specs.Layout as slots
@@ -32,15 +31,11 @@ holds_is set spot n = ap (all_hold (desc_at set spot.part).validate spot.version
 -- sizes as the code has them
 pub size_code : (set : Set) (item : Item) (size : ℕ) → size ≡ in_u32 (item_size (struct_cells set) item) → size_in set item ≤ MOST_ITEMS
     → size ≡ size_in set item
-size_code set item size e small =
-    let same : item_size (struct_cells set) item ≡ size_in set item = rw (sym (cells_table set)) in
-    omega arith
+size_code set item size e small = grind (arith, cells_table)
 
 pub width_code : (set : Set) (f : Field) (width : ℕ) → width ≡ in_u32 (capacity_of f.count * item_size (struct_cells set) f.item)
     → capacity_of f.count * size_in set f.item ≤ MOST_ITEMS → width ≡ capacity_of f.count * size_in set f.item
-width_code set f width e small =
-    let same : capacity_of f.count * item_size (struct_cells set) f.item ≡ capacity_of f.count * size_in set f.item = rw (sym (cells_table set)) in
-    omega arith
+width_code set f width e small = grind (arith, cells_table)
 
 pub present_then : (set : Set) (spot : PartAt) (n : List ℤ) (f : Field) (b : Bool) (count : ℕ)
     → b ≡ is_there f.test f.since spot.version (own_numbers set spot.part n spot.base) no_parent → b ≡ true
@@ -76,9 +71,7 @@ start_code set spot k cell e =
 -- the first cell of the field after it
 pub start_after : (set : Set) (spot : PartAt) (k cell : ℕ) → cell ≡ cell_of set spot k → k < length (desc_at set spot.part).fields
     → cell + capacity_of (field_at set spot.part k).count * size_in set (field_at set spot.part k).item ≡ cell_of set spot (k + 1)
-start_after set spot k cell e lt =
-    let all = (desc_at set spot.part).fields in
-    omega (arith, e, place_after (cells_in (table set)) all 0 spot.base all k lt)
+start_after set spot k cell e lt = grind (arith, place_after)
 
 pub record Next (set : Set) (spot : PartAt) (n : List ℤ) (k cell : ℕ) : Type 0 where
   pub slots : slots_from (table set) (desc_at set spot.part).fields spot.version (spot_numbers set spot n) n k cell (drop k (desc_at set spot.part).fields)
@@ -121,10 +114,8 @@ pub field_needs : (set : Set) → is_well_formed set ≡ true → (spot : PartAt
     → cell + capacity_of (field_at set spot.part k).count * size_in set (field_at set spot.part k).item ≤ length n
     → FieldNeeds set spot n k cell count item most
 field_needs set well spot n h k cell count item most lt is there least room =
-    let all = (desc_at set spot.part).fields in
     let f = field_at set spot.part k in
     let own = spot_numbers set spot n in
-    let caps = counted k all in
     let clean = field_clean set well spot.part h.part k lt in
     let uses : uses_below (reach set spot.part) item ≡ true = ap (uses_below (reach set spot.part)) is ∙ clean.uses in
     let fewer : count ≤ capacity_of f.count = omega (arith, present_fits f spot.version own) in
@@ -134,8 +125,8 @@ field_needs set well spot n h k cell count item most lt is there least room =
       lower = omega (arith, rank_below (reach set spot.part) item uses);
       small = omega (arith, one_fits (capacity_of f.count) (size_in set f.item) cell (length n) MOST_ITEMS clean.some room h.few);
       room = rw size (room_for_less count (capacity_of f.count) (size_in set f.item) cell (length n) fewer room);
-      steps = rw (present_slots (table set) all spot.version own n k cell f, ← there, ← is, least)
-          (steps_bare (table set) n item caps count cell (size_in set item));
+      steps = rw (present_slots (table set) ((desc_at set spot.part).fields) spot.version own n k cell f, ← there, ← is, least)
+          (steps_bare (table set) n item _ count cell (size_in set item));
     }
 
 -- ---- numbers of one kind whose cells follow one another are the elements of an array
@@ -191,9 +182,8 @@ pub run_parts : (first n m count : ℕ) (kind : Kind) → n + m ≤ count
     → run_of first count kind ≡ run_of first n kind ++ (run_of (first + n) m kind ++ run_of (first + (n + m)) (count - (n + m)) kind)
 run_parts first n m count kind le =
     let all : count ≡ (n + m) + (count - (n + m)) = omega arith in
-    let rest = run_of (first + (n + m)) (count - (n + m)) kind in
     ap (λ k. run_of first k kind) all ∙ rw (run_both first (n + m) (count - (n + m)) kind, run_both first n m kind)
-    (append_assoc (run_of first n kind) (run_of (first + n) m kind) rest)
+    (append_assoc (run_of first n kind) (run_of (first + n) m kind) _)
 
 -- ---- some of them after those before them
 
@@ -211,8 +201,7 @@ module _ {S F : Type 0} {N : S → List ℤ} {does : Does S F} (first cell count
     split = λ n.
         let front = cell - first in
         let there : first + front ≡ cell = omega arith in
-        let behind = run_of (first + (front + some)) (count - (front + some)) kind in
-        (behind, rw there at (run_parts first front some count kind (omega arith)));
+        (run_of (first + (front + some)) (count - (front + some)) kind, rw there at (run_parts first front some count kind (omega arith)));
   }
 
 -- ---- the slots of a description have their cells in ascending order, between its first cell and its end
@@ -227,10 +216,7 @@ Ascends from end (_ ∷ xs) = Ascends from end xs
 
 pub below_from : (from end : ℕ) (xs : List Slot) → Ascends from end xs → (c : ℕ) → c < from → has_cell xs c ≡ false
 below_from from end [] h c lt = refl
-below_from from end (slots.Number k kind caps ∷ xs) h c lt =
-    let up = h.0 in
-    let less : c < k = omega arith in
-    rw (ne_eqb k c (λ e. omega (arith, e, less))) (below_from (k + 1) end xs h.1 c (omega arith))
+below_from from end (slots.Number k kind caps ∷ xs) h c lt = grind (arith, below_from (k + 1) end xs h.1 c (omega arith))
 below_from from end (_ ∷ xs) h c lt = below_from from end xs h c lt
 
 pub from_end : (from end : ℕ) (xs : List Slot) → Ascends from end xs → from ≤ end
@@ -299,10 +285,9 @@ module _ (ms : List Meaning) (known : MeanAscends ms) where
 
   pub desc_ascends : (d : Desc) (v : ℕ) (n : List ℤ) (at : ℕ) → Ascends at (at + length (desc_cells (cells_in ms) d)) (desc_slots ms d v n at)
   desc_ascends d v n at =
-      let own = numbers_of (cells_in ms) d n at in
       let end = at + length (desc_cells (cells_in ms) d) in
       let same : end ≤ end = omega arith in
-      join at end end (slots_from ms d.fields v own n 0 at d.fields) (Rule (all_hold d.validate v own) ∷ []) (fields_ascend d.fields v own n 0 at d.fields) same
+      join at end end (slots_from ms d.fields v _ n 0 at d.fields) (Rule (all_hold d.validate v _) ∷ []) (fields_ascend d.fields v _ n 0 at d.fields) same
 
 pub meanings_ascend : (ds : List Desc) (k : ℕ) → MeanAscends (meanings ds k)
 unfolding first
@@ -317,15 +302,11 @@ above_lesser : (k m n : ℕ) → nat_lt (min k m) n ≡ (nat_lt k n || nat_lt m 
 above_lesser k m n = grind (arith, same_tests)
 
 exceeds_lesser : (o : Option ℕ) (m : ℕ) (z : ℤ) → exceeds (capacities_of (lesser o m)) z ≡ (exceeds (capacities_of o) z || is_above z m)
-exceeds_lesser None m z = or-false (is_above z m)
-exceeds_lesser (Some k) m (pos n) = or-false (nat_lt (min k m) n) ∙ above_lesser k m n ∙ ap (λ b. b || nat_lt m n) (sym (or-false (nat_lt k n)))
-exceeds_lesser (Some k) m (negsuc n) = refl
+exceeds_lesser o m z = grind (arith, or-false, above_lesser)
 
 exceeds_from : (o : Option ℕ) (caps : List ℕ) (z : ℤ) → exceeds (capacities_of (least_from o caps)) z ≡ (exceeds (capacities_of o) z || exceeds caps z)
 exceeds_from o [] z = sym (or-false (exceeds (capacities_of o) z))
-exceeds_from o (m ∷ caps) z =
-    exceeds_from (lesser o m) caps z ∙ ap (λ b. b || exceeds caps z) (exceeds_lesser o m z)
-    ∙ or_assoc (exceeds (capacities_of o) z) (is_above z m) (exceeds caps z)
+exceeds_from o (m ∷ caps) z = grind (arith, exceeds_lesser, or_assoc, exceeds_from (lesser o m) caps z)
 
 -- a number is above the least of these capacities if it is above one of them
 pub exceeds_least : (caps : List ℕ) (z : ℤ) → exceeds (capacities_of (least_of caps)) z ≡ exceeds caps z

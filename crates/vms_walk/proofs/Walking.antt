@@ -1,14 +1,13 @@
 -- The slots of a walk: taken apart at one of them, what steps keep of the numbers, and on which
 -- cells slots depend.
 use Rattle.vms_walk.proofs.Facade.{◌≡◌, ℕ, zero, suc, ◌+◌, ◌*◌, ◌<◌, List, [], ◌∷◌, ◌++◌, length, get_or, take, ℤ, sym, ap}
-use Rattle.vms_walk.proofs.Facade.{◌∙◌, arith, append_assoc, append-nil, ◌≤◌, drop, refl, false, Option, Some, None, drop_more, Field, Slot}
-use Rattle.vms_walk.proofs.Facade.{Meaning, times, field_slots, slots_from, field_cells, place_of, no_field, item_slots, item_size, elements_of, capacity_of}
-use Rattle.vms_walk.proofs.Facade.{counted, no_parent, cells_in, steps_of, present_of, capacities_of, Item, Num, is_there, field_size, elements_fit}
-use Rattle.vms_walk.proofs.Facade.{room_for_less, least_of, WalkStep, IsErrAnd, Result, Ok, Err, Does, IsWalk, length-set, slice_set, pos, ◌==◌, ◌||◌}
-use Rattle.vms_walk.proofs.Facade.{get_or-set_other, eq-eqb, or_parts, Kind, Number, has_step, Keeps, table, slice_get-get_or, Part, Desc, Set, has_cell}
-use Rattle.vms_walk.proofs.Facade.{numbers_of, IsSound, IsSoundField, AreSoundFields, IsGood, SameBelow, same_less, place_next, own_same, there_same}
-use Rattle.vms_walk.proofs.Facade.{elements_same, IsAbove, SameIn, MeanSettled, item_settled, field_settled, meanings_settled, device_at, HasPart, desc_at}
-use Rattle.vms_walk.proofs.Facade.{sub_at, if_both}
+use Rattle.vms_walk.proofs.Facade.{◌∙◌, arith, append_assoc, append-nil, ◌≤◌, drop, refl, false, Option, drop_more, Field, Slot, Meaning, times}
+use Rattle.vms_walk.proofs.Facade.{field_slots, slots_from, field_cells, place_of, no_field, item_slots, item_size, capacity_of, counted, cells_in, steps_of}
+use Rattle.vms_walk.proofs.Facade.{present_of, capacities_of, Item, Num, field_size, elements_fit, room_for_less, least_of, WalkStep, IsErrAnd, Result, Ok, Err}
+use Rattle.vms_walk.proofs.Facade.{Does, IsWalk, length-set, slice_set, pos, ◌==◌, ◌||◌, get_or-set_other, eq-eqb, or_parts, Kind, Number, has_step}
+use Rattle.vms_walk.proofs.Facade.{Keeps, table, slice_get-get_or, Part, Desc, Set, has_cell, numbers_of, IsSound, IsSoundField, AreSoundFields, IsGood}
+use Rattle.vms_walk.proofs.Facade.{SameBelow, same_less, place_next, own_same, there_same, elements_same, IsAbove, SameIn, MeanSettled, item_settled}
+use Rattle.vms_walk.proofs.Facade.{field_settled, meanings_settled, device_at, HasPart, desc_at, sub_at, if_both}
 use Rattle.vms_walk.specs.Inside.{is_for}
 use Rattle.std.proofs.lemmas.List.Folds.{list_any-append}
 use Rattle.vms_spec.specs.Layout as slots
@@ -86,8 +85,7 @@ steps_parts before here rest whole e = rw (e, steps_append before (here ++ rest)
 -- ---- the least of the capacities that a number counts is enough
 
 pub least_again : (o : Option ℕ) → least_of (capacities_of o) ≡ o
-least_again None = refl
-least_again (Some most) = refl
+least_again o = grind arith
 
 pub steps_bare : (ms : List Meaning) (n : List ℤ) (item : Item) (caps : List ℕ) (k at step : ℕ)
     → steps_of (times k (item_slots ms item caps n) at step) ≡ steps_of (times k (item_slots ms item (capacities_of (least_of caps)) n) at step)
@@ -108,17 +106,14 @@ pub present_slots : (ms : List Meaning) (fields : List Field) (v : ℕ) (own : �
 present_slots ms fields v own n i at f = grind (arith, times, counted)
 
 pub present_fits : (f : Field) (v : ℕ) (own : ℕ → ℕ) → present_of f v own ≤ capacity_of f.count
-present_fits f v own =
-    if_both (λ n. n ≤ capacity_of f.count) (is_there f.test f.since v own no_parent) (elements_of f.count own) 0 (elements_fit f.count own) (omega arith)
+present_fits f v own = grind (arith, if_both, elements_fit)
 
 -- the rest of the fields, at a field
 pub fields_at : (all : List Field) (i : ℕ) → i < length all → drop i all ≡ get_or all i no_field ∷ drop (i + 1) all
 fields_at all i lt = drop_more all i no_field lt
 
 pub room_at : (turn count size first cell most : ℕ) → turn < count → cell ≡ first + turn * size → first + count * size ≤ most → cell + size ≤ most
-room_at turn count size first cell most lt e h =
-    let one : (turn + 1) * size ≡ turn * size + size = grind arith in
-    omega (arith, room_for_less (turn + 1) count size first most (omega arith) h)
+room_at turn count size first cell most lt e h = grind (arith, room_for_less)
 
 -- ---- What steps keep of the numbers, one after the other.
 

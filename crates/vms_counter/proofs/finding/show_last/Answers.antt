@@ -5,12 +5,10 @@ use Rattle.vms_counter.proofs.finding.show_last.Goals as goal
 pub returns-in-Some : goal.returns-in-Some
 returns-in-Some c =
     let t = c.requires.failed.shared in
-    let m = c.args.trial.now.mismatch in
-    let r = c.in-Some.refusal in
     record {
       right = record {
-        counters = rw t.name (second_found (described c.args.trial.now.old.now) (loads c.args.new.now) m t.first _ r c.requires.failed.first c.requires.second
-            (tries_by _ _ _ _ c.deref.result.now c.args.images.items _ (Some r) t.name c.deref.ensures.value c.in-Some.is c.in_ok-refusal.ensures.tries));
+        counters = rw t.name (second_found (described c.args.trial.now.old.now) (loads c.args.new.now) _ t.first _ _ c.requires.failed.first c.requires.second
+            (tries_by _ _ _ _ c.deref.result.now c.args.images.items _ (Some _) t.name c.deref.ensures.value c.in-Some.is c.in_ok-refusal.ensures.tries));
         of = (t.inside, c.requires.of);
       };
       set = c.in_ok-refusal.ensures.set;

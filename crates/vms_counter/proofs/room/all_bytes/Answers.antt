@@ -18,7 +18,6 @@ loop-item-preserved g c =
 pub returns : goal.returns
 returns g c =
     let t = g.T.TakesRoom in
-    let structs = c.args.structs.now in
-    sum_ends (t.all_bytes structs) (t.bytes structs) (t.none structs)
-    (t.more structs) c.args.items.now c.loop-item.item-index c.loop-item.sum _ c.loop-item-test.false c.loop-item.invariant.small
+    sum_ends (t.all_bytes _) (t.bytes _) (t.none _)
+    (t.more _) c.args.items.now c.loop-item.item-index c.loop-item.sum _ c.loop-item-test.false c.loop-item.invariant.small
     c.loop-item.invariant.whole

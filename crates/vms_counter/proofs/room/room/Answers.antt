@@ -1,5 +1,5 @@
-use Rattle.vms_counter.proofs.{RoomLaws.read_bytes, RoomLaws.sections_are, RoomLaws.has_room, Facade.BESIDE_SECTIONS, room.room.Goals.After-all_bytes}
 use Rattle.vms_counter.proofs.Facade.{◌≡◌, ℕ, ◌<◌, ◌^◌, ◌+◌, map, ap, ◌∙◌, arith, Set, desc_of, device_of, described, devices_most}
+use Rattle.vms_counter.proofs.{RoomLaws.read_bytes, RoomLaws.sections_are, RoomLaws.has_room, Facade.BESIDE_SECTIONS, room.room.Goals.After-all_bytes}
 use Rattle.vms_counter.proofs.room.room.Goals as goal
 
 sections : (c : After-all_bytes)

@@ -1,5 +1,5 @@
-use Rattle.vms_counter.proofs.Facade.{List, ℕ, rules, Ok, Err, ap, subst, name_of, Fault, Takes, well_of, Supply, bytes_left, IsBytes, never_both_holds, content}
-use Rattle.vms_counter.proofs.Facade.{loads, kept, taken_by}
+use Rattle.vms_counter.proofs.Facade.{List, ℕ, rules, Err, ap, subst, Fault, well_of, Supply, bytes_left, IsBytes, never_both_holds, content, loads, kept}
+use Rattle.vms_counter.proofs.Facade.{taken_by}
 use Rattle.vms_counter.proofs.trying.refusal_in.Goals as goal
 
 pub returns-in-Err-Refused : goal.returns-in-Err-Refused
@@ -26,17 +26,4 @@ returns-in-Err-Refused c =
     }
 
 pub returns-in-Ok : goal.returns-in-Ok
-returns-in-Ok c =
-    let set = loads c.args.new.now in
-    let said = content set set.machines (kept c.load.new.self) (taken_by c.load.new.self) (Ok c.in-Ok.field-0) c.in-Ok.ensures.reads in
-    record {
-      refused = search rules;
-      taken = λ none. record {
-        taken = taken_by c.load.new.self;
-        machine = name_of set c.in-Ok.field-0;
-        states = kept c.load.new.self;
-        takes = subst (λ (l : List ℕ). Takes set set.machines l (taken_by c.load.new.self) (name_of set c.in-Ok.field-0) (kept c.load.new.self))
-            (ap (λ (s : Supply). s.left) c.new-source.ensures) said.0;
-      };
-      set = c.in-Ok.ensures.set;
-    }
+returns-in-Ok c = search (rules, content)

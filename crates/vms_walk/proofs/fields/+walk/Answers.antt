@@ -27,14 +27,12 @@ walk_items-loop-turn-preserved g t c =
     let set = described c.args.set.now in
     let item = c.args.row.item.now in
     let i = c.loop-turn._turn in
-    let b = c.loop-turn.walker in
-    let inv = c.loop-turn.invariant in
     let size : size_in set item ≡ c.item_cells-size.result = sym (size_code set item c.item_cells-size.result c.item_cells-size.ensures c.requires.small) in
     let one : (i + 1) * size_in set item ≡ i * size_in set item + size_in set item = grind arith in
     record {
       way = went_on laws (element_among (walked g t (goal.at.walk_items-loop-turn-preserved g t c).After-walk_item-arg-1) c.args.row.count (omega arith))
           c.walk_item.new.walker (Ok tt) c.in_ok-walk_item.ensures;
-      long = (laws.keeps _ b c.walk_item.new.walker (Ok tt) c.in_ok-walk_item.ensures).long ∙ inv.long;
+      long = (laws.keeps _ _ c.walk_item.new.walker (Ok tt) c.in_ok-walk_item.ensures).long ∙ c.loop-turn.invariant.long;
       here = omega arith;
     }
 
@@ -47,10 +45,8 @@ walk_items-returns-in_err-walk_item g t c =
 pub walk_items-walk_item-requires : goal.walk_items-walk_item-requires
 walk_items-walk_item-requires g t c =
     let set = described c.args.set.now in
-    let item = c.args.row.item.now in
-    let cell = c.loop-turn.cell in
     let inv = c.loop-turn.invariant in
-    let room = room_at c.loop-turn._turn c.args.row.count (size_in set item) c.args.row.first cell _ (omega arith) inv.here c.requires.room in
+    let room = room_at c.loop-turn._turn c.args.row.count (size_in set _) c.args.row.first _ _ (omega arith) inv.here c.requires.room in
     let may = may_come g.met.W.Walker.laws (element_among (walked g t c) c.args.row.count (omega arith)) g.W.Walker.may c.requires.may in
     λ κs h. (search rules, (search rules, (search rules, record { reaches = c.requires.reaches; may = may; room = rw inv.long room; few = rw inv.long c.requires.few })))
 
@@ -129,8 +125,7 @@ steps_are : (g : Over) (t : ℕ) (c : goal.walk_field-After-walk_row-arg-1 g t) 
     → steps_of (slots_at (described c.args.set.now) c.args.here.spot m c.args.field c.args.cell) ≡ steps_of
     (elements_slots (described c.args.set.now) c.index-as_slice-field.result.item c.most_in-most.result m c.present-count.result c.args.cell)
 steps_are g t c m long s =
-    let set = described c.args.set.now in
-    field_slots_are set (good_of set c.args.set.now.well_formed c.args.set.now.heads) c.args.set.now.well_formed c.args.here.spot c.args.field c.args.cell
+    field_slots_are _ (good_of _ c.args.set.now.well_formed c.args.set.now.heads) c.args.set.now.well_formed c.args.here.spot c.args.field c.args.cell
     (g.W.Cells.numbers c.args.walker.now) m c.requires.here long c.requires.spot c.present-count.result c.index-as_slice-field.result.item c.most_in-most.result
     c.requires.field (item_is g t c) (count_is g t c) c.most_in-most.ensures c.requires.room s
 
@@ -139,9 +134,8 @@ above : (g : Over) (t : ℕ) (c : goal.walk_field-After-walk_row-arg-1 g t) (m :
     → IsAbove c.args.cell (elements_slots (described c.args.set.now) c.index-as_slice-field.result.item c.most_in-most.result m c.present-count.result c.args.cell)
 above g t c m =
     let set = described c.args.set.now in
-    let item = c.index-as_slice-field.result.item in
-    items_above (table set) (meanings_above set.structs (length set.structs)) item (capacities_of c.most_in-most.result) m c.present-count.result c.args.cell
-    (size_in set item)
+    items_above (table set) (meanings_above set.structs (length set.structs)) _ (capacities_of c.most_in-most.result) m c.present-count.result c.args.cell
+    (size_in set _)
 
 pub walk_field-present-count-requires : goal.walk_field-present-count-requires
 walk_field-present-count-requires g t c = record {
@@ -218,10 +212,9 @@ turn g t c =
 pub walk-loop-field-preserved : goal.walk-loop-field-preserved
 walk-loop-field-preserved g t c =
     let s = turn g t (goal.at.walk-loop-field-preserved g t c).After-walk_field-arg-1 in
-    let d = c.walk_field.new.walker in
     record {
-      way = went_on g.met.W.Walker.laws (field_among s.past s.inside) d (Ok tt) c.in_ok-walk_field.ensures;
-      long = (g.met.W.Walker.laws.keeps _ c.loop-field.walker d (Ok tt) c.in_ok-walk_field.ensures).long ∙ c.loop-field.invariant.long;
+      way = went_on g.met.W.Walker.laws (field_among s.past s.inside) _ (Ok tt) c.in_ok-walk_field.ensures;
+      long = (g.met.W.Walker.laws.keeps _ c.loop-field.walker _ (Ok tt) c.in_ok-walk_field.ensures).long ∙ c.loop-field.invariant.long;
     }
 
 pub walk-returns-in_err-walk_field : goal.walk-returns-in_err-walk_field
@@ -258,8 +251,7 @@ done g t c =
 
 pub walk-rules-requires-clause-may : goal.walk-rules-requires-clause-may
 walk-rules-requires-clause-may g t c =
-    let b = c.loop-field.walker in
-    rw (holds_is (described c.args.set.now) c.args.spot (g.W.Cells.numbers b)) (rule_may (done g t c) (end_of g t c) g.W.Walker.may c.requires.may)
+    rw (holds_is (described c.args.set.now) c.args.spot (g.W.Cells.numbers _)) (rule_may (done g t c) (end_of g t c) g.W.Walker.may c.requires.may)
 
 pub walk-returns : goal.walk-returns
 walk-returns g t c =

@@ -1,5 +1,5 @@
-use Rattle.vms_walk.proofs.{Walking.went_on, Walking.stopped_at, Walking.may_come, Spots.run_among}
 use Rattle.vms_walk.proofs.Facade.{[], ◌≡◌, ◌-◌, refl, ◌∙◌, arith, zero, Ok}
+use Rattle.vms_walk.proofs.{Walking.went_on, Walking.stopped_at, Walking.may_come, Spots.run_among}
 use Rattle.vms_walk.proofs.step.Walker.run.Goals as goal
 
 pub loop-cell-init : goal.loop-cell-init
