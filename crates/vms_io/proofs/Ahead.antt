@@ -1,18 +1,12 @@
 -- The bytes that a buffered reader still gives, as they are read and given.
 use Rattle.vms_io.proofs.{Filling.left_split, Gathering.part_is}
-use Rattle.vms_io.proofs.Facade.{bytes_only, between, ◌≡◌, ℕ, ◌+◌, ◌-◌, ◌≤◌, Bool, true, false, ◌&&◌, List, [], ◌++◌, length}
-use Rattle.vms_io.proofs.Facade.{take, drop, Option, Some, None, if◌then◌else◌, refl, sym, ap, ◌∙◌, arith, append_assoc, drop_all, length-take}
-use Rattle.vms_io.proofs.Facade.{length-take-le, take-take, list_all-append, Consumes, Keeps, ahead, are_bytes}
+use Rattle.vms_io.proofs.Facade.{bytes_only, between, ◌≡◌, ℕ, ◌+◌, ◌-◌, ◌≤◌, List, [], ◌++◌, length, take, drop, Option, Some, None}
+use Rattle.vms_io.proofs.Facade.{refl, sym, ◌∙◌, arith, append_assoc, drop_all, length-take, length-take-le, take-take, list_all-append, Consumes, Keeps}
+use Rattle.vms_io.proofs.Facade.{ahead}
 
 -- after the front of a list of bytes there are bytes
 only_after : (xs bs ys : List ℕ) → xs ≡ bs ++ ys → Consumes (bytes_only xs) (bytes_only ys) bs
-only_after xs bs ys e = by (are_bytes xs) (are_bytes bs) (are_bytes ys) (ap are_bytes e ∙ list_all-append _ bs ys)
-  where
-    by : (all front back : Bool) → all ≡ (front && back) → Consumes (if all then Some xs else None) (if back then Some ys else None) bs
-    by false front back same = tt
-    by true true true same = e
-    by true true false same = cc
-    by true false back same = cc
+only_after xs bs ys e = grind (arith, list_all-append)
 
 -- the front of the waiting bytes is given
 gives : (x : Option (List ℕ)) (waiting bs rest : List ℕ) → waiting ≡ bs ++ rest → Consumes (ahead x waiting) (ahead x rest) bs

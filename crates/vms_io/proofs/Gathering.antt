@@ -16,7 +16,7 @@ handed None x y room part b e n le is p k = tt
 handed (Some zs) None y room part b e n le is p k = absurd k
 handed (Some zs) (Some xs) None room part b e n le is p k = absurd p
 handed (Some zs) (Some xs) (Some ys) room part b e n le is p k =
-    let whole : part ≡ between room b e = is ∙ part_is room b e le in
+    let whole : part ≡ between room b e = is ∙ part_is _ _ _ le in
     let rest : between room (b + n) e ≡ drop n part = sym (drop-drop n b (take e room)) ∙ ap (drop n) (sym whole) in
     rw (p, rest, append_assoc, take-append-drop, whole) k
 
@@ -34,10 +34,7 @@ gathers (Some xs) room new more b e f le fits is =
 
 -- the writer took nothing
 pub still_told : (a x y : Option (List ℕ)) (waiting : List ℕ) → Keeps x y → Keeps a (told x waiting) → Keeps a (told y waiting)
-still_told None x y waiting p k = tt
-still_told (Some z) None y waiting p k = absurd k
-still_told (Some z) (Some x) None waiting p k = absurd p
-still_told (Some z) (Some x) (Some y) waiting p k = rw p k
+still_told a x y waiting p k = grind arith
 
 pub later_cause : {T E : Type 0} (a b c : ℕ) (result : Result T E) → a ≤ b → HasCause b c result → HasCause a c result
 later_cause a b c (Ok x) le h = record { later = omega (arith, le, h.later); failed = tt }

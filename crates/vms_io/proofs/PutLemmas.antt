@@ -1,6 +1,6 @@
 -- A shelf in memory after bytes were put under a name.
-use Rattle.vms_io.proofs.Facade.{◌≡◌, ◌≢◌, ℕ, Bool, true, false, cond, List, Option, Some, Result, Ok, Err, OnErr, ap, sym, ◌∙◌, refl}
-use Rattle.vms_io.proofs.Facade.{bytes_eq-Decides, option_map, bytes_eq, update, IsBytes, Held, HoldsAll, HoldsBytes, PutsUnder, KeepsOthers}
+use Rattle.vms_io.proofs.Facade.{arith, ◌≡◌, ℕ, Bool, true, false, cond, List, Option, Some, Result, Ok, Err, OnErr, ap, refl, bytes_eq-Decides}
+use Rattle.vms_io.proofs.Facade.{option_map, bytes_eq, update, IsBytes, Held, HoldsAll, PutsUnder, KeepsOthers}
 
 differ : (b : Bool) {X : Type 0} (x y : X) → (b ≡ true → ⊥) → cond b x y ≡ y
 differ true x y never = absurd (never refl)
@@ -10,10 +10,7 @@ differ false x y never = refl
 pub update_puts : {X : Type 0} (f g : List ℕ → Option X) (v : X) (bytes_of : X → List ℕ) (name : List ℕ)
     → ((cs : List ℕ) → g cs ≡ update bytes_eq f name (Some v) cs)
     → PutsUnder (λ cs. option_map bytes_of (f cs)) (λ cs. option_map bytes_of (g cs)) name (bytes_of v)
-update_puts f g v bytes_of name h = record {
-  there = rw (h name, (bytes_eq-Decides name name).1 refl);
-  others = λ other differs. ap (option_map bytes_of) (h other ∙ differ (bytes_eq name other) (Some v) (f other) (λ same. differs (sym ((bytes_eq-Decides name other).0 same))));
-}
+update_puts f g v bytes_of name h = search (arith, bytes_eq-Decides, differ)
 
 -- if all contents are unchanged, so are those of other names
 pub unchanged_others : {T E : Type 0} (result : Result T E) (old new : Held) (name : List ℕ) → OnErr result (new ≡ old) → OnErr result (KeepsOthers old new name)
@@ -22,10 +19,4 @@ unchanged_others (Err e) old new name same = λ other differs. ap (λ (held : He
 
 -- if bytes are stored, all contents stay bytes
 pub puts_bytes : (old new : Held) (name bytes : List ℕ) → PutsUnder old new name bytes → IsBytes bytes → HoldsAll old → HoldsAll new
-puts_bytes old new name bytes p ok holds = λ other. by other (bytes_eq other name) refl
-  where
-    by : (other : List ℕ) (t : Bool) → bytes_eq other name ≡ t → HoldsBytes (new other)
-    by other true e = rw ((bytes_eq-Decides other name).0 e, p.there) ok
-    by other false e =
-        let ne : other ≢ name = λ same. let f = (bytes_eq-Decides other name).1 same in cc (sym e ∙ f) in
-        rw (p.others other ne) (holds other)
+puts_bytes old new name bytes p ok holds = grind (arith, bytes_eq-Decides)

@@ -1,4 +1,4 @@
-use Rattle.vms_io.proofs.Facade.{◌≡◌, ◌+◌, ◌≤◌, ap, rules, arith, take_all, length}
+use Rattle.vms_io.proofs.Facade.{◌≡◌, ◌≤◌, ap, rules, arith, take_all, length}
 use Rattle.vms_io.proofs.{Filling.take-put_mid_more, Gathering.gathers}
 use Rattle.vms_io.proofs.standard.StdSink.gather.Goals as goal
 
@@ -9,5 +9,5 @@ returns-clause-bytes g c =
     let room : s.end ≤ length s.gathered = search rules in
     let copied : c.copy_from_slice.new.self ≡ c.args.piece.now = c.copy_from_slice.ensures.after in
     let long : length c.copy_from_slice.new.self ≡ n = ap length copied in
-    gathers _ s.gathered _ _ s.begin s.end (s.end + n) s.order room
+    gathers _ _ _ _ _ _ _ s.order room
     (rw (take-put_mid_more s.end _ n s.gathered c.copy_from_slice.new.self room (omega (arith, long)), take_all n c.copy_from_slice.new.self (omega (arith, long)), copied))

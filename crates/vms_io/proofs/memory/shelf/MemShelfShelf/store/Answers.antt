@@ -7,4 +7,4 @@ returns-clause-others c =
     let old : Held = held_in c.args.self.now.entries.entries in
     let new : Held = held_in c.put.new.self.entries.entries in
     let same : OnErr c.map_err.result (new ≡ old) = search rules in
-    unchanged_others c.map_err.result old new c.args.name.now same
+    unchanged_others _ _ _ _ same
