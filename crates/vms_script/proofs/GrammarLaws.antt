@@ -7,7 +7,7 @@ use Rattle.vms_script.proofs.Facade.{is_wire, NEWEST, ScriptLine, Read, or_form,
 use Rattle.vms_script.proofs.Facade.{is_name_byte, name_byte_high, is_shelf_name, Split, Reading, lines_of, with_line, lines_read, text_read, first_word}
 use Rattle.vms_script.proofs.Facade.{longer_word, byte_spelled, byte_text, port_spelled, level_spelled, ScriptReason, ℤ, negsuc, sym, subst, bytes_eq}
 use Rattle.vms_script.proofs.Facade.{eqb-true, bytes_eq-Decides, number_spelled, spelled_holds, ReadsExactly, or_range, in_line, byte_line, wait_line}
-use Rattle.vms_script.proofs.Facade.{name_spelled, restore_line, play_line, line_split, begun, unended, tail_read, level_text}
+use Rattle.vms_script.proofs.Facade.{name_spelled, restore_line, play_line, line_split, begun, tail_read, level_text}
 use Rattle.vms_script.proofs.NumberLemmas.{lacks, lacks-append, byte_lacks, port_lacks, digits_lack, byte_back, port_back, EndsEarly, waits_end, wires_end}
 use Rattle.vms_script.proofs.NumberLemmas.{sets_end, byte_is, port_is}
 use Rattle.dev_board.specs.declared.event.Event.TheVariants as events
@@ -46,7 +46,7 @@ lines_front [] text h = refl
 lines_front (b ∷ line) text h = grind (arith, nat_tests, lines_front line text)
 
 decimal_lacks : (byte n : ℕ) → byte < 48 → n < 2 ^ 64 → lacks byte (decimal n) ≡ true
-decimal_lacks byte n h i = digits_lack byte (decimal n) h (digits_decimal numerals n i)
+decimal_lacks byte n h i = digits_lack _ _ h (digits_decimal numerals n i)
 
 name_byte : (b : ℕ) → is_name_byte b ≡ true → not (b == 10) ≡ true
 name_byte b e = let high = name_byte_high b e in ap not (ne_eqb b 10 (λ same. omega arith))
@@ -74,17 +74,17 @@ event_good play (events.Read port) h = rw (port_back port h)
 event_good play (events.Write port value) h =
     rw (word_front (port_text port) (byte_text value) (port_lacks 32 port (omega arith)), port_back port h.0, byte_back value h.1)
 event_good play (events.Byte value) h = rw (byte_back value h)
-event_good play (events.Wait ns) h = number_good is_wait (λ ns. Happens (events.Wait ns)) ns waits_end h
+event_good play (events.Wait ns) h = number_good is_wait (λ ns. Happens (events.Wait ns)) _ waits_end h
 event_good play (events.Wire input up) h =
     rw (word_front (decimal input) (level_text up) (decimal_lacks 32 input (omega arith) (early_small is_wire input wires_end h)), level_back up)
-    (number_good is_wire (λ input. Happens (events.Wire input up)) input wires_end h)
+    (number_good is_wire (λ input. Happens (events.Wire input up)) _ wires_end h)
 event_good play events.Ack h = refl
 
 line_good : (play : Option ℕ) (line : ScriptLine) → IsLine play line → line_read play (line_text line) ≡ Ok line
 line_good play (Happens event) h = event_good play event h
 line_good (Some level) (Saves set name) h =
-    ap (save_line level) (word_front (64 ∷ decimal set) name (decimal_lacks 32 set (omega arith) (early_small (is_set_of NEWEST level) set (sets_end level) h.0)))
-    ∙ rw h.1 (number_good (is_set_of NEWEST level) (λ set. Saves set name) set (sets_end level) h.0)
+    ap (save_line level) (word_front (64 ∷ decimal set) name (decimal_lacks 32 _ (omega arith) (early_small (is_set_of NEWEST level) _ (sets_end level) h.0)))
+    ∙ rw h.1 (number_good (is_set_of NEWEST level) (λ set. Saves set name) _ (sets_end level) h.0)
 line_good (Some level) (Restores name) h = rw h
 line_good None _ h = absurd h
 
@@ -95,17 +95,13 @@ event_lacks : (event : Event) → IsEvent event → lacks 10 (event_text event) 
 event_lacks (events.Read port) h = port_lacks 10 port (omega arith)
 event_lacks (events.Write port value) h = lacks-append 10 (port_text port) (32 ∷ byte_text value) (port_lacks 10 port (omega arith)) (byte_lacks 10 value (omega arith))
 event_lacks (events.Byte value) h = byte_lacks 10 value (omega arith)
-event_lacks (events.Wait ns) h = decimal_lacks 10 ns (omega arith) (early_small is_wait ns waits_end h)
+event_lacks (events.Wait ns) h = decimal_lacks 10 _ (omega arith) (early_small is_wait _ waits_end h)
 event_lacks (events.Wire input up) h =
     lacks-append 10 (decimal input) (32 ∷ level_text up) (decimal_lacks 10 input (omega arith) (early_small is_wire input wires_end h)) (level_lacks up)
 event_lacks events.Ack h = refl
 
 line_lacks : (play : Option ℕ) (line : ScriptLine) → IsLine play line → lacks 10 (line_text line) ≡ true
-line_lacks play (Happens event) h = event_lacks event h
-line_lacks (Some level) (Saves set name) h =
-    lacks-append 10 (decimal set) (32 ∷ name) (decimal_lacks 10 set (omega arith) (early_small (is_set_of NEWEST level) set (sets_end level) h.0)) (shelf_lacks name h.1)
-line_lacks (Some level) (Restores name) h = shelf_lacks name h
-line_lacks None _ h = absurd h
+line_lacks play line h = grind (arith, event_lacks, lacks-append, decimal_lacks, early_small, sets_end, shelf_lacks)
 
 -- ---- a good script is read as it is spelled
 
@@ -116,7 +112,7 @@ text_good play number (line ∷ lines) h =
 
 pub spelled_read : (play : Option ℕ) (lines : List ScriptLine) → AreLines play lines → script_read play (script_text lines) ≡ Ok lines
 unfolding script_read
-spelled_read play lines h = text_good play 1 lines h
+spelled_read play lines h = text_good _ 1 _ h
 
 -- ---- what is read is spelled so
 
@@ -146,8 +142,8 @@ number_is {P} holds make text early f = formed (number_spelled text) (or_range h
   by : (z : ℤ) → number_spelled text ≡ Some z → Only P (or_range holds make z)
   by (negsuc n) s = only_none reasons.Range
   by (pos n) s =
-      choose (holds n) (Ok (make n)) (Err reasons.Range)
-      (λ h. only_ok (make n) (f n h (spelled_holds text (pos n) (early_small holds n early h) s))) (only_none reasons.Range)
+      choose _ _ _
+      (λ h. only_ok (make n) (f n h (spelled_holds text (pos n) (early_small holds _ early h) s))) (only_none reasons.Range)
 
 level_is : (text : List ℕ) (up : Bool) → level_spelled text ≡ Some up → text ≡ level_text up
 level_is text up e = grind (arith, nat_tests)
@@ -224,7 +220,7 @@ play_is (Some level) word rest =
 
 split_is : (play : Option ℕ) (split : List ℕ × Option (List ℕ)) → Only (Says play (rejoined split)) (line_split play split)
 split_is play (word, None) =
-    choose (bytes_eq word (codes "ack")) _ _ (λ p. only_ok (Happens events.Ack) (tt, (bytes_eq-Decides word (codes "ack")).0 p)) (only_none reasons.Form)
+    choose _ _ _ (λ p. only_ok (Happens events.Ack) (tt, (bytes_eq-Decides word (codes "ack")).0 p)) (only_none reasons.Form)
 split_is play (word, Some rest) =
     choose (bytes_eq word (codes "in")) _ _ (λ p. with_word play word (codes "in") rest p (in_is play rest))
     (choose (bytes_eq word (codes "out")) _ _
@@ -270,9 +266,7 @@ begun_lacks b lines tail e h i = grind (arith, nat_tests)
 
 lines_lack : (text : List ℕ) → SplitLacks (lines_of text)
 lines_lack [] = (tt, refl)
-lines_lack (b ∷ text) =
-    let h = lines_lack text in
-    cond_both (b == 10) _ _ SplitLacks (λ e. ((refl, h.0), h.1)) (λ e. begun_lacks b (lines_of text).lines (lines_of text).tail e h.0 h.1)
+lines_lack (b ∷ text) = grind (arith, cond_both, begun_lacks, lines_lack text)
 
 line_first : (line after : List ℕ) → lacks 10 line ≡ true → first_line (line ++ 10 ∷ after) ≡ Some (line, after)
 line_first [] after h = refl
@@ -292,11 +286,7 @@ here : (play : Option ℕ) (number : ℕ) (left : List ℕ) (reason : ScriptReas
 here play number left reason h = record { before = []; left = left; good = tt; whole = refl; number = omega arith; bad = h }
 
 tail_means : (play : Option ℕ) (number : ℕ) (tail : List ℕ) → lacks 10 tail ≡ true → Means play number tail (tail_read play number tail)
-tail_means play number [] h = (tt, refl)
-tail_means play number (b ∷ tail) h = by (line_read play (b ∷ tail)) refl where
-  by : (r : Read) → line_read play (b ∷ tail) ≡ r → Means play number (b ∷ tail) (unended number r)
-  by (Ok line) e = here play number (b ∷ tail) _ (rw (no_first (b ∷ tail) h) (omega arith, rw e refl))
-  by (Err reason) e = here play number (b ∷ tail) _ (rw (no_first (b ∷ tail) h) (omega arith, rw e refl))
+tail_means play number tail h = search (arith, no_first)
 
 lines_mean : (play : Option ℕ) (number : ℕ) (texts : List (List ℕ)) (tail : List ℕ) → AllLack texts → lacks 10 tail ≡ true
     → Means play number (unsplit texts tail) (lines_read play number texts tail)
@@ -320,10 +310,7 @@ lines_mean play number (text ∷ texts) tail h i =
 
 script_means : (play : Option ℕ) (text : List ℕ) → Means play 1 text (script_read play text)
 unfolding script_read
-script_means play text =
-    let lack = lines_lack text in
-    subst (λ (t : List ℕ). Means play 1 t (text_read play 1 text)) (sym (text_split text))
-    (lines_mean play 1 (lines_of text).lines (lines_of text).tail lack.0 lack.1)
+script_means play text = grind (arith, lines_lack, text_split, lines_mean)
 
 pub refuses_first : RefusesFirst
 refuses_first = record { at = λ play text fault e. rw e at (script_means play text) }

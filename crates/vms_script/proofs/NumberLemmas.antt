@@ -42,11 +42,10 @@ number_holds holds line o v e = grind (arith, nat_tests)
 -- the same of the whole line
 in_judged : (holds : ℕ → Bool) (line : ℕ → ScriptLine) (text : List ℕ) (v : ℕ) (t : Bool) → Ok v ≡ number_read (number_spelled text) → t ≡ holds v
     → (if t then Ok (line v) else Err reasons.Range) ≡ number_in holds line text
-in_judged holds line text v t n h =
-    rw h (sym (number_holds holds line (number_spelled text) v (sym n)))
+in_judged holds line text v t n h = rw h (sym (number_holds holds line _ _ (sym n)))
 
 in_fails : (holds : ℕ → Bool) (line : ℕ → ScriptLine) (text : List ℕ) (reason : ScriptReason) → EndsEarly holds → Err reason ≡ number_read (number_spelled text) → Err reason ≡ number_in holds line text
-in_fails holds line text reason early n = sym (number_fails holds line (number_spelled text) reason early (sym n))
+in_fails holds line text reason early n = sym (number_fails holds line _ _ early (sym n))
 
 pub waits_end : EndsEarly is_wait
 waits_end n le = grind (arith, nat_tests)
@@ -86,9 +85,7 @@ pub record IsTextOf (limit : ℕ) (text_of : ℕ → List ℕ) (text : List ℕ)
   pub text_is : text ≡ text_of n
 
 digit_is : (b d : ℕ) → digit_spelled b ≡ Some d → IsTextOf 16 (λ d. digit_char d ∷ []) (b ∷ []) d
-digit_is b d e =
-    let char : b ≡ digit_char d = grind (arith, nat_tests) in
-    record { small = grind (arith, nat_tests); text_is = ap (λ c. c ∷ []) char }
+digit_is b d e = search (arith)
 
 pub byte_back : (v : ℕ) → v < 256 → byte_spelled (byte_text v) ≡ Some v
 byte_back v h = rw (digit_back (v / 16) (omega arith)) (ap (joined 16 (Some (v / 16))) (digit_back (v % 16) (omega arith)) ∙ ap (λ n. Some n) (omega arith))
@@ -105,18 +102,17 @@ parts_are base text_of (Some a) (Some b) first second v e high low =
     let y = low b refl in
     let value : v ≡ a * base + b = cc in
     rw value (record {
-      small = mul-add-lt a base b base x.small y.small;
+      small = mul-add-lt _ _ _ _ x.small y.small;
       text_is = rw (div-mul-add a base b y.small, mod-mul-add a base b y.small, x.text_is, y.text_is);
     })
 parts_are base text_of _ _ first second v e high low = cc
 
 pub byte_is : (text : List ℕ) (v : ℕ) → byte_spelled text ≡ Some v → IsTextOf 256 byte_text text v
-byte_is (a ∷ b ∷ []) v e = parts_are 16 (λ d. digit_char d ∷ []) (digit_spelled a) (digit_spelled b) (a ∷ []) (b ∷ []) v e (digit_is a) (digit_is b)
+byte_is (a ∷ b ∷ []) v e = parts_are 16 (λ d. digit_char d ∷ []) _ _ _ _ _ e (digit_is a) (digit_is b)
 byte_is _ v e = cc
 
 pub port_is : (text : List ℕ) (p : ℕ) → port_spelled text ≡ Some p → IsTextOf 65536 port_text text p
-port_is (a ∷ b ∷ c ∷ d ∷ []) p e =
-    parts_are 256 byte_text _ _ (a ∷ b ∷ []) (c ∷ d ∷ []) p e (byte_is (a ∷ b ∷ [])) (byte_is (c ∷ d ∷ []))
+port_is (a ∷ b ∷ c ∷ d ∷ []) p e = parts_are 256 byte_text _ _ _ _ _ e (byte_is (a ∷ b ∷ [])) (byte_is (c ∷ d ∷ []))
 port_is _ p e = cc
 
 -- ---- digits are neither spaces nor line feeds

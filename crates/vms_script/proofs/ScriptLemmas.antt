@@ -3,9 +3,9 @@ use Rattle.vms_script.proofs.GrammarLaws.{rejoined, word_split}
 use Rattle.vms_script.proofs.Facade.{nat_tests, unended_reason, ◌≡◌, ℕ, ◌+◌, ◌<◌, Bool, true, false, ◌==◌, List, [], ◌∷◌, ◌++◌}
 use Rattle.vms_script.proofs.Facade.{length, Option, Some, None, Ok, Err, if◌then◌else◌, refl, sym, ap, ◌∙◌, arith, append_assoc, eqb-true}
 use Rattle.vms_script.proofs.Facade.{append-nil, first_line, longer_line, ScriptLine, Read, line_read, Split, Reading, lines_of, begun, bad, also, with_line}
-use Rattle.vms_script.proofs.Facade.{unended, tail_read, text_read, SaysLines, IsBadAt, IsPut, IsRefusal, ReadsLines, ScriptFault, Bad, NoMemory, ScriptReason}
-use Rattle.vms_script.proofs.Facade.{zero, suc, ◌≤◌, get_or, take, drop, ⊎_elim, codes, bytes_eq, cases_lt, ne_eqb, eq-eqb, none-some, first_word}
-use Rattle.vms_script.proofs.Facade.{longer_word, not, list_all, IsAscii, slice_index, and_parts, is_name_byte, name_byte_low, is_shelf_name}
+use Rattle.vms_script.proofs.Facade.{unended, text_read, SaysLines, IsBadAt, IsPut, IsRefusal, ReadsLines, ScriptFault, ScriptReason, zero, suc, ◌≤◌}
+use Rattle.vms_script.proofs.Facade.{get_or, take, drop, codes, bytes_eq, ne_eqb, eq-eqb, none-some, first_word, longer_word, not, list_all, IsAscii}
+use Rattle.vms_script.proofs.Facade.{slice_index, and_parts, is_name_byte, name_byte_low, is_shelf_name}
 use Rattle.vms_script.specs.declared.line.ScriptReason.TheVariants as reasons
 
 -- ---- the lines of a text by its first line
@@ -14,14 +14,11 @@ abbrev by_first : Option (List ℕ × List ℕ) → List ℕ → Split
 by_first None text = record { lines = []; tail = text }
 by_first (Some (line, after)) text = record { lines = line ∷ (lines_of after).lines; tail = (lines_of after).tail }
 
-begun_first : (b : ℕ) (text : List ℕ) (o : Option (List ℕ × List ℕ)) → begun b (by_first o text).lines (by_first o text).tail ≡ by_first (longer_line b o) (b ∷ text)
-begun_first b text o = grind (arith, nat_tests)
-
 at_byte : (b : ℕ) (text : List ℕ) (t : Bool) → lines_of text ≡ by_first (first_line text) text
     → (if t then record { lines = [] ∷ (lines_of text).lines; tail = (lines_of text).tail } else begun b (lines_of text).lines (lines_of text).tail)
     ≡ by_first (if t then Some ([], text) else longer_line b (first_line text)) (b ∷ text)
 at_byte b text true is = refl
-at_byte b text false is = rw is (begun_first b text (first_line text))
+at_byte b text false is = rw is (grind (arith, nat_tests))
 
 lines_first : (text : List ℕ) → lines_of text ≡ by_first (first_line text) text
 lines_first [] = refl
@@ -30,9 +27,6 @@ lines_first (b ∷ text) = at_byte b text (b == 10) (lines_first text)
 text_first : (play : Option ℕ) (number : ℕ) (text line after : List ℕ) → first_line text ≡ Some (line, after)
     → text_read play number text ≡ with_line number (line_read play line) (text_read play (number + 1) after)
 text_first play number text line after e = rw (lines_first text, e)
-
-text_last : (play : Option ℕ) (number : ℕ) (text : List ℕ) → first_line text ≡ None → text_read play number text ≡ tail_read play number text
-text_last play number text e = rw (lines_first text, e)
 
 abbrev pub after_lines : List ScriptLine → Reading → Reading
 after_lines before (Ok lines) = Ok (before ++ lines)
@@ -68,7 +62,7 @@ pub tail_stops : (before : List ScriptLine) (play : Option ℕ) (number : ℕ) (
     → after_lines before (text_read play number text) ≡ bad number (unended_reason (line_read play text))
 tail_stops before play number [] first some = absurd (omega arith)
 tail_stops before play number (b ∷ text) first some =
-    ap (after_lines before) (text_last play number (b ∷ text) first) ∙ unended_is before number (line_read play (b ∷ text))
+    ap (after_lines before) (rw (lines_first (b ∷ text), first)) ∙ unended_is before number (line_read play (b ∷ text))
 
 pub reads_lines : (reading : Reading) (lines : List ScriptLine) → reading ≡ Ok lines → SaysLines reading lines
 reads_lines reading lines e = rw e refl
@@ -79,10 +73,7 @@ reads_bad reading number reason e = rw e (refl, refl)
 -- what a line says is after what was said before
 pub line_put : (before : List ScriptLine) (play : Option ℕ) (number : ℕ) (text line after : List ℕ) (all : List ScriptLine) → first_line text ≡ Some (line, after) → IsPut (line_read play line) before all
     → after_lines all (text_read play (number + 1) after) ≡ after_lines before (text_read play number text)
-line_put before play number text line after all first put = by (line_read play line) refl put where
-  by : (read : Read) → line_read play line ≡ read → IsPut read before all → after_lines all (text_read play (number + 1) after) ≡ after_lines before (text_read play number text)
-  by (Ok said) good h = rw h (line_goes before play number text line after said first good)
-  by (Err reason) bad h = absurd h
+line_put before play number text line after all first put = grind (arith, line_goes)
 
 -- a last line that says something lacks only its end
 pub put_unended : (before all : List ScriptLine) (read : Read) → IsPut read before all → unended_reason read ≡ reasons.NoEnd
@@ -91,10 +82,7 @@ put_unended before all read h = grind (arith, nat_tests)
 -- a line that is refused is the text's first bad one
 pub refused : {V : Type 0} (lines : V) (items : V → List ScriptLine) (reading : Reading) (read : Read) (number : ℕ) (fault : ScriptFault)
     → ((reason : ScriptReason) → read ≡ Err reason → reading ≡ bad number reason) → IsRefusal read number fault → ReadsLines items reading (Err fault)
-refused lines items reading (Ok line) number (Bad n reason) is h = absurd h
-refused lines items reading (Err why) number (Bad n reason) is h =
-    reads_bad reading n reason (is why refl ∙ ap (λ k. bad k why) (sym h.0) ∙ ap (λ r. bad n r) (sym h.1))
-refused lines items reading read number NoMemory is h = tt
+refused lines items reading read number fault is h = grind (arith, reads_bad)
 
 pub is_empty : (text : List ℕ) → (length text == 0) ≡ true → length text ≡ 0
 is_empty text e = eqb-true (length text) 0 e
@@ -119,7 +107,7 @@ one_word (b ∷ xs) none = rw (ne_eqb b 32 (none 0 (omega arith))) (ap (longer_w
 -- the first space ends the first word
 pub found_word : (xs : List ℕ) (i : ℕ) → i < length xs → get_or xs i 0 ≡ 32 → NotBefore 32 xs i → first_word xs ≡ (take i xs, Some (drop (i + 1) xs))
 found_word xs i lt is before =
-    let s : i + 1 ≡ suc i = omega arith in rw s (word_at xs i lt is before)
+    let s : i + 1 ≡ suc i = omega arith in rw s (word_at _ _ lt is before)
 
 pub no_blank : (xs : List ℕ) (i : ℕ) → length xs ≤ i → NotBefore 32 xs i → first_word xs ≡ (xs, None)
 no_blank xs i end none = one_word xs (λ k h is. none k (omega arith) is)
@@ -129,11 +117,7 @@ pub none_yet : (byte : ℕ) (xs : List ℕ) → NotBefore byte xs 0
 none_yet byte xs k h is = absurd (omega arith)
 
 pub none_here : (byte : ℕ) (xs : List ℕ) (i : ℕ) → (get_or xs i 0 ≡ byte → ⊥) → NotBefore byte xs i → NotBefore byte xs (i + 1)
-none_here byte xs i other before k h is = ⊎_elim (λ lt. before k lt is) here (cases_lt k i) where
-  here : i ≤ k → ⊥
-  here from =
-      let same : i ≡ k = omega (arith, h, from) in
-      other (ap (λ n. get_or xs n 0) same ∙ is)
+none_here byte xs i other before k h is = grind arith
 
 -- a line without a space is its own first word
 lone_word : (xs : List ℕ) → (first_word xs).1 ≡ None → first_word xs ≡ (xs, None)

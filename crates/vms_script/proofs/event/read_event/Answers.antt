@@ -8,4 +8,4 @@ short play (a ∷ []) rest below = simp and-false refl
 short play (a ∷ b ∷ more) rest below = absurd (omega arith)
 
 pub returns-in_default : goal.returns-in_default
-returns-in_default c = λ play. short play c.args.word.now c.args.rest.now c.in_default.len_below
+returns-in_default c = λ play. short _ _ _ c.in_default.len_below

@@ -6,7 +6,7 @@ pub loop-place-init : goal.loop-place-init
 loop-place-init c = none_yet 32 c.args.line.now
 
 pub loop-place-preserved : goal.loop-place-preserved
-loop-place-preserved c = none_here 32 c.args.line.now c.loop-place.place c.if-byte-eq32.false c.loop-place.invariant
+loop-place-preserved c = none_here 32 _ _ c.if-byte-eq32.false c.loop-place.invariant
 
 pub returns-then-byte-eq32-clause-word : goal.returns-then-byte-eq32-clause-word
 returns-then-byte-eq32-clause-word c =
