@@ -113,8 +113,8 @@ fit_each set lists r k lt =
     let images = images_of set set.devices lists in
     let here : slice_get images k ≡ Some (image_of set (device_at set k) (get_or lists k [])) =
     cc (slice_get-get_or images k no_image (omega (arith, lt, r.one_each)), image-get set lists r.one_each k lt) in
-    fit-device set k (get_or lists k [])
-    (r.ready k (device_at set k) (image_of set (device_at set k) (get_or lists k [])) (slice_get-get_or set.devices k no_device lt) here).normal.cells
+    fit-device _ _ _
+    (r.ready k (device_at set k) (image_of set (device_at set k) (get_or lists k [])) (slice_get-get_or _ _ _ lt) here).normal.cells
 
 -- the images below an index are those of their numbers
 abbrev pub AreOfNumbers : Set → List (List ℤ) → List Typed → ℕ → Type 0
@@ -151,14 +151,7 @@ module _ (set : Set) (lists : List (List ℤ)) (images : List Typed) (device : �
 
   -- each is one of its device
   pub made_of : AreImagesOf set images
-  made_of = record {
-    one_each = cc;
-    each = λ k image here.
-        let below = at_below images k image here in
-        let is : image ≡ typed_of set k (get_or lists k []) =
-        same_at images k _ _ here (slice_get-get_or images k no_typed below) ∙ m.each k (omega (arith, below, m.long)) in
-        rw is (is-of set k (get_or lists k []) (fit_each set lists r k (omega arith)));
-  }
+  made_of = search (arith, at_below, same_at, slice_get-get_or, is-of, fit_each)
 
 -- the images below an index are filled again
 pub record Refilled (set : Set) (lists : List (List ℤ)) (images old : List Typed) (device : ℕ) : Type 0 where
@@ -176,9 +169,9 @@ pub still_of : (set : Set) (lists : List (List ℤ)) (images old : List Typed) (
     → k < length images → image ≡ get_or images k image → IsImageOf set k image
 still_of set lists images old k image r of lt is =
     let same : get_or images k image ≡ get_or images k no_typed =
-    same_at images k _ _ (slice_get-get_or images k image lt) (slice_get-get_or images k no_typed lt) in
+    same_at images k _ _ (slice_get-get_or _ _ _ lt) (slice_get-get_or _ _ _ lt) in
     let below : k < length old = omega (arith, lt, r.long) in
-    of.each k image (slice_get-get_or old k no_typed below ∙ ap Some (sym (is ∙ same ∙ r.after k (omega arith))))
+    of.each k image (slice_get-get_or _ _ _ below ∙ ap Some (sym (is ∙ same ∙ r.after k (omega arith))))
 
 -- ---- The bytes that a save writes.
 
@@ -220,12 +213,7 @@ saves_some r e f h = rw f (stops_as e h)
 
 few : (k : ℕ) → k < 5 → length (device_cells (shipped_set NEWEST) (device_at (shipped_set NEWEST) k)) ≤ MOST_CELLS
 unfolding first
-few zero lt = leb-true (length (device_cells (shipped_set NEWEST) (device_at (shipped_set NEWEST) 0))) MOST_CELLS refl
-few (suc zero) lt = leb-true (length (device_cells (shipped_set NEWEST) (device_at (shipped_set NEWEST) 1))) MOST_CELLS refl
-few (suc (suc zero)) lt = leb-true (length (device_cells (shipped_set NEWEST) (device_at (shipped_set NEWEST) 2))) MOST_CELLS refl
-few (suc (suc (suc zero))) lt = leb-true (length (device_cells (shipped_set NEWEST) (device_at (shipped_set NEWEST) 3))) MOST_CELLS refl
-few (suc (suc (suc (suc zero)))) lt = leb-true (length (device_cells (shipped_set NEWEST) (device_at (shipped_set NEWEST) 4))) MOST_CELLS refl
-few (suc (suc (suc (suc (suc k))))) lt = absurd (omega arith)
+few k lt = grind arith
 
 -- there are five images, each with room for its numbers among those of a device
 five_of : (images : List Typed) → AreImagesOf (shipped_set NEWEST) images → length images ≡ 5

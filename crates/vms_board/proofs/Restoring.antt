@@ -1,8 +1,8 @@
 -- A board is restored from images.
 use Rattle.vms_board.proofs.{Facade.reads_told, Facade.IsRefused, Facade.Refused, Facade.Restores, Imaging.at_below}
 use Rattle.vms_board.proofs.Facade.{◌≡◌, inl, inr, ℕ, suc, ◌-◌, ◌<◌, ◌≤◌, List, [], ◌∷◌, length, get_or, Option, Some, None, IfSome}
-use Rattle.vms_board.proofs.Facade.{Ok, Err, Result, refl, ap, arith, slice_get, reads_as, Intake, Refusal, LoadReads, accepted_of, most_given, name_of, Image}
-use Rattle.vms_board.proofs.Facade.{Set, ComesTo, RestoreReads, Takings, TakingsRead, IsUnfit, refusal_of, Family, lists_in, Standing, RestoreFault, ◌+◌}
+use Rattle.vms_board.proofs.Facade.{Ok, Err, Result, ap, arith, slice_get, reads_as, Intake, Refusal, LoadReads, accepted_of, most_given, name_of, Image, Set}
+use Rattle.vms_board.proofs.Facade.{ComesTo, RestoreReads, Takings, TakingsRead, IsUnfit, Family, lists_in, Standing, RestoreFault, ◌+◌}
 use Rattle.vms_load.specs.declared.fault.LoadFault.TheVariants as loads
 use Rattle.vms_board.specs.declared.restore.RestoreFault.TheVariants as faults
 
@@ -62,11 +62,7 @@ module _ {S : Type 0} (f : Family S) where
       (r : Result (Unit {0}) RestoreFault)
       → number ≡ own → r ≡ Err fault
       → IsUnfit f number taken images fault → TakingsRead f number a b images taken (Ok tt) → RestoreReads f own a b new r
-  unfit_read own number new images taken fault r l e u p =
-      let unfit : (rest more : List ℕ) → Takings f number rest (Some more) images taken (Ok tt)
-      → ComesTo f number new rest (Some more) (Err (faults.Refused (refusal_of taken u.misfit))) =
-      λ rest more h. inr (record { images = images; taken = h.0; misfit = u.misfit; fails = u.fails; section_is = refl; reason_is = refl }, h.1) in
-      rw (← l, e, u.fault_is) (reads_as (λ k w. omega arith) unfit p)
+  unfit_read own number new images taken fault r l e u p = search (arith, reads_as)
 
 -- ---- the result of a call that reads a board's stream from a known input, and the bytes that it reads
 

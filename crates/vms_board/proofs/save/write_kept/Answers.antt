@@ -1,12 +1,13 @@
+use Rattle.std.proofs.Common.{rules}
 use Rattle.vms_board.proofs.{save.write_kept.Given.Over, save.write_kept.Goals.After-deref-2, Facade.saved_stream}
-use Rattle.vms_board.proofs.Facade.{◌≡◌, map, ◌∙◌, Some, Err, ap, refl, err_from_is_err_and, slice_get, described, state_of, puts_as, written}
+use Rattle.vms_board.proofs.Facade.{◌≡◌, map, Some, ap, refl, err_from_is_err_and, slice_get, described, state_of, puts_as, written}
 use Rattle.vms_board.proofs.Imaging.{machine_named, machine_below, saved_bytes, saves_some}
 use Rattle.vms_board.proofs.save.write_kept.Goals as goal
 
 pub write_stream-requires-clause-machine : goal.write_stream-requires-clause-machine
 write_stream-requires-clause-machine g c =
     let m = c.args.devices.now in
-    machine_below g.M.Machine.family g.met.M.Machine.stands m m c.args.set (described c.args.own.now) c.machine-machine.result
+    machine_below _ g.met.M.Machine.stands _ _ _ _ _
     c.requires.can.sound refl c.requires.can.may c.machine-machine.ensures c.requires.can.own
 
 -- the bytes written are the board's stream
@@ -18,17 +19,12 @@ bytes_are g c =
     let f = g.M.Machine.family in
     let m = c.args.devices.now in
     let kept = c.args.kept.now in
-    let images = map state_of kept.images.items in
-    let named = machine_named f g.met.M.Machine.stands m m c.args.set c.requires.can.sound refl c.requires.can.may in
-    saved_bytes f c.args.set m (described c.args.own.now) images images (map state_of c.deref.result.now) kept.text.bytes.items c.deref-2.result.now
-    c.machine-machine.result named c.machine-machine.ensures c.requires.can.own c.requires.images.states refl
+    let named = machine_named _ g.met.M.Machine.stands _ _ _ c.requires.can.sound refl c.requires.can.may in
+    saved_bytes _ _ _ _ _ _ _ _ _ _ named c.machine-machine.ensures c.requires.can.own c.requires.images.states refl
     (ap (map state_of) c.deref.ensures.value) c.requires.text c.deref-2.ensures
 
 pub returns-in_err-write_stream : goal.returns-in_err-write_stream
-returns-in_err-write_stream g c =
-    let p = err_from_is_err_and c.from_residual.result c.from_residual.ensures.1 in
-    saves_some c.from_residual.result (bytes_are g (goal.at.returns-in_err-write_stream g c).After-deref-2) (p.1 ∙ ap Err p.2)
-    c.in_err-write_stream.ensures
+returns-in_err-write_stream g c = search (rules, err_from_is_err_and, saves_some, bytes_are)
 
 pub returns : goal.returns
 returns g c = puts_as (bytes_are g (goal.at.returns g c).After-deref-2) c.in_ok-write_stream.ensures

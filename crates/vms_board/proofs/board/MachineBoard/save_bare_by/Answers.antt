@@ -1,13 +1,13 @@
+use Rattle.std.proofs.Common.{rules}
 use Rattle.vms_board.proofs.{board.MachineBoard.save_bare_by.Given.Over, board.MachineBoard.save_bare_by.Goals.After-deref}
-use Rattle.vms_board.proofs.Facade.{stream_with, ◌≡◌, map, ◌-◌, ◌∙◌, None, Err, ap, err_from_is_err_and, slice_get, described, state_of}
-use Rattle.vms_board.proofs.Facade.{puts_as, written, images_saved}
+use Rattle.vms_board.proofs.Facade.{stream_with, ◌≡◌, map, ◌-◌, ◌∙◌, None, ap, err_from_is_err_and, slice_get, described, state_of, puts_as}
+use Rattle.vms_board.proofs.Facade.{written, images_saved}
 use Rattle.vms_board.proofs.Imaging.{machine_named, machine_below, bare_bytes, saves_some}
 use Rattle.vms_board.proofs.board.MachineBoard.save_bare_by.Goals as goal
 
 pub write_stream-requires-clause-machine : goal.write_stream-requires-clause-machine
 write_stream-requires-clause-machine g c =
-    machine_below g.M.Machine.family g.met.M.Machine.stands c.self.inside.devices c.args.self.now.state c.args.set
-    (described c.args.own.now) c.machine-machine.result
+    machine_below _ g.met.M.Machine.stands _ _ _ _ _
     c.self.invariant.sound (ap (λ b. b.state) c.self.view_is) c.requires.may c.machine-machine.ensures c.requires.own
 
 -- the bytes written are the board's stream without a description
@@ -18,16 +18,12 @@ bytes_are g c =
     let f = g.M.Machine.family in
     let m = c.args.self.now.state in
     let same = ap (λ b. b.state) c.self.view_is in
-    let named = machine_named f g.met.M.Machine.stands c.self.inside.devices m c.args.set c.self.invariant.sound same c.requires.may in
-    bare_bytes f c.args.set m (described c.args.own.now) (map state_of c.in_ok-images.images.items) (map state_of c.deref.result.now)
-    c.machine-machine.result named (c.machine-machine.ensures ∙ ap (λ x. f.number x - 1) same) c.requires.own
+    let named = machine_named _ g.met.M.Machine.stands _ _ _ c.self.invariant.sound same c.requires.may in
+    bare_bytes _ _ _ _ _ _ _ named (c.machine-machine.ensures ∙ ap (λ x. f.number x - 1) same) c.requires.own
     (c.in_ok-images.ensures.states ∙ ap (images_saved f c.args.set) same) (ap (map state_of) c.deref.ensures.value)
 
 pub returns-in_err-write_stream : goal.returns-in_err-write_stream
-returns-in_err-write_stream g c =
-    let p = err_from_is_err_and c.from_residual-in_err-write_stream.result c.from_residual-in_err-write_stream.ensures.1 in
-    saves_some c.from_residual-in_err-write_stream.result (bytes_are g (goal.at.returns-in_err-write_stream g c).After-deref)
-    (p.1 ∙ ap Err p.2) c.in_err-write_stream.ensures
+returns-in_err-write_stream g c = search (rules, err_from_is_err_and, saves_some, bytes_are)
 
 pub returns : goal.returns
 returns g c = puts_as (bytes_are g (goal.at.returns g c).After-deref) c.in_ok-write_stream.ensures
