@@ -1,29 +1,28 @@
 -- When the slots of a part are fine, and that what the judging walk finds fine is ready.
-use Rattle.std.proofs.{Math.Bool.or-false, lemmas.Bool.cases_Bool, lemmas.Bool.cases_eq, Math.ListN.get_or-map}
+use Rattle.std.proofs.{Math.Bool.or-false, lemmas.Bool.cases_Bool, Math.ListN.get_or-map}
 use Rattle.std.proofs.lemmas.Bool.Decides.{Decides-and, Decides-eqb, Decides-like}
 use Rattle.std.specs.Bool.{Decides}
 use Rattle.vms_bodies.proofs.{PartLaws.sub_place_up, SettledLaws.its_above}
 use Rattle.vms_write.proofs.Facade.{◌≡◌, ℕ, zero, suc, ◌+◌, ◌<◌, ◌≤◌, List, [], ◌∷◌, ◌++◌, length, length-append, get_or, ℤ}
-use Rattle.vms_write.proofs.Facade.{pos, refl, sym, ap, ◌∙◌, subst, arith, Bool, true, false, ◌&&◌, ◌||◌, ◌-◌, Option, Some, None, ne_eqb}
-use Rattle.vms_write.proofs.Facade.{eq-eqb, and-true, and_assoc, same_number, in_range, counts_well, int_le, Desc, Set, Cell, no_cell, Slot, Number, Rule}
-use Rattle.vms_write.proofs.Facade.{desc_slots, desc_cells, has_cell, IsAbove, cells_first, names_append, and_swap, both_below, CellForm, no_form, are_fit}
-use Rattle.vms_write.proofs.Facade.{settle, is_fine, is_within, steps_of, table, spot_slots, Kind, own_cell_count, lesser, least_from, least_of, desc_at}
-use Rattle.vms_write.proofs.Facade.{PartAt, Ascends, below_from, from_end, desc_ascends, meanings_ascend, is_number_fine, behind, are_steps_fine, subs_fine}
-use Rattle.vms_write.proofs.Facade.{⊎_elim, OnTrue_from, OnFalse_from, get_or_from_slice_get, slice_get_within, map, not, ◌==◌, OnTrue, OnFalse, flat_map}
-use Rattle.vms_write.proofs.Facade.{slice_get, leb-true, slice_get-get_or, Device, Sub, AtLeast, no_desc, Constant, meanings, struct_cells, device_cells, Image}
-use Rattle.vms_write.proofs.Facade.{own_cells, own_slots, sub_slots, came_slots, image_slots, AreVersionsOf, RulesHold, is_needed, IsReady, come_as_needed}
-use Rattle.vms_write.proofs.Facade.{IsGood, above_none, above_append, above_less, desc_above, meanings_above, constants_append, own_constants, part_constants}
-use Rattle.vms_write.proofs.Facade.{image_are, named_fits, parts_together, same_number_is, ranged, counted_well, is_same, needed_are, are_needed, AreConstants}
-use Rattle.vms_write.proofs.Facade.{fit_slots, FitSlots, ranges, within, or_second, form_of, device_at, is_well_formed, sub_at, device_clean, sub_clean}
-use Rattle.vms_write.proofs.Facade.{sub_size, sub_place}
+use Rattle.vms_write.proofs.Facade.{pos, refl, sym, ap, ◌∙◌, subst, arith, Bool, true, false, ◌&&◌, ◌-◌, Option, Some, None, ne_eqb, eq-eqb}
+use Rattle.vms_write.proofs.Facade.{and-true, and_assoc, same_number, in_range, counts_well, int_le, Desc, Set, Cell, no_cell, Slot, Number, Rule, desc_slots}
+use Rattle.vms_write.proofs.Facade.{desc_cells, has_cell, IsAbove, cells_first, names_append, and_swap, both_below, CellForm, no_form, are_fit, settle, is_fine}
+use Rattle.vms_write.proofs.Facade.{is_within, steps_of, table, spot_slots, Kind, own_cell_count, lesser, least_from, least_of, desc_at, PartAt, Ascends}
+use Rattle.vms_write.proofs.Facade.{below_from, from_end, desc_ascends, meanings_ascend, is_number_fine, behind, are_steps_fine, subs_fine, ⊎_elim}
+use Rattle.vms_write.proofs.Facade.{OnTrue_from, OnFalse_from, get_or_from_slice_get, slice_get_within, map, ◌==◌, OnTrue, OnFalse, flat_map, slice_get}
+use Rattle.vms_write.proofs.Facade.{leb-true, slice_get-get_or, Device, Sub, AtLeast, no_desc, Constant, meanings, struct_cells, device_cells, Image, own_cells}
+use Rattle.vms_write.proofs.Facade.{own_slots, sub_slots, came_slots, image_slots, AreVersionsOf, RulesHold, IsReady, come_as_needed, IsGood, above_none}
+use Rattle.vms_write.proofs.Facade.{above_append, above_less, desc_above, meanings_above, constants_append, own_constants, part_constants, image_are}
+use Rattle.vms_write.proofs.Facade.{named_fits, parts_together, same_number_is, ranged, counted_well, is_same, needed_are, are_needed, AreConstants, fit_slots}
+use Rattle.vms_write.proofs.Facade.{FitSlots, ranges, within, or_second, form_of, device_at, is_well_formed, sub_at, device_clean, sub_clean, sub_size}
+use Rattle.vms_write.proofs.Facade.{sub_place}
 use Rattle.vms_spec.specs.Streams.{ComeAsNeeded}
 
 -- ---- parts
 
 pub fit_append : (n : List ℤ) (xs ys : List Slot) → are_fit n (xs ++ ys) ≡ (are_fit n xs && are_fit n ys)
 fit_append n [] ys = refl
-fit_append n (Number c kind caps ∷ xs) ys =
-    rw (fit_append n xs ys) (sym (and_assoc (in_range kind (get_or n c (pos 0)) && counts_well caps (get_or n c (pos 0))) (are_fit n xs) (are_fit n ys)))
+fit_append n (Number c kind caps ∷ xs) ys = grind (arith, and_assoc, fit_append n xs ys)
 fit_append n (Rule b ∷ xs) ys = rw (fit_append n xs ys) (sym (and_assoc b (are_fit n xs) (are_fit n ys)))
 fit_append n (_ ∷ xs) ys = fit_append n xs ys
 
@@ -31,9 +30,8 @@ pub settle_plus : (slots : List Slot) (forms : List CellForm) (n : List ℤ) (at
 settle_plus slots forms n at zero b = ap (settle slots forms n at) (omega arith) ∙ ap (λ x. settle slots forms n x b) (omega arith)
 settle_plus slots forms n at (suc a) b =
     let one : suc a + b ≡ suc (a + b) = omega arith in
-    let first = has_cell slots at || same_number (get_or n at (pos 0)) (get_or forms at no_form).default in
     let up : (at + 1) + a ≡ at + suc a = omega arith in
-    rw (one, settle_plus slots forms n (at + 1) a b, up) (sym (and_assoc first (settle slots forms n (at + 1) a) (settle slots forms n (at + suc a) b)))
+    rw (one, settle_plus slots forms n (at + 1) a b, up) (sym (and_assoc _ (settle slots forms n (at + 1) a) (settle slots forms n (at + suc a) b)))
 
 pub record SameCells (low end : ℕ) (xs ys : List Slot) : Type 0 where
   pub same : (c : ℕ) → low ≤ c → c < end → has_cell xs c ≡ has_cell ys c
@@ -56,8 +54,7 @@ fine_parts forms n xs ys at a b below above = search (arith, names_append, or-fa
 -- ---- capacities and the least of them
 
 lesser_within : (o : Option ℕ) (m : ℕ) (z : ℤ) → is_within (lesser o m) z ≡ (is_within o z && int_le z (pos m))
-lesser_within (Some k) m (pos a) = both_below a k m
-lesser_within _ m _ = refl
+lesser_within o m z = grind (arith, both_below)
 
 least_within : (o : Option ℕ) (caps : List ℕ) (z : ℤ) → is_within (least_from o caps) z ≡ (is_within o z && counts_well caps z)
 least_within o [] z = sym (and-true (is_within o z))
@@ -92,18 +89,12 @@ slots_fine : (forms : List CellForm) (n : List ℤ) (at end : ℕ) (xs : List Sl
 slots_fine forms n at end [] h = refl
 slots_fine forms n at end (Number c kind caps ∷ xs) h =
     let z = get_or n c (pos 0) in
-    let gap = settle [] forms n at (c - at) in
     let rest = are_steps_fine forms n (c + 1) (steps_of xs) in
     let tail = settle [] forms n (behind (c + 1) (steps_of xs)) (end - behind (c + 1) (steps_of xs)) in
-    let fits = in_range kind z && counts_well caps z in
-    rw (and_assoc (is_number_fine kind (least_of caps) z && gap) rest tail, number_fine kind caps z, slots_fine forms n (c + 1) end xs h.1)
-    (rw (settle_number forms n at end c kind caps xs h.0 h.1) (and_swap fits gap (are_fit n xs) (settle xs forms n (c + 1) (end - (c + 1)))))
-slots_fine forms n at end (Rule b ∷ xs) h =
-    let tail = settle [] forms n (behind at (steps_of xs)) (end - behind at (steps_of xs)) in
-    rw (and_assoc b (are_steps_fine forms n at (steps_of xs)) tail, slots_fine forms n at end xs h)
-    (rw (settle_other forms n (Rule b ∷ xs) xs at (end - at) (λ c. refl)) (sym (and_assoc b (are_fit n xs) (settle xs forms n at (end - at)))))
-slots_fine forms n at end (x ∷ xs) h =
-    slots_fine forms n at end xs h ∙ ap (λ b. are_fit n xs && b) (settle_other forms n xs (x ∷ xs) at (end - at) (λ c. refl))
+    rw (and_assoc (is_number_fine kind (least_of caps) z && _) rest tail, number_fine kind caps z, slots_fine forms n (c + 1) end xs h.1)
+    (rw (settle_number forms n at end c kind caps xs h.0 h.1) (and_swap _ _ (are_fit n xs) (settle xs forms n (c + 1) (end - (c + 1)))))
+slots_fine forms n at end (Rule b ∷ xs) h = grind (arith, and_assoc, settle_other, slots_fine forms n at end xs h)
+slots_fine forms n at end (x ∷ xs) h = grind (arith, settle_other, slots_fine forms n at end xs h)
 
 -- ---- a part of a set
 
@@ -127,12 +118,10 @@ part_is set spot forms n end e =
 fit_decides : (n : List ℤ) (slots : List Slot) → AreConstants slots → Decides (are_fit n slots) (FitSlots n slots × RulesHold slots)
 fit_decides n [] k = (λ e. (tt, tt), λ h. refl)
 fit_decides n (Number c kind caps ∷ slots) k =
-    let z = get_or n c (pos 0) in
     Decides-like _ (λ h. ((h.0.0, h.0.1, h.1.0), h.1.1)) (λ h. ((h.0.0, h.0.1), (h.0.2, h.1)))
-    (Decides-and _ _ (Decides-and _ _ (ranges kind z, ranged kind z) (within caps z, counted_well caps z)) (fit_decides n slots k))
+    (Decides-and _ _ (Decides-and _ _ (ranges kind _, ranged kind _) (within caps _, counted_well caps _)) (fit_decides n slots k))
 fit_decides n (Constant kind z ∷ slots) k = Decides-like _ (λ h. ((k.0, h.0), h.1)) (λ h. (h.0.1, h.1)) (fit_decides n slots k.1)
-fit_decides n (Rule b ∷ slots) k =
-    Decides-like _ (λ h. (h.1.0, (h.0, h.1.1))) (λ h. (h.1.0, (h.0, h.1.1))) (Decides-and b _ (λ e. e, λ e. e) (fit_decides n slots k))
+fit_decides n (Rule b ∷ slots) k = grind (arith, fit_decides n slots k)
 fit_decides n (_ ∷ slots) k = fit_decides n slots k
 
 -- ---- cells that are in the slots or at their defaults
@@ -140,18 +129,7 @@ fit_decides n (_ ∷ slots) k = fit_decides n slots k
 settle_decides : (slots : List Slot) (forms : List CellForm) (n : List ℤ) (from k : ℕ) → Decides (settle slots forms n from k)
     ((c : ℕ) → from ≤ c → c < from + k → has_cell slots c ≡ false → get_or n c (pos 0) ≡ (get_or forms c no_form).default)
 settle_decides slots forms n from zero = (λ e c le lt bare. absurd (omega arith), λ h. refl)
-settle_decides slots forms n from (suc k) =
-    let z = get_or n from (pos 0) in
-    let default = (get_or forms from no_form).default in
-    let here : Decides (has_cell slots from || same_number z default) (has_cell slots from ≡ false → z ≡ default) = (
-      λ e bare. same_number_is z default (or_second (has_cell slots from) (same_number z default) e bare),
-      λ h. ⊎_elim (λ (t : has_cell slots from ≡ true). rw t refl) (λ (f : has_cell slots from ≡ false). rw f (is_same z default (h f)))
-          (cases_Bool (has_cell slots from)),
-    ) in
-    Decides-like _ (λ h c le lt bare. ⊎_elim (λ (same : c ≡ from). rw same (h.0 (rw same at bare)))
-    (λ (ne : c ≡ from → ⊥). h.1 c (omega arith) (omega arith) bare) (cases_eq c from))
-    (λ h. (λ bare. h from (omega arith) (omega arith) bare, λ c le lt bare. h c (omega arith) (omega arith) bare))
-    (Decides-and _ _ here (settle_decides slots forms n (from + 1) k))
+settle_decides slots forms n from (suc k) = grind (arith, same_number_is, or_second, is_same, settle_decides slots forms n (from + 1) k)
 
 -- ---- the subsections
 
@@ -183,22 +161,18 @@ came_fine set d forms image j at [] (o ∷ came) e = absurd (omega arith)
 came_fine set d forms image j at (s ∷ subs) [] e = absurd (omega arith)
 came_fine set d forms image j at (s ∷ subs) (None ∷ came) e =
     let n = image.numbers in
-    let unneeded = not (is_needed set d image s j) in
-    let later = come_as_needed set d image (suc j) subs came in
     let rest = came_slots set d n (at + sub_size set s) subs came in
     let none : IsBelow (at + sub_size set s) [] = record { above = λ c le. refl } in
     rw (fine_parts forms n [] rest at (sub_size set s) (subs_size set subs) none (came_above set d n (at + sub_size set s) subs came))
     (rw (← came_fine set d forms image (suc j) (at + sub_size set s) subs came (omega arith))
-    (and_swap unneeded later (settle [] forms n at (sub_size set s)) (is_fine forms n rest (at + sub_size set s) (subs_size set subs))))
+    (and_swap _ _ (settle [] forms n at (sub_size set s)) (is_fine forms n rest (at + sub_size set s) (subs_size set subs))))
 came_fine set d forms image j at (s ∷ subs) (Some v ∷ came) e =
     let n = image.numbers in
-    let needed = is_needed set d image s j && v == s.desc.version in
-    let later = come_as_needed set d image (suc j) subs came in
     let here = sub_slots set s v n at in
     let rest = came_slots set d n (at + sub_size set s) subs came in
     rw (fine_parts forms n here rest at (sub_size set s) (subs_size set subs) (part_below set s.desc v n at) (came_above set d n (at + sub_size set s) subs came))
     (rw (← came_fine set d forms image (suc j) (at + sub_size set s) subs came (omega arith))
-    (and_swap needed later (is_fine forms n here at (sub_size set s)) (is_fine forms n rest (at + sub_size set s) (subs_size set subs))))
+    (and_swap _ _ (is_fine forms n here at (sub_size set s)) (is_fine forms n rest (at + sub_size set s) (subs_size set subs))))
 
 -- what the walk returns for a device
 abbrev pub device_fine : Set → Device → List CellForm → Image → Bool

@@ -4,11 +4,11 @@ use Rattle.vms_write.proofs.Facade.{wrote_fault, err_from_is_err_and, AllPass-fr
 use Rattle.vms_write.proofs.Facade.{◌∷◌, length, length-drop, get_or, drop, sym, arith, true, map, ℤ, pos, refl, ap, ◌∙◌, and_parts, length-map}
 use Rattle.vms_write.proofs.Facade.{Set, is_name, first_fault, is_well_formed, device_at, sub_at, none_is, device_clean, sub_clean, Kind, Cell, device_cells}
 use Rattle.vms_write.proofs.Facade.{form_of, Held, defaults_at, no_form, formed_of, formed, forms_of, cases_lt, ⊎_elim, Some, get_or-map, slice_get-get_or}
-use Rattle.vms_write.proofs.Facade.{slice_get_within, get_or_from_slice_get, slice_get, U8, MOST_ITEMS, Device, Slot, Number, Constant, no_cell, no_desc, Image}
-use Rattle.vms_write.proofs.Facade.{own_cells, own_slots, sub_place, sub_slots, IsReady, AreReady, AreCells, FitsHeads, own_constants, part_constants, sub_are}
-use Rattle.vms_write.proofs.Facade.{own_are, versions_long, kinds_at, few_cells, good_of, CanWrite, Typed, IsImageOf, AreImagesOf, Rule, ◌++◌, take, Option}
-use Rattle.vms_write.proofs.Facade.{None, ◌&&◌, drop_more, desc_cells, struct_cells, zeroed, steps_of, WalkStep, CanSteps, CanStep, bytes_of, codes_of}
-use Rattle.vms_write.proofs.Facade.{run_of, Sub, AtLeast, written_subs, written_section, written_sections, first_cell, sub_next, CellForm, sub_fine, subs_fine}
+use Rattle.vms_write.proofs.Facade.{slice_get_within, get_or_from_slice_get, slice_get, MOST_ITEMS, Device, Slot, Number, Constant, no_desc, Image, own_cells}
+use Rattle.vms_write.proofs.Facade.{own_slots, sub_place, sub_slots, IsReady, AreReady, AreCells, FitsHeads, own_constants, part_constants, sub_are, own_are}
+use Rattle.vms_write.proofs.Facade.{versions_long, kinds_at, few_cells, good_of, CanWrite, Typed, IsImageOf, AreImagesOf, Rule, ◌++◌, take, Option, None}
+use Rattle.vms_write.proofs.Facade.{◌&&◌, drop_more, desc_cells, struct_cells, zeroed, steps_of, WalkStep, CanSteps, CanStep, bytes_of, codes_of, run_of}
+use Rattle.vms_write.proofs.Facade.{Sub, AtLeast, written_subs, written_section, written_sections, first_cell, sub_next, CellForm, sub_fine, subs_fine}
 use Rattle.vms_write.proofs.Facade.{written_sub, AreConstants}
 use Rattle.std.proofs.Common.{Result, IsErrAnd}
 use Rattle.vms_io.specs.{Told.Outlet, Writing.Stops, Writing.Wrote}
@@ -25,8 +25,7 @@ failed r e is p = let fault = err_from_is_err_and r is in wrote_fault r _ fault.
 module _ (set : Set) (well : is_well_formed set ≡ true) where
   pub machine_short : (m : ℕ) (name : List ℕ) → m < length set.machines → name ≡ get_or set.machines m name → length name ≤ 64
   machine_short m name lt e =
-      let clean = set_clean set (none_is (first_fault set) well) in
-      name_short 64 name (rw e (AllPass-from_list_all (is_name 64) set.machines clean.own.0 m name lt))
+      name_short 64 name (rw e (AllPass-from_list_all (is_name 64) set.machines (set_clean set (none_is (first_fault set) well)).own.0 m name lt))
 
   pub device_short : (i : ℕ) → i < length set.devices → length (device_at set i).desc.name ≤ 100
   device_short i lt = name_short 100 (device_at set i).desc.name (device_clean set well i lt).own.0
@@ -62,8 +61,7 @@ default_in (kind ∷ kinds) (z ∷ numbers) (suc k) lt = let r = default_in kind
 
 can_write : (cells : List Cell) (slots : List Slot) → AreCells cells slots → AreConstants slots → CanWrite (map (λ c. c.kind) cells) slots
 can_write cells [] are k = tt
-can_write cells (Number a kind caps ∷ slots) are k =
-    (get_or-map (λ c. c.kind) cells a no_cell U8 are.0.within ∙ are.0.kind, can_write cells slots are.1 k)
+can_write cells (Number a kind caps ∷ slots) are k = search (arith, get_or-map, can_write cells slots are.1 k)
 can_write cells (Constant kind z ∷ slots) are k = (k.0, can_write cells slots are k.1)
 can_write cells (_ ∷ slots) are k = (tt, can_write cells slots are k)
 

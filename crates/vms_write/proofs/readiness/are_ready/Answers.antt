@@ -1,5 +1,5 @@
-use Rattle.vms_write.proofs.Facade.{OnTrue_at, OnFalse_at, ◌<◌, length, map, sym, ap, ◌∙◌, arith, length-map, device_of, described}
-use Rattle.vms_write.proofs.Facade.{state_of, states_long, state_at, image_at}
+use Rattle.vms_write.proofs.Facade.{OnTrue_at, OnFalse_at, ◌<◌, length, map, sym, ap, ◌∙◌, arith, length-map, device_of, described, state_of}
+use Rattle.vms_write.proofs.Facade.{states_long, state_at, image_at}
 use Rattle.vms_write.proofs.Sections.{none_so_far, one_more, not_all, all_ready, all_of}
 use Rattle.vms_write.proofs.readiness.are_ready.Goals as goal
 
@@ -36,5 +36,4 @@ returns-clause-ready c =
     (omega (arith, states_long images))
 
 pub returns-clause-of : goal.returns-clause-of
-returns-clause-of c =
-    all_of (described c.args.set.now) c.args.images.now _ c.loop-device.invariant.of c.loop-device.invariant.long c.loop-device-test.false
+returns-clause-of c = grind (arith, all_of)

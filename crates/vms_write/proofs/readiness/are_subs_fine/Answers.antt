@@ -1,14 +1,10 @@
+use Rattle.vms_write.proofs.Facade.{rules, ◌+◌, ◌&&◌, drop, ap, sym, ◌∙◌, arith, first_cell, described, device_at, state_of, sub_first}
 use Rattle.vms_write.proofs.{Facade.subs_fine, Facade.forms_of, Sections.subs_fine_next}
-use Rattle.vms_write.proofs.Facade.{◌+◌, ◌&&◌, drop, ap, sym, ◌∙◌, arith, own_cells, first_cell, described, device_at, state_of, sub_first}
 use Rattle.vms_spec.specs.declared.Part.TheVariants as parts
 use Rattle.vms_write.proofs.readiness.are_subs_fine.Goals as goal
 
 pub loop-sub-init : goal.loop-sub-init
-loop-sub-init c =
-    let set = described c.args.set.now in
-    let d = device_at set c.args.device in
-    let image = state_of c.args.image.now in
-    rw (sub_first set (own_cells set d) d.subs)
+loop-sub-init c = search (rules, sub_first)
 
 pub loop-sub-preserved : goal.loop-sub-preserved
 loop-sub-preserved c =

@@ -1,19 +1,14 @@
+use Rattle.vms_write.proofs.Facade.{rules}
 use Rattle.vms_write.proofs.Facade.{forms_of, ◌≡◌, arith, ◌+◌, ◌-◌, own_cell_count, described, device_at, sub_at, sub_inside}
 use Rattle.vms_write.proofs.Sections.{formed_defaults, formed_long}
 use Rattle.vms_write.proofs.readiness.is_bare.Goals as goal
 
 pub overflow_add-end : goal.overflow_add-end
 overflow_add-end c =
-    let set = described c.args.set.now in
-    omega (arith, sub_inside set c.args.device c.args.sub c.requires.is_sub)
+    omega (arith, sub_inside (described c.args.set.now) c.args.device c.args.sub c.requires.is_sub)
 
 pub are_default-requires : goal.are_default-requires
-are_default-requires c =
-    let set = described c.args.set.now in
-    record {
-      forms = formed_long set c.args.device c.defaults.result.now c.args.image.now.numbers c.defaults.ensures.defaults c.requires.device.cells;
-      end = omega (arith, sub_inside set c.args.device c.args.sub c.requires.is_sub);
-    }
+are_default-requires c = search (rules, formed_long, sub_inside)
 
 pub returns : goal.returns
 returns c =

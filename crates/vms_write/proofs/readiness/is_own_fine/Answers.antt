@@ -1,17 +1,8 @@
-use Rattle.vms_write.proofs.{Facade.rules, Facade.arith, Facade.described, Facade.own_inside_device, Sections.formed_defaults, Sections.formed_long}
+use Rattle.vms_write.proofs.{Facade.rules, Facade.described, Facade.own_inside_device, Sections.formed_defaults, Sections.formed_long}
 use Rattle.vms_write.proofs.readiness.is_own_fine.Goals as goal
 
 pub is_part_fine-requires : goal.is_part_fine-requires
-is_part_fine-requires c =
-    let set = described c.args.set.now in
-    record {
-      spot = record {
-        part = c.requires.device.is_device;
-        few = c.requires.device.few;
-        room = omega (arith, own_inside_device set c.args.device);
-      };
-      forms = formed_long set c.args.device c.defaults.result.now c.args.image.now.numbers c.defaults.ensures.defaults c.requires.device.cells;
-    }
+is_part_fine-requires c = search (rules, own_inside_device, formed_long)
 
 pub returns-then-version-device : goal.returns-then-version-device
 returns-then-version-device c =

@@ -1,5 +1,4 @@
-use Rattle.vms_write.proofs.Facade.{rules, OnTrue_from, OnFalse_from, OnFalse_at, ◌≡◌, sym, ◌∙◌, true, false, IsReady, described, device_at}
-use Rattle.vms_write.proofs.Facade.{IsImageOf, state_of}
+use Rattle.vms_write.proofs.Facade.{rules, OnTrue_from, OnFalse_from, OnFalse_at, true, IsReady, described, device_at, IsImageOf, state_of}
 use Rattle.vms_write.proofs.readiness.may_be_written.Goals as goal
 
 pub ready-requires-clause-subs : goal.ready-requires-clause-subs
@@ -19,8 +18,4 @@ returns-then-is_of c =
     }
 
 pub returns-else-is_of : goal.returns-else-is_of
-returns-else-is_of c =
-    let set = described c.args.set.now in
-    let none : IsImageOf set c.args.device c.args.image.now → IsReady set (device_at set c.args.device) (state_of c.args.image.now) → ⊥ =
-    λ of r. (let both : true ≡ false = sym (c.is_of.ensures.1 of) ∙ c.if-is_of.false in cc) in
-    record { ready = search rules; of = search rules; other = OnFalse_from _ _ (λ is. none) }
+returns-else-is_of c = search rules

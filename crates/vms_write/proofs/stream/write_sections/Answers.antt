@@ -1,6 +1,6 @@
-use Rattle.vms_write.proofs.{stream.write_sections.Given.Over, stream.write_sections.Goals.After-write_section-arg-1, Facade.written_sections}
 use Rattle.vms_write.proofs.Facade.{◌≡◌, ◌+◌, ◌<◌, ◌++◌, length, drop, map, arith, refl, Some, slice_get, slice_get-get_or, described}
 use Rattle.vms_write.proofs.Facade.{device_at, state_of, states_long, state_at, at_state, image_at, leaves_all, leaves_rest, leaves_stop, written_section}
+use Rattle.vms_write.proofs.{stream.write_sections.Given.Over, stream.write_sections.Goals.After-write_section-arg-1, Facade.written_sections}
 use Rattle.vms_write.proofs.Sections.{failed, sections_at}
 use Rattle.vms_write.proofs.stream.write_sections.Goals as goal
 
@@ -23,9 +23,7 @@ loop-device-preserved g c =
 
 pub write_section-requires-clause-kinds : goal.write_section-requires-clause-kinds
 write_section-requires-clause-kinds g c =
-    let i = c.loop-device.device in
-    let image = c.index-images-device.result in
-    (c.requires.of.each i image (image_at c.args.images.now i image c.loop-device-test.true c.index-images-device.is)).kinds
+    (c.requires.of.each _ _ (image_at c.args.images.now _ _ c.loop-device-test.true c.index-images-device.is)).kinds
 
 pub write_section-requires-clause-ready : goal.write_section-requires-clause-ready
 write_section-requires-clause-ready g c =

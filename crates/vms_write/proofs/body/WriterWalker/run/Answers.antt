@@ -1,4 +1,4 @@
-use Rattle.vms_write.proofs.Facade.{[], refl, ◌∙◌, puts_none, wrote_as, run_each, CanStep}
+use Rattle.vms_write.proofs.Facade.{rules, [], refl, puts_none, wrote_as, run_each, CanStep}
 use Rattle.vms_write.proofs.Sections.{run_bytes}
 use Rattle.vms_write.proofs.body.WriterWalker.run.Goals as goal
 
@@ -8,6 +8,4 @@ codes-requires-clause-one g c =
     run_each (CanStep w.image.now.kinds) c.args.first c.args.count c.args.kind (λ ys rest x e. c.requires.may [] ys rest x w (refl, refl, puts_none _) e)
 
 pub returns : goal.returns
-returns g c =
-    let bytes = c.codes.ensures ∙ run_bytes c.args.self.now.image.now.numbers c.args.kind c.args.first c.args.count c.requires.room in
-    (refl, refl, wrote_as c.append.result _ _ bytes c.append.ensures)
+returns g c = search (rules, run_bytes, wrote_as)
