@@ -6,10 +6,9 @@ use Rattle.vms_frames.proofs.Facade.{slice_index, take, None, ◌∙◌, length-
 use Rattle.vms_frames.proofs.Facade.{big_number, Kind, width, value_of, IsBadBool, is_bad_bool, Magic, Number, raw_same, bad_same, magic, AMagic, Field, raw}
 use Rattle.vms_frames.proofs.Facade.{seen, nothing_known, ◌==◌, nat_lt, take_all, eq-eqb, ne_eqb, get_or-take, length-take-le, Long, Start, Foot, head_in}
 use Rattle.vms_frames.proofs.Facade.{sub_head_in, AfterFields, text_at, Section, step_long, unit_of_step, in_section, head_seen, start_seen, IsStartReason}
-use Rattle.vms_frames.proofs.Facade.{sub_seen, foot_seen, ReadsTrailer, LONGEST_DESCRIPTION, ◌-◌, ◌∷◌, Option, Result, Intake, Takes, Breaks}
-use Rattle.vms_frames.proofs.Facade.{reads_behind, reads_last, longest_text, Description, AfterEnd, trailer_at, FrameFault, ReadFault, AnswersEnd, ReadsEnd}
+use Rattle.vms_frames.proofs.Facade.{sub_seen, foot_seen, ReadsTrailer, ◌-◌, ◌∷◌, Option, Result, Intake, Takes, Breaks, reads_behind, reads_last}
+use Rattle.vms_frames.proofs.Facade.{longest_text, Description, AfterEnd, trailer_at, FrameFault, ReadFault, AnswersEnd, ReadsText, if_both}
 use Rattle.std.proofs.{Common.Result, Math.Bool.and-false, lemmas.List.get_or_append_left, lemmas.List.drop-append-le}
-use Rattle.vms_frames.proofs.Facade.{IsLong, ReadsText, if_both}
 use Rattle.vms_spec.specs.{Layout.Number as NumberSlot, Units.SubHead as ASub, Units.Mark}
 use Rattle.vms_stream.specs.Dues.{Between as IsBetween}
 use Rattle.vms_spec.specs.declared.Reason.TheVariants as reasons
@@ -27,7 +26,7 @@ big_append i zero xs ys h = refl
 big_append i (suc k) xs ys h = rw (byte_of_unit i xs ys (omega arith), big_append (suc i) k xs ys (omega arith))
 
 pub number_of_unit : (k i : ℕ) (unit rest : List ℕ) → i + k ≤ length unit → number_at k i (unit ++ rest) ≡ number_at k i unit
-number_of_unit k i unit rest h = rw (drop-append-le i unit rest (omega arith)) (big_append 0 k (drop i unit) rest (omega (arith, length-drop i unit)))
+number_of_unit k i unit rest h = rw (drop-append-le i unit rest (omega arith)) (big_append 0 _ _ _ (omega (arith, length-drop i unit)))
 
 pub bytes_of_unit : (n i : ℕ) (unit rest : List ℕ) → i + n ≤ length unit → bytes_at n i (unit ++ rest) ≡ bytes_at n i unit
 bytes_of_unit n i unit rest h = rw (drop-append-le i unit rest (omega arith), take-append-le n (drop i unit) rest (omega (arith, length-drop i unit)))
@@ -221,10 +220,7 @@ trailing_row b = simp and-false refl
 
 other_there : (b : ℕ) (more : List ℕ) → (b ≡ 0x06 → ⊥) → seen AfterEnd nothing_known (b ∷ more) ≡ Bad 1 reasons.Trailing
 unfolding trailer_at
-other_there b more other =
-    rw (ne_eqb b 0x06 other)
-    (seen_whole AfterEnd nothing_known 1 (b ∷ more) (Mark b) (omega arith) ∙ ap (λ o. seen_by o (Mark b) 1)
-    (trailing_row b))
+other_there b more other = grind (arith, seen_whole, trailing_row)
 
 -- the read of its first byte failed
 pub trailer_broken : {a b : Intake} (at : ℕ) → Breaks a b 1 → ReadsTrailer a b at (Err ReadFault)
@@ -236,21 +232,10 @@ trailer_broken at p = record { bytes = p.bytes; takes = p.takes; long = omega ar
 -- another byte came
 pub trailer_other : {a b : Intake} (at c : ℕ) (fault : FrameFault) → Takes a b (c ∷ []) → (c ≡ 0x06 → ⊥) → fault ≡ Refused at reasons.Trailing
     → ReadsTrailer a b at (Err fault)
-trailer_other {a} {b} at c fault p other same =
-    rw same (record {
-      bytes = c ∷ [];
-      takes = p;
-      long = omega arith;
-      says = λ more f. (refl, rw (other_there c more other) (refl, refl));
-      cause = tt;
-    })
+trailer_other {a} {b} at c fault p other same = search (arith, other_there)
 
 -- the mark of a description came
 pub trailer_on : {a b c : Intake} (at : ℕ) (r : Result ℕ FrameFault) → Takes a b (0x06 ∷ []) → ReadsText b c (0x06 ∷ []) at r → ReadsTrailer a c at r
-trailer_on at (Ok n) p h =
-    let w =
-    reads_behind {M = IsLong {X = Unit {0}} (λ _. (at + n) - at) LONGEST_DESCRIPTION (Ok tt)} {Q = λ rest left. ReadsEnd at (at + n) (Some rest)
-    (Some left) (Ok tt)} (λ k l. omega arith) (λ rest left q. rw q.0 (refl, q.1)) p h in
-    reads_last w
+trailer_on at (Ok n) p h = grind (arith, reads_behind, reads_last)
 trailer_on at (Err (Refused place reason)) p h = reads_behind (λ k l. l) (λ rest left q. q) p h
 trailer_on at (Err ReadFault) p h = reads_behind (λ k l. l) (λ rest left q. tt) p h

@@ -10,10 +10,9 @@ pub returns-clause-grown : goal.returns-clause-grown
 returns-clause-grown g c =
     let one = c.in_ok-grow.ensures.grown in
     let i = c.args.front - 1 in
-    let mid = c.grow.new.unit.items in
-    let byte : get_or c.deref.result.now i 0 ≡ get_or mid i 0 = ap (λ l. get_or l i 0) c.deref.ensures.0 in
+    let byte : get_or c.deref.result.now i 0 ≡ get_or c.grow.new.unit.items i 0 = ap (λ l. get_or l i 0) c.deref.ensures.0 in
     on_ok_weaker c.grow-2.result (λ two.
-    let kept = kept_byte i mid c.grow-2.new.unit.items two.kept (omega arith) in
+    let kept = kept_byte i _ _ two.kept (omega arith) in
     grown_both _ (omega arith) one two) c.grow-2.ensures.grown
 
 pub returns-clause-cut : goal.returns-clause-cut
@@ -24,6 +23,6 @@ returns-clause-cut g c =
     let low : get_or c.deref.result.now i 0 < 256 = search rules in
     let mid = intake g.S.Source c.grow.new.source in
     let new = intake g.S.Source c.grow-2.new.source in
-    IfErr-weaker c.grow-2.result (CutsShort mid new c.args.at (get_or c.deref.result.now i 0 + c.args.rest))
+    IfErr-weaker _ (CutsShort mid new c.args.at (get_or c.deref.result.now i 0 + c.args.rest))
     (CutsHead (intake g.S.Source c.args.source.now) new c.args.at c.args.unit.now.items c.args.front c.args.rest)
     (λ fault cut. AfterFront mid c.grow.new.unit.items one (omega arith) (rw byte at cut)) c.grow-2.ensures.cut

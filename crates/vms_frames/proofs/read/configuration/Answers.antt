@@ -55,8 +55,4 @@ returns g c =
     }
 
 pub returns-in_err-grow : goal.returns-in_err-grow
-returns-in_err-grow g c = record {
-  reads =
-      unit_short (a_step configuration_seen) _ _ _ _ c.from_residual.ensures.1 (omega arith) c.in_err-grow.ensures.cut
-      (λ rest lt. text_begins (IsBetween true false) nothing_known 0x07 LONGEST_NAME AUnit c.args.unit.items rest (omega arith));
-}
+returns-in_err-grow g c = search (rules, unit_short, text_begins)

@@ -4,9 +4,7 @@ use Rattle.vms_frames.proofs.ReadsUnits.{a_step, unit_on, unit_whole, head_short
 use Rattle.vms_frames.proofs.read.section.Goals as goal
 
 pub of-requires : goal.of-requires
-of-requires g c =
-    let grown = c.in_ok-grow_head.ensures.grown in
-    rw c.deref.ensures.0 (omega arith)
+of-requires g c = grind arith
 
 pub returns-clause-reads : goal.returns-clause-reads
 returns-clause-reads g c =

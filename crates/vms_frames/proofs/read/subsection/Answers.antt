@@ -3,9 +3,7 @@ use Rattle.vms_frames.proofs.{ReadsUnits.unit_on, Facade.sub_head_in, ReadsUnits
 use Rattle.vms_frames.proofs.read.subsection.Goals as goal
 
 pub of-requires : goal.of-requires
-of-requires g c =
-    let grown = c.in_ok-grow_head.ensures.grown in
-    rw c.deref.ensures.0 (omega arith)
+of-requires g c = grind arith
 
 pub returns : goal.returns
 returns g c =
