@@ -2,25 +2,17 @@
 use Rattle.dev_due.proofs.Facade.{Answer, AreTurns, Board, Bool, Clock, ClockState, Event, Finds, Found, FoundAt, FoundSend, FoundSends, IfSome, IsBy, IsEnd}
 use Rattle.dev_due.proofs.Facade.{IsLoadedBy, IsSegment, IsSentAfter, IsShift, IsSound, IsTurn, Isa, LAST_MOMENT, LoadedBy, None, OneIsDue, Option, Rtc}
 use Rattle.dev_due.proofs.Facade.{SameClock, SameLine, Shift, Shown, Some, State, Tried, Turns, Wait, acted, advanced, after_act, ap, arith, board_int}
-use Rattle.dev_due.proofs.Facade.{cases_lt, character_of, clock_int, counter_of, devices_of, edge_of, ends_within, false, false_from_ne_true, false≢true}
-use Rattle.dev_due.proofs.Facade.{follows_line, has_come, inl, inputs_of, inr, later_by, le-leb, length, line_of, loaded, lt-leb, not_from_false, or_right}
-use Rattle.dev_due.proofs.Facade.{out_of, passed, period_in, pit-later, pit_edge, pit_out, refl, settled, shows, shows_at, shows_of, step, sym, timer_of, true}
-use Rattle.dev_due.proofs.Facade.{waited, wires_after, wires_of, ℕ, ⊎_elim, ◌*◌, ◌+◌, ◌-◌, ◌<◌, ◌==◌, ◌∙◌, ◌≡◌, ◌≤◌}
-use Rattle.dev_due.proofs.Facade.{◌⊎◌}
+use Rattle.dev_due.proofs.Facade.{cases_lt, character_of, clock_int, devices_of, edge_of, ends_within, false, false_from_ne_true, follows_line, has_come, inl}
+use Rattle.dev_due.proofs.Facade.{inputs_of, inr, later_by, le-leb, length, line_of, loaded, lt-leb, not_from_false, or_right, out_of, passed, period_in}
+use Rattle.dev_due.proofs.Facade.{pit-later, pit_edge, pit_out, refl, settled, shows, shows_at, shows_of, step, sym, timer_of, true, waited, wires_after}
+use Rattle.dev_due.proofs.Facade.{wires_of, ℕ, ⊎_elim, ◌*◌, ◌+◌, ◌-◌, ◌<◌, ◌==◌, ◌∙◌, ◌≡◌, ◌≤◌, ◌⊎◌}
 use Rattle.dev_due.proofs.PortLaws.{Covers, IsBase, LeavesBy, covers}
 use Rattle.dev_clock.specs.Step.{acted as clock_acted, step as clock_step, waited as clock_waited}
 
 -- ---- a board is next due at one wait at most
 
 pub one_is_due : {S : Type 0} (step : Event → S → Answer × S) (int : S → Bool) → OneIsDue step int
-one_is_due step int m None None h l = refl
-one_is_due step int m None (Some second) h l = absurd (false≢true (sym (h second) ∙ l.0))
-one_is_due step int m (Some first) None h l = absurd (false≢true (sym (l first) ∙ h.0))
-one_is_due step int m (Some first) (Some second) h l = ⊎_elim
-    (λ (f : first < second). absurd (false≢true (sym (l.1 first f) ∙ h.0)))
-    (λ (f : second ≤ first). ⊎_elim (λ (g : second < first). absurd (false≢true (sym (h.1 second g) ∙ l.0)))
-    (λ (g : first ≤ second). ap (λ (n : ℕ). Some n) (omega arith))
-    (cases_lt second first)) (cases_lt first second)
+one_is_due step int m h3 h4 h l = grind arith
 
 -- ---- what was found is when the board is next due: bounds of a sound board
 
@@ -34,9 +26,6 @@ module _ (m : State) (sound : IsSound m) where
 
   pub few : length m.serial.transmitter.waiting ≤ 16
   few = sound.devices.serial.transmitter.short.short
-
-  pub loaded_now : LoadedBy m.moment (counter_of 0 m.pit).loaded_at
-  loaded_now = loaded m sound.devices 0 (omega arith)
 
   pub loaded_later : (later : ℕ) → m.moment ≤ later → IsLoadedBy later m.pit
   loaded_later later l = pit-later m.moment later m.pit (loaded m sound.devices) l
@@ -75,9 +64,7 @@ module _ {board : Board} {old new : Option ℕ} (f : Finds board old new) where
 pub next_sends : (board : Board) (old new : Option ℕ) (due left sent : ℕ) → ((k : ℕ) → k < left → FoundSend board (due + k * character_of board) old)
     → Finds board old new
     → sent ≡ due + left * character_of board → FoundSend board sent new → (k : ℕ) → k < left + 1 → FoundSend board (due + k * character_of board) new
-next_sends board old new due left sent all finds e here k h = ⊎_elim
-    (λ (l : k < left). keep_send finds (all k l))
-    (λ (l : left ≤ k). let last : k ≡ left = omega arith in rw (last, ← e) here) (cases_lt k left)
+next_sends board old new due left sent all finds e here k h = grind (arith, keep_send)
 
 -- ---- what a wait shows: OUT of counter 0 and its edge, the serial line, and the bytes that left
 
@@ -150,12 +137,7 @@ same-any : (board : Board) (at to : ℕ) → now_of board ≤ at → at ≤ LAST
     → edge_of (timer_of board) (now_of board) at ≡ edge_of (timer_of board) (now_of board) to → out_of (timer_of board) at ≡ out_of (timer_of board) to
     → SameLine (devices_of board).serial at to → SameClock board at to → shows_at board at ≡ shows_at board to
 unfolding pit_edge pit_out
-same-any (Isa devices) at to ha la ht lt edge out line clock =
-    same-shows step board_int (λ m. m.moment) ended wait-at devices.now at to ha la ht lt
-    (same-at devices.now at to (record { edge = edge; out = out; line = line.line; sent = line.sent }))
-same-any (Clock devices) at to ha la ht lt edge out line clock =
-    same-shows clock_step clock_int (λ m. m.board.moment) clock-at clock-wait-at devices.now at to ha la ht lt
-    (same-clock-at devices.now at to (record { edge = edge; out = out; line = line.line; sent = line.sent }) clock)
+same-any board at to ha la ht lt edge out line clock = search (arith, same-shows, wait-at, same-at, clock-at, clock-wait-at, same-clock-at)
 
 -- where the base and the moments at which OUT may turn after it were tried, all that shows in its segments was found
 pub found_from : (board : Board) (base : ℕ) (turns : Turns) (found : Option ℕ) → LoadedBy (now_of board) (timer_of board).loaded_at
@@ -174,8 +156,8 @@ found_from board base turns found loaded are here first second third = record { 
         let t = are (now_of board) to loaded s.from s.upto in
         let from : now_of board ≤ t.at = omega arith in
         let last : t.at ≤ LAST_MOMENT = omega arith in
-        let same = same-any board t.at to from last (omega arith) s.last t.edge t.out (s.line t.at t.from t.upto) (s.clock t.at t.from t.upto) in
-        by_later t.at to found t.upto ((by-turn t.at t.is).by (record { from = from; last = last; shows = cc }))
+        let same = same-any _ _ _ from last (omega arith) s.last t.edge t.out (s.line t.at t.from t.upto) (s.clock t.at t.from t.upto) in
+        by_later _ _ _ t.upto ((by-turn t.at t.is).by (record { from = from; last = last; shows = cc }))
 
 -- ---- the clock chip
 
@@ -186,7 +168,7 @@ same-chip chip now at to e = rw e
 same-clock : (board : Board) (end : Option ℕ) (at to : ℕ) → IsEnd board end → now_of board ≤ at → now_of board ≤ to → has_come end at ≡ has_come end to
     → SameClock board at to
 same-clock (Isa devices) end at to is ha ht e = tt
-same-clock (Clock devices) end at to is ha ht e = same-chip devices.now.clock devices.now.board.moment at to (is.ends at ha ∙ e ∙ sym (is.ends to ht))
+same-clock (Clock devices) end at to is ha ht e = same-chip _ _ _ _ (is.ends at ha ∙ e ∙ sym (is.ends to ht))
 
 module _ (board : Board) (base to : ℕ) (found : Option ℕ) (from : now_of board ≤ base) (upto : base ≤ to) (last : to ≤ LAST_MOMENT)
     (line : (at : ℕ) → base ≤ at → at ≤ to → SameLine (devices_of board).serial at to) (e : shows_at board to ≡ true) (here : Found board base found) where
@@ -196,18 +178,17 @@ module _ (board : Board) (base to : ℕ) (found : Option ℕ) (from : now_of boa
 
   -- a segment that the end of a period may cut
   by-clock : (end : Option ℕ) → IsEnd board end → FoundAt board end found → IsBy to found
-  by-clock None is ends = in-one (λ at low high. same-clock board None at to is (omega arith) (omega arith) refl)
+  by-clock None is ends = in-one (λ at low high. same-clock _ None _ _ is (omega arith) (omega arith) refl)
   by-clock (Some end) is ends =
       let same : ((at : ℕ) → base ≤ at → at ≤ to → has_come (Some end) at ≡ has_come (Some end) to) → IsBy to found =
-      λ h. in-one (λ at low high. same-clock board (Some end) at to is (omega arith) (omega arith) (h at low high)) in
+      λ h. in-one (λ at low high. same-clock _ _ _ _ is (omega arith) (omega arith) (h at low high)) in
       ⊎_elim (λ (f : to < end). same (λ at low high. lt-leb end at (omega arith) ∙ sym (lt-leb end to f)))
-      (λ (f : end ≤ to). ⊎_elim
-      (λ (g : base < end). ends.by to (record {
+      (λ (f : end ≤ to). ⊎_elim (λ (g : base < end). ends.by to (record {
         from = omega arith;
         upto = f;
         last = last;
         line = λ at low high. line at (omega arith) high;
-        clock = λ at low high. same-clock board (Some end) at to is (omega arith) (omega arith) (le-leb end at low ∙ sym (le-leb end to f));
+        clock = λ at low high. same-clock _ _ _ _ is (omega arith) (omega arith) (le-leb end at low ∙ sym (le-leb end to f));
       }) e)
       (λ (g : end ≤ base). same (λ at low high. le-leb end at (omega arith) ∙ sym (le-leb end to f))) (cases_lt base end)) (cases_lt to end)
 
@@ -229,10 +210,7 @@ module _ (board : Board) (found : Option ℕ) (sound : IsSound (devices_of board
     (timeout : FoundAt board (devices_of board).serial.receiver.timeout found)
     (sends : FoundSends board (devices_of board).serial.transmitter.shift found) where
   at-base : (base : ℕ) → IsBase (devices_of board).serial (now_of board) base → Found board base found
-  at-base base (inl own) = rw own now_found
-  at-base base (inr (inl own)) = rw own at timeout
-  at-base base (inr (inr (shift, own, (k, few, inl is)))) = rw is ((rw own at sends) k few).leaves
-  at-base base (inr (inr (shift, own, (k, few, inr is)))) = rw is ((rw own at sends) k few).ends
+  at-base base h1 = grind arith
 
   at-first : (shift : Shift) → (devices_of board).serial.transmitter.shift ≡ Some shift → Tried board shift.due found
   at-first shift own = let now : shift.due + 0 * character_of board ≡ shift.due = omega arith in rw now at ((rw own at sends) 0 (omega arith)).tried
@@ -247,11 +225,10 @@ module _ (board : Board) (found : Option ℕ) (sound : IsSound (devices_of board
       let later : now_of board < l.shift.due = rw (l.sends) at is-sent in
       let from : now_of board ≤ l.shift.due = omega arith in
       let last : l.shift.due ≤ LAST_MOMENT = omega arith in
-      by_later l.shift.due at found l.by
-      ((at-first l.shift l.sends).by (record { from = from; last = last; shows = leaves-shows board l.shift.due from last l.some }))
+      by_later _ _ _ l.by ((at-first l.shift l.sends).by (record { from = from; last = last; shows = leaves-shows _ _ from last l.some }))
 
   pub all_found : (end : Option ℕ) → IsEnd board end → FoundAt board end found → (at : ℕ) → Shown board at → IsBy at found
-  all_found end is ends at s = by-cover end is ends at s (covers (devices_of board).serial (now_of board) at s.from is-sent)
+  all_found end is ends at s = by-cover _ is ends _ s (covers _ _ _ s.from is-sent)
 
 -- ---- the wait that was found
 
@@ -267,7 +244,7 @@ shown-there : (board : Board) (ns : ℕ) → (devices_of board).moment ≤ LAST_
 shown-there board ns h e = record { from = omega arith; last = omega arith; shows = cc (shows-reached board ns h) }
 
 pub none_due : (board : Board) → (devices_of board).moment ≤ LAST_MOMENT → ((at : ℕ) → Shown board at → IsBy at None) → (ns : ℕ) → shows_of board ns ≡ false
-none_due board h all ns = false_from_ne_true (shows_of board ns) (λ e. all (reached board ns) (shown-there board ns h e))
+none_due board h all ns = false_from_ne_true (shows_of board ns) (λ e. all (reached board ns) (shown-there _ _ h e))
 
 pub some_due : (board : Board) (found : ℕ) → (devices_of board).moment ≤ LAST_MOMENT → Shown board found → ((at : ℕ) → Shown board at → IsBy at (Some found))
     → (shows_of board (found - (devices_of board).moment) ≡ true) × ((ns : ℕ) → ns < found - (devices_of board).moment → shows_of board ns ≡ false)

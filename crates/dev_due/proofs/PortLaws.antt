@@ -1,9 +1,9 @@
 -- The serial port's line while time passes.
 use Rattle.dev_due.proofs.Facade.{Bool, IsSentAfter, List, None, Option, Port, ReceiverState, SameLine, Shift, Some, [], advanced, advances_in_parts, ap}
 use Rattle.dev_due.proofs.Facade.{append-nil, arith, bytes_of-timetable, cases_lt, character-positive, character_time, departures, either, false, gone, has}
-use Rattle.dev_due.proofs.Facade.{holding, if◌then◌else◌, inl, inr, interrupt, is_some, le-leb, length, line_of, loops_at_moment, lt-leb, mode_of, nat_le}
-use Rattle.dev_due.proofs.Facade.{nat_lt, nat_tests, received, refl, run_until, same_Some, staying, still, suc, sym, timetable, true, waits_until_due, ℕ}
-use Rattle.dev_due.proofs.Facade.{⊎_elim, ◌&&◌, ◌*◌, ◌++◌, ◌+◌, ◌<◌, ◌==◌, ◌∙◌, ◌∷◌, ◌≡◌, ◌≤◌, ◌⊎◌}
+use Rattle.dev_due.proofs.Facade.{holding, inl, inr, interrupt, is_some, le-leb, length, line_of, loops_at_moment, lt-leb, mode_of, nat_tests, received, refl}
+use Rattle.dev_due.proofs.Facade.{run_until, same_Some, staying, still, sym, timetable, true, waits_until_due, ℕ, ⊎_elim, ◌*◌, ◌++◌, ◌+◌}
+use Rattle.dev_due.proofs.Facade.{◌<◌, ◌==◌, ◌∙◌, ◌∷◌, ◌≡◌, ◌≤◌, ◌⊎◌}
 use Rattle.dev_serial.specs.Port.{has_come}
 
 -- ---- nothing leaves
@@ -39,7 +39,7 @@ module _ (base to : ℕ) (port : Port) (l : base ≤ to) (h : IsSentAfter to (af
   p = after base port
 
   at : (c : ℕ) → base ≤ c → c ≤ to → advanced c port ≡ advanced base port
-  at c low high = stays base c port low (sent_after p.transmitter.shift c to high h)
+  at c low high = stays _ _ _ low (sent_after _ _ _ high h)
 
   one : (c : ℕ) → base ≤ c → c ≤ to → has_come c p.receiver.timeout ≡ has_come to p.receiver.timeout → SameLine port c to
   one c low high e = record {
@@ -55,17 +55,16 @@ module _ (base to : ℕ) (port : Port) (l : base ≤ to) (h : IsSentAfter to (af
     pub span : IsSpan port begin to
 
   at-base : ((c : ℕ) → base ≤ c → c ≤ to → has_come c p.receiver.timeout ≡ has_come to p.receiver.timeout) → Begins
-  at-base same = record { begin = base; from = omega arith; is = inl refl; span = record { upto = l; same = λ c low high. one c low high (same c low high) } }
+  at-base same = record { begin = base; from = omega arith; is = inl refl; span = record { upto = l; same = λ c low high. one _ low high (same c low high) } }
 
   begins-by : (timeout : Option ℕ) → p.receiver.timeout ≡ timeout → Begins
   begins-by None e = at-base (λ c low high. rw e refl)
   begins-by (Some timeout) e = ⊎_elim (λ (f : to < timeout). at-base (λ c low high. rw e (grind (arith, nat_tests))))
-      (λ (f : timeout ≤ to). ⊎_elim
-      (λ (g : base < timeout). record {
+      (λ (f : timeout ≤ to). ⊎_elim (λ (g : base < timeout). record {
         begin = timeout;
         from = omega arith;
         is = inr e;
-        span = record { upto = f; same = λ c low high. one c (omega arith) high (rw e (grind (arith, nat_tests))) };
+        span = record { upto = f; same = λ c low high. one _ (omega arith) high (rw e (grind (arith, nat_tests))) };
       })
       (λ (g : timeout ≤ base). at-base (λ c low high. rw e (grind (arith, nat_tests)))) (cases_lt base timeout)) (cases_lt to timeout)
 
@@ -85,9 +84,7 @@ sent-transmitter : (port : Port) (shift : Shift) → port.transmitter.shift ≡ 
     → (after shift.due port).transmitter ≡ holding
     (timetable (character_time port.divisor port.lcr) (shift.due + character_time port.divisor port.lcr) port.transmitter.waiting)
 unfolding advanced run_until departures timetable staying
-sent-transmitter port shift e =
-    let character = character_time port.divisor port.lcr in
-    rw (e, le-leb shift.due shift.due (omega arith), next-stays character shift.due port.transmitter.waiting (character-positive port.divisor port.lcr)) refl
+sent-transmitter port shift e = grind (arith, next-stays, character-positive)
 
 -- and a timeout of the receiver that took it in
 abbrev IsTimeout : Option ℕ → ℕ → Option ℕ → Type 0
@@ -96,25 +93,16 @@ IsTimeout old new timeout = (timeout ≡ old) ⊎ (timeout ≡ Some new)
 received-timeout : (port : Port) (byte at : ℕ) (receiver : ReceiverState)
     → IsTimeout receiver.timeout (at + 4 * character_time port.divisor port.lcr) (received (mode_of port) byte at receiver).timeout
 unfolding received
-received-timeout port byte at receiver =
-    let new = at + 4 * character_time port.divisor port.lcr in
-    let P = λ (r : ReceiverState). IsTimeout receiver.timeout new r.timeout in
-    let runs : IsTimeout receiver.timeout new (if (nat_le 3 port.level && is_some port.fifos) then Some new else receiver.timeout) =
-    either (IsTimeout receiver.timeout new) (nat_le 3 port.level && is_some port.fifos) _ _ (inr refl) (inl refl) in
-    either P (is_some port.fifos) _ _ (either P (nat_lt (length receiver.held) 16) _ _ runs runs)
-    (either P (length receiver.held == 0) _ _ (inl refl) (inl refl))
+received-timeout port byte at receiver = grind (arith, is_some, either)
 
 sent-timeout : (port : Port) (shift : Shift) → has port.mcr 4 ≡ true → port.transmitter.shift ≡ Some shift
     → IsTimeout port.receiver.timeout (shift.due + 4 * character_time port.divisor port.lcr) (after shift.due port).receiver.timeout
 sent-timeout port shift l e = rw ((loops_at_moment port shift l e).1) (received-timeout port shift.byte shift.due port.receiver)
 
-some_left : (n : ℕ) → (suc n == 0) ≡ false
-some_left n = grind (arith, nat_tests)
-
 -- without loop mode the byte leaves
 pub leaves : (port : Port) (shift : Shift) → has port.mcr 4 ≡ false → port.transmitter.shift ≡ Some shift → (length (advanced shift.due port).0 == 0) ≡ false
 unfolding advanced departures timetable gone
-leaves port shift l e = rw (l, e, le-leb shift.due shift.due (omega arith)) (some_left _)
+leaves port shift l e = rw (l, e, le-leb shift.due shift.due (omega arith)) (grind (arith, nat_tests))
 
 -- ---- where spans begin
 
@@ -137,7 +125,7 @@ pub record Covers (port : Port) (now to : ℕ) : Type 0 where
 cover-from : (base to : ℕ) (port : Port) (now : ℕ) → base ≤ to → IsSentAfter to (after base port).transmitter.shift → now ≤ base → IsBase port now base
     → ((begin : ℕ) → (after base port).receiver.timeout ≡ Some begin → IsBase port now begin) → Covers port now to
 cover-from base to port now l h from here timed =
-    let b = begins base to port l h in
+    let b = begins _ _ port l h in
     let is : IsBase port now b.begin = ⊎_elim (λ own. rw own here) (timed b.begin) b.is in
     record { base = b.begin; from = let later = b.from in omega arith; is = is; span = b.span }
 
@@ -181,8 +169,8 @@ module _ (port : Port) (now to : ℕ) (looped : has port.mcr 4 ≡ true) (shift 
   -- a span that begins at this moment, or where the timeout comes
   covered : (k base : ℕ) (p : Port) → Reached k base p → base ≤ to → IsSentAfter to p.transmitter.shift → Covers port now to
   covered k base p r l h =
-      cover-from base to port now l (rw (r.is) at h) r.from r.begins_there
-      (λ begin e. since-base k p.receiver.timeout begin r.few (ap (λ (q : Port). q.receiver.timeout) r.is ∙ e) r.timeout)
+      cover-from _ _ _ _ l (rw (r.is) at h) r.from r.begins_there
+      (λ begin e. since-base _ _ _ r.few (ap (λ (q : Port). q.receiver.timeout) r.is ∙ e) r.timeout)
 
   -- the port after k bytes left, of which the next is due at its moment, and which holds these bytes still
   record Holds (k : ℕ) (bytes : List ℕ) (p : Port) : Type 0 where
@@ -218,15 +206,13 @@ module _ (port : Port) (now to : ℕ) (looped : has port.mcr 4 ≡ true) (shift 
 
   -- by induction on the bytes that are still held
   cover-loop : (bytes : List ℕ) (k base : ℕ) (p : Port) → Reached k base p → Holds k bytes p → base ≤ to → base ≤ shift.due + k * character → Covers port now to
-  cover-loop [] k base p r h l later =
-      covered k base p r l (rw (h.transmitter, none-shift (shift.due + k * character)) tt)
+  cover-loop [] k base p r h l later = covered _ _ _ r l (rw (h.transmitter, none-shift (shift.due + k * character)) tt)
   cover-loop (byte ∷ bytes) k base p r h l later =
       let due = shift.due + k * character in
       let first : Shift = record { byte = byte; due = due } in
       let e : p.transmitter.shift ≡ Some first = cc (first-shift due byte bytes) in
-      ⊎_elim (λ (f : to < due). covered k base p r l (rw e f))
-      (λ (f : due ≤ to).
-      cover-loop bytes (k + 1) due (after due p) (next-reached k base due p first r e refl (omega arith) later) (record {
+      ⊎_elim (λ (f : to < due). covered k base p r l (rw e f)) (λ (f : due ≤ to).
+      cover-loop bytes (k + 1) due (after due p) (next-reached _ _ due _ _ r e refl (omega arith) later) (record {
         transmitter = let next : due + character ≡ shift.due + (k + 1) * character = omega arith in
             cc (sent-transmitter p first e, r.time, next, first-waiting due byte bytes);
         all = omega arith;
@@ -234,14 +220,12 @@ module _ (port : Port) (now to : ℕ) (looped : has port.mcr 4 ≡ true) (shift 
 
   whole : port.transmitter ≡ holding (timetable character (shift.due + 0 * character) (shift.byte ∷ port.transmitter.waiting))
   unfolding holding timetable
-  whole =
-      let due : shift.due + 0 * character ≡ shift.due = omega arith in
-      rw (bytes_of-timetable character (shift.due + 0 * character + character) port.transmitter.waiting, due, ← sends) refl
+  whole = grind (arith, bytes_of-timetable)
 
   -- from the present moment
   cover-now : now ≤ to → now < shift.due → Covers port now to
   cover-now l h =
-      cover-loop (shift.byte ∷ port.transmitter.waiting) 0 now port (record {
+      cover-loop (shift.byte ∷ port.transmitter.waiting) 0 _ port (record {
         is = sym (ap (λ (x : List ℕ × Port). x.1) (waits_until_due now port shift sends h));
         loops = looped;
         time = refl;
@@ -261,21 +245,18 @@ pub record LeavesBy (port : Port) (to : ℕ) : Type 0 where
 -- nothing leaves up to a moment
 at-once : (port : Port) (now to : ℕ) → now ≤ to → IsSentAfter to port.transmitter.shift → Covers port now to
 at-once port now to l h =
-    let same : after now port ≡ port = ap (λ (x : List ℕ × Port). x.1) (still now port (sent_after port.transmitter.shift now to l h)) in
-    cover-from now to port now l (rw same h) (omega arith) (inl refl) (λ begin e. inr (inl (rw same at e)))
+    let same : after now port ≡ port = ap (λ (x : List ℕ × Port). x.1) (still now port (sent_after _ _ _ l h)) in
+    cover-from _ _ _ _ l (rw same h) (omega arith) (inl refl) (λ begin e. inr (inl (rw same at e)))
 
 by-mode : (looped : Bool) (port : Port) (now to : ℕ) (shift : Shift) → has port.mcr 4 ≡ looped → port.transmitter.shift ≡ Some shift → now ≤ to
     → now < shift.due → shift.due ≤ to → Covers port now to ⊎ LeavesBy port to
-by-mode true port now to shift l e h d f = inl (cover-now port now to l shift e h d)
-by-mode false port now to shift l e h d f = inr (record { shift = shift; sends = e; by = f; some = leaves port shift l e })
+by-mode true port now to shift l e h d f = inl (cover-now _ _ _ l _ e h d)
+by-mode false port now to shift l e h d f = inr (record { shift = shift; sends = e; by = f; some = leaves _ _ l e })
 
 by-shift : (shift : Option Shift) (port : Port) (now to : ℕ) → port.transmitter.shift ≡ shift → now ≤ to → IsSentAfter now shift
     → Covers port now to ⊎ LeavesBy port to
-by-shift None port now to e h d = inl (at-once port now to h (rw e tt))
-by-shift (Some shift) port now to e h d = ⊎_elim
-    (λ (f : to < shift.due). inl (at-once port now to h (rw e f)))
-    (λ (f : shift.due ≤ to). by-mode (has port.mcr 4) port now to shift refl e h d f) (cases_lt to shift.due)
+by-shift shift port now to e h d = grind (arith, at-once, by-mode)
 
 -- up to any moment the line stays from one of the port's moments on, or a byte left
 pub covers : (port : Port) (now to : ℕ) → now ≤ to → IsSentAfter now port.transmitter.shift → Covers port now to ⊎ LeavesBy port to
-covers port now to h d = by-shift port.transmitter.shift port now to refl h d
+covers port now to h d = by-shift _ _ _ _ refl h d

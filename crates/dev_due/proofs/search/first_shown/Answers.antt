@@ -7,10 +7,9 @@ returns-clause-shown c =
 
 pub returns-clause-first : goal.returns-clause-first
 returns-clause-first c =
-    let found = c.tried_at.result in
     let last = c.tried_at.ensures.finds in
     let second = finds_on c.tried_sends-first.ensures.finds last in
-    all_found c.args.board found c.devices-devices.ensures.sound
+    all_found c.args.board c.tried_at.result c.devices-devices.ensures.sound
     (rw (c.now.ensures.moment, c.devices-devices.ensures.same) at (keep_found (finds_on c.tried_at-first.ensures.finds second) c.tried_from-first.ensures.found))
     (rw (c.timeout.ensures) at (keep_at second c.timeout.result c.tried_at-first.ensures.found))
     (rw (c.shift.ensures.shift) at (keep_sends last c.shift.result c.tried_sends-first.ensures.sends))

@@ -1,3 +1,4 @@
+use Rattle.dev_due.proofs.Facade.{rules}
 use Rattle.dev_due.proofs.DueLaws.{found_from, finds_on, keep_tried}
 use Rattle.dev_due.proofs.search.tried_from.Goals as goal
 
@@ -10,9 +11,4 @@ returns-clause-tried c =
     keep_tried (finds_on c.tried-first-2.ensures.finds (finds_on c.tried-first-3.ensures.finds c.tried.ensures.finds)) c.tried-first.ensures.tried
 
 pub returns-clause-found : goal.returns-clause-found
-returns-clause-found c =
-    let last = c.tried.ensures.finds in
-    let third = finds_on c.tried-first-3.ensures.finds last in
-    found_from c.args.board c.args.base c.turns-turns.result c.tried.result c.turns-turns.ensures.loaded c.turns-turns.ensures.turns
-    (keep_tried (finds_on c.tried-first-2.ensures.finds third) c.tried-first.ensures.tried)
-    (keep_tried third c.tried-first-2.ensures.tried) (keep_tried last c.tried-first-3.ensures.tried) c.tried.ensures.tried
+returns-clause-found c = search (rules, finds_on, found_from, keep_tried)

@@ -1,25 +1,13 @@
+use Rattle.dev_due.proofs.Facade.{rules}
 use Rattle.dev_due.proofs.Facade.{arith}
 use Rattle.dev_due.proofs.DueLaws.{finds_on, finds_same, next_sends}
 use Rattle.dev_due.proofs.search.tried_sends.Goals as goal
 
 pub loop-init : goal.loop-init
-loop-init c = record {
-  finds = finds_same c.args.board c.args.first;
-  sends = λ k h. absurd (omega arith);
-  sent = omega arith;
-  bound = omega arith;
-}
+loop-init c = search (rules, finds_same)
 
 pub loop-preserved : goal.loop-preserved
-loop-preserved c =
-    let before = c.loop.invariant in
-    record {
-      finds = finds_on before.finds c.tried_send-first.ensures.finds;
-      sends = next_sends c.args.board c.loop.first c.tried_send-first.result c.in-Some.shift.due c.loop.counter c.loop.sent before.sends
-          c.tried_send-first.ensures.finds before.sent c.tried_send-first.ensures.send;
-      sent = omega arith;
-      bound = omega arith;
-    }
+loop-preserved c = search (rules, finds_on, next_sends)
 
 pub tried_send-first-requires : goal.tried_send-first-requires
 tried_send-first-requires c = omega (arith, rw (c.in-Some.is) at c.requires)

@@ -8,5 +8,4 @@ returns-in_err-at c =
     rw none (none_due (Clock c.args.devices) c.in_err-at.ensures.moment c.in_err-at.ensures.first)
 
 pub returns : goal.returns
-returns c =
-    rw c.now.ensures.moment (some_due (Clock c.args.devices) c.in_ok-at.at c.in_ok-at.ensures.moment c.in_ok-at.ensures.shown c.in_ok-at.ensures.first)
+returns c = rw c.now.ensures.moment (some_due _ _ c.in_ok-at.ensures.moment c.in_ok-at.ensures.shown c.in_ok-at.ensures.first)
