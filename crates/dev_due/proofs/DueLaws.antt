@@ -12,7 +12,7 @@ use Rattle.dev_clock.specs.Step.{acted as clock_acted, step as clock_step, waite
 -- ---- a board is next due at one wait at most
 
 pub one_is_due : {S : Type 0} (step : Event → S → Answer × S) (int : S → Bool) → OneIsDue step int
-one_is_due step int m h3 h4 h l = grind arith
+one_is_due step int m first second h l = grind arith
 
 -- ---- what was found is when the board is next due: bounds of a sound board
 
@@ -210,7 +210,7 @@ module _ (board : Board) (found : Option ℕ) (sound : IsSound (devices_of board
     (timeout : FoundAt board (devices_of board).serial.receiver.timeout found)
     (sends : FoundSends board (devices_of board).serial.transmitter.shift found) where
   at-base : (base : ℕ) → IsBase (devices_of board).serial (now_of board) base → Found board base found
-  at-base base h1 = grind arith
+  at-base base held = grind arith
 
   at-first : (shift : Shift) → (devices_of board).serial.transmitter.shift ≡ Some shift → Tried board shift.due found
   at-first shift own = let now : shift.due + 0 * character_of board ≡ shift.due = omega arith in rw now at ((rw own at sends) 0 (omega arith)).tried
