@@ -1,14 +1,14 @@
 -- Images with the same bytes have the same numbers.
 use Rattle.std.proofs.{lemmas.List.get_or-map, lemmas.List.length-map, lemmas.Option.slice_get-get_or}
-use Rattle.std.proofs.Common.{◌≡◌, true, ℕ, ◌<◌, List, length, get_or, map, pos, sym, subst, ap, ◌∙◌, arith, Some}
+use Rattle.std.proofs.Common.{◌≡◌, true, ℕ, ◌<◌, List, length, get_or, map, sym, ap, ◌∙◌, arith, Some}
 use Rattle.vms_kinds.specs.declared.Kind.{Kind, TheVariants.U8}
 use Rattle.vms_spots.proofs.SpotLaws.{numbers_are}
-use Rattle.vms_spots.specs.Spots.{AreOf, number_at, raw_of, spots_of}
+use Rattle.vms_spots.specs.Spots.{AreOf, raw_of}
 use Rattle.vms_spec.specs.{Layout.device_cells, Layout.no_cell, Sets.Set, Streams.AreReady}
 use Rattle.vms_desc.specs.{Formed.is_well_formed, Described.device_at, Spots.kinds_at}
 use Rattle.vms_image.proofs.States.{state_at, states_long}
 use Rattle.vms_image.specs.Typed.{AreImagesOf, IsOfDevice, Typed, state_of}
-use Rattle.vms_selfdesc.proofs.Lengths.{no_device, ready_device}
+use Rattle.vms_selfdesc.proofs.Lengths.{ready_device}
 use Rattle.vms_selfdesc.specs.Alike.{HaveKinds}
 
 -- Of an image of a list that is ready: it is its device's, and at its version, and its numbers are of its kinds.
@@ -27,13 +27,13 @@ kept set well images ready of k lt image is =
     let same : length (kinds_at set k) ≡ length cells = length-map cells (λ x. x.kind) in
     let inside : k < length (map state_of images) = omega (arith, states_long images) in
     let there : k < length set.devices = omega (arith, ready.one_each) in
-    let seen = state_at images k image lt is in
-    let state = slice_get-get_or (map state_of images) k (state_of image) inside ∙ ap (λ x. Some x) (sym seen) in
-    let r = ready.ready k (device_at set k) (state_of image) (slice_get-get_or set.devices k no_device there) state in
-    let kinds = (of.each k image (slice_get-get_or images k image lt ∙ ap (λ x. Some x) (sym is))).kinds in
+    let seen = state_at _ _ image lt is in
+    let state = slice_get-get_or _ _ (state_of image) inside ∙ ap (λ x. Some x) (sym seen) in
+    let r = ready.ready k (device_at set k) (state_of image) (slice_get-get_or _ _ _ there) state in
+    let kinds = (of.each k image (slice_get-get_or _ _ _ lt ∙ ap (λ x. Some x) (sym is))).kinds in
     record {
       seen = seen;
-      of = ready_device set well (map state_of images) ready k (state_of image) inside seen;
+      of = ready_device _ well _ ready _ _ inside seen;
       version = r.version;
       kinds = kinds;
       fit = rw kinds (record {

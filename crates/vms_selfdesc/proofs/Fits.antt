@@ -1,15 +1,15 @@
 -- The length and the number of the entries of fields, and what well-formed sets say of names, sizes
 -- and depths.
-use Rattle.vms_selfdesc.proofs.Facade.{AllByRecursion, all_both, all_more, cases_lt, inl, inr, ◌≡◌, ℕ, zero, suc, ◌+◌, ◌*◌, ◌<◌, ◌≤◌, List, ◌∷◌, ◌++◌, length}
-use Rattle.vms_selfdesc.proofs.Facade.{length-append, get_or, ℤ, Bool, true, append-nil, and-true, false, ◌&&◌, refl, arith, codes, [], get_or-eq_default}
-use Rattle.vms_selfdesc.proofs.Facade.{mul-le-mul_right, quoted, compact_text, number_text, of_integer, Item, Kind, Num, Equal, Unused, Struct, width}
-use Rattle.vms_selfdesc.proofs.Facade.{MOST_ITEMS, MOST_UNUSED, Count, One, Field, Desc, is_there, no_desc, no_parent, first, item_size, field_cells}
-use Rattle.vms_selfdesc.proofs.Facade.{capacity_of, elements_of, numbers_of, item_count, items_in, item_depth, deepest, elements_fit, first_at, first_long}
-use Rattle.vms_selfdesc.proofs.Facade.{width_small, kind_word, Shape, no_shape, shape, cells_in, field_elements, elements_from, desc_elements, Entry}
-use Rattle.vms_selfdesc.proofs.Facade.{cell_entry, listed_if, entries_of, item_entries, element_path, element_entries, array_entries, entry_tree, IsPlain}
-use Rattle.vms_selfdesc.proofs.Facade.{◌^◌, pos, negsuc, nat_le, list_all, and_parts, leb-true, length-decimal-le, lowest, highest, Part, Set, counted}
-use Rattle.vms_selfdesc.proofs.Facade.{no_field, is_name, int_le, in_range, defaults_well, counts_well, is_small_item, is_small_optional, field_rules}
-use Rattle.vms_selfdesc.proofs.Facade.{struct_depths, has_few, deepest_small, is_well_formed, HasPart, desc_at, AllTrue, reach, field_sound, struct_clean}
+use Rattle.vms_selfdesc.proofs.Facade.{AllByRecursion, all_both, all_more, cases_lt, inl, inr, ◌≡◌, ℕ, zero, suc, ◌+◌, ◌*◌, ◌<◌, ◌≤◌}
+use Rattle.vms_selfdesc.proofs.Facade.{List, ◌∷◌, ◌++◌, length, length-append, get_or, ℤ, Bool, true, append-nil, and-true, false, ◌&&◌, refl}
+use Rattle.vms_selfdesc.proofs.Facade.{arith, codes, [], get_or-eq_default, mul-le-mul_right, quoted, compact_text, number_text, of_integer, Item, Kind, Num}
+use Rattle.vms_selfdesc.proofs.Facade.{Equal, Unused, Struct, width, MOST_ITEMS, MOST_UNUSED, Count, One, Field, Desc, is_there, no_desc, no_parent, first}
+use Rattle.vms_selfdesc.proofs.Facade.{item_size, field_cells, capacity_of, elements_of, numbers_of, item_count, items_in, item_depth, deepest, elements_fit}
+use Rattle.vms_selfdesc.proofs.Facade.{first_at, first_long, width_small, kind_word, Shape, no_shape, shape, cells_in, field_elements, elements_from}
+use Rattle.vms_selfdesc.proofs.Facade.{desc_elements, Entry, cell_entry, listed_if, entries_of, item_entries, element_path, element_entries, array_entries}
+use Rattle.vms_selfdesc.proofs.Facade.{entry_tree, IsPlain, ◌^◌, pos, negsuc, nat_le, and_parts, leb-true, length-decimal-le, lowest, highest, Part, Set}
+use Rattle.vms_selfdesc.proofs.Facade.{no_field, int_le, in_range, defaults_well, is_small_item, field_rules, struct_depths, has_few, deepest_small}
+use Rattle.vms_selfdesc.proofs.Facade.{is_well_formed, HasPart, desc_at, AllTrue, reach, field_sound, struct_clean}
 use Rattle.vms_selfdesc.proofs.OfElements.{of_append, of_dotted, plain_is, of_field, of_desc}
 use Rattle.vms_selfdesc.proofs.Plain.{IsShort, plain_append, element_plain, element_long, dot_plain, key_long, sent_long, absent_long, word_short, name_short}
 use Rattle.vms_kinds.specs.declared.Kind.TheVariants as kinds
@@ -52,7 +52,7 @@ both : {C D E : Type 0} {a b v w : ℕ} {xs ys : List Entry} (most : ℕ) → Li
     → Listed E (a + b) most (xs ++ ys)
 both {xs = xs} {ys = ys} most f g le le' part = record {
   few = omega (arith, length-append xs ys);
-  long = λ e. all_both _ xs ys (longer _ most xs le (f.long (part e).0)) (longer _ most ys le' (g.long (part e).1));
+  long = λ e. all_both _ _ _ (longer _ _ _ le (f.long (part e).0)) (longer _ _ _ le' (g.long (part e).1));
 }
 
 -- ---- a structure
@@ -112,15 +112,14 @@ module _ (one : List ℕ → ℕ → List Entry) (w c : ℕ) (S : Type 0)
   elements_listed path at step i zero m le = record { few = omega arith; long = λ h. tt }
   elements_listed path at step i (suc n) m le =
       let element = element_path path i in
-      let most = length path + 7 + w in
       let e = each element at in
-      let here : Listed (IsPlain path × S × (m * c ≤ MOST_ITEMS)) c most (one element at) = record {
+      let here : Listed (IsPlain path × S × (m * c ≤ MOST_ITEMS)) c (length path + 7 + w) (one element at) = record {
         few = e.few;
-        long = λ h. few_each c i m most _ (omega arith) h.2 e.few
-            (λ lt few. longer _ most _ (omega (arith, element_long path i lt)) (e.long (element_plain path i (omega arith) h.0, h.1, few)));
+        long = λ h. few_each _ i _ _ _ (omega arith) h.2 e.few
+            (λ lt few. longer _ _ _ (omega (arith, element_long path i lt)) (e.long (element_plain _ _ (omega arith) h.0, h.1, few)));
       } in
       let more : suc n * c ≡ c + n * c = grind arith in
-      rw more (both most here (elements_listed path (at + step) step (suc i) n m (omega arith)) (omega arith) (omega arith) (λ h. (h, h)))
+      rw more (both _ here (elements_listed path (at + step) step (suc i) n m (omega arith)) (omega arith) (omega arith) (λ h. (h, h)))
 
   array_listed : (count : Count) (n : ℕ) (path : List ℕ) (at step : ℕ) → n ≤ capacity_of count
       → Listed (IsPlain path × S × (capacity_of count * c ≤ MOST_ITEMS)) (capacity_of count * c) (length path + 7 + w) (array_entries one count n path at step)
@@ -142,12 +141,12 @@ module _ (ss : List Shape) (sizes depths : List ℕ) (fit : FitTables ss sizes d
         let there = sent && is_there f.test f.since v own no_parent in
         let es =
         array_listed (item_entries ss f.item f.default there n) (40 * item_depth depths f.item + 68) (item_count sizes f.item) (IsSmall f.item f.default)
-        (λ path at. item_listed ss sizes depths fit f.item f.default there n path at) f.count (elements_of f.count own) (path ++ f.name) at
+        (λ path at. item_listed _ _ _ fit _ _ _ _ _ _) f.count (elements_of f.count own) (path ++ f.name) at
         (item_size (cells_in ss) f.item) (elements_fit f.count own) in
         rw (of_field ss fields v own sent path n i at f) (record {
           few = es.few;
           long = λ h. longer _ _ _ (omega (arith, length-append path f.name))
-              (es.long (plain_append path f.name h.0 h.1.name.plain, h.1.small, h.2));
+              (es.long (plain_append _ _ h.0 h.1.name.plain, h.1.small, h.2));
         })
 
     fields_listed : (i at : ℕ) (fs : List Field)
@@ -215,7 +214,7 @@ module _ (ds : List Desc) (most : ℕ) (sound : (j : ℕ) → j < most → AreSo
       (at_number j (λ i l. each_made k i (omega arith) (omega arith))) (get_or ds j no_desc) (sound j (omega arith))
 
   pub tables_fit : (k : ℕ) → k ≤ most → FitTables (first shape ds k) (first items_of_desc ds k) (first depth_of_desc ds k)
-  tables_fit k le = at_number k (λ j lt. each_made k j le lt)
+  tables_fit k le = at_number k (λ j lt. each_made _ _ le lt)
 
 -- ---- what well-formed sets say of names, sizes and depths: a number of 64 bits has at most 20 bytes
 
@@ -239,11 +238,7 @@ small_item : (item : Item) (z : ℤ) → defaults_well item z ≡ true → is_sm
 small_item item z e f = grind (arith, default_short)
 
 sound_field : (k : ℕ) (d : Desc) (i : ℕ) (f : Field) → AllTrue (field_rules k d i f) → IsSoundField f
-sound_field k d i f rules =
-    let names = and_parts (is_name 32 f.name) (list_all (is_name 32) f.former) rules.0 in
-    let defaults = and_parts (defaults_well f.item f.default) (counts_well (counted i d.fields) f.default) rules.1.1.1.1.1.0 in
-    let limits = and_parts (nat_le (length f.former) 8 && is_small_optional f.test) (is_small_item f.item) rules.1.1.1.1.1.1.0 in
-    record { name = name_short 32 f.name names.0; small = small_item f.item f.default defaults.0 limits.1 }
+sound_field k d i f rules = search (arith, name_short, small_item)
 
 are_sound : (fs : List Field) → ((i : ℕ) → i < length fs → IsSoundField (get_or fs i no_field)) → AreSound fs
 are_sound [] h = tt
@@ -264,4 +259,4 @@ module _ (set : Set) (well : is_well_formed set ≡ true) where
   ]
 
   pub fields_flat : (fs : List Field) → deepest (struct_depths set.structs) fs ≤ 4
-  fields_flat fs = deepest_small (struct_depths set.structs) 4 fs struct_flat
+  fields_flat fs = deepest_small _ 4 _ struct_flat

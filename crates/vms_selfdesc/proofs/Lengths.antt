@@ -1,15 +1,14 @@
 -- How long the text of the described tree is, and that ready images are images of their devices.
 use Rattle.vms_selfdesc.proofs.{Facade.AllByRecursion, Facade.clock_heads, Facade.by_number, ReadBack.reads_whole}
 use Rattle.vms_selfdesc.proofs.Facade.{clock_formed, fit_number, ShortLaw, ShippedLaw, ClockLaw, ◌≡◌, ℕ, suc, ◌+◌, ◌≤◌, length, List}
-use Rattle.vms_selfdesc.proofs.Facade.{◌∷◌, map, Bool, false, Option, Some, None, ℤ, pos, negsuc, refl, arith, is_some, [], Data, object, array, depth}
-use Rattle.vms_selfdesc.proofs.Facade.{items_of, has_float, Sub, Device, Set, desc_cells, struct_cells, Image, own_cells, Entry, with_value, sent_members}
-use Rattle.vms_selfdesc.proofs.Facade.{entry_tree, sub_members, sub_trees, device_members, device_trees, described_tree, described_text, get_or, ◌*◌}
-use Rattle.vms_selfdesc.proofs.Facade.{◌<◌, length-append, true, codes, mul-le-mul_left, mul-le-mul_right, AtLeast, no_desc, escape_byte, Members}
-use Rattle.vms_selfdesc.proofs.Facade.{no_members, member, quoted, members_text, boolean, compact_text, items_text, MOST_ITEMS, Field, Desc, items_in}
-use Rattle.vms_selfdesc.proofs.Facade.{struct_items, subs_items, devices_items, struct_depths, deepest, is_well_formed, shapes, part_entries, ap, sym}
-use Rattle.vms_selfdesc.proofs.Facade.{◌∙◌, zero, is_none, slice_get-get_or, list_all, ltb-true, first, AreReady, longest_text, versions_long, device_at}
-use Rattle.vms_selfdesc.proofs.Facade.{shipped_set, clock_set, few_cells, IsOfDevice, read, FitsHeads, first_fault, none_is, few_items, few_devices, IsSound}
-use Rattle.vms_selfdesc.proofs.Facade.{shipped_sets, sub_at, few_subs, device_clean, sub_clean}
+use Rattle.vms_selfdesc.proofs.Facade.{◌∷◌, map, Bool, false, Option, Some, ℤ, refl, arith, is_some, [], Data, object, array, depth, items_of}
+use Rattle.vms_selfdesc.proofs.Facade.{has_float, Sub, Device, Set, desc_cells, struct_cells, Image, own_cells, Entry, entry_tree, sub_members, sub_trees}
+use Rattle.vms_selfdesc.proofs.Facade.{device_members, device_trees, described_tree, described_text, get_or, ◌*◌, ◌<◌, length-append, true, codes}
+use Rattle.vms_selfdesc.proofs.Facade.{mul-le-mul_left, AtLeast, no_desc, escape_byte, Members, no_members, member, quoted, members_text, boolean, compact_text}
+use Rattle.vms_selfdesc.proofs.Facade.{items_text, MOST_ITEMS, Field, Desc, items_in, struct_items, subs_items, devices_items, struct_depths, deepest}
+use Rattle.vms_selfdesc.proofs.Facade.{is_well_formed, shapes, part_entries, ap, sym, ◌∙◌, zero, is_none, slice_get-get_or, list_all, ltb-true, first}
+use Rattle.vms_selfdesc.proofs.Facade.{AreReady, longest_text, versions_long, device_at, shipped_set, clock_set, few_cells, IsOfDevice, read, FitsHeads}
+use Rattle.vms_selfdesc.proofs.Facade.{first_fault, none_is, few_items, few_devices, IsSound, shipped_sets, sub_at, few_subs, device_clean, sub_clean}
 use Rattle.vms_selfdesc.proofs.Fits.{part_sound, fields_flat, AreLong, longer, AreSound, FitTables, tables_fit, entries_few, entries_long}
 use Rattle.vms_selfdesc.proofs.Plain.{quoted_long, IsShort, member_long, number_short, name_short, sub_name_short}
 use Rattle.std.specs.Prelude.{nat_lt}
@@ -30,45 +29,30 @@ list_plain deepest [] p = record { whole = refl; flat = omega arith }
 list_plain deepest (d ∷ ds) p = let rest = list_plain deepest ds p.1 in record { whole = rw (p.0.whole, rest.whole); flat = omega (arith, rest.flat) }
 
 entry_plain : (e : Entry) → IsPlainTree 1 (entry_tree e)
-entry_plain e = by_absent e.absent
-  where
-    by_absent : (o : Option ℤ) → IsPlainTree 1 (object (with_value o (sent_members e.path e.size e.type)))
-    by_absent None = record { whole = refl; flat = omega arith }
-    by_absent (Some (pos n)) = record { whole = refl; flat = omega arith }
-    by_absent (Some (negsuc n)) = record { whole = refl; flat = omega arith }
+entry_plain e = search (arith)
 
 entries_plain : (es : List Entry) → ArePlain 1 (map entry_tree es)
 entries_plain [] = tt
 entries_plain (e ∷ es) = (entry_plain e, entries_plain es)
 
 sub_plain : (es : List Entry) (name : List ℕ) (sent : Bool) (version : ℕ) → IsPlainTree 3 (object (sub_members es name sent version))
-sub_plain es name sent version =
-    let list = list_plain 1 (map entry_tree es) (entries_plain es) in
-    record { whole = rw list.whole; flat = omega (arith, list.flat) }
+sub_plain es name sent version = search (arith, list_plain, entries_plain)
 
 subs_plain : (set : Set) (n : List ℤ) (at : ℕ) (subs : List Sub) (came : List (Option ℕ)) → ArePlain 3 (sub_trees set n at subs came)
 subs_plain set n at (s ∷ subs) (c ∷ came) =
-    (sub_plain _ s.desc.name (is_some c) s.desc.version, subs_plain set n (at + length (desc_cells (struct_cells set) s.desc)) subs came)
+    (sub_plain _ _ _ _, subs_plain set n (at + length (desc_cells (struct_cells set) s.desc)) subs came)
 subs_plain set n at _ _ = tt
 
 device_plain : (es : List Entry) (instance : ℕ) (name : List ℕ) (subs : List Data) (version : ℕ) → ArePlain 3 subs
     → IsPlainTree 5 (object (device_members es instance name subs version))
-device_plain es instance name subs version p =
-    let list = list_plain 1 (map entry_tree es) (entries_plain es) in
-    let inner = list_plain 3 subs p in
-    record { whole = rw (list.whole, inner.whole); flat = omega (arith, list.flat, inner.flat) }
+device_plain es instance name subs version p = search (arith, list_plain, entries_plain)
 
 devices_plain : (set : Set) (devices : List Device) (images : List Image) → ArePlain 5 (device_trees set devices images)
-devices_plain set (d ∷ devices) (image ∷ images) = (
-  device_plain _ d.instance d.desc.name _ d.desc.version (subs_plain set image.numbers (own_cells set d) d.subs image.came),
-  devices_plain set devices images,
-)
+devices_plain set (d ∷ devices) (image ∷ images) = search (arith, device_plain, subs_plain, devices_plain set devices images)
 devices_plain set _ _ = tt
 
 pub described_plain : (set : Set) (images : List Image) → IsPlainTree 7 (described_tree set images)
-described_plain set images =
-    let list = list_plain 5 (device_trees set set.devices images) (devices_plain set set.devices images) in
-    record { whole = rw list.whole; flat = omega arith }
+described_plain set images = search (arith, list_plain, devices_plain)
 
 -- ---- how long the text of the described tree is, by the depth of structures and the number of items: at most 300 bytes for each
 -- item, subsection and device, and fewer for the items of a part without structures
@@ -90,9 +74,7 @@ array_long ds = omega (arith, items_long false ds)
 
 entries_weight : (es : List Entry) (most : ℕ) → AreLong most es → weight (map entry_tree es) ≤ (most + 1) * length es
 entries_weight [] most p = omega arith
-entries_weight (e ∷ es) most p =
-    let more : (most + 1) * suc (length es) ≡ (most + 1) + (most + 1) * length es = grind arith in
-    omega (arith, entries_weight es most p.1)
+entries_weight (e ∷ es) most p = grind (arith, entries_weight es most p.1)
 
 flag_short : (b : Bool) → length (compact_text (boolean b)) ≤ 5
 flag_short b = grind arith
@@ -235,9 +217,7 @@ module _ (set : Set) (well : is_well_formed set ≡ true) where
   -- ---- by the numbers of items, subsections and devices
 
   fields_less : (fs : List Field) → fields_room (struct_items set.structs) (struct_depths set.structs) fs ≤ 300 * items_in (struct_items set.structs) fs
-  fields_less fs =
-      let flat = fields_flat set well fs in
-      mul-le-mul_right {m = 40 * deepest (struct_depths set.structs) fs + 107 + 1} {n = 300} (items_in (struct_items set.structs) fs) (omega arith)
+  fields_less fs = grind (arith, fields_flat)
 
   subs_less : (subs : List Sub)
       → subs_room (struct_items set.structs) (struct_depths set.structs) subs ≤ 300 * subs_items (struct_items set.structs) subs + 300 * length subs
@@ -259,8 +239,8 @@ pub ready_device : (set : Set) → is_well_formed set ≡ true → (images : Lis
     → image ≡ get_or images i image → IsOfDevice set i image
 ready_device set well images ready i image lt is =
     let there : i < length set.devices = omega arith in
-    let at = slice_get-get_or images i image lt ∙ ap (λ x. Some x) (sym is) in
-    let r = ready.ready i (device_at set i) image (slice_get-get_or set.devices i no_device there) at in
+    let at = slice_get-get_or _ _ image lt ∙ ap (λ x. Some x) (sym is) in
+    let r = ready.ready i (device_at set i) image (slice_get-get_or _ _ _ there) at in
     record {
       is_device = there;
       cells = r.normal.cells.long;
@@ -289,13 +269,13 @@ module _ (set : Set) (well : is_well_formed set ≡ true) (heads : FitsHeads set
       }
 
   pub set_long : (images : List Image) → length (described_text set images) ≤ set_room set
-  set_long images = text_long set well images short_device (few_items set well)
+  set_long images = text_long _ well _ short_device (few_items set well)
 
   set_short : (images : List Image) → length (described_text set images) < longest_text
   set_short images = omega (arith, set_long images, devices_less set well set.devices short_device, few_items set well, few_devices set well)
 
 pub short_holds : ShortLaw
-short_holds = record { short = λ set well heads images. set_short set (ap is_none well) heads images }
+short_holds = record { short = λ set well heads images. set_short _ (ap is_none well) heads _ }
 
 -- ---- shipped sets
 
@@ -329,7 +309,7 @@ clock_holds = record { clock = λ s images. omega (arith, set_long (clock_set s)
 module _ (set : Set) (images : List Image) where
   pub text_reads : IsSound (described_tree set images) → (bytes : List ℕ) → bytes ≡ described_text set images
       → read bytes ≡ Some (described_tree set images)
-  text_reads sound bytes is = reads_whole (described_tree set images) bytes is sound (omega (arith, described_plain set images))
+  text_reads sound bytes is = reads_whole _ _ is sound (omega (arith, described_plain set images))
 
   pub text_short : is_well_formed set ≡ true → FitsHeads set → length (described_text set images) < longest_text
   text_short well heads = short_holds.short set (none_is (first_fault set) well) heads images

@@ -129,8 +129,8 @@ module _ (f : Field) (number : ℕ) (there : Bool) (part : ℕ → List Element)
       → entries_of sent path (array_elements f (record { number = number; count = elements_of count own; there = there }) part step 0 (capacity_of count) at)
       ≡ array_entries one count (elements_of count own) (path ++ f.name) at step
   of_count own One at e = rw (of_append, append-nil, here 0 at, e, append-nil f.name)
-  of_count own (Fixed m) at e = many m m at (omega arith) (λ i. rw e)
-  of_count own (Counted by m) at e = many m (elements_of (Counted by m) own) at (elements_fit (Counted by m) own) (λ i. rw e)
+  of_count own (Fixed m) at e = many _ _ _ (omega arith) (λ i. rw e)
+  of_count own (Counted by m) at e = many _ _ _ (elements_fit (Counted by m) own) (λ i. rw e)
 
 pub of_field : (shapes : List Shape) (fields : List Field) (v : ℕ) (own : ℕ → ℕ) (sent : Bool) (path : List ℕ) (n : List ℤ) (i at : ℕ) (f : Field)
     → entries_of sent path (field_elements shapes fields v own n i at f)
@@ -163,17 +163,16 @@ pub field_needs : (set : Set) → is_well_formed set ≡ true → (part : Part) 
     → cell + capacity_of (field_at set part k).count * item_size (struct_cells set) (field_at set part k).item ≤ length n → FieldNeeds set part k f cell n
 field_needs set well part base n h k cell f lt is room =
     let g = field_at set part k in
-    let clean = field_clean set well part h.has k lt in
-    let sound = field_sound set well part h.has k lt in
-    let size = item_size (struct_cells set) g.item in
+    let clean = field_clean _ well _ h.has _ lt in
+    let sound = field_sound _ well _ h.has _ lt in
     rw is (record {
       some = clean.some;
       elements = λ count fewer. record {
-        reaches = uses_more (reach set part) (length set.structs) g.item (reach_whole set part h.has) clean.uses;
+        reaches = uses_more _ _ _ (reach_whole set part h.has) clean.uses;
         default = (and_parts (defaults_well g.item g.default) (counts_well (counted k (desc_at set part).fields) g.default) sound.1.1.1.1.1.0).0;
         few = h.few;
-        small = one_fits (capacity_of g.count) size cell (length n) MOST_ITEMS clean.some room h.few;
-        room = room_for_less count (capacity_of g.count) size cell (length n) fewer room;
+        small = one_fits _ _ _ _ _ clean.some room h.few;
+        room = room_for_less _ _ _ _ _ fewer room;
       };
       lower = rank_below (reach set part) g.item clean.uses;
     })

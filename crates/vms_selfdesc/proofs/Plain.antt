@@ -1,13 +1,13 @@
 -- Names, paths, members and entries as they are written, and how long they are.
 use Rattle.vms_selfdesc.proofs.Facade.{nat_tests, ◌≡◌, ℕ, ◌<◌, length, true, ◌≤◌, List, [], ◌++◌, length-append, string_bytes}
-use Rattle.vms_selfdesc.proofs.Facade.{append_assoc, subst, sym, ap, arith, ◌∷◌, codes, decimal, ◌+◌, ◌&&◌, nat_le, drop, take, refl, ◌^◌}
-use Rattle.vms_selfdesc.proofs.Facade.{◌%◌, list_all, and_parts, leb-true, digits, decimal_by_steps, length-decimal-le, take-append-drop, bytes_eq-Decides}
-use Rattle.vms_selfdesc.proofs.Facade.{bytes_eq, Part, is_name, is_name_byte, is_sub_name, Set, field_at, device_at, is_well_formed, HasPart, desc_at, sub_at}
-use Rattle.vms_selfdesc.proofs.Facade.{device_clean, sub_clean, field_sound, IsPlain, Extends, IsEmpty, IsSound, Puts, Adds, Begins, member_text, cell_tail}
-use Rattle.vms_selfdesc.proofs.Facade.{absent_tail, Text, escape_byte, quoted, escape, Data, string, object, Members, no_members, member, compact_text}
-use Rattle.vms_selfdesc.proofs.Facade.{members_text, Kind, width, kind_word, natural, Draft, MOST_ITEMS, element_path, U8, ◌*◌, String, IsUtf8}
-use Rattle.vms_selfdesc.proofs.Facade.{IsUtf8-string_bytes, take-append_seam, Item, Struct, few_structs, item_rank, part_rank, item_levels, part_levels, suc}
-use Rattle.vms_selfdesc.proofs.Facade.{ℤ, Bool, false, number, of_integer, number_text, comma_if, MOST_UNUSED, sent_entry, absent_entry, entry_tree}
+use Rattle.vms_selfdesc.proofs.Facade.{append_assoc, subst, sym, ap, arith, ◌∷◌, codes, decimal, ◌+◌, drop, take, refl, ◌^◌, ◌%◌, list_all}
+use Rattle.vms_selfdesc.proofs.Facade.{and_parts, digits, decimal_by_steps, length-decimal-le, take-append-drop, bytes_eq-Decides, bytes_eq, Part, is_name}
+use Rattle.vms_selfdesc.proofs.Facade.{is_name_byte, is_sub_name, Set, field_at, device_at, is_well_formed, HasPart, desc_at, sub_at, device_clean, sub_clean}
+use Rattle.vms_selfdesc.proofs.Facade.{field_sound, IsPlain, Extends, IsEmpty, IsSound, Puts, Adds, Begins, member_text, cell_tail, absent_tail, Text}
+use Rattle.vms_selfdesc.proofs.Facade.{escape_byte, quoted, escape, Data, string, object, Members, no_members, member, compact_text, members_text, Kind, width}
+use Rattle.vms_selfdesc.proofs.Facade.{kind_word, natural, Draft, MOST_ITEMS, element_path, U8, ◌*◌, String, IsUtf8, IsUtf8-string_bytes, take-append_seam}
+use Rattle.vms_selfdesc.proofs.Facade.{Item, Struct, few_structs, item_rank, part_rank, item_levels, part_levels, suc, ℤ, Bool, false, number, of_integer}
+use Rattle.vms_selfdesc.proofs.Facade.{number_text, comma_if, MOST_UNUSED, sent_entry, absent_entry, entry_tree}
 use Rattle.std.proofs.Common.{append-nil}
 use Rattle.vms_spec.specs.declared.Part.TheVariants as parts
 use Rattle.vms_kinds.specs.declared.Kind.TheVariants as kinds
@@ -55,9 +55,7 @@ pub record IsShort (most : ℕ) (name : List ℕ) : Type 0 where
   pub short : length name ≤ most
 
 pub name_short : (most : ℕ) (name : List ℕ) → is_name most name ≡ true → IsShort most name
-name_short most name e =
-    let p = and_parts (nat_le 1 (length name) && nat_le (length name) most) (list_all is_name_byte name) e in
-    record { plain = name_plain name p.1; short = leb-true (length name) most (and_parts (nat_le 1 (length name)) (nat_le (length name) most) p.0).1 }
+name_short most name e = search (arith, name_plain)
 
 -- a subsection's name: its device's, a slash and a name
 pub record IsSubName (device name : List ℕ) : Type 0 where
@@ -74,25 +72,22 @@ sub_name_is device name e =
 
 pub sub_name_short : (device name : List ℕ) → IsShort 100 device → is_sub_name device name ≡ true → IsShort 165 name
 sub_name_short device name d e =
-    let front = device ++ 47 ∷ [] in
     let n = sub_name_is device name e in
     let tail = name_short 64 n.tail n.good in
     record {
-      plain = subst IsPlain n.whole (plain_append front n.tail (plain_append device (47 ∷ []) d.plain (mark 47 (omega arith) (λ e. omega arith))) tail.plain);
-      short = omega (arith, ap length n.whole, length-append front n.tail, length-append device (47 ∷ []));
+      plain = subst IsPlain n.whole (plain_append _ _ (plain_append _ _ d.plain (mark 47 (omega arith) (λ e. omega arith))) tail.plain);
+      short = omega (arith, ap length n.whole, length-append (device ++ 47 ∷ []) n.tail, length-append device (47 ∷ []));
     }
 
 -- ---- paths
 
 digits_plain : (n : ℕ) → n < 2 ^ 64 → IsPlain (decimal n)
 digits_plain n small = decimal_by_steps (λ n ds. IsPlain ds) (λ n l. mark (48 + n) (omega arith) (λ e. omega arith))
-    (λ n ds l h. plain_append ds ((48 + n % 10) ∷ []) h (mark (48 + n % 10) (omega arith) (λ e. omega arith))) n small
+    (λ n ds l h. plain_append _ _ h (mark (48 + n % 10) (omega arith) (λ e. omega arith))) n small
 
 -- of an element with a number of 64 bits
 pub element_plain : (path : List ℕ) (i : ℕ) → i < 2 ^ 64 → IsPlain path → IsPlain (element_path path i)
-element_plain path i lt p =
-    plain_append path (91 ∷ (decimal i ++ 93 ∷ [])) p
-    ((mark 91 (omega arith) (λ e. omega arith)).0, plain_append (decimal i) (93 ∷ []) (digits_plain i lt) (mark 93 (omega arith) (λ e. omega arith)))
+element_plain path i lt p = grind (arith, plain_append, mark, digits_plain)
 
 pub element_long : (path : List ℕ) (i : ℕ) → i < MOST_ITEMS → length (element_path path i) ≤ length path + 7
 element_long path i lt =
@@ -100,7 +95,7 @@ element_long path i lt =
     omega (arith, length-append path (91 ∷ (decimal i ++ 93 ∷ [])), length-append (decimal i) (93 ∷ []))
 
 pub dot_plain : (path : List ℕ) → IsPlain path → IsPlain (path ++ 46 ∷ [])
-dot_plain path p = plain_append path (46 ∷ []) p (mark 46 (omega arith) (λ e. omega arith))
+dot_plain path p = plain_append _ _ p (mark 46 (omega arith) (λ e. omega arith))
 
 -- ---- The names of a well-formed set are written as they are.
 
@@ -108,15 +103,14 @@ module _ (set : Set) (well : is_well_formed set ≡ true) where
   pub field_name : (part : Part) (k : ℕ) → HasPart set part → k < length (desc_at set part).fields → IsShort 32 (field_at set part k).name
   field_name part k h lt =
       let f = field_at set part k in
-      name_short 32 f.name (and_parts (is_name 32 f.name) (list_all (is_name 32) f.former) (field_sound set well part h k lt).0).0
+      name_short 32 f.name (and_parts (is_name 32 f.name) (list_all (is_name 32) f.former) (field_sound _ well _ h _ lt).0).0
 
   pub device_plain : (i : ℕ) → i < length set.devices → IsPlain (device_at set i).desc.name
   device_plain i lt = (name_short 100 (device_at set i).desc.name (device_clean set well i lt).own.0).plain
 
   pub sub_plain : (i j : ℕ) → i < length set.devices → j < length (device_at set i).subs → IsPlain (sub_at (device_at set i) j).desc.name
   sub_plain i j lt l =
-      let d = device_at set i in
-      (sub_name_short d.desc.name _ (name_short 100 d.desc.name (device_clean set well i lt).own.0) (sub_clean set well i j lt l).own.0).plain
+      (sub_name_short _ _ (name_short 100 (device_at set i).desc.name (device_clean set well i lt).own.0) (sub_clean set well i j lt l).own.0).plain
 
 -- ---- Bytes that are written one after the other.
 
@@ -203,14 +197,7 @@ tail_text kind = let word = kind_word kind in rw (plain_escape word (name_plain 
 pub absent_text : (kind : Kind) (d : Data)
     → absent_tail kind ++ (compact_text d ++ codes "}") ≡ 34 ∷ members_text true (size_members 0 (kind_word kind) (member (codes "value") d no_members))
 unfolding escape_byte digits
-absent_text kind d =
-    let word = kind_word kind in
-    let value = compact_text d ++ codes "}" in
-    rw (
-      plain_escape word (name_plain word (word_plain kind)),
-      append_assoc word (codes "\",\"value\":") value,
-      append_assoc word (34 ∷ []) (codes ",\"value\":" ++ value),
-    )
+absent_text kind d = grind (arith, plain_escape, name_plain, word_plain)
 
 -- ---- the tails of a kind that is known
 

@@ -1,15 +1,15 @@
 -- A description is read back from its text: the bytes of a value's text, trees and whole
 -- descriptions.
-use Rattle.vms_selfdesc.proofs.Facade.{nat_tests, decimal_all, all_both, cases_lt, inl, inr, le-ltb, ◌≡◌, ℕ, suc, ◌<◌, ◌≤◌, ◌%◌, ◌/◌}
-use Rattle.vms_selfdesc.proofs.Facade.{◌+◌, Bool, true, false, cond, ◌&&◌, nat_lt, nat_le, List, [], ◌∷◌, ◌++◌, map, Option, Some, None, ℤ}
-use Rattle.vms_selfdesc.proofs.Facade.{pos, negsuc, refl, arith, codes, AllByRecursion, list_all, and_parts, leb-true, ltb-true, ltb-false, lt-ltb, digit_char}
-use Rattle.vms_selfdesc.proofs.Facade.{escape, escape_byte, escape_letter, quoted, Data, null, boolean, number, string, array, object, Items, no_items, item}
-use Rattle.vms_selfdesc.proofs.Facade.{Members, no_members, member, items_of, number_text, comma_if, compact_text, items_text, members_text, Kind, kind_word}
-use Rattle.vms_selfdesc.proofs.Facade.{Entry, entry_tree, sub_members, device_members, ◌^◌, int_lt, ap, signed_decimal, mag, option_map, ItemsHaveNumbers}
-use Rattle.vms_selfdesc.proofs.Facade.{IsNumber-decimal, IsNumber-signed_decimal, put, of_integer, of_items, items_outline, number_of-decimal}
-use Rattle.vms_selfdesc.proofs.Facade.{number_of-negative, IsSound, AreSound, sent_entry, absent_entry, natural, list_tree, max, sym, ap₂, ◌∙◌}
-use Rattle.vms_selfdesc.proofs.Facade.{option_and_then, Token, tokens, tokens-print, value-json_tokens, ArePrintable-json_tokens, depth, items_depth}
-use Rattle.vms_selfdesc.proofs.Facade.{members_depth, of_json, read, max_depth, outline, members_outline, print-outline}
+use Rattle.vms_selfdesc.proofs.Facade.{nat_tests, decimal_all, all_both, ◌≡◌, ℕ, suc, ◌<◌, ◌≤◌, ◌%◌, ◌/◌, ◌+◌, Bool, true, false}
+use Rattle.vms_selfdesc.proofs.Facade.{cond, ◌&&◌, nat_lt, nat_le, List, [], ◌∷◌, ◌++◌, map, Option, Some, None, ℤ, pos, negsuc, refl, arith}
+use Rattle.vms_selfdesc.proofs.Facade.{codes, AllByRecursion, list_all, and_parts, leb-true, ltb-true, ltb-false, digit_char, escape, escape_byte}
+use Rattle.vms_selfdesc.proofs.Facade.{escape_letter, quoted, Data, null, boolean, number, string, array, object, Items, no_items, item, Members, no_members}
+use Rattle.vms_selfdesc.proofs.Facade.{member, items_of, number_text, comma_if, compact_text, items_text, members_text, Kind, kind_word, Entry, entry_tree}
+use Rattle.vms_selfdesc.proofs.Facade.{sub_members, device_members, ◌^◌, int_lt, ap, signed_decimal, mag, option_map, ItemsHaveNumbers, IsNumber-decimal}
+use Rattle.vms_selfdesc.proofs.Facade.{IsNumber-signed_decimal, put, of_integer, of_items, items_outline, number_of-decimal, number_of-negative, IsSound}
+use Rattle.vms_selfdesc.proofs.Facade.{AreSound, sent_entry, absent_entry, natural, list_tree, max, sym, ap₂, ◌∙◌, option_and_then, Token, tokens}
+use Rattle.vms_selfdesc.proofs.Facade.{tokens-print, value-json_tokens, ArePrintable-json_tokens, depth, items_depth, members_depth, of_json, read, max_depth}
+use Rattle.vms_selfdesc.proofs.Facade.{outline, members_outline, print-outline}
 use Rattle.std.proofs.Common.{append-nil}
 use Rattle.std.specs.Fmt.{decimal}
 use Rattle.serde_json.specs.Data.{Num}
@@ -64,24 +64,15 @@ module _ {Letter Good : ℕ → Type 0} (allows : Allows Letter Good) where
 
   -- ---- texts in quotes
 
-  letter_low : (x : ℕ) → nat_lt 0 (escape_letter x) ≡ true → 34 ≤ escape_letter x
-  letter_low x e = grind (arith, nat_tests)
-
-  letter_high : (x : ℕ) → nat_lt 0 (escape_letter x) ≡ true → escape_letter x ≤ 125
-  letter_high x e = grind (arith, nat_tests)
-
   escaped : (x : ℕ) → nat_lt 0 (escape_letter x) ≡ true → Good (escape_letter x)
-  escaped x e = allows.own _ (letter_low x e) (letter_high x e)
+  escaped x e = allows.own _ (grind (arith, nat_tests)) (grind (arith, nat_tests))
 
   hex : (d : ℕ) → d < 16 → Good (digit_char d)
-  hex d lt = elim (cases_lt d 10) [
-    | inl low ↦ rw (lt-ltb d 10 low) (allows.own (48 + d) (omega arith) (omega arith))
-    | inr le ↦ rw (le-ltb d 10 le) (allows.own (87 + d) (omega arith) (omega arith))
-  ]
+  hex d lt = grind arith
 
   byte_good : (x : ℕ) → Letter x → AllByRecursion Good (escape_byte x)
   unfolding escape_byte
-  byte_good x l = go (nat_lt 0 (escape_letter x)) (nat_lt x 32) (escaped x) (λ h. ltb-true x 32 h) (λ h. ltb-false x 32 h)
+  byte_good x l = go _ _ (escaped x) (λ h. ltb-true x 32 h) (λ h. ltb-false x 32 h)
     where
       go : (a b : Bool) → (a ≡ true → Good (escape_letter x)) → (b ≡ true → x < 32) → (b ≡ false → 32 ≤ x)
           → AllByRecursion Good (cond a (92 ∷ escape_letter x ∷ []) (cond b (92 ∷ 117 ∷ 48 ∷ 48 ∷ digit_char (x / 16) ∷ digit_char (x % 16) ∷ []) (x ∷ [])))
@@ -92,10 +83,10 @@ module _ {Letter Good : ℕ → Type 0} (allows : Allows Letter Good) where
 
   escape_good : (s : List ℕ) → AllByRecursion Letter s → AllByRecursion Good (escape s)
   escape_good [] p = tt
-  escape_good (x ∷ s) p = all_both Good (escape_byte x) (escape s) (byte_good x p.0) (escape_good s p.1)
+  escape_good (x ∷ s) p = all_both Good _ _ (byte_good x p.0) (escape_good s p.1)
 
   quoted_good : (s : List ℕ) → AllByRecursion Letter s → AllByRecursion Good (quoted s)
-  quoted_good s p = (own 34 refl, all_both Good (escape s) (34 ∷ []) (escape_good s p) (own 34 refl, tt))
+  quoted_good s p = (own 34 refl, all_both Good _ _ (escape_good s p) (own 34 refl, tt))
 
   -- ---- values
 
@@ -153,11 +144,7 @@ module _ {Letter Good : ℕ → Type 0} (allows : Allows Letter Good) where
   pub device_letters : (es : List Entry) (instance : ℕ) (name : List ℕ) (subs : List Data) (version : ℕ) → AreSpelled Letter es → AllByRecursion Letter name
       → ItemsHave Letter (items_of subs)
       → HasLetters Letter (object (device_members es instance name subs version))
-  device_letters es instance name subs version p q r = (
-    word (codes "fields") refl,
-    entries_letters es p,
-    (word (codes "instance_id") refl, tt, (word (codes "name") refl, q, (word (codes "subsections") refl, r, (word (codes "version") refl, tt, tt)))),
-  )
+  device_letters es instance name subs version p q r = search (arith, word, entries_letters)
 
   pub devices_letters : (ds : List Data) → ItemsHave Letter (items_of ds)
       → HasLetters Letter (object (member (codes "devices") (array (items_of ds)) no_members))
@@ -170,9 +157,6 @@ natural_sound n small = record { read = ap (option_map number) (number_of-decima
 
 pub string_sound : (s : List ℕ) → IsSound (string s)
 string_sound s = record { read = refl; numbers = tt }
-
-pub flag_sound : (b : Bool) → IsSound (boolean b)
-flag_sound b = record { read = refl; numbers = tt }
 
 pub record Negative (z : ℤ) : Type 0 where
   pub text : number_text (of_integer z) ≡ signed_decimal z
@@ -213,10 +197,7 @@ sub_sound es name sent version fields r = record { read = rw (fields.read, r.rea
 pub device_sound : (es : List Entry) (instance : ℕ) (name : List ℕ) (subs : List Data) (version : ℕ) → IsSound (list_tree entry_tree es)
     → IsSound (natural instance) → IsSound (array (items_of subs))
     → IsSound (natural version) → IsSound (object (device_members es instance name subs version))
-device_sound es instance name subs version fields r inner s = record {
-  read = rw (fields.read, r.read, inner.read, s.read);
-  numbers = (fields.numbers, (r.numbers, (tt, (inner.numbers, (s.numbers, tt)))));
-}
+device_sound es instance name subs version fields r inner s = search (arith)
 
 pub whole_sound : (devices : List Data) → IsSound (array (items_of devices)) → IsSound (object (put (codes "devices") (array (items_of devices)) no_members))
 whole_sound devices r = record { read = rw r.read; numbers = (r.numbers, tt) }

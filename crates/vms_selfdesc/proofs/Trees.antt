@@ -42,7 +42,7 @@ pub adds_further : {a b c : Draft} {ds es : List Data} → Adds a b ds → Adds 
 adds_further {a} {b} {c} {ds} {es} p q = record {
   text = same (further p.text q.text) (rw (texts_append a.later ds es, p.later));
   later = rw (q.later, p.later, after_append a.later ds es);
-  sound = sound_append ds es p.sound q.sound;
+  sound = sound_append _ _ p.sound q.sound;
   path = cc;
 }
 
@@ -74,11 +74,7 @@ elements_next one path at step i n lt = let more : n - i ≡ suc (n - (i + 1)) =
 
 -- there is room for the next of n elements
 pub element_room : (size first i n cell most : ℕ) → i < n → cell ≡ first + i * size → first + n * size ≤ most → cell + 1 * size ≤ most
-element_room size first i n cell most lt e room =
-    let d = n - (i + 1) in
-    let whole : n ≡ (i + 1) + d = omega arith in
-    let parts : ((i + 1) + d) * size ≡ (i * size + size) + d * size = grind arith in
-    omega (arith, ap (λ k. k * size) whole, parts)
+element_room size first i n cell most lt e room = grind arith
 
 pub next_element : (size first i cell : ℕ) → cell ≡ first + i * size → cell + size ≡ first + (i + 1) * size
 next_element size first i cell e = grind arith

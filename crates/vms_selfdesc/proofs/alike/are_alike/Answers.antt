@@ -1,5 +1,5 @@
-use Rattle.vms_selfdesc.proofs.{AlikeLemmas.IsKept, AlikeLemmas.kept, Trees.devices_next, Trees.devices_end, alike.are_alike.Goals.After-index-second-device}
 use Rattle.vms_selfdesc.proofs.Facade.{◌<◌, ◌≤◌, ◌∙◌, length, map, sym, arith, OnTrue_at, described, state_of, states_long}
+use Rattle.vms_selfdesc.proofs.{AlikeLemmas.IsKept, AlikeLemmas.kept, Trees.devices_next, Trees.devices_end, alike.are_alike.Goals.After-index-second-device}
 use Rattle.vms_selfdesc.proofs.alike.are_alike.Goals as goal
 
 pub bounds-second-device : goal.bounds-second-device
@@ -9,12 +9,12 @@ bounds-second-device c =
 -- each of the two images is kept
 first : (c : After-index-second-device) → IsKept (described c.args.set.now) c.args.first.now c.loop-device.device c.index-first-device.result
 first c =
-    kept (described c.args.set.now) c.args.set.now.well_formed c.args.first.now c.requires.first c.requires.of_first c.loop-device.device
+    kept _ c.args.set.now.well_formed _ c.requires.first c.requires.of_first _
     c.loop-device-test.true c.index-first-device.result c.index-first-device.is
 
 second : (c : After-index-second-device) → IsKept (described c.args.set.now) c.args.second.now c.loop-device.device c.index-second-device.result
 second c =
-    kept (described c.args.set.now) c.args.set.now.well_formed c.args.second.now c.requires.second c.requires.of_second c.loop-device.device
+    kept _ c.args.set.now.well_formed _ c.requires.second c.requires.of_second _
     (omega (arith, c.requires.first.one_each, c.requires.second.one_each, states_long c.args.first.now, states_long c.args.second.now))
     c.index-second-device.result c.index-second-device.is
 

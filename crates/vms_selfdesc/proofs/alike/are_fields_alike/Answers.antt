@@ -7,8 +7,7 @@ loop-field-init c = λ rest. rest
 
 pub loop-field-preserved : goal.loop-field-preserved
 loop-field-preserved c =
-    let d = desc_at (described c.args.pair.now.set.now) c.args.part in
-    let more = drop_more d.fields c.loop-field.field no_field (omega arith) in
+    let more = drop_more (desc_at (described c.args.pair.now.set.now) c.args.part).fields c.loop-field.field no_field (omega arith) in
     λ rest. c.loop-field.invariant (rw more (OnTrue_at c.if-not-is_field_alike.false c.is_field_alike.ensures, rest))
 
 pub returns : goal.returns

@@ -1,17 +1,9 @@
-use Rattle.vms_selfdesc.proofs.Facade.{◌≡◌, rules, arith, None, get_or, is_some, described, device_at, sub_at, sub_inside, OnTrue_at, OnTrue_from}
+use Rattle.vms_selfdesc.proofs.Facade.{◌≡◌, rules, None, get_or, is_some, described, device_at, sub_at, sub_inside, OnTrue_at, OnTrue_from}
 use Rattle.vms_selfdesc.proofs.OfElements.{sub_same}
 use Rattle.vms_selfdesc.proofs.alike.is_sub_alike.Goals as goal
 
 pub is_part_alike-requires : goal.is_part_alike-requires
-is_part_alike-requires c =
-    let inside = sub_inside (described c.args.pair.now.set.now) c.args.device c.args.sub c.requires.is_sub in
-    let a = c.requires.first in
-    let b = c.requires.second in
-    record {
-      first = record { has = (a.is_device, c.requires.is_sub); few = a.few; room = omega (arith, inside, a.cells) };
-      second = record { has = (b.is_device, c.requires.is_sub); few = b.few; room = omega (arith, inside, b.cells) };
-      long = omega (arith, a.cells, b.cells);
-    }
+is_part_alike-requires c = search (rules, sub_inside)
 
 pub returns : goal.returns
 returns c =

@@ -1,30 +1,18 @@
-use Rattle.vms_selfdesc.proofs.{Plain.further, Plain.device_plain, Plain.name_plain, ReadBack.device_sound, Trees.fields_adds, Trees.device_text}
-use Rattle.vms_selfdesc.proofs.Facade.{true, ap, ◌∙◌, arith, refl, codes, array, object, items_of, own_cells, described, device_at, state_of, own_inside_device}
+use Rattle.vms_selfdesc.proofs.Facade.{rules, true, ap, refl, codes, array, object, items_of, own_cells, described, device_at, state_of, own_inside_device}
 use Rattle.vms_selfdesc.proofs.Facade.{part_entries, sub_trees, device_members}
+use Rattle.vms_selfdesc.proofs.{Plain.further, Plain.device_plain, Plain.name_plain, ReadBack.device_sound, Trees.fields_adds, Trees.device_text}
 use Rattle.vms_selfdesc.proofs.devices.write_device.Goals as goal
 
 pub write_fields-requires : goal.write_fields-requires
-write_fields-requires c =
-    let device = c.requires.device in
-    record {
-      place = record {
-        has = device.is_device;
-        few = device.few;
-        room = omega (arith, own_inside_device (described c.args.lister.now.set.now) c.args.device);
-      };
-      no_path = c.begin.ensures.keeps.path ∙ c.requires.no_path;
-    }
+write_fields-requires c = search (rules, own_inside_device)
 
 pub put_name-requires : goal.put_name-requires
 put_name-requires c =
     rw (ap (λ d. d.desc.name) c.device-described.ensures)
-    (device_plain (described c.args.lister.now.set.now) c.args.lister.now.set.now.well_formed c.args.device c.requires.device.is_device)
+    (device_plain _ c.args.lister.now.set.now.well_formed _ c.requires.device.is_device)
 
 pub write_subs-requires : goal.write_subs-requires
-write_subs-requires c = record {
-  device = c.requires.device;
-  no_path = c.write_fields.ensures.path ∙ c.begin.ensures.keeps.path ∙ c.requires.no_path;
-}
+write_subs-requires c = search rules
 
 pub put_natural-requires : goal.put_natural-requires
 put_natural-requires c = name_plain (codes "version") refl

@@ -1,15 +1,9 @@
+use Rattle.vms_selfdesc.proofs.Facade.{rules, List, ℕ, false, map, subst, refl, Draft, Adds, entry_tree, numbers_in, part_list, set_in}
 use Rattle.vms_selfdesc.proofs.{Plain.few_levels, Trees.lays}
-use Rattle.vms_selfdesc.proofs.Facade.{List, ℕ, false, map, subst, length, ap, refl, arith, Draft, Adds, entry_tree, numbers_in, part_list, set_in}
 use Rattle.vms_selfdesc.proofs.devices.write_fields.Goals as goal
 
 pub list_part-requires : goal.list_part-requires
-list_part-requires c =
-    let lister = c.args.lister.now in
-    record {
-      place = c.requires.place;
-      path = rw c.requires.no_path tt;
-      deep = omega (arith, ap length c.requires.no_path, few_levels (set_in lister) lister.set.now.well_formed c.args.part c.requires.place.has);
-    }
+list_part-requires c = search (rules, few_levels)
 
 pub returns : goal.returns
 returns c =

@@ -1,4 +1,4 @@
-use Rattle.vms_selfdesc.proofs.Facade.{◌∙◌, ◌∷◌, [], false, refl, arith, described, state_of}
+use Rattle.vms_selfdesc.proofs.Facade.{rules, ◌∷◌, [], false, refl, arith, described, state_of}
 use Rattle.vms_selfdesc.proofs.Trees.{lays, leaves_all, leaves_rest, leaves_none, subs_begin, subs_next, subs_end}
 use Rattle.vms_selfdesc.proofs.devices.write_subs.Goals as goal
 
@@ -8,11 +8,7 @@ loop-sub-init c =
     (subs_begin (described c.args.lister.now.set.now) c.args.device (state_of c.args.lister.now.image.now))
 
 pub write_sub-requires : goal.write_sub-requires
-write_sub-requires c = record {
-  device = c.requires.device;
-  is_sub = omega arith;
-  no_path = c.loop-sub.invariant.lists.path ∙ c.requires.no_path;
-}
+write_sub-requires c = search rules
 
 pub loop-sub-preserved : goal.loop-sub-preserved
 loop-sub-preserved c =
@@ -22,6 +18,5 @@ loop-sub-preserved c =
 
 pub returns : goal.returns
 returns c =
-    let set = described c.args.lister.now.set.now in
-    let all = subs_end set c.args.device (state_of c.args.lister.now.image.now) c.loop-sub.sub (omega arith) in
+    let all = subs_end (described c.args.lister.now.set.now) c.args.device (state_of c.args.lister.now.image.now) c.loop-sub.sub (omega arith) in
     lays c.push.ensures (leaves_none all c.loop-sub.invariant) c.push-2.ensures refl

@@ -51,19 +51,17 @@ pub list_elements-list_item-requires : goal.list_elements-list_item-requires
 list_elements-list_item-requires t c =
     let set = described c.args.lister.now.set.now in
     let cells = c.requires.cells in
-    let i = c.loop-number.number in
     let inv = c.loop-number.invariant in
     let elements : HasElements set (field_of c.args.field.now) c.loop-number.cell 1 c.args.lister.now.image.now.numbers = record {
       reaches = cells.reaches;
       default = cells.default;
       few = cells.few;
       small = cells.small;
-      room = element_room (item_size (struct_cells set) c.args.field.now.item) c.args.place.cell i c.args.count c.loop-number.cell
-          (length c.args.lister.now.image.now.numbers) c.loop-number-test.true inv.here cells.room;
+      room = element_room _ _ _ _ _ _ c.loop-number-test.true inv.here cells.room;
     } in
     let plain : IsPlain (string_bytes c.enter_element.new.self.text) =
-    rw (c.enter_element.ensures, inv.lists.lists.path) (element_plain (string_bytes c.args.draft.now.path.text) i (omega arith) c.requires.path) in
-    let long = index_long (string_bytes c.loop-number.draft.path.text) i (omega arith) in (
+    rw (c.enter_element.ensures, inv.lists.lists.path) (element_plain _ _ (omega arith) c.requires.path) in
+    let long = index_long (string_bytes c.loop-number.draft.path.text) c.loop-number.number (omega arith) in (
       search rules,
       record { cells = elements; path = plain; deep = omega (arith, ap length c.enter_element.ensures, ap length inv.lists.lists.path) },
     )
@@ -102,21 +100,13 @@ list_elements-loop-number-preserved t c =
 -- what the call reads is the field of its number
 found : {t : ℕ} (c : list_field-After-index-as_slice-at t)
     → field_of c.index-as_slice-at.result ≡ field_at (described c.args.lister.now.set.now) c.args.part c.args.at.field
-found c =
-    let set = described c.args.lister.now.set.now in
-    found_field c.as_slice.result.now (desc_at set c.args.part).fields c.args.at.field c.index-as_slice-at.result
-    (here_fields set c.args.part c.desc.result.now c.as_slice.result.now c.desc.ensures c.as_slice.ensures) c.requires.field c.index-as_slice-at.is
+found c = search (rules, found_field, here_fields)
 
 pub list_run-returns-in-One : goal.list_run-returns-in-One
 list_run-returns-in-One t c = rw c.in-One.is c.list_item.ensures
 
 pub list_run-returns-in_default : goal.list_run-returns-in_default
-list_run-returns-in_default t c =
-    let set = described c.args.lister.now.set.now in
-    let f = field_of c.args.field.now in
-    rw (array_many (item_list set f c.args.place.sent c.args.lister.now.image.now.numbers) f.count c.args.count
-    (string_bytes c.args.draft.now.path.text) c.args.place.cell
-    (item_size (struct_cells set) f.item) c.in_default.not-One) c.list_elements.ensures
+list_run-returns-in_default t c = search (rules, array_many)
 
 pub list_field-list_run-requires : goal.list_field-list_run-requires
 list_field-list_run-requires t c =
@@ -125,15 +115,13 @@ list_field-list_run-requires t c =
     let part = c.args.part in
     let k = c.args.at.field in
     let f = c.index-as_slice-at.result in
-    let n = c.args.lister.now.image.now.numbers in
     let is : field_of f ≡ field_at set part k = found (goal.at.list_field-list_run-requires t c).After-index-as_slice-at in
-    let needs = field_needs set well part c.args.within.cell n c.requires.place k c.args.at.cell (field_of f) c.requires.field is c.requires.room in
-    let fewer = elements_fit (field_at set part k).count (own_numbers set part n c.args.within.cell) in
+    let needs = field_needs _ well _ _ _ c.requires.place _ _ _ c.requires.field is c.requires.room in
+    let fewer = elements_fit (field_at set part k).count (own_numbers set part c.args.lister.now.image.now.numbers c.args.within.cell) in
     let all = needs.elements c.elements-count.result (omega arith) in
-    let name = field_name set well part k c.requires.place.has c.requires.field in
+    let name = field_name _ well _ _ c.requires.place.has c.requires.field in
     let named = c.enter.ensures ∙ ap (λ x. string_bytes c.args.draft.now.path.text ++ x) (c.as_str.ensures ∙ ap (λ x. x.name) is) in
-    let plain : IsPlain (string_bytes c.enter.new.self.text) =
-    rw named (plain_append (string_bytes c.args.draft.now.path.text) (field_at set part k).name c.requires.path name.plain) in
+    let plain : IsPlain (string_bytes c.enter.new.self.text) = rw named (plain_append _ _ c.requires.path name.plain) in
     let long = ap length named ∙ length-append (string_bytes c.args.draft.now.path.text) (field_at set part k).name in (
       search rules,
       record { one = needs.elements 1 needs.some; all = all; path = plain; deep = omega (arith, levels_are set part, item_levels_are f.item) },
@@ -141,10 +129,8 @@ list_field-list_run-requires t c =
 
 pub list_field-enter-requires : goal.list_field-enter-requires
 list_field-enter-requires t c =
-    let set = c.args.lister.now.set.now in
-    let is = found (goal.at.list_field-enter-requires t c).After-index-as_slice-at in
-    let name = field_name (described set) set.well_formed c.args.part c.args.at.field c.requires.place.has c.requires.field in
-    omega (arith, ap length (c.as_str.ensures ∙ ap (λ x. x.name) is))
+    let name = field_name _ c.args.lister.now.set.now.well_formed _ _ c.requires.place.has c.requires.field in
+    omega (arith, ap length (c.as_str.ensures ∙ ap (λ x. x.name) (found (goal.at.list_field-enter-requires t c).After-index-as_slice-at)))
 
 pub list_field-leave-requires-clause-text : goal.list_field-leave-requires-clause-text
 list_field-leave-requires-clause-text t c = (enters c.args.draft.now.path.text _ c.len-kept.ensures (c.list_run.ensures.path ∙ c.enter.ensures)).text
@@ -167,10 +153,8 @@ list_part-field_start-cell-requires-clause-few t c = omega arith
 
 pub list_part-list_field-requires : goal.list_part-list_field-requires
 list_part-list_field-requires t c =
-    let set = described c.args.lister.now.set.now in
-    let k = c.loop-field.field in
-    let lt : k < length (desc_at set c.args.part).fields = omega arith in
-    let room = field_room set c.args.part c.args.place.cell k c.args.lister.now.image.now.numbers c.requires.place lt in
+    let lt : c.loop-field.field < length (desc_at (described c.args.lister.now.set.now) c.args.part).fields = omega arith in
+    let room = field_room _ _ _ _ _ c.requires.place lt in
     let same = c.loop-field.invariant.lists.path in (
       search rules,
       record {

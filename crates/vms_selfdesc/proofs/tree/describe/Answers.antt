@@ -1,5 +1,5 @@
-use Rattle.vms_selfdesc.proofs.{Lengths.text_reads, Lengths.text_short, Plain.wrote}
 use Rattle.vms_selfdesc.proofs.Facade.{◌∙◌, length, map, string_bytes, ap, arith, IfOk-weaker, described, state_of}
+use Rattle.vms_selfdesc.proofs.{Lengths.text_reads, Lengths.text_short, Plain.wrote}
 use Rattle.vms_selfdesc.proofs.tree.describe.Goals as goal
 
 pub returns-clause-text : goal.returns-clause-text
@@ -15,5 +15,5 @@ returns-clause-reads c =
 pub returns-clause-short : goal.returns-clause-short
 returns-clause-short c =
     let set = c.args.set.now in
-    let short = text_short (described set) (map state_of c.args.images.now) set.well_formed set.heads in
+    let short = text_short _ (map state_of c.args.images.now) set.well_formed set.heads in
     IfOk-weaker c.finish.result _ _ (λ s text. omega (arith, ap length text)) (returns-clause-text c)

@@ -1,5 +1,5 @@
-use Rattle.vms_selfdesc.proofs.{Lengths.ready_device, Trees.leaves_all, Trees.leaves_rest, Trees.leaves_none, Trees.devices_next, Trees.devices_end}
 use Rattle.vms_selfdesc.proofs.Facade.{◌<◌, ◌∙◌, ◌∷◌, [], length, map, refl, arith, described, state_of, states_long, state_at}
+use Rattle.vms_selfdesc.proofs.{Lengths.ready_device, Trees.leaves_all, Trees.leaves_rest, Trees.leaves_none, Trees.devices_next, Trees.devices_end}
 use Rattle.vms_selfdesc.proofs.tree.write_devices.Goals as goal
 
 pub loop-device-init : goal.loop-device-init
@@ -8,12 +8,10 @@ loop-device-init c = leaves_all c.args.draft.now refl
 pub write_device-requires : goal.write_device-requires
 write_device-requires c =
     let images = c.args.images.now in
-    let k = c.loop-device.device in
-    let image = c.index-images-device.result in
-    let lt : k < length (map state_of images) = omega (arith, states_long images) in
+    let lt : c.loop-device.device < length (map state_of images) = omega (arith, states_long images) in
     record {
-      device = ready_device (described c.args.set.now) c.args.set.now.well_formed (map state_of images) c.requires.ready k (state_of image) lt
-          (state_at images k image c.loop-device-test.true c.index-images-device.is);
+      device = ready_device _ c.args.set.now.well_formed _ c.requires.ready _ _ lt
+          (state_at _ _ c.index-images-device.result c.loop-device-test.true c.index-images-device.is);
       no_path = c.loop-device.invariant.lists.path ∙ c.requires.no_path;
     }
 

@@ -1,5 +1,5 @@
-use Rattle.vms_selfdesc.proofs.{Lengths.text_reads, Lengths.text_short, Plain.wrote}
 use Rattle.vms_selfdesc.proofs.Facade.{◌≡◌, map, ◌∙◌, length, ap, arith, described, state_of, described_text}
+use Rattle.vms_selfdesc.proofs.{Lengths.text_reads, Lengths.text_short, Plain.wrote}
 use Rattle.vms_selfdesc.proofs.room.DescriptionRoom.describe.Goals as goal
 
 pub returns : goal.returns
