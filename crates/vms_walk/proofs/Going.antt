@@ -1,10 +1,10 @@
 -- A walk over parts: what is done at each of them is done at the whole.
 use Rattle.vms_walk.proofs.{Walking.fields_local, Walking.present_local, Walking.part_sound, Walking.set_settled, Spots.field_needs}
-use Rattle.vms_walk.proofs.Facade.{◌≡◌, ℕ, ◌+◌, ◌*◌, ◌<◌, ◌≤◌, List, [], ◌∷◌, ◌++◌, length, take, ℤ, refl, sym, ap, subst}
-use Rattle.vms_walk.proofs.Facade.{◌∙◌, arith, append_assoc, pos, Option, Bool, true, take_all, Item, Field, Set, Slot, Rule, item_slots}
-use Rattle.vms_walk.proofs.Facade.{slots_from, field_slots, all_hold, capacity_of, counted, IsGood, SameBelow, item_above, field_above, meanings_above}
-use Rattle.vms_walk.proofs.Facade.{least_of, field_at, is_well_formed, HasPart, desc_at, WalkStep, PartAt, Keeps, steps_of, table, spot_numbers, spot_slots}
-use Rattle.vms_walk.proofs.Facade.{slots_at, size_in, capacities_of, elements_slots, present_of, cell_of, HasSpot, MayCome, Result, Ok, Does, IsWalk}
+use Rattle.vms_walk.proofs.Facade.{◌≡◌, ℕ, ◌+◌, ◌*◌, ◌<◌, ◌≤◌, List, [], ◌∷◌, ◌++◌, length, take, ℤ, refl, sym, ap}
+use Rattle.vms_walk.proofs.Facade.{◌∙◌, arith, append_assoc, pos, Option, Bool, true, take_all, Item, Field, Set, Slot, Rule, item_slots, slots_from}
+use Rattle.vms_walk.proofs.Facade.{field_slots, all_hold, capacity_of, counted, IsGood, SameBelow, item_above, field_above, meanings_above, least_of, field_at}
+use Rattle.vms_walk.proofs.Facade.{is_well_formed, HasPart, desc_at, WalkStep, PartAt, Keeps, steps_of, table, spot_numbers, spot_slots, slots_at, size_in}
+use Rattle.vms_walk.proofs.Facade.{capacities_of, elements_slots, present_of, cell_of, HasSpot, MayCome, Result, Ok, Does, IsWalk}
 use Rattle.vms_walk.proofs.Walking.{Among, steps_append, steps_parts, times_more, times_split, fields_split, fields_more, keeps_first, items_local}
 use Rattle.vms_walk.specs.declared.step.WalkStep.TheVariants as steps
 use Rattle.std.proofs.lemmas.List.{ext_get_or}
@@ -66,11 +66,10 @@ pub field_slots_are : (set : Set) (good : IsGood set) (well : is_well_formed set
     → cell + capacity_of (field_at set spot.part i).count * size_in set (field_at set spot.part i).item ≤ length n → SameBelow cell n m
     → steps_of (slots_at set spot m i cell) ≡ steps_of (elements_slots set item most m count cell)
 field_slots_are set good well spot i cell n m here long h count item most lt is there least room s =
-    let same =
-    present_local (table set) (set_settled set good) (desc_at set spot.part) (part_sound set good spot.part h.part) spot.version spot.base i n m lt
+    let same = present_local (table set) (set_settled set good) _ (part_sound _ good _ h.part) spot.version spot.base _ n m lt
     (rw here at s) in
     let few : HasSpot set spot m = record { part = h.part; few = rw long h.few; room = rw long h.room } in
-    (field_needs set well spot m few i cell count item most lt is (there ∙ sym same) least (rw long room)).steps
+    (field_needs _ well _ _ few _ cell _ _ _ lt is (there ∙ sym same) least (rw long room)).steps
 
 -- the first `i` fields of a part are done, from `a` to `b`, and the next one's cells begin at `cell`
 pub record Past {S F : Type 0} (N : S → List ℤ) (does : Does S F) (set : Set) (spot : PartAt) (i cell : ℕ) (a b : S) : Type 0 where
@@ -87,10 +86,9 @@ module _ {S F : Type 0} {N : S → List ℤ} {does : Does S F} {set : Set} {spot
   whole_split lt n =
       let d = desc_at set spot.part in
       let own = spot_numbers set spot n in
-      let rule = Rule (all_hold d.validate spot.version own) ∷ [] in
-      let parts = fields_split (table set) d.fields spot.version own n d.fields 0 spot.base i i (omega arith) lt in
+      let parts = fields_split (table set) d.fields spot.version own n _ 0 spot.base _ i (omega arith) lt in
       let at = λ (x : ℕ). field_slots (table set) d.fields spot.version own n i x (field_at set spot.part i) in (
-        parts.0 ++ rule,
+        parts.0 ++ (Rule (all_hold d.validate spot.version own) ∷ []),
         rw (parts.1 ∙ ap (λ x. firsts set spot i n ++ (at x ++ parts.0)) (sym past.here)) (rw (append_assoc (firsts set spot i n), append_assoc (at cell))),
       )
 
@@ -102,10 +100,8 @@ module _ {S F : Type 0} {N : S → List ℤ} {does : Does S F} {set : Set} {spot
         let own = spot_numbers set spot n in
         let f = field_at set spot.part i in
         let up = field_above (table set) (meanings_above set.structs (length set.structs)) (fields set spot) spot.version own n i cell f in
-        let s = keeps_first cell (slots_at set spot n i cell) ys zs (N b) n e up k in
         rw (fields_local (table set) (set_settled set past.good) (desc_at set spot.part) (part_sound set past.good spot.part past.has) spot.version spot.base
-        i (N b) n past.le (rw past.here at s))
-        past.way;
+        i (N b) n past.le (rw past.here at (keeps_first cell (slots_at set spot n i cell) ys zs (N b) n e up k))) past.way;
     more = λ n.
         let own = spot_numbers set spot n in rw past.here
         (ap steps_of (fields_more (table set) (fields set spot) spot.version own n (fields set spot) 0 spot.base i i (omega arith) lt)
@@ -125,9 +121,7 @@ module _ {S F : Type 0} {N : S → List ℤ} {does : Does S F} {set : Set} {spot
 
     pub rule_done : IsWalk N does → (c : S) (r : Result (Unit {0}) F) → N c ≡ N b → does (steps.Rule (sound set spot (N b)) ∷ []) b r c
         → does (steps_of (spot_slots set spot (N c))) a r c
-    rule_done laws c r same h =
-        let way = laws.more (steps_of (firsts set spot i (N b))) (steps.Rule (sound set spot (N b)) ∷ []) a b c r past.way h in
-        rw same (subst (λ l. does l a r c) (sym end_steps) way)
+    rule_done laws c r same h = grind (arith, end_steps)
 
     pub rule_may : (may : S → WalkStep → Type 0) → MayCome does N may (spot_slots set spot) a → may b (steps.Rule (sound set spot (N b)))
     rule_may may all = all (steps_of (firsts set spot i (N b))) [] [] _ b past.way end_steps

@@ -4,7 +4,7 @@ use Rattle.vms_walk.proofs.Facade.{arith, Bool, true, Option, Item, Struct, MOST
 use Rattle.vms_walk.proofs.Facade.{item_slots, item_size, slots_from, desc_slots, desc_cells, struct_cells, elements_of, capacity_of, counted, times}
 use Rattle.vms_walk.proofs.Facade.{FieldsBelow, all_below, struct_slots, struct_cells_at, room_for_less, one_fits, cells_first, in_u32, field_at, own_numbers}
 use Rattle.vms_walk.proofs.Facade.{is_well_formed, desc_at, reach, field_clean, struct_clean, PartAt, table, cells_in, HasSpot, spot_numbers, spot_slots}
-use Rattle.vms_walk.proofs.Facade.{slots_at, present_of, size_in, elements_slots, steps_of, item_rank, part_rank, reach_whole, uses_more, rank_below, place_of}
+use Rattle.vms_walk.proofs.Facade.{slots_at, present_of, size_in, elements_slots, steps_of, item_rank, part_rank, reach_whole, uses_more, rank_below}
 use Rattle.vms_walk.proofs.Facade.{place_after, place_within, field_start, cell_of, all_hold, holds_at, zero, suc, ◌-◌, [], ◌∷◌, None, append_assoc}
 use Rattle.vms_walk.proofs.Facade.{append-nil, Kind, Num, WalkStep, Number, run_of, capacities_of, length-append, if_there, false, get_or-map, Desc, has_cell}
 use Rattle.vms_walk.proofs.Facade.{Slot, Meaning, no_meaning, field_slots, cells_from, field_cells, first, meanings, field_size, elements_fit, one_more}
@@ -53,20 +53,17 @@ module _ (set : Set) (well : is_well_formed set ≡ true) (j : ℕ) (lt : j < le
   pub struct_spot : (v cell : ℕ) (n : List ℤ) → v ≡ (get_or set.structs j no_desc).version
       → (caps : List ℕ) → item_slots (table set) (Struct j) caps n cell ≡ spot_slots set (record { part = parts.Struct j; version = v; base = cell }) n
   struct_spot v cell n e caps =
-      struct_slots set.structs (length set.structs) j n cell lt below ∙ ap (λ x. desc_slots (table set) (get_or set.structs j no_desc) x n cell) (sym e)
+      struct_slots _ _ _ _ _ lt below ∙ ap (λ x. desc_slots (table set) (get_or set.structs j no_desc) x n cell) (sym e)
 
   pub struct_size : size_in set (Struct j) ≡ length (desc_cells (struct_cells set) (get_or set.structs j no_desc))
   struct_size =
-      ap length (struct_cells_at set.structs (length set.structs) j lt below)
-      ∙ ap (λ cs. length (desc_cells cs (get_or set.structs j no_desc))) (cells_table set)
+      ap length (struct_cells_at _ _ _ lt below) ∙ ap (λ cs. length (desc_cells cs (get_or set.structs j no_desc))) (cells_table set)
 
 -- ---- the next field
 
 -- the first cell of a field, as the code has it
 pub start_code : (set : Set) (spot : PartAt) (k cell : ℕ) → cell ≡ field_start set spot.part spot.base k → cell ≡ cell_of set spot k
-start_code set spot k cell e =
-    let all = (desc_at set spot.part).fields in
-    e ∙ ap (λ cs. place_of cs all 0 spot.base all k) (sym (cells_table set))
+start_code set spot k cell e = grind (arith, cells_table)
 
 -- the first cell of the field after it
 pub start_after : (set : Set) (spot : PartAt) (k cell : ℕ) → cell ≡ cell_of set spot k → k < length (desc_at set spot.part).fields
@@ -153,7 +150,7 @@ pub run_split : (first count n : ℕ) (kind : Kind) → n < count
     → (rest : List WalkStep) × (run_of first count kind ≡ run_of first n kind ++ (Number (first + n) kind None ∷ rest))
 run_split first count n kind lt =
     let e : first + n * 1 ≡ first + n = omega arith in
-    let parts = times_split count n (λ cell. Number cell kind None ∷ []) first 1 lt in
+    let parts = times_split _ _ (λ cell. Number cell kind None ∷ []) first 1 lt in
     (parts.0, rw e at parts.1)
 
 -- what holds of each step holds of each of their cells
@@ -168,10 +165,7 @@ run_each P first count kind each k from below =
 
 -- the first few of them, and the others
 pub run_both : (first n m : ℕ) (kind : Kind) → run_of first (n + m) kind ≡ run_of first n kind ++ run_of (first + n) m kind
-run_both first zero m kind =
-    let e : first + zero ≡ first = omega arith in
-    let none : zero + m ≡ m = omega arith in
-    rw (none, e)
+run_both first zero m kind = grind arith
 run_both first (suc n) m kind =
     let e : (first + 1) + n ≡ first + suc n = omega arith in
     let one : suc n + m ≡ suc (n + m) = omega arith in

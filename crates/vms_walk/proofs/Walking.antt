@@ -46,8 +46,7 @@ module _ (ms : List Meaning) (fields : List Field) (v : ℕ) (own : ℕ → ℕ)
   fields_split [] j at i k e lt = absurd (omega arith)
   fields_split (f ∷ fs) j at zero k e lt =
       let same : j ≡ k = omega arith in
-      let next = at + length (field_cells (cells_in ms) fields j f) in
-      (slots_from ms fields v own n (suc j) next fs, rw same)
+      (slots_from ms fields v own n (suc j) (at + length (field_cells (cells_in ms) fields j f)) fs, rw same)
   fields_split (f ∷ fs) j at (suc i) k e lt =
       let next = at + length (field_cells (cells_in ms) fields j f) in
       let more = fields_split fs (suc j) next i k (omega arith) (omega arith) in (
@@ -133,7 +132,7 @@ keeps_more xs ys n m k p q = record {
 
 -- the first few steps
 pub keeps_front : (xs ys : List WalkStep) (n m : List ℤ) → Keeps xs n m → Keeps (xs ++ ys) n m
-keeps_front xs ys n m p = keeps_more xs ys n m m p (keeps_same ys m m refl)
+keeps_front xs ys n m p = keeps_more _ _ _ _ _ p (keeps_same _ _ _ refl)
 
 -- a number is put
 pub keeps_put : (cell : ℕ) (kind : Kind) (most : Option ℕ) (n : List ℤ) (z : ℤ) → Keeps (Number cell kind most ∷ []) n (slice_set n cell z)
@@ -193,7 +192,7 @@ module _ {S F : Type 0} {N : S → List ℤ} {does : Does S F} (laws : IsWalk N 
       let parts = at.split (N d) in
       let way = at.way (N d) ys (ws ++ (x ∷ zs)) e (laws.keeps ys b d (Ok tt) h) in
       all (front (N d) ++ ys) ws (zs ++ parts.0) x d (laws.more (front (N d)) ys a b d (Ok tt) way h)
-      (left_within (front (N d)) (here (N d)) parts.0 (whole (N d)) ys ws zs x parts.1 e)
+      (left_within _ _ _ _ _ _ _ _ parts.1 e)
 
 -- ---- the slots up to a place, by the numbers below it
 
@@ -255,8 +254,7 @@ module _ (ms : List Meaning) (settled : MeanSettled ms) (d : Desc) (sound : IsSo
       let up = rw one at s in
       let next = next_place i lt in
       let whole = λ (x : List ℤ). fields_more ms d.fields v (own x) x d.fields 0 base i i (omega arith) lt in
-      let before = fields_local i n m (omega arith) (same_less (place i) (place (i + 1)) n m (omega arith) up) in
-      rw (one, whole m, whole n, before, field_local i n m lt up)
+      rw (one, whole m, whole n, (fields_local i n m (omega arith) (same_less _ _ _ _ (omega arith) up)), field_local i n m lt up)
 
   -- how many elements of field i are there
   pub present_local : (i : ℕ) (n m : List ℤ) → i < length d.fields → SameBelow (place_of (cells_in ms) d.fields 0 base d.fields i) n m
@@ -269,9 +267,9 @@ module _ (ms : List Meaning) (settled : MeanSettled ms) (d : Desc) (sound : IsSo
 pub part_sound : (set : Set) → IsGood set → (part : Part) → HasPart set part → IsSound (desc_at set part)
 part_sound set g parts.Set h = absurd h
 part_sound set g (parts.Struct j) h = g.structs j h
-part_sound set g (parts.Device i) h = g.devices i (device_at set i) (slice_get-get_or set.devices i _ h)
+part_sound set g (parts.Device i) h = g.devices i (device_at set i) (slice_get-get_or _ _ _ h)
 part_sound set g (parts.Sub i j) h =
-    g.subs i j (device_at set i) (sub_at (device_at set i) j) (slice_get-get_or set.devices i _ h.0) (slice_get-get_or (device_at set i).subs j _ h.1)
+    g.subs i j (device_at set i) (sub_at (device_at set i) j) (slice_get-get_or _ _ _ h.0) (slice_get-get_or _ _ _ h.1)
 
 pub set_settled : (set : Set) → IsGood set → MeanSettled (table set)
-set_settled set g = meanings_settled set.structs g.structs (length set.structs) (omega arith)
+set_settled set g = meanings_settled _ g.structs _ (omega arith)

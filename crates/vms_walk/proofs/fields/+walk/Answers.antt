@@ -1,14 +1,13 @@
 use Rattle.vms_walk.proofs.Facade.{HasSpot, MayCome, rules, arith, refl, sym, ap, subst, ◌∙◌, ◌≡◌, ℕ, ℤ, ◌+◌, ◌*◌, ◌<◌, List, []}
-use Rattle.vms_walk.proofs.Facade.{◌∷◌, ◌++◌, length, ltb-true, Ok, Struct, item_slots, SameBelow, IsAbove, items_above}
-use Rattle.vms_walk.proofs.Facade.{meanings_above, field_at, described, desc_at, found_field, good_of, steps_of, table, cell_of}
-use Rattle.vms_walk.proofs.Facade.{spot_slots, slots_at, size_in, capacities_of, elements_slots, present_of, spot_numbers}
+use Rattle.vms_walk.proofs.Facade.{◌∷◌, ◌++◌, length, ltb-true, Ok, Struct, item_slots, SameBelow, IsAbove, items_above, meanings_above, field_at}
+use Rattle.vms_walk.proofs.Facade.{described, desc_at, found_field, good_of, steps_of, table, cell_of, spot_slots, slots_at, size_in, elements_slots}
+use Rattle.vms_walk.proofs.Facade.{present_of, spot_numbers}
 use Rattle.vms_walk.proofs.Going.{Walked, Past, element_among, field_among, field_slots_are, rule_done, rule_may, same_rule}
-use Rattle.vms_walk.proofs.Spots.{run_steps, steps_at, one_slots, Next, next_field, field_needs, size_code, start_code, struct_spot, struct_size, holds_is}
+use Rattle.vms_walk.proofs.Spots.{run_steps, steps_at, Next, next_field, field_needs, size_code, start_code, struct_spot, struct_size, holds_is}
 use Rattle.vms_walk.proofs.Walking.{went_on, stopped_at, may_come, room_at, least_again, keeps_below, keeps_first}
 use Rattle.vms_walk.proofs.fields.{+walk.Given.Over, +walk.Goals.walk_field-After-walk_row-arg-1, +walk.Goals.walk_struct-After-walk-arg-1}
 use Rattle.vms_walk.proofs.fields.+walk.Goals.{walk_items-After-walk_item-arg-1, walk-After-rules-arg-1, walk-After-walk_field-arg-1}
 use Rattle.vms_parts.specs.Views.{field_of}
-use Rattle.std.proofs.Common.{map}
 use Rattle.vms_spec.specs.declared.Part.TheVariants as parts
 use Rattle.vms_walk.specs.declared.step.WalkStep.TheVariants as steps
 use Rattle.vms_walk.proofs.fields.+walk.Goals as goal
@@ -46,17 +45,15 @@ pub walk_items-walk_item-requires : goal.walk_items-walk_item-requires
 walk_items-walk_item-requires g t c =
     let set = described c.args.set.now in
     let inv = c.loop-turn.invariant in
-    let room = room_at c.loop-turn._turn c.args.row.count (size_in set _) c.args.row.first _ _ (omega arith) inv.here c.requires.room in
+    let room = room_at _ _ _ _ _ _ (omega arith) inv.here c.requires.room in
     let may = may_come g.met.W.Walker.laws (element_among (walked g t c) c.args.row.count (omega arith)) g.W.Walker.may c.requires.may in
     λ κs h. (search rules, (search rules, (search rules, record { reaches = c.requires.reaches; may = may; room = rw inv.long room; few = rw inv.long c.requires.few })))
 
 pub walk_items-overflow_add-cell : goal.walk_items-overflow_add-cell
 walk_items-overflow_add-cell g t c =
-    let set = described c.args.set.now in
-    let item = c.args.row.item.now in
     let inv = c.loop-turn.invariant in
-    let room = room_at c.loop-turn._turn c.args.row.count (size_in set item) c.args.row.first c.loop-turn.cell _ (omega arith) inv.here c.requires.room in
-    omega (arith, size_code set item c.item_cells-size.result c.item_cells-size.ensures c.requires.small)
+    let room = room_at _ _ _ _ _ _ (omega arith) inv.here c.requires.room in
+    omega (arith, size_code (described c.args.set.now) c.args.row.item.now c.item_cells-size.result c.item_cells-size.ensures c.requires.small)
 
 -- numbers that count nothing
 
@@ -76,39 +73,24 @@ pub walk_items-returns-in-Some : goal.walk_items-returns-in-Some
 walk_items-returns-in-Some g t c =
     let row = c.args.row in
     let free = c.in-Some.ensures in
-    let is = run_steps (described c.args.set.now) row.item.now row.most c.in-Some.kind free.number free.free
+    let is = run_steps (described c.args.set.now) _ _ _ free.number free.free
     (g.W.Cells.numbers c.walk_run.new.walker) row.first row.count in
     subst (λ l. g.W.Walker.does l c.args.walker.now c.walk_run.result c.walk_run.new.walker) (sym is) c.walk_run.ensures
 
 -- ---- a row
 
 pub walk_row-walk_item-requires : goal.walk_row-walk_item-requires
-walk_row-walk_item-requires g t c =
-    let N = g.W.Cells.numbers in
-    let set = described c.args.set.now in
-    let row = c.args.row in
-    let item = row.item.now in
-    let one : row.count ≡ 1 = omega arith in
-    let slots = λ (m : List ℤ). item_slots (table set) item (capacities_of row.most) m row.first in
-    let come : MayCome g.W.Walker.does N g.W.Walker.may slots c.args.walker.now = λ ys ws zs x d h e.
-    c.requires.may ys ws zs x d h (one_slots set item row.most (N d) row.count row.first one ∙ e) in
-    let width : row.count * size_in set item ≡ 1 * size_in set item = rw one in
-    λ κs h. (search rules, (search rules, (search rules, record { reaches = c.requires.reaches; may = come; room = omega arith; few = c.requires.few })))
+walk_row-walk_item-requires g t c = search rules
 
 pub walk_row-returns : goal.walk_row-returns
-walk_row-returns g t c =
-    let row = c.args.row in
-    let is = one_slots (described c.args.set.now) row.item.now row.most (g.W.Cells.numbers c.walk_item.new.walker) row.count row.first (omega arith) in
-    subst (λ l. g.W.Walker.does l c.args.walker.now c.walk_item.result c.walk_item.new.walker) (sym is) c.walk_item.ensures
+walk_row-returns g t c = search rules
 
 -- ---- one field
 
 -- the field that the code has is that of the set
 field_is : (g : Over) (t : ℕ) (c : goal.walk_field-After-walk_row-arg-1 g t)
     → field_of c.index-as_slice-field.result ≡ field_at (described c.args.set.now) c.args.here.spot.part c.args.field
-field_is g t c =
-    found_field c.as_slice.result.now (desc_at (described c.args.set.now) c.args.here.spot.part).fields c.args.field c.index-as_slice-field.result
-    (ap (map field_of) c.as_slice.ensures ∙ c.requires.fields.fields) c.requires.field c.index-as_slice-field.is
+field_is g t c = grind (arith, found_field)
 
 item_is : (g : Over) (t : ℕ) (c : goal.walk_field-After-walk_row-arg-1 g t)
     → c.index-as_slice-field.result.item ≡ (field_at (described c.args.set.now) c.args.here.spot.part c.args.field).item
@@ -125,26 +107,17 @@ steps_are : (g : Over) (t : ℕ) (c : goal.walk_field-After-walk_row-arg-1 g t) 
     → steps_of (slots_at (described c.args.set.now) c.args.here.spot m c.args.field c.args.cell) ≡ steps_of
     (elements_slots (described c.args.set.now) c.index-as_slice-field.result.item c.most_in-most.result m c.present-count.result c.args.cell)
 steps_are g t c m long s =
-    field_slots_are _ (good_of _ c.args.set.now.well_formed c.args.set.now.heads) c.args.set.now.well_formed c.args.here.spot c.args.field c.args.cell
-    (g.W.Cells.numbers c.args.walker.now) m c.requires.here long c.requires.spot c.present-count.result c.index-as_slice-field.result.item c.most_in-most.result
+    field_slots_are _ (good_of _ c.args.set.now.well_formed c.args.set.now.heads) c.args.set.now.well_formed _ _ _
+    _ _ c.requires.here long c.requires.spot _ _ _
     c.requires.field (item_is g t c) (count_is g t c) c.most_in-most.ensures c.requires.room s
 
 -- they have no cell below the field
 above : (g : Over) (t : ℕ) (c : goal.walk_field-After-walk_row-arg-1 g t) (m : List ℤ)
     → IsAbove c.args.cell (elements_slots (described c.args.set.now) c.index-as_slice-field.result.item c.most_in-most.result m c.present-count.result c.args.cell)
-above g t c m =
-    let set = described c.args.set.now in
-    items_above (table set) (meanings_above set.structs (length set.structs)) _ (capacities_of c.most_in-most.result) m c.present-count.result c.args.cell
-    (size_in set _)
+above g t c m = search (rules, items_above, meanings_above)
 
 pub walk_field-present-count-requires : goal.walk_field-present-count-requires
-walk_field-present-count-requires g t c = record {
-  spot = c.requires.spot;
-  number = c.args.field;
-  field = c.requires.field;
-  is = found_field c.as_slice.result.now (desc_at (described c.args.set.now) c.args.here.spot.part).fields c.args.field c.index-as_slice-field.result
-      (ap (map field_of) c.as_slice.ensures ∙ c.requires.fields.fields) c.requires.field c.index-as_slice-field.is;
-}
+walk_field-present-count-requires g t c = search (rules, found_field)
 
 pub walk_field-walk_row-requires : goal.walk_field-walk_row-requires
 walk_field-walk_row-requires g t c =
@@ -239,15 +212,7 @@ end_of g t c = omega arith
 done : (g : Over) (t : ℕ) (c : goal.walk-After-rules-arg-1 g t)
     → Past g.W.Cells.numbers g.W.Walker.does (described c.args.set.now) c.args.spot c.loop-field.field
     (cell_of (described c.args.set.now) c.args.spot c.loop-field.field) c.args.walker.now c.loop-field.walker
-done g t c =
-    let set = c.args.set.now in
-    record {
-      good = good_of (described set) set.well_formed set.heads;
-      has = c.requires.spot.part;
-      le = omega (arith, end_of g t c);
-      here = refl;
-      way = c.loop-field.invariant.way;
-    }
+done g t c = search (rules, good_of)
 
 pub walk-rules-requires-clause-may : goal.walk-rules-requires-clause-may
 walk-rules-requires-clause-may g t c =
@@ -256,12 +221,10 @@ walk-rules-requires-clause-may g t c =
 pub walk-returns : goal.walk-returns
 walk-returns g t c =
     let laws = g.met.W.Walker.laws in
-    let N = g.W.Cells.numbers in
     let b = c.loop-field.walker in
     let at = (goal.at.walk-returns g t c).After-rules-arg-1 in
-    let e = c.rules.new.self in
-    rule_done (done g t at) (end_of g t at) laws e c.rules.result (same_rule _ (N b) (N e) (laws.keeps _ b e c.rules.result c.rules.ensures))
-    (rw (holds_is (described c.args.set.now) c.args.spot (N b)) at c.rules.ensures)
+    rule_done (done g t at) (end_of g t at) laws _ _ (same_rule _ _ _ (laws.keeps _ b c.rules.new.self c.rules.result c.rules.ensures))
+    (rw (holds_is (described c.args.set.now) c.args.spot (g.W.Cells.numbers b)) at c.rules.ensures)
 
 -- ---- one element
 
@@ -284,20 +247,10 @@ walk_item-step-requires-in-Unused-clause-may g t c =
     c.requires.may [] [] [] _ c.args.walker.now (g.met.W.Walker.laws.none c.args.walker.now) (ap here c.in-Unused.is)
 
 pub walk_item-walk_element-requires : goal.walk_item-walk_element-requires
-walk_item-walk_element-requires g t c =
-    let set = described c.args.set.now in
-    let N = g.W.Cells.numbers in
-    let is = c.in-Struct.is in
-    let reaches = rw is at c.requires.reaches in
-    let room = rw is at c.requires.room in
-    let steps = λ (m : List ℤ). ap (steps_at set c.args.most m c.args.cell) is in
-    λ κs h. (search rules, (search rules, (search rules, record { reaches = reaches; may = λ ys ws zs x d k e. c.requires.may ys ws zs x d k (steps (N d) ∙ e); room = room; few = c.requires.few })))
+walk_item-walk_element-requires g t c = search rules
 
 pub walk_item-returns-in-Struct : goal.walk_item-returns-in-Struct
-walk_item-returns-in-Struct g t c =
-    let b = c.walk_element.new.walker in
-    let is = ap (steps_at (described c.args.set.now) c.args.most (g.W.Cells.numbers b) c.args.cell) c.in-Struct.is in
-    subst (λ l. g.W.Walker.does l c.args.walker.now c.walk_element.result b) (sym is) c.walk_element.ensures
+walk_item-returns-in-Struct g t c = search rules
 
 -- ---- an element of a structure
 
@@ -309,9 +262,8 @@ slots_are : (g : Over) (t : ℕ) (c : goal.walk_struct-After-walk-arg-1 g t) (m 
     → item_slots (table (described c.args.set.now)) (Struct c.args.number) [] m c.args.cell ≡ spot_slots (described c.args.set.now)
     (record { part = parts.Struct c.args.number; version = c.desc.result.now.version; base = c.args.cell }) m
 slots_are g t c m =
-    let set = described c.args.set.now in
-    struct_spot set c.args.set.now.well_formed c.args.number
-    (ltb-true c.args.number (length set.structs) c.requires.reaches) c.desc.result.now.version c.args.cell m (ap (λ d. d.version) c.desc.ensures) []
+    struct_spot _ c.args.set.now.well_formed _
+    (ltb-true c.args.number (length (described c.args.set.now).structs) c.requires.reaches) _ _ _ (ap (λ d. d.version) c.desc.ensures) []
 
 pub walk_struct-walk-requires : goal.walk_struct-walk-requires
 walk_struct-walk-requires g t c =

@@ -1,21 +1,13 @@
-use Rattle.vms_walk.proofs.Facade.{ap, sym, ◌∙◌, if◌then◌else◌, elements_of, own_numbers, described, present_of}
+use Rattle.vms_walk.proofs.Facade.{rules, ap, sym, ◌∙◌, if◌then◌else◌, elements_of, own_numbers, described, present_of}
 use Rattle.vms_walk.proofs.Spots.{own_is, present_then}
 use Rattle.vms_parts.specs.Views.{field_of}
 use Rattle.vms_walk.proofs.fields.present.Goals as goal
 
 pub is_present-requires : goal.is_present-requires
-is_present-requires g c = record {
-  number = c.requires.number;
-  is = c.requires.is;
-  ask = record { part = c.requires.spot.part; field = c.requires.field; few = c.requires.spot.few; own = c.requires.spot.room };
-}
+is_present-requires g c = search rules
 
 pub count_of-requires : goal.count_of-requires
-count_of-requires g c = record {
-  number = c.requires.number;
-  is = c.requires.is;
-  ask = record { part = c.requires.spot.part; field = c.requires.field; few = c.requires.spot.few; own = c.requires.spot.room };
-}
+count_of-requires g c = search rules
 
 pub returns-then-is_present : goal.returns-then-is_present
 returns-then-is_present g c =

@@ -1,11 +1,9 @@
 use Rattle.vms_walk.proofs.{Walking.went_on, Walking.stopped_at, Walking.may_come, Spots.run_among}
-use Rattle.vms_walk.proofs.Facade.{rules, ◌≡◌, ◌+◌, ◌-◌, ◌≤◌, refl, ◌∙◌, arith, zero, Ok}
+use Rattle.vms_walk.proofs.Facade.{rules, ◌+◌, ◌-◌, ◌≤◌, ◌∙◌, arith, Ok}
 use Rattle.vms_walk.proofs.fields.walk_run.Goals as goal
 
 pub loop-cell-init : goal.loop-cell-init
-loop-cell-init g c =
-    let none : zero ≡ c.args.first - c.args.first = omega arith in
-    record { way = rw (← none) (g.met.W.Walker.laws.none c.args.walker.now); long = refl; from = omega arith; within = omega arith }
+loop-cell-init g c = search (arith)
 
 pub loop-cell-preserved : goal.loop-cell-preserved
 loop-cell-preserved g c =
@@ -31,9 +29,7 @@ run-requires-clause-may g c =
     g.W.Walker.may c.requires.may
 
 pub returns : goal.returns
-returns g c =
-    let all : c.loop-cell.cell - c.args.first ≡ c.args.count = omega arith in
-    rw all at c.loop-cell.invariant.way
+returns g c = grind arith
 
 pub returns-in_err-run : goal.returns-in_err-run
 returns-in_err-run g c =

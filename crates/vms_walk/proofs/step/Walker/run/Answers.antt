@@ -1,11 +1,9 @@
-use Rattle.vms_walk.proofs.Facade.{[], ◌≡◌, ◌-◌, refl, ◌∙◌, arith, zero, Ok}
+use Rattle.vms_walk.proofs.Facade.{[], ◌-◌, refl, ◌∙◌, arith, Ok}
 use Rattle.vms_walk.proofs.{Walking.went_on, Walking.stopped_at, Walking.may_come, Spots.run_among}
 use Rattle.vms_walk.proofs.step.Walker.run.Goals as goal
 
 pub loop-cell-init : goal.loop-cell-init
-loop-cell-init g c =
-    let none : zero ≡ c.args.first - c.args.first = omega arith in
-    record { way = rw (← none) (g.met.Self.Walker.laws.none c.args.self.now); long = refl; within = omega arith }
+loop-cell-init g c = search (arith)
 
 pub loop-cell-preserved : goal.loop-cell-preserved
 loop-cell-preserved g c =
@@ -30,9 +28,7 @@ step-requires-clause-may g c =
     g.Self.Walker.may c.requires.may [] [] [] _ l.self (laws.none l.self) refl
 
 pub returns : goal.returns
-returns g c =
-    let all : c.loop-cell.cell - c.args.first ≡ c.args.count = omega arith in
-    rw all at c.loop-cell.invariant.way
+returns g c = grind arith
 
 pub returns-in_err-step : goal.returns-in_err-step
 returns-in_err-step g c =
