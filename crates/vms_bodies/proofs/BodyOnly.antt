@@ -87,7 +87,7 @@ module _ (all : List Cell) (total : List ℤ → List Slot) (n : List ℤ) (end 
       → get_or n c (pos 0) ≡ get_or (slice_set numbers cell (get_or n cell (pos 0))) c (pos 0)
   number_same cell c numbers inside h =
       ⊎_elim (λ (e : c ≡ cell). rw (e, get_or-set_same numbers cell (get_or n cell (pos 0)) (pos 0) inside) refl)
-      (λ (ne : c ≢ cell). h (ne_eqb cell c (λ e. ne (sym e))) ∙ sym (set_other numbers c cell (get_or n cell (pos 0)) ne)) (cases_eq c cell)
+      (λ (ne : c ≢ cell). h (ne_eqb cell c (λ e. ne (sym e))) ∙ sym (set_other _ _ _ _ ne)) (cases_eq c cell)
 
   -- a slot that is taken leaves the others
   passed : {cell further : ℕ} {slot : Slot} {done : List Slot} {left : List ℤ → List Slot} {p q : Progress}
@@ -137,18 +137,18 @@ module _ (all : List Cell) (total : List ℤ → List Slot) (n : List ℤ) (end 
   other_spelling cell (Filler k) done left p o up l =
       let r = rest_of l in
       passed {cell = cell} {further = cell} {slot = Filler k} {done = done} {left = left} up l
-      (filler_taken _ _ p k r.spells.2 (r.front ∙ rw (r.spells.3, append_assoc) refl))
-      (unchanged k _ r (omega (arith, ap length r.spells.3, length-append r.spells.0 r.spells.1)) r.spells.4 r.fits r.rules (λ c. refl))
+      (filler_taken _ _ _ _ r.spells.2 (r.front ∙ rw (r.spells.3, append_assoc) refl))
+      (unchanged _ _ r (omega (arith, ap length r.spells.3, length-append r.spells.0 r.spells.1)) r.spells.4 r.fits r.rules (λ c. refl))
   other_spelling cell (Rule b) done left p o up l =
       let r = rest_of l in
-      passed {cell = cell} {further = cell} {slot = Rule b} {done = done} {left = left} up l (if_true b (Ok p) _ r.rules.0)
+      passed {cell = cell} {further = cell} {slot = Rule b} {done = done} {left = left} up l (if_true _ _ _ r.rules.0)
       (record { bytes = r.bytes; front = r.front; place = r.place; spells = r.spells; fits = r.fits; rules = r.rules.1; same = r.same; long = r.long })
 
   pub spelling_keeps : length all ≤ length n → ((m : List ℤ) → AreCells all (total m)) → Keeping total (Spelling total n end tail) Never
   spelling_keeps room cells = record {
     less = λ cell further done left p le up l. record { more = left n; split = split_of l; high = up n; rest = rest_of l };
-    number = λ cell kind caps done left p up l. number_spelling room cells cell kind caps done left p up l;
-    other = λ cell slot done left p o up l. other_spelling cell slot done left p o up l;
+    number = λ cell kind caps done left p up l. number_spelling room cells _ _ _ _ left _ up l;
+    other = λ cell slot done left p o up l. other_spelling _ _ _ left _ o up l;
   }
 
 -- what a body of these numbers gives
@@ -274,8 +274,8 @@ module _ (set : Set) (d : Device) (image : Image) where
     }
 
     own_region : (came : List (Option ℕ)) → SameIn 0 (0 + own_cells set d) image.numbers (so_far came)
-    own_region came = region came 0 _ (λ c up lt a b i s x e f.
-        its_below set s.desc x (part_place set d i) image.numbers c (omega (arith, sub_place_up set (own_cells set d) d.subs i)))
+    own_region came = region _ 0 _ (λ c up lt a b i s x e f.
+        its_below set s.desc x (part_place set d i) _ _ (omega (arith, sub_place_up set (own_cells set d) d.subs i)))
 
     part_region : (came : List (Option ℕ)) (j w : ℕ) (s : Sub) → slice_get d.subs j ≡ Some s → slice_get came j ≡ Some (Some w)
         → slice_get image.came j ≡ Some (Some w) → SameIn (part_place set d j) (part_place set d j + sub_size set s) image.numbers (so_far came)

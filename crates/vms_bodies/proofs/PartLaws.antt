@@ -221,8 +221,8 @@ other_part came i j x e f same = cc
 pub stays_on : (set : Set) (d : Device) (came : List (Option ℕ)) (j w : ℕ) (n m k : List ℤ) → slice_get came j ≡ Some None → Stays set d came n m
     → Stays set d (slice_set came j (Some w)) m k → Stays set d came n k
 stays_on set d came j w n m k f a b = record {
-  own = in_trans _ _ n m k a.own b.own;
-  parts = λ i s x e g. in_trans _ _ n m k (a.parts i s x e g) (b.parts i s x e (grind (arith, at_other)));
+  own = in_trans _ _ _ _ _ a.own b.own;
+  parts = λ i s x e g. in_trans _ _ _ _ _ (a.parts i s x e g) (b.parts i s x e (grind (arith, at_other)));
 }
 
 -- a part's body changes its own cells alone
@@ -245,10 +245,10 @@ pub next_parts : (subs : List Sub) (came : List (Option ℕ)) (j w : ℕ) (t : S
     → (i : ℕ) (s : Sub) (x : ℕ) → slice_get subs i ≡ Some s → slice_get (slice_set came j (Some w)) i ≡ Some (Some x) → P i s x
 next_parts subs came j w t P there new here before i s x e f =
     ⊎_elim (λ (same : i ≡ j).
-    let g = at_set came j (Some w) (slice_get_within came j None new) in
+    let g = at_set _ _ (Some w) (slice_get_within came j None new) in
     let ts : t ≡ s = cc in
     let wx : w ≡ x = cc in
-    rw (same, ← ts, ← wx) here) (λ (ne : i ≡ j → ⊥). before i s x e (sym (at_other came j i _ ne) ∙ f)) (cases_eq i j)
+    rw (same, ← ts, ← wx) here) (λ (ne : i ≡ j → ⊥). before i s x e (sym (at_other _ _ _ _ ne) ∙ f)) (cases_eq i j)
 
 -- the slots of the parts that came name the same cells
 pub names_stay : (set : Set) (d : Device) (came : List (Option ℕ)) (n m : List ℤ) (c : ℕ) → AreSound set.structs

@@ -38,7 +38,7 @@ pub if_so : {A : Type 0} (P : A → Type 0) (b : Truth) (x y : A) → (b ≡ tru
 if_so P b x y f g = grind arith
 
 pub if_there : (P : List Slot → Type 0) → P [] → (b : Truth) (xs : List Slot) → P xs → P (if b then xs else [])
-if_there P none b xs x = if_both P b xs [] x none
+if_there P none b xs x = if_both P _ _ [] x none
 
 -- ---- where fields begin, and which tests don't change
 
@@ -154,7 +154,7 @@ module _ (ms : List Meaning) (h : MeanAbove ms) where
 
     pub fields_above : (i at : ℕ) (fs : List Field) → IsAbove at (slots_from ms fields v own numbers i at fs)
     fields_above i at [] = above_none at
-    fields_above i at (f ∷ fs) = above_append at _ _ (field_above i at f) (above_less at _ _ (omega arith) (fields_above (suc i) _ fs))
+    fields_above i at (f ∷ fs) = above_append _ _ _ (field_above i at f) (above_less _ _ _ (omega arith) (fields_above (suc i) _ fs))
 
   pub desc_above : (d : Desc) (v : ℕ) (numbers : List ℤ) (at : ℕ) → IsAbove at (desc_slots ms d v numbers at)
   desc_above d v numbers at = above_append at _ _ (fields_above d.fields v _ numbers 0 at d.fields) (record { below = λ c lt. refl })
@@ -178,7 +178,7 @@ pub front_stands : (all : List Cell) (at : ℕ) (xs ys : List Cell) → Stands a
 front_stands all at xs ys s = record { more = ys ++ s.more; is = cc (append_assoc xs ys s.more) }
 
 pub rest_stands : (all : List Cell) (at : ℕ) (xs ys : List Cell) → Stands all at (xs ++ ys) → Stands all (at + length xs) ys
-rest_stands all at xs ys s = record { more = s.more; is = drop_on all at xs _ (s.is ∙ append_assoc xs ys s.more) }
+rest_stands all at xs ys s = record { more = s.more; is = drop_on _ _ _ _ (s.is ∙ append_assoc xs ys s.more) }
 
 first_is : (all : List Cell) (at : ℕ) (c : Cell) (more : List Cell) → drop at all ≡ c ∷ more → (at < length all) × (get_or all at no_cell ≡ c)
 first_is [] zero c more e = cc

@@ -60,7 +60,6 @@ module _ (ms : List Meaning) (h : MeanSettled ms) where
         let cs = cells_in ms in
         let size = item_size cs f.item in
         let caps = counted i d.fields in
-        let there = is_there f.test f.since v (own n) no_parent in
         let first : base ≤ cell = omega (arith, place_up cs d.fields 0 base d.fields i) in
         let same : (j : ℕ) → IsEarlier d.fields i j → own k j ≡ own n j =
         λ j x. own_in cs d base i cell j n k here (in_less low base cell end n k up (omega arith) s) x in
@@ -100,12 +99,12 @@ meanings_settled ds sound zero le = λ j. record { means = λ at low end n k up 
 meanings_settled ds sound (suc k) le =
     let h : MeanSettled (meanings ds k) = meanings_settled ds sound k (omega arith) in
     one_more MeansSettled no_meaning (record { means = λ at low end n k up le s. refl }) (meanings ds k) h (meaning (meanings ds k) (get_or ds k no_desc))
-    (record { means = λ at low end n m up fit s. desc_settled _ h _ _ at low end n m (sound k (omega arith)) up fit s })
+    (record { means = λ at low end n m up fit s. desc_settled _ h _ _ _ _ _ _ _ (sound k (omega arith)) up fit s })
 
 pub slots_within : (ds : List Desc) → AreSound ds → (d : Desc) (v base low end : ℕ) (n k : List ℤ) → IsSound d → low ≤ base
     → base + length (desc_cells (cells_in (meanings ds (length ds))) d) ≤ end → SameIn low end n k
     → desc_slots (meanings ds (length ds)) d v k base ≡ desc_slots (meanings ds (length ds)) d v n base
-slots_within ds structs d v base low end n k sound up le s = desc_settled _ (meanings_settled ds structs _ (omega arith)) d v base low end n k sound up le s
+slots_within ds structs d v base low end n k sound up le s = desc_settled _ (meanings_settled _ structs _ (omega arith)) _ _ _ _ _ _ _ sound up le s
 
 -- ---- what is spelled depends on the cells that are named; a description's slots name cells between its place and its end
 
@@ -173,7 +172,7 @@ module _ (set : Set) (d : Desc) (v base : ℕ) where
     pub its_same : SameIn base (base + size) n k → its k ≡ its n
     its_same s =
         let same : length (desc_cells (cells_in (meanings set.structs (length set.structs))) d) ≡ size = rw (cells_first _ _) refl in
-        slots_within _ structs d v base base _ n k sound (omega arith) (omega arith) s
+        slots_within _ structs _ _ _ _ _ _ _ sound (omega arith) (omega arith) s
 
     pub its_spelled : (bytes : List ℕ) → SameIn base (base + size) n k → Spells n (its n) bytes → Spells k (its k) bytes
     its_spelled bytes s h = rw (its_same s) (spells_agree n k (its n) bytes (λ c e. let b = its_in n c e in s.same c b.0 b.1) h)
@@ -191,7 +190,7 @@ pub named_fits : (all : List Cell) (m : List ℤ) (slots : List Slot) (c : ℕ) 
     → FitsCell (get_or all c no_cell) (get_or m c (pos 0))
 named_fits all m [] c e f a = cc
 named_fits all m (Number k kind caps ∷ slots) c e f a =
-    either_of (k == c) _ e (λ t. rw (← (eqb-true k c t), a.0.kind, a.0.capacities) (f.0, f.1)) (λ later. named_fits all m slots c later f.2 a.1)
+    either_of _ _ e (λ t. rw (← (eqb-true k c t), a.0.kind, a.0.capacities) (f.0, f.1)) (λ later. named_fits all m slots c later f.2 a.1)
 named_fits all m (Constant kind z ∷ slots) c e f a = named_fits all m slots c e f.1 a
 named_fits all m (_ ∷ slots) c e f a = named_fits all m slots c e f a
 

@@ -18,7 +18,7 @@ use Rattle.vms_spec.specs.declared.Reason.TheVariants as reasons
 
 pub value_law : (kind : Kind) (bs : List ℕ) → length bs ≡ width kind → IsBytes bs → is_bad_bool kind bs ≡ false
     → InRange kind (value_of kind bs) × (bs ≡ code kind (value_of kind bs))
-value_law kind bs len ok good = value_taken kind bs len ok (not_bad kind good)
+value_law kind bs len ok good = value_taken _ _ len ok (not_bad kind good)
   where
     not_bad : (kind : Kind) → is_bad_bool kind bs ≡ false → IsBadBool kind bs → ⊥
     not_bad Bool good x = omega (arith, ltb-false 1 (big_number 1 bs) good)
@@ -125,7 +125,7 @@ module _ (all : List Cell) (total : List ℤ → List Slot) (start : Progress) w
         → is_bad_bool kind (take (width kind) p.rest) ≡ false
         → InRange kind (value_of kind (take (width kind) p.rest)) × (take (width kind) p.rest ≡ code kind (value_of kind (take (width kind) p.rest)))
     value_here {p = p} kind h e good =
-        value_law kind _ (length-take-le (width kind) p.rest (ltb-false _ _ e)) (bytes_first _ p.rest (bytes_rest _ p.rest (rw (h.front) at ok))) good
+        value_law _ _ (length-take-le (width kind) p.rest (ltb-false _ _ e)) (bytes_first _ p.rest (bytes_rest _ p.rest (rw (h.front) at ok))) good
 
     number_spelled : length all ≤ length start.numbers → ((m : List ℤ) → AreCells all (total m)) → (cell : ℕ) (kind : Kind) (caps : List ℕ) (done : List Slot)
         → (left : List ℤ → List Slot) (p : Progress) → Left total (Spelled start) Anything cell p done (λ m. Number cell kind caps ∷ left m)
@@ -292,7 +292,7 @@ after_same go on at rest v h = grind arith
 pub enough : {S : Type 0} (judge : S → List ℕ → Verdict S) → Advances judge → (m k : ℕ) (state : S) (at : ℕ) (rest : List ℕ)
     → length rest < m → length rest < k → reading_from judge m state at rest ≡ reading_from judge k state at rest
 enough judge a (suc m) (suc k) state at rest h i =
-    after_same (reading_from judge m) (reading_from judge k) at rest (judge state rest) (λ n next e.
+    after_same (reading_from judge m) (reading_from judge k) _ _ _ (λ n next e.
     let b = a.goes state rest n next e in
     enough judge a m k next (at + n) (drop n rest) (omega (arith, length-drop n rest)) (omega (arith, length-drop n rest)))
 enough judge a _ k state at rest h i = absurd (omega arith)
@@ -308,4 +308,4 @@ one_unit judge a state at rest =
 -- a unit that is spelled is read
 pub unit_read : {S : Type 0} (judge : S → List ℕ → Verdict S) → Advances judge → (state next : S) (at : ℕ) (unit rest : List ℕ)
     → judge state (unit ++ rest) ≡ Goes (length unit) next → reading_on judge state at (unit ++ rest) ≡ reading_on judge next (at + length unit) rest
-unit_read judge a state next at unit rest e = one_unit judge a state at _ ∙ rw (e, drop_at unit rest (length unit) refl) refl
+unit_read judge a state next at unit rest e = one_unit judge a _ _ _ ∙ rw (e, drop_at unit rest (length unit) refl) refl

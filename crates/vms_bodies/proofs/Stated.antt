@@ -61,7 +61,7 @@ module _ (set : Set) where
       → Within cell (item_size (first desc_cells set.structs below) item) c
   in_item [] inside below (Num kind) cell c h = let same : cell ≡ c = cc in record { low = omega arith; high = omega arith }
   in_item (step ∷ path) inside below (Struct j) cell c h =
-      let t = some_if _ _ c h in in_struct step path inside below j cell c (ltb-true j below t.0) _ refl t.1
+      let t = some_if _ _ _ h in in_struct _ _ inside _ _ _ _ (ltb-true j below t.0) _ refl t.1
   in_item _ inside below _ cell c h = cc
 
   in_element : (path : List (ℕ × ℕ)) → Inside path → (below : ℕ) (d : Desc) (base i e c : ℕ) (o : Option Field) → slice_get d.fields i ≡ o
@@ -201,7 +201,7 @@ normal_decides set d image =
 
 pub rules_decide : (slots : List Slot) → Decides (rules_are_true slots) (RulesHold slots)
 rules_decide [] = (λ e. tt, λ h. refl)
-rules_decide (Rule b ∷ slots) = Decides-and b _ (λ e. e, λ e. e) (rules_decide slots)
+rules_decide (Rule b ∷ slots) = Decides-and _ _ (λ e. e, λ e. e) (rules_decide slots)
 rules_decide (_ ∷ slots) = rules_decide slots
 
 -- ---- ready

@@ -24,7 +24,7 @@ Sets slot old new = new ≡ old
 -- it is refused at its offset, or some bytes are taken
 module _ (P : Taken → Type 0) (p : Progress) (bad : (reason : Reason) (n : ℕ) → P (refuse p reason n)) where
   pub whole_gives : (n : ℕ) (t : Taken) → (nat_lt (length p.rest) n ≡ false → P t) → P (if_whole n p t)
-  whole_gives n t h = if_so P (nat_lt (length p.rest) n) _ t (λ _. bad reasons.Truncated (length p.rest)) h
+  whole_gives n t h = if_so P _ _ _ (λ _. bad reasons.Truncated (length p.rest)) h
 
   pub value_gives : (kind : Kind) (reason : Reason) (fails : ℤ → Bool) (put : ℤ → List ℤ)
       → (nat_lt (length p.rest) (width kind) ≡ false → is_bad_bool kind (take (width kind) p.rest) ≡ false → fails
@@ -111,7 +111,7 @@ module _ (total : List ℤ → List Slot) (Holds : ℕ → List Slot → Progres
       → Left cell p done (λ m. slot ∷ left m) → Keeps cell p.numbers t → Gives further (done ++ slot ∷ []) t → Comes further left t
   slot_comes (Err e) le l k x = record { comes = x }
   slot_comes (Ok q) le l k x =
-      record { comes = (_, record { split = λ m s. rw append_assoc (l.split m (same_trans _ _ _ m k.kept (same_less _ _ _ m le s))); holds = x }) }
+      record { comes = (_, record { split = λ m s. rw append_assoc (l.split m (same_trans _ _ _ _ k.kept (same_less _ _ _ _ le s))); holds = x }) }
 
   other_from : (cell : ℕ) (slot : Slot) → IsOther slot → IsFrom cell slot
   other_from cell slot o = grind arith
@@ -145,7 +145,7 @@ module _ (total : List ℤ → List Slot) (Holds : ℕ → List Slot → Progres
   module _ (w : Keeping) where
     left_less : {cell further : ℕ} {p : Progress} {done : List Slot} {left : List ℤ → List Slot} → cell ≤ further → Up further left → Left cell p done left
         → Left further p done left
-    left_less le up l = record { split = λ m s. l.split m (same_less _ _ _ m le s); holds = w.less _ _ _ _ _ le up l }
+    left_less le up l = record { split = λ m s. l.split m (same_less _ _ _ _ le s); holds = w.less _ _ _ _ _ le up l }
 
     comes_less : {cell further : ℕ} {left : List ℤ → List Slot} (t : Taken) → cell ≤ further → Up further left → Comes cell left t → Comes further left t
     comes_less (Err e) le up c = record { comes = c.comes }
@@ -178,7 +178,7 @@ module _ (total : List ℤ → List Slot) (Holds : ℕ → List Slot → Progres
           (w.number cell kind caps done left p (λ m. above_less (cell + 1) end _ (omega arith) (up m)) l))
       item_comes (Equal kind z) caps cell end e up l = one_other _ (omega arith) tt up l
       item_comes (Unused n) caps cell end e up l = one_other _ (omega arith) tt up l
-      item_comes (Struct j) caps cell end e up l = (pair_at ts ms j pairs).takes cell end _ _ _ (omega (arith, ap length (cells_get ts j))) up l
+      item_comes (Struct j) caps cell end e up l = (pair_at _ _ j pairs).takes cell end _ _ _ (omega (arith, ap length (cells_get ts j))) up l
 
       items_comes : (item : Item) (caps : List ℕ) (n cell end : ℕ) {p : Progress} {done : List Slot} {left : List ℤ → List Slot}
           → end ≡ cell + n * item_size (cells_of ts) item → Up end left
@@ -187,10 +187,8 @@ module _ (total : List ℤ → List Slot) (Holds : ℕ → List Slot → Progres
       items_comes item caps zero cell end e up l = stay (omega arith) up l
       items_comes item caps (suc n) cell end {p} {left = left} e up l =
           let size = item_size (cells_of ts) item in
-          then_comes _ (λ q. take_items ts item caps size n (cell + size) q)
-          (item_comes item caps cell _ refl
-          (λ m. above_append _ _ _ (items_above ms ab item caps m n _ size)
-          (above_less (cell + size) end _ (omega arith) (up m)))
+          then_comes _ (λ q. take_items ts item caps size n (cell + size) q) (item_comes _ _ _ _ refl
+          (λ m. above_append _ _ _ (items_above _ ab _ _ _ _ _ _) (above_less _ _ _ (omega arith) (up m)))
           (left_ap (λ m s. append_assoc (item_slots ms item caps m cell) _ (left m)) l))
           (λ q done' l'. items_comes item caps n (cell + size) end (grind arith) up l')
 
@@ -302,7 +300,7 @@ module _ (at : ℕ) (input : List ℕ) where
       record { from = omega (arith, h.from); is = rw (sum, h.is) (drop-drop n (p.place - at) input) }
 
   slot_left : (slot : Slot) (p : Progress) → IsLeft p.place p.rest → Leaves (take_slot slot p)
-  slot_left slot p h = slot_gives Leaves p (λ reason n. h) slot (λ n numbers s. further n p h) h
+  slot_left slot p h = slot_gives Leaves _ (λ reason n. h) _ (λ n numbers s. further n p h) h
 
   abbrev Holds : ℕ → List Slot → Progress → Type 0
   Holds cell done p = IsLeft p.place p.rest
@@ -330,6 +328,6 @@ pub desc_leaves : (structs : List Desc) (sound : AreSound structs) (d : Desc) (v
 desc_leaves structs sound d v base p good =
     let total : List ℤ → List Slot = λ m. desc_slots (meanings structs (length structs)) d v m base in
     let none : p.place - p.place ≡ 0 = omega arith in
-    let c = set_desc_comes total _ (Fails p.place p.rest) (keeping p.place p.rest total) _ sound d v base p good (λ m. refl)
+    let c = set_desc_comes total _ (Fails p.place p.rest) (keeping p.place p.rest total) _ sound _ _ _ p good (λ m. refl)
     (record { from = omega arith; is = rw none refl }) in
     leaves p.place p.rest total _ (λ m. []) _ c.comes
