@@ -312,10 +312,7 @@ module _ (set : Set) where
   same_sub base (s ∷ subs) zero zero path path' c h k = record { same_part = refl; same_path = same_path set s.desc base path path' c h k }
   same_sub base (s ∷ subs) zero (suc j') path path' c h k = absurd (apart s.desc base _ subs j' path path' c (omega arith) h k)
   same_sub base (s ∷ subs) (suc j) zero path path' c h k = absurd (apart s.desc base _ subs j path' path c (omega arith) k h)
-  same_sub base (s ∷ subs) (suc j) (suc j') path path' c h k =
-      let e = same_sub (base + size s) subs j j' path path' c h k in
-      let one : j ≡ j' = cc in
-      record { same_part = rw one refl; same_path = e.same_path }
+  same_sub base (s ∷ subs) (suc j) (suc j') path path' c h k = search (arith, same_sub (base + size s) subs j j' path path' c h k)
 
   same_at : (o : Option Device) (part part' : Option ℕ) (path path' : List (ℕ × ℕ)) (c : ℕ) → cell_in set o part path ≡ Some c → cell_in set o part' path' ≡ Some c → ArePaths part part' path path'
   same_at o part part' path path' c h k = grind (arith, same_path, apart, same_sub)

@@ -1,6 +1,6 @@
 -- Worked examples: the elements of sets, what is read off them, and texts that are refused.
 use Rattle.vms_elements.proofs.Facade.{◌≡◌, ℕ, List, get_or, [], ◌∷◌, Some, None, pos, negsuc, codes, ℤ, digits, first, Set, Device, Image}
-use Rattle.vms_elements.proofs.Facade.{values_text, counted_set, mixed_set, cell_name, text_of, values_lines, suc, ◌++◌, take, drop, map, length, refl, ap}
+use Rattle.vms_elements.proofs.Facade.{values_text, counted_set, mixed_set, cell_name, text_of, values_lines, suc, ◌++◌, take, drop, map, length, refl}
 use Rattle.vms_elements.proofs.Facade.{arith, ValuesReason, no_desc, first_line, machine_named, subsection_set, tested_set, sub_of, Entry, entries, entry_line}
 use Rattle.vms_elements.proofs.Facade.{front_reason, part_reason, OfSection, OfSub, AreShaped, AreFine, IsBadLine, IsBadPart, Says, AreUnsaid}
 use Rattle.vms_spec.specs.declared.ValuesReason.TheVariants as reasons
@@ -64,20 +64,7 @@ record Follows (set : Set) (n : ℕ) (numbers : List ℤ) (good bad : List (List
   refused : front_reason (drop n (entries set None (of_box numbers))) (text_of bad) ≡ Some reason
 
 bad_after : (set : Set) (n : ℕ) (numbers : List ℤ) (good bad : List (List ℕ)) (reason : ValuesReason) → Follows set n numbers good bad reason → IsBadLine set (text_of (good ++ bad)) (suc n) reason
-bad_after set n numbers good bad reason c = record {
-  machine = None;
-  images = of_box numbers;
-  before = take n (entries set None (of_box numbers));
-  after = drop n (entries set None (of_box numbers));
-  rest = text_of bad;
-  named = c.named;
-  shaped = c.shaped;
-  state = c.whole;
-  fine = c.fine;
-  begins = c.begins;
-  number = ap suc c.number;
-  bad = c.refused;
-}
+bad_after set n numbers good bad reason c = search (arith)
 
 record Refusals : Type 0 where
   -- above the capacity of the array that it counts
@@ -111,18 +98,7 @@ record Judged (set : Set) (n : ℕ) (image : Image) (lines : List (List ℕ)) (e
   refused : part_reason set entry ≡ Some reason
 
 bad_part : (set : Set) (n : ℕ) (image : Image) (lines : List (List ℕ)) (entry : Entry) (reason : ValuesReason) → Judged set n image lines entry reason → IsBadPart set (text_of lines) (suc n) reason
-bad_part set n image lines entry reason c = record {
-  machine = None;
-  images = image ∷ [];
-  before = take n (entries set None (image ∷ []));
-  entry = entry;
-  after = drop (suc n) (entries set None (image ∷ []));
-  says = c.says;
-  state = c.whole;
-  good = c.good;
-  number = ap suc c.number;
-  bad = c.refused;
-}
+bad_part set n image lines entry reason c = search (arith)
 
 abbrev ten : Image
 ten = record { version = 1; came = []; numbers = pos 10 ∷ pos 0 ∷ [] }

@@ -60,11 +60,7 @@ pub record IsStep (text : List ℕ) (f : Element → Element) : Type 0 where
   pub counted : (x : Element) → IsCounted x → IsCounted (f x)
 
 pub is_behind : (step : ℕ × ℕ) (text : List ℕ) (below there : Bool) → IsStep text (behind step text below (there && below))
-is_behind step text below there = record { what = λ x. refl; cell = λ x. refl; name = λ x. refl; counted = λ x. by there below x.counted x.present }
-  where
-    by : (t b c p : Bool) → (p ≡ true → c ≡ true) → ((t && b) && p) ≡ true → (b && c) ≡ true
-    by true true c true h e = h refl
-    by _ _ c p h e = cc
+is_behind step text below there = search (arith)
 
 pub is_dotted : IsStep (Rattle.std.proofs.Common.codes ".") dotted
 is_dotted = record { what = λ x. refl; cell = λ x. refl; name = λ x. refl; counted = λ x h. h }
@@ -107,12 +103,7 @@ pub record Walks (cells : List Cell) (at : ℕ) (xs ys : List Element) : Type 0 
   pub counted : AreCounted xs
 
 pub then_walks : {c d : List Cell} {at : ℕ} {xs ys us vs : List Element} → Walks c at xs ys → Walks d (at + length c) us vs → Walks (c ++ d) at (xs ++ us) (ys ++ vs)
-then_walks {c} {d} {at} {xs} {ys} {us} {vs} h g = record {
-  cells_are = rw (cells_append, h.cells_are, g.cells_are);
-  up = rw numbers_append (counts_append at _ _ h.up (rw (numbers_long xs, h.cells_are) g.up));
-  names = rw (names_append xs us, names_append ys vs, h.names, g.names);
-  counted = all_both IsCounted xs us h.counted g.counted;
-}
+then_walks {c} {d} {at} {xs} {ys} {us} {vs} h g = search (arith, cells_append, numbers_append, counts_append, numbers_long, names_append, all_both)
 
 pub step_walks : {c : List Cell} {at : ℕ} {xs ys : List Element} {text : List ℕ} {f g : Element → Element} → IsStep text f → IsStep text g → Walks c at xs ys → Walks c at (map f xs) (map g ys)
 step_walks {c} {at} {xs} {ys} {text} {f} {g} s t h = record {
