@@ -2,10 +2,10 @@
 use Rattle.vms_rules_laws.proofs.{Facade.or_cases, Facade.sub_clean, Facade.At, Facade.IsDesc, Facade.IsDevice, Facade.IsStruct}
 use Rattle.vms_rules_laws.proofs.Facade.{IsSub, EightLaw, ◌≡◌, ℕ, zero, suc, ◌+◌, ◌<◌, ◌≤◌, Bool, true, false, not, nat_le, List, []}
 use Rattle.vms_rules_laws.proofs.Facade.{◌∷◌, length, get_or, take, Option, None, le_decides, set_clean, inl, inr, refl, arith, Decides, list_any}
-use Rattle.vms_rules_laws.proofs.Facade.{leb-true, le-leb, or_left, or_right, Decides-and, Decides-eqb, Decides-like, Decides-not, slice_get_within}
-use Rattle.vms_rules_laws.proofs.Facade.{bytes_eq-Decides, Part, Place, first_answer, Desc, Sub, Device, Set, desc_fault}
-use Rattle.vms_rules_laws.proofs.Facade.{device_fault, device_rules, failing, first_fault, has_few, here, in_field, is_same_device, set_rules, size_rules}
-use Rattle.vms_rules_laws.proofs.Facade.{struct_depths, struct_fault, struct_rules, sub_fault, sub_rules, AllTrue, both_none, Clean, device_parts, struct_clean}
+use Rattle.vms_rules_laws.proofs.Facade.{leb-true, le-leb, or_left, or_right, Decides-and, Decides-eqb, slice_get_within, bytes_eq-Decides, Part, Place}
+use Rattle.vms_rules_laws.proofs.Facade.{first_answer, Desc, Sub, Device, Set, desc_fault, device_fault, device_rules, failing, first_fault, has_few, here}
+use Rattle.vms_rules_laws.proofs.Facade.{in_field, is_same_device, set_rules, size_rules, struct_depths, struct_fault, struct_rules, sub_fault, sub_rules}
+use Rattle.vms_rules_laws.proofs.Facade.{AllTrue, both_none, Clean, device_parts, struct_clean}
 use Rattle.vms_rules_laws.proofs.Fields.{distinct_decides, name_decides, sub_name_decides, all_eight, field_decides, validation_decides}
 use Rattle.vms_rules_laws.proofs.Tests.{steady_decides, deep_struct, shallow_struct, set_counts, all_decides, names_decides, never, new_decides, small_decides}
 use Rattle.vms_spec.specs.declared.Part.TheVariants as parts
@@ -21,7 +21,7 @@ none_answers : {X Y : Type 0} (f : ℕ → X → Option Y) (i : ℕ) (xs : List 
 none_answers f i [] h = refl
 none_answers f i (x ∷ xs) h =
     let plus : i + 0 ≡ i = omega arith in
-    both_none (f i x) (first_answer f (suc i) xs) (rw plus at (h 0 x refl))
+    both_none _ _ (rw plus at (h 0 x refl))
     (none_answers f (suc i) xs (λ j y e. let more : i + suc j ≡ suc i + j = omega arith in rw more at (h (suc j) y e)))
 
 from_zero : {X Y : Type 0} (f : ℕ → X → Option Y) (xs : List X) → ((j : ℕ) (x : X) → At xs j x → f j x ≡ None) → first_answer f 0 xs ≡ None
@@ -50,11 +50,7 @@ same_decides : (name : List ℕ) (instance : ℕ) (e : Device) → Decides (is_s
 same_decides name instance e = Decides-and _ _ (bytes_eq-Decides _ name) (Decides-eqb e.instance instance)
 
 new_device_decides : (set : Set) (i : ℕ) (d : Device) → Decides (not (list_any (is_same_device d.desc.name d.instance) (take i set.devices))) (AreNone set i d)
-new_device_decides set i d =
-    let same = is_same_device d.desc.name d.instance in
-    let decides = same_decides _ _ in
-    Decides-like _ (λ none j x lt there is. none (any_there same _ i j x lt there ((decides x).1 is)))
-    (λ h t. let r = any_found same _ i t in h r.0 r.1 r.2 r.3 ((decides r.1).0 r.4)) (Decides-not _ (λ e. e, λ e. e))
+new_device_decides set i d = grind (arith, same_decides, any_there, any_found)
 
 -- ---- a description
 
@@ -154,7 +150,6 @@ device_decides set i d =
 pub eight_holds : EightLaw
 unfolding first_fault
 eight_holds set =
-    let of_structs = first_answer (struct_fault set.structs) 0 set.structs in
     let of_devices = first_answer (device_fault set) 0 set.devices in
     let last = failing 1 (size_rules set) (here parts.Set) in
     let named = all_decides _ _ (name_decides 64) _ in
@@ -175,9 +170,7 @@ eight_holds set =
                 (λ j s f. (sub_decides _ i d j s).0 (sub_clean set well i j d s e f));
             items = omega (arith, items.0 clean.sizes.1.1.1.1.1.1.0, set_counts set set.devices);
           },
-      λ h.
-          both_none _ _
-          (none_failing 1 (set_rules set) (here parts.Set)
+      λ h. both_none _ _ (none_failing 1 (set_rules set) (here parts.Set)
           (all_eight (named.1 h.named) (new.1 h.new) refl refl refl refl (limits.1 ((h.few_machines, h.few_structs), h.few_devices)) refl))
           (both_none _ _ (from_zero _ _ (λ i d e. (struct_decides _ i d e).1 (h.structs i d e)))
           (both_none of_devices last (from_zero (device_fault set) set.devices (λ i d e. (device_decides set i d).1 (h.devices i d e)))

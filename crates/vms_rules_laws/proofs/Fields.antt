@@ -5,11 +5,11 @@ use Rattle.vms_rules_laws.proofs.Facade.{Decides-and, Decides-at, Decides-eqb, D
 use Rattle.vms_rules_laws.proofs.Facade.{take_at, bytes_eq-Decides, all_names, are_new, is_name, is_name_byte, is_sub_name, Field, are_distinct, AreNewNames}
 use Rattle.vms_rules_laws.proofs.Facade.{At, IsName, IsNameByte, IsSubName, IsWithin, Bool, true, false, ◌==◌, if◌then◌else◌, Option, Some, None, ℤ}
 use Rattle.vms_rules_laws.proofs.Facade.{pos, ◌≤ℤ◌, AllByRecursion, slice_get, and_from, and_parts, eq-eqb, eqb-true, Decides-ltb, Item, Num, Equal}
-use Rattle.vms_rules_laws.proofs.Facade.{Unused, Struct, Kind, U8, U16, U32, InRange, MOST_UNUSED, Count, One, Fixed, Counted, counted, same_number}
-use Rattle.vms_rules_laws.proofs.Facade.{count_names_well, counts_well, defaults_well, field_rules, has_good_count, in_range, is_counting, is_counting_item}
-use Rattle.vms_rules_laws.proofs.Facade.{is_earlier_in, is_small_item, is_small_optional, is_small_test, names_well, nobody, test_names_well, uses_below}
-use Rattle.vms_rules_laws.proofs.Facade.{validation_rules, Formula, Desc, AllTrue, same_number_is, ranges, within, counted_well, is_same, ranged, CountFits}
-use Rattle.vms_rules_laws.proofs.Facade.{DefaultFits, IsCounting, IsEarlier, IsField, IsSmall, IsSteady, IsValidation, NamesOnly, Nobody}
+use Rattle.vms_rules_laws.proofs.Facade.{Unused, Struct, Kind, InRange, MOST_UNUSED, Count, One, Fixed, Counted, counted, same_number, count_names_well}
+use Rattle.vms_rules_laws.proofs.Facade.{counts_well, defaults_well, field_rules, has_good_count, in_range, is_counting, is_counting_item, is_earlier_in}
+use Rattle.vms_rules_laws.proofs.Facade.{is_small_item, is_small_optional, is_small_test, names_well, nobody, test_names_well, uses_below, validation_rules}
+use Rattle.vms_rules_laws.proofs.Facade.{Formula, Desc, AllTrue, same_number_is, ranges, within, counted_well, is_same, ranged, CountFits, DefaultFits}
+use Rattle.vms_rules_laws.proofs.Facade.{IsCounting, IsEarlier, IsField, IsSmall, IsSteady, IsValidation, NamesOnly, Nobody}
 use Rattle.vms_rules_laws.proofs.Tests.{all_decides, one_of_decides, steady_decides, at_places, earlier_decides, names_decides, never, nobody_decides}
 use Rattle.vms_rules_laws.proofs.Tests.{one_decides, small_decides}
 
@@ -27,7 +27,7 @@ byte_decides b =
 pub name_decides : (most : ℕ) (name : List ℕ) → Decides (is_name most name) (IsName most name)
 name_decides most name =
     Decides-like _ (λ h. record { some = h.0.0; few = h.0.1; each = h.1 }) (λ h. ((h.some, h.few), h.each))
-    (Decides-and _ _ (within_decides 1 most _) (all_decides is_name_byte IsNameByte byte_decides name))
+    (Decides-and _ _ (within_decides 1 most _) (all_decides is_name_byte IsNameByte byte_decides _))
 
 pub sub_name_decides : (device name : List ℕ) → Decides (is_sub_name device name) (IsSubName device name)
 sub_name_decides device name =
@@ -139,10 +139,10 @@ before-named (f ∷ fs) (suc i) (suc j) g c n lt there named =
 pub new_names_decides : (fields : List Field) (i : ℕ) (f : Field) → Decides (are_new (all_names (take i fields)) (f.name ∷ f.former)) (AreNewNames fields i f)
 new_names_decides fields i f =
     Decides-like _ (λ r. record {
-      new = λ j a b g name lt there x y. let s = before-named fields i j g a name lt there x in r.new s.0 b name s.1 y;
+      new = λ j a b g name lt there x y. let s = before-named _ _ _ _ _ _ lt there x in r.new s.0 b name s.1 y;
       once = r.once;
     }) (λ h. record {
-      new = λ a b name x y. let s = named-before fields i a name x in h.new s.field s.name b s.is name s.early s.there s.named y;
+      new = λ a b name x y. let s = named-before _ _ _ _ x in h.new s.field s.name b s.is name s.early s.there s.named y;
       once = h.once;
     }) (all_new_decides (f.name ∷ f.former) (all_names (take i fields)))
 
@@ -152,27 +152,20 @@ new_names_decides fields i f =
 optional_decides : (p : Formula → Bool) (P : Formula → Type 0) (b : Option Formula → Bool) → ((t : Formula) → Decides (p t) (P t)) → b None ≡ true
     → ((t : Formula) → b (Some t) ≡ p t)
     → (o : Option Formula) → Decides (b o) ((t : Formula) → o ≡ Some t → P t)
-optional_decides p P b each none some None = (λ e t same. cc, λ h. none)
-optional_decides p P b each none some (Some s) = (
-  λ e t same. let is : s ≡ t = cc in subst P is ((each s).0 (sym (some s) ∙ e)),
-  λ h. some s ∙ (each s).1 (h s refl),
-)
+optional_decides p P b each none some o = search (arith)
 
 test_decides : (d : Desc) (i : ℕ) (o : Option Formula) → Decides (test_names_well d i o) ((t : Formula) → o ≡ Some t → NamesOnly (IsEarlier d i) Nobody t)
 test_decides d i o =
     optional_decides (names_well (is_earlier_in d i) nobody) (NamesOnly (IsEarlier d i) Nobody) (test_names_well d i)
-    (names_decides (is_earlier_in d i) nobody (IsEarlier d i) Nobody (earlier_decides d i) nobody_decides) refl (λ t. refl) o
+    (names_decides (is_earlier_in d i) nobody (IsEarlier d i) Nobody (earlier_decides d i) nobody_decides) refl (λ t. refl) _
 
 optional_small : (o : Option Formula) → Decides (is_small_optional o) ((t : Formula) → o ≡ Some t → IsSmall t)
-optional_small o = optional_decides is_small_test IsSmall is_small_optional small_decides refl (λ t. refl) o
+optional_small o = optional_decides is_small_test IsSmall is_small_optional small_decides refl (λ t. refl) _
 
 -- ---- items and counts
 
 counting_decides : (item : Item) → Decides (is_counting_item item) (IsCounting item)
-counting_decides (Num U8) = (λ e. inl refl, λ h. refl)
-counting_decides (Num U16) = (λ e. inr (inl refl), λ h. refl)
-counting_decides (Num U32) = (λ e. inr (inr refl), λ h. refl)
-counting_decides item = (λ e. cc, λ h. elim h [ inl x ↦ cc | inr y ↦ elim y [ inl x ↦ cc | inr x ↦ cc ] ])
+counting_decides item = search (arith)
 
 -- a count that names a field
 abbrev NamesCount : Desc → ℕ → Count → Type 0
@@ -207,13 +200,7 @@ unused_decides (Unused m) =
 unused_decides _ = (λ e n same. cc, λ h. refl)
 
 good_count_decides : (item : Item) (c : Count) → Decides (has_good_count item c) (CountFits item c)
-good_count_decides (Num kind) One = (λ e. tt, λ h. refl)
-good_count_decides (Num kind) (Fixed n) = le_decides 1 n
-good_count_decides (Num kind) (Counted by most) = le_decides 1 most
-good_count_decides (Struct j) One = (λ e. tt, λ h. refl)
-good_count_decides (Struct j) (Fixed n) = le_decides 1 n
-good_count_decides (Struct j) (Counted by most) = le_decides 1 most
-good_count_decides _ c = one_decides c
+good_count_decides item c = search (arith, le_decides, one_decides)
 
 -- ---- defaults
 
@@ -255,7 +242,7 @@ module _ (P : ℕ → Type 0) (i : ℕ) where
   counted_each [] h = λ j most g there same. cc
   counted_each (f ∷ fs) h =
       let own = (first _ f fs).0 h in
-      let all = at_places (λ (g : Field). OfOne g.count) f fs own.0 (λ j g there most same. counted_each fs own.1 j most g there same) in
+      let all = at_places (λ (g : Field). OfOne g.count) _ _ own.0 (λ j g there most same. counted_each fs own.1 j most g there same) in
       λ j most g there same. all j g there most same
 
   pub each_counted : (fs : List Field) → OfCounted fs → AllByRecursion P (counted i fs)
@@ -264,10 +251,7 @@ module _ (P : ℕ → Type 0) (i : ℕ) where
 
 counts_decides : (i : ℕ) (fs : List Field) (z : ℤ)
     → Decides (counts_well (counted i fs) z) ((j most : ℕ) (g : Field) → At fs j g → g.count ≡ Counted i most → z ≤ℤ pos most)
-counts_decides i fs z = (
-  λ e. counted_each (λ most. z ≤ℤ pos most) i fs (within (counted i fs) z e),
-  λ h. counted_well _ z (each_counted (λ most. z ≤ℤ pos most) i fs h),
-)
+counts_decides i fs z = search (arith, counted_each, within, counted_well, each_counted)
 
 -- ---- a field, and a validation
 
@@ -309,8 +293,4 @@ field_decides k d i f =
     )
 
 pub validation_decides : (d : Desc) (t : Formula) → (AllTrue (validation_rules d t) → IsValidation d t) × (IsValidation d t → AllTrue (validation_rules d t))
-validation_decides d t =
-    let named = names_decides _ nobody _ Nobody (steady_decides d) nobody_decides t in (
-      λ r. record { named = named.0 r.1.1.1.0; small = (small_decides t).0 r.1.1.1.1.1.1.0 },
-      λ h. all_eight refl refl refl (named.1 h.named) refl refl ((small_decides t).1 h.small) refl,
-    )
+validation_decides d t = search (arith, names_decides, steady_decides, nobody_decides, small_decides, all_eight)

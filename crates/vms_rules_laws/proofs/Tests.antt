@@ -1,15 +1,14 @@
 -- The levels, tests of lists and of formulas, and numbers of items that the walk computes.
 use Rattle.vms_rules_laws.proofs.Facade.{◌≡◌, ◌⊎◌, ℕ, zero, suc, ◌+◌, ◌<◌, ◌≤◌, max, nat_lt, true, false, List, [], ◌∷◌}
-use Rattle.vms_rules_laws.proofs.Facade.{length, get_or, length-append, inl, inr, refl, ap, arith, max-le, cases_Bool, ltb-true, get_or_past}
-use Rattle.vms_rules_laws.proofs.Facade.{get_or_from_slice_get, slice_get-get_or, slice_get_within, Item, Struct, first, no_desc, depth, nodes, Formula}
-use Rattle.vms_rules_laws.proofs.Facade.{AtLeast, Not, And, Or, Field, Desc, deepest, item_depth, struct_depths, first_at, first_long, At, IsWithinTest, Nests}
-use Rattle.vms_rules_laws.proofs.Facade.{UsesOn, parts_of, Bool, not, take, map, Option, Some, le_decides, None, subst, Decides, list_all, slice_get}
-use Rattle.vms_rules_laws.proofs.Facade.{Decides-and, Decides-like, Decides-ltb, Decides-not, Decides-or, bytes_eq-Decides, Kind, Num, Count, One, Own, Parent}
-use Rattle.vms_rules_laws.proofs.Facade.{has_no_test, is_earlier_in, is_num, is_one, is_small_test, is_steady, is_steady_in, names_well, nobody, Cell}
-use Rattle.vms_rules_laws.proofs.Facade.{is_one_of, untested, IsEarlier, IsNew, IsSmall, IsSteady, NamesOnly, Nobody, ◌*◌, ◌++◌, ℤ, sym, ◌∙◌}
-use Rattle.vms_rules_laws.proofs.Facade.{field_cells, Sub, Device, Set, capacity_of, desc_cells, struct_cells, all_hold, item_count, items_in, struct_items}
-use Rattle.vms_rules_laws.proofs.Facade.{subs_items, devices_items, Element, Shape, no_shape, shape, cells_in, dotted, behind, item_elements, Stand}
-use Rattle.vms_rules_laws.proofs.Facade.{array_elements, field_elements, elements_from, desc_elements, absent, elements_in, subs_elements, two_more}
+use Rattle.vms_rules_laws.proofs.Facade.{length, get_or, length-append, inl, inr, refl, arith, max-le, cases_Bool, ltb-true, get_or_past, get_or_from_slice_get}
+use Rattle.vms_rules_laws.proofs.Facade.{slice_get-get_or, slice_get_within, Item, Struct, first, no_desc, depth, nodes, Formula, AtLeast, Not, And, Or, Field}
+use Rattle.vms_rules_laws.proofs.Facade.{Desc, deepest, item_depth, struct_depths, first_at, first_long, At, IsWithinTest, Nests, UsesOn, parts_of, Bool, not}
+use Rattle.vms_rules_laws.proofs.Facade.{take, map, le_decides, None, subst, Decides, list_all, Decides-and, Decides-like, Decides-ltb, Decides-not, Decides-or}
+use Rattle.vms_rules_laws.proofs.Facade.{bytes_eq-Decides, Kind, Num, Count, One, Own, Parent, is_earlier_in, is_num, is_one, is_small_test, is_steady_in}
+use Rattle.vms_rules_laws.proofs.Facade.{names_well, nobody, Cell, is_one_of, IsEarlier, IsNew, IsSmall, IsSteady, NamesOnly, Nobody, ◌*◌, ◌++◌, ℤ}
+use Rattle.vms_rules_laws.proofs.Facade.{sym, ◌∙◌, field_cells, Sub, Device, Set, capacity_of, desc_cells, struct_cells, all_hold, item_count, items_in}
+use Rattle.vms_rules_laws.proofs.Facade.{struct_items, subs_items, devices_items, Element, Shape, no_shape, shape, cells_in, dotted, behind, item_elements}
+use Rattle.vms_rules_laws.proofs.Facade.{Stand, array_elements, field_elements, elements_from, desc_elements, absent, elements_in, subs_elements, two_more}
 use Rattle.vms_rules_laws.proofs.Facade.{items_among, items_of}
 
 -- ---- tests
@@ -36,10 +35,7 @@ within_either : (s t u : Formula) → (s ≡ t) ⊎ (s ≡ u) → depth s < 1 + 
 within_either s t u w = grind arith
 
 within_less : (s t : Formula) → IsWithinTest s t → depth s < depth t
-within_less s (Not t) w = rw w (omega arith)
-within_less s (And t u) w = within_either s t u w
-within_less s (Or t u) w = within_either s t u w
-within_less s _ w = absurd w
+within_less s t w = grind (arith, within_either)
 
 pub deep_test : (n : ℕ) (t : Formula) → Nests n t → n < depth t
 deep_test zero t h = some_depth t
@@ -76,14 +72,13 @@ module _ (ds : List Desc) where
   later-depth i j l = grind (arith, first_long, get_or_past)
 
   pub deep_struct : (n i : ℕ) → i < length ds → UsesOn ds n i → n < depth_at ds i
-  deep_struct zero i l h = let own = own-depth i (get_or ds i no_desc) (slice_get-get_or ds i no_desc l) in omega arith
+  deep_struct zero i l h = let own = own-depth i (get_or ds i no_desc) (slice_get-get_or _ _ _ l) in omega arith
   deep_struct (suc n) i l h =
       let j = h.0 in
       let uses = h.1 in
       let own = own-depth i uses.desc uses.there in
-      let same = earlier-depth i j l uses.earlier in
-      let among : item_depth (depths ds i) uses.field.item ≤ deepest (depths ds i) uses.desc.fields =
-      as-deep (depths ds i) uses.desc.fields uses.place uses.field uses.among in
+      let same = earlier-depth _ _ l uses.earlier in
+      let among : item_depth (depths ds i) uses.field.item ≤ deepest (depths ds i) uses.desc.fields = as-deep _ _ _ _ uses.among in
       let here : get_or (depths ds i) j 0 ≤ deepest (depths ds i) uses.desc.fields = rw uses.is at among in
       omega (arith, deep_struct n j (omega arith) h.2)
 
@@ -126,7 +121,7 @@ pub all_decides : {X : Type 0} (p : X → Bool) (P : X → Type 0) → ((x : X) 
     → Decides (list_all p xs) ((k : ℕ) (x : X) → At xs k x → P x)
 all_decides p P each [] = (λ e k x at'. cc, λ h. refl)
 all_decides p P each (y ∷ ys) =
-    Decides-like _ (λ h. at_places P y ys h.0 h.1) (λ h. (h 0 y refl, λ k x at'. h (suc k) x at')) (Decides-and _ _ (each y) (all_decides p P each ys))
+    Decides-like _ (λ h. at_places P _ _ h.0 h.1) (λ h. (h 0 y refl, λ k x at'. h (suc k) x at')) (Decides-and _ _ (each y) (all_decides p P each ys))
 
 pub one_of_decides : (names : List (List ℕ)) (name : List ℕ) → Decides (is_one_of names name) ((k : ℕ) × At names k name)
 one_of_decides [] name = (λ e. cc, λ h. cc)
@@ -154,13 +149,13 @@ unmapped f (y ∷ ys) (suc i) (suc k) x lt e = unmapped f ys i k x (omega arith)
 pub new_decides : {X : Type 0} (f : X → List ℕ) (xs : List X) (i : ℕ) (name : List ℕ) → Decides (not (is_one_of (map f (take i xs)) name)) (IsNew f xs i name)
 new_decides f xs i name =
     Decides-like _ (λ none j x lt there same. none (j, rw same at (unmapped f xs i j x lt there)))
-    (λ h m. let r = mapped f xs i m.0 name m.1 in h m.0 r.0 r.1 r.2 r.3) (Decides-not _ (one_of_decides _ name))
+    (λ h m. let r = mapped f _ _ _ _ m.1 in h m.0 r.0 r.1 r.2 r.3) (Decides-not _ (one_of_decides _ name))
 
 -- ---- formulas
 
 pub small_decides : (t : Formula) → Decides (is_small_test t) (IsSmall t)
 small_decides t =
-    Decides-like (is_small_test t)
+    Decides-like _
     (λ h. record { few = omega (arith, h.0, part_count t); shallow = λ nests. let deep = deep_test 16 t nests in absurd (omega (arith, h.1)) })
     (λ h. (omega (arith, h.few, part_count t), shallow_test 16 t h.shallow)) (Decides-and _ _ (le_decides (nodes t) 64) (le_decides (depth t) 16))
 
@@ -173,19 +168,7 @@ one_decides One = (λ e. refl, λ e. refl)
 one_decides _ = (λ e. cc, λ e. cc)
 
 pub steady_decides : (d : Desc) (k : ℕ) → Decides (is_steady_in d k) (IsSteady d k)
-steady_decides d k = (by _ refl, λ s. rw s.there ((field_is s.field).1 ((((s.kind, s.number), s.one), s.untested), s.since)))
-  where
-    field_is : (f : Field) → Decides (is_steady d.minimum (Some f))
-        (((((kind : Kind) × (f.item ≡ Num kind)) × (f.count ≡ One)) × (f.test ≡ None)) × (f.since ≤ d.minimum))
-    field_is f =
-        Decides-and _ _ (Decides-and _ _ (Decides-and _ _ (number_decides f.item) (one_decides f.count)) (untested f.test, λ e. ap has_no_test e))
-        (le_decides _ _)
-
-    by : (o : Option Field) → slice_get d.fields k ≡ o → is_steady d.minimum o ≡ true → IsSteady d k
-    by None there e = cc
-    by (Some f) there e =
-        let h = (field_is f).0 e in
-        record { field = f; there = there; kind = h.0.0.0.0; number = h.0.0.0.1; one = h.0.0.1; untested = h.0.1; since = h.1 }
+steady_decides d k = search (arith, number_decides, one_decides, le_decides)
 
 pub earlier_decides : (d : Desc) (i k : ℕ) → Decides (is_earlier_in d i k) (IsEarlier d i k)
 earlier_decides d i k = Decides-and _ _ (Decides-ltb k i) (steady_decides d k)
@@ -199,14 +182,7 @@ module _ (own parent : ℕ → Bool) (O P : ℕ → Type 0) where
   Of t = Decides (names_well own parent t) (NamesOnly O P t)
 
   both_name : (s t : Formula) → Of s → Of t → Of (And s t)
-  both_name s t r q =
-      Decides-like _ (λ h. record {
-        own = λ k x. elim x [ inl y ↦ h.0.own k y | inr y ↦ h.1.own k y ];
-        parent = λ k x. elim x [ inl y ↦ h.0.parent k y | inr y ↦ h.1.parent k y ];
-      }) (λ h. (
-        record { own = λ k x. h.own k (inl x); parent = λ k x. h.parent k (inl x) },
-        record { own = λ k x. h.own k (inr x); parent = λ k x. h.parent k (inr x) },
-      )) (Decides-and _ _ r q)
+  both_name s t r q = search (arith)
 
   or_names : (s t : Formula) → Of (And s t) → Of (Or s t)
   or_names s t r = (λ e. let g = r.0 e in record { own = g.own; parent = g.parent }, λ h. r.1 (record { own = h.own; parent = h.parent }))
@@ -216,11 +192,9 @@ module _ (own parent : ℕ → Bool) (O P : ℕ → Type 0) where
       (λ e. record { own = λ k x. subst O x.1 ((o j).0 e); parent = λ k x. cc }, λ h. (o j).1 (h.own j (refl, refl)))
   names_decides o p (Cell Parent j mask rel value) =
       (λ e. record { own = λ k x. cc; parent = λ k x. subst P x.1 ((p j).0 e) }, λ h. (p j).1 (h.parent j (refl, refl)))
-  names_decides o p (Not t) =
-      let r = names_decides o p t in
-      (λ e. let g = r.0 e in record { own = g.own; parent = g.parent }, λ h. r.1 (record { own = h.own; parent = h.parent }))
-  names_decides o p (And s t) = both_name s t (names_decides o p s) (names_decides o p t)
-  names_decides o p (Or s t) = or_names s t (both_name s t (names_decides o p s) (names_decides o p t))
+  names_decides o p (Not t) = search (arith, names_decides o p t)
+  names_decides o p (And s t) = both_name _ _ (names_decides o p s) (names_decides o p t)
+  names_decides o p (Or s t) = or_names s t (both_name _ _ (names_decides o p s) (names_decides o p t))
   names_decides o p _ = (λ e. record { own = λ k x. absurd x; parent = λ k x. absurd x }, λ h. refl)
 
 -- ---- a set has the number of items that the walk computes
