@@ -11,22 +11,22 @@ pub use Rattle.std.specs.{Int.bit_at, Int.w16, Int.w8, Prelude.IfSome, Prelude.i
 pub use Rattle.dev_base.proofs.{CellLaws.long, CellLaws.of_more, CellLaws.of_none, RuleLaws.either, RuleLaws.hook-ok, RuleLaws.judged-ok, RuleLaws.ok-hook}
 pub use Rattle.dev_base.specs.{Bits.bits_where, Bits.has, Cells.AreOf, Levels.IsLevel, Levels.MayRestore, Levels.MaySave}
 pub use Rattle.dev_base.specs.declared.limits.TheConstants.{LAST_MOMENT, NEWEST}
-pub use Rattle.dev_board.specs.{Kept.IsCalm, Kept.calm_by, Kept.later, Laws.PortsAre, Laws.SoundStays, Laws.StaysAlike, Ports.read, Ports.write, Saved.pit_back}
-pub use Rattle.dev_board.specs.{Saved.restored, SheetNumbers.NumbersAre, State.State, Step.Act, Step.after_all, Step.later_by, Step.valued, Touch.time_touches}
-pub use Rattle.dev_board.specs.{View.parts_view, Wires.AreWires, Wires.is_wire, declared.cells.BoardCells.BoardCells, declared.event.Answer.Answer}
-pub use Rattle.dev_board.specs.{declared.event.Event.Event, declared.misfit.Misfit.Misfit, declared.ports.Target.Target, declared.touch.Before.Before}
-pub use Rattle.dev_board.specs.{declared.touch.Touch.Touch, declared.wires.TheConstants.DRIVEN, declared.wires.TheConstants.WIRES}
+use Rattle.dev_board.specs
+pub use specs.{Kept.IsCalm, Kept.calm_by, Kept.later, Laws.PortsAre, Laws.SoundStays, Laws.StaysAlike, Ports.read, Ports.write, Saved.pit_back, Saved.restored}
+pub use specs.{SheetNumbers.NumbersAre, State.State, Step.Act, Step.after_all, Step.later_by, Step.valued, Touch.time_touches, View.parts_view, Wires.AreWires}
+pub use specs.{Wires.is_wire, declared.cells.BoardCells.BoardCells, declared.event.Answer.Answer, declared.event.Event.Event, declared.misfit.Misfit.Misfit}
+pub use specs.{declared.ports.Target.Target, declared.touch.Before.Before, declared.touch.Touch.Touch, declared.wires.TheConstants.DRIVEN}
+pub use specs.{declared.wires.TheConstants.WIRES, Touch.read_touches, Touch.saying, declared.misfit.Misfit.TheVariants.LinesDisagree}
+unfoldable pub use specs.{Ports.read_at, Ports.target_of, Ports.written_at, State.power_on, Wires.wires_of, Wires.with_wire}
 pub use Rattle.dev_board.specs.Laws.{WiresStay, moment_left, wire_left, AlikeStays, AnswersAlike, AnswersTellInt, AreEvents, ClockGoesOn, IsEvent, Likeness}
 pub use Rattle.dev_board.specs.Saved.{serial_back, timer_kinds, AreBoardCells, AreSavedCells, MaySaveUnder, moment_of, numbers_at, numbers_back, pair_back}
 pub use Rattle.dev_board.specs.SavedLaws.{ComesBack, IsTold, RestoredIsSound, SavedAreCells, SavedComesBack, SavedGoesOn, SoundMeetsRules}
 pub use Rattle.dev_board.specs.Sound.{Alike, HasDevices, HasLines, IsSound}
 pub use Rattle.dev_board.specs.Touch.{write_touches, HasTaken, IsBefore, IsSettled, Stays, asks_port, asks_timer, calm_after, is_access, is_nothing}
-pub use Rattle.dev_board.specs.{Touch.read_touches, Touch.saying, declared.misfit.Misfit.TheVariants.LinesDisagree}
 pub use Rattle.dev_board.specs.declared.event.Event.TheVariants.{Ack, Byte, Read, Wait, Wire, Write}
 pub use Rattle.dev_board.specs.declared.misfit.TheConstants.{MASTER_DEVICE, PIT_DEVICE, SERIAL_DEVICE}
 pub use Rattle.dev_board.specs.declared.ports.Target.TheVariants.{Control, Counter, Nothing, Pair, Register}
 pub use Rattle.dev_board.specs.declared.touch.Touch.TheVariants.{Access, Command, Untouched}
-unfoldable pub use Rattle.dev_board.specs.{Ports.read_at, Ports.target_of, Ports.written_at, State.power_on, Wires.wires_of, Wires.with_wire}
 unfoldable pub use Rattle.dev_board.specs.Saved.{agreed, by_chip, by_device, carried, joined, lines_agree, saved, timed}
 unfoldable pub use Rattle.dev_board.specs.Step.{acted, after_act, after_by, answers_by, inputs_of, names_wire, settled, step, waited, wires_after}
 unfoldable pub use Rattle.dev_board.specs.Touch.{ack_touches, is_command, is_quiet, is_untouched, leaves_port}

@@ -1,13 +1,13 @@
 -- Which inputs leave the board unchanged.
-use Rattle.dev_board.proofs.Facade.{◌⊎◌, either, ◌≡◌, ℕ, ◌+◌, ◌-◌, ◌*◌, ◌/◌, ◌%◌, ◌<◌, ◌≤◌, ◌^◌, Bool, true}
-use Rattle.dev_board.proofs.Facade.{false, ◌==◌, cond, min, max, bit_and, bit_or, arith, refl, ap, ◌∙◌, sym, ⊎_elim, ◌≢◌, not, ◌&&◌}
-use Rattle.dev_board.proofs.Facade.{◌||◌, Option, Some, None, zero, suc, cases_lt, cases_eq, cond_both, w8, bit_at, and_numeral, and_le_l, or_of_8}
-use Rattle.dev_board.proofs.Facade.{pow_below, bit_at_and, bit_at_or, bit_at_not, bit_at-lt, bit_at-zero, same_from_bits, same_from_bits_below, bit_at_cat_low}
-use Rattle.dev_board.proofs.Facade.{bit_at_cat_high, bit_at-pow_other, and_pow, nat_tests, is_some, IfSome, has, bits_where, but_not, without_input}
-use Rattle.dev_board.proofs.Facade.{requests_hold, level_inputs_of, taken, answered, cascaded, lines_of, slave_int_of, settled_pair, with_cascade, written_pair}
-use Rattle.dev_board.proofs.Facade.{acked, acked_for, from_slave, Chip, PicPair, HasTaken, IsSettled, is_command, Stays, is_nothing, asks_timer, asks_port}
-use Rattle.dev_board.proofs.Facade.{is_access, is_quiet, is_untouched, DRIVEN, WIRES, level_inputs-lt, and-twice, each_input, without_input-lt, Keeps}
-use Rattle.dev_board.proofs.Facade.{even-keeps, odd-keeps, winner-lt, State, inputs_of, Before, Touch}
+use Rattle.dev_board.proofs.Facade
+use Facade.{◌⊎◌, either, ◌≡◌, ℕ, ◌+◌, ◌-◌, ◌*◌, ◌/◌, ◌%◌, ◌<◌, ◌≤◌, ◌^◌, Bool, true, false, ◌==◌, cond, min}
+use Facade.{max, bit_and, bit_or, arith, refl, ap, ◌∙◌, sym, ⊎_elim, ◌≢◌, not, ◌&&◌, ◌||◌, Option, Some, None, zero, suc, cases_lt}
+use Facade.{cases_eq, cond_both, w8, bit_at, and_numeral, and_le_l, or_of_8, pow_below, bit_at_and, bit_at_or, bit_at_not, bit_at-lt, bit_at-zero}
+use Facade.{same_from_bits, same_from_bits_below, bit_at_cat_low, bit_at_cat_high, bit_at-pow_other, and_pow, nat_tests, is_some, IfSome, has, bits_where}
+use Facade.{but_not, without_input, requests_hold, level_inputs_of, taken, answered, cascaded, lines_of, slave_int_of, settled_pair, with_cascade, written_pair}
+use Facade.{acked, acked_for, from_slave, Chip, PicPair, HasTaken, IsSettled, is_command, Stays, is_nothing, asks_timer, asks_port, is_access, is_quiet}
+use Facade.{is_untouched, DRIVEN, WIRES, level_inputs-lt, and-twice, each_input, without_input-lt, Keeps, even-keeps, odd-keeps, winner-lt, State, inputs_of}
+use Facade.{Before, Touch}
 use Rattle.dev_pic.specs.Chip.{settled}
 use Rattle.dev_board.specs.Step.{settled as settled_board}
 

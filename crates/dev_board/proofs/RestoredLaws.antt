@@ -1,11 +1,11 @@
 -- A restored board is sound, and the rules hold of a sound board alone.
-use Rattle.dev_board.proofs.Facade.{◌≡◌, ℕ, ◌≤◌, Bool, true, false, cond, Result, Ok, Err, refl, sym, ap, subst, ◌∙◌, arith, nat_tests}
-use Rattle.dev_board.proofs.Facade.{ok-hook, IsLevel, MayRestore, LAST_MOMENT, steps_keep_registers, pair-sound, IsSoundPair, ChipFault, PicPair, pit-restored}
-use Rattle.dev_board.proofs.Facade.{IsSoundPit, Pit, IsSoundAt, Port, AreBoardCells, moment_of, timed, by_chip, by_device, lines_agree, agreed, joined}
-use Rattle.dev_board.proofs.Facade.{numbers_back, pair_back, pit_back, serial_back, restored, RestoredIsSound, HasDevices, IsSound, State, BoardCells, Misfit}
-use Rattle.dev_board.proofs.Facade.{LinesDisagree, MASTER_DEVICE, PIT_DEVICE, SERIAL_DEVICE, ℤ, ◌/◌, List, length, take, drop, length-append, saved-count}
-use Rattle.dev_board.proofs.Facade.{saved_are_cells, kinds, saved_cells, pair_cells, pit_cells, saved, carried, MaySaveUnder, judged-ok, NEWEST, pair-same}
-use Rattle.dev_board.proofs.Facade.{pit_of-saved, rules, pit_of, numbers-back, lines_alike, restored-saved, line_of, IsTold, SoundMeetsRules, HasLines}
+use Rattle.dev_board.proofs.Facade
+use Facade.{◌≡◌, ℕ, ◌≤◌, Bool, true, false, cond, Result, Ok, Err, refl, sym, ap, subst, ◌∙◌, arith, nat_tests, ok-hook, IsLevel}
+use Facade.{MayRestore, LAST_MOMENT, steps_keep_registers, pair-sound, IsSoundPair, ChipFault, PicPair, pit-restored, IsSoundPit, Pit, IsSoundAt, Port}
+use Facade.{AreBoardCells, moment_of, timed, by_chip, by_device, lines_agree, agreed, joined, numbers_back, pair_back, pit_back, serial_back, restored}
+use Facade.{RestoredIsSound, HasDevices, IsSound, State, BoardCells, Misfit, LinesDisagree, MASTER_DEVICE, PIT_DEVICE, SERIAL_DEVICE, ℤ, ◌/◌, List}
+use Facade.{length, take, drop, length-append, saved-count, saved_are_cells, kinds, saved_cells, pair_cells, pit_cells, saved, carried, MaySaveUnder, judged-ok}
+use Facade.{NEWEST, pair-same, pit_of-saved, rules, pit_of, numbers-back, lines_alike, restored-saved, line_of, IsTold, SoundMeetsRules, HasLines}
 use Rattle.dev_board.proofs.SavedLaws.{has-lines, comes-back}
 use Rattle.dev_serial.proofs.RestoredLaws.{restored_is_sound as port-sound, sound_meets_rules as port-meets}
 use Rattle.dev_serial.specs.{PortNumbers.saved as port-saved, Rules.restored as port-restored, Sound.IsSound as IsSoundPort}

@@ -1,12 +1,12 @@
 -- What is saved of a board is restored as a board like it, which answers each event alike.
-use Rattle.dev_board.proofs.Facade.{subst, IsLevel, ◌≡◌, ℕ, Bool, List, [], ◌∷◌, refl, sym, ap, PicPair, reads_alike, writes_alike}
-use Rattle.dev_board.proofs.Facade.{bytes_in_alike, advances_alike, lines_alike, alike_itself, alike_back, alike_on, Port, AnswersAlike, StaysAlike, AlikeStays}
-use Rattle.dev_board.proofs.Facade.{Likeness, read_at, written_at, Alike, State, Act, waited, acted, inputs_of, settled, after_act, step, after_by, answers_by}
-use Rattle.dev_board.proofs.Facade.{wires_of, Answer, Event, Target, pos, ◌≤◌, true, Result, Ok, arith, and_from, nat_tests, nat_le, of_none, of_more}
-use Rattle.dev_board.proofs.Facade.{long, has, AreOf, MaySave, MayRestore, NEWEST, LAST_MOMENT, hook-ok, carried-saved, pair-restored, set-of, saved_cells}
-use Rattle.dev_board.proofs.Facade.{restored_pair, ChipFault, pit_cells, AreCellsOf, restored_pit, Pit, cells_at, restored_cells, numbers_at, saved, carried}
-use Rattle.dev_board.proofs.Facade.{MaySaveUnder, timer_kinds, AreSavedCells, AreBoardCells, timed, by_chip, by_device, lines_agree, agreed, joined, restored}
-use Rattle.dev_board.proofs.Facade.{SavedAreCells, ComesBack, SavedComesBack, SavedGoesOn, HasLines, IsSound, Misfit, PIT_DEVICE, SERIAL_DEVICE, ◌∙◌}
+use Rattle.dev_board.proofs.Facade
+use Facade.{subst, IsLevel, ◌≡◌, ℕ, Bool, List, [], ◌∷◌, refl, sym, ap, PicPair, reads_alike, writes_alike, bytes_in_alike, advances_alike}
+use Facade.{lines_alike, alike_itself, alike_back, alike_on, Port, AnswersAlike, StaysAlike, AlikeStays, Likeness, read_at, written_at, Alike, State, Act}
+use Facade.{waited, acted, inputs_of, settled, after_act, step, after_by, answers_by, wires_of, Answer, Event, Target, pos, ◌≤◌, true, Result, Ok, arith}
+use Facade.{and_from, nat_tests, nat_le, of_none, of_more, long, has, AreOf, MaySave, MayRestore, NEWEST, LAST_MOMENT, hook-ok, carried-saved, pair-restored}
+use Facade.{set-of, saved_cells, restored_pair, ChipFault, pit_cells, AreCellsOf, restored_pit, Pit, cells_at, restored_cells, numbers_at, saved, carried}
+use Facade.{MaySaveUnder, timer_kinds, AreSavedCells, AreBoardCells, timed, by_chip, by_device, lines_agree, agreed, joined, restored, SavedAreCells, ComesBack}
+use Facade.{SavedComesBack, SavedGoesOn, HasLines, IsSound, Misfit, PIT_DEVICE, SERIAL_DEVICE, ◌∙◌}
 use Rattle.dev_serial.proofs.SavedCells.{saved_are_cells as serial-saved, saved_comes_back as serial-comes-back}
 use Rattle.dev_serial.specs.{Sound.Alike as AlikePorts, Cells.carried as serial_carried, Laws.ComesBack as PortComesBack}
 use Rattle.dev_base.specs.Bits.{same}

@@ -1,15 +1,14 @@
 -- What each event keeps: level and moment, sound devices, and what is known of the timer.
-use Rattle.dev_board.proofs.Facade.{refl, NumbersAre, ◌≡◌, ℕ, AnswersTellInt, ClockGoesOn, moment_left, target_of, read_at, written_at, State, Act}
-use Rattle.dev_board.proofs.Facade.{waited, acted, settled, after_act, step, Event, Target, ◌-◌, ◌<◌, ◌≤◌, true, arith, ap, sym, subst, List}
-use Rattle.dev_board.proofs.Facade.{◌∙◌, either, LAST_MOMENT, steps_keep_registers, is_port, read_pair, written_pair, acked, PairHasRegisters, PicPair}
-use Rattle.dev_board.proofs.Facade.{sound_stays, IsLoadedBy, pit_read, pit_written, IsSoundPit, Pit, reads_keep_sound, writes_keep_sound, bytes_in_keep_sound}
-use Rattle.dev_board.proofs.Facade.{advances_keep_sound, reads_keep_level, writes_keep_level, bytes_in_keep_level, advances_keep_level, read_of, written}
-use Rattle.dev_board.proofs.Facade.{came_in, advanced, Port, IsEvent, write, HasDevices, Counter, Bool, false, or_parts, nat_tests, at_step, same, read-goes_on}
-use Rattle.dev_board.proofs.Facade.{edge_in_parts, rises, edge_of, out_of, GoesOn, counter_of, pit_edge, pit_out, AreTurns, IsTurn, Mode, Turns, IsCalm}
-use Rattle.dev_board.proofs.Facade.{calm_by, later, read, calm_after, write_touches, Touch, after_all, after_by, AreWires, [], ◌∷◌, IsLevel}
-use Rattle.dev_board.proofs.Facade.{lines_are_taken, but_not, winner_at, served_of, winner_of, ready_among, chip_on, lines_of, slave_int_of, settled_pair}
-use Rattle.dev_board.proofs.Facade.{IsSoundPair, powered_on, new_pit, power_on_is_sound, bits_where, interrupt, line_of, AreEvents, SoundStays, HasLines}
-use Rattle.dev_board.proofs.Facade.{IsSound, power_on, inputs_of}
+use Rattle.dev_board.proofs.Facade
+use Facade.{refl, NumbersAre, ◌≡◌, ℕ, AnswersTellInt, ClockGoesOn, moment_left, target_of, read_at, written_at, State, Act, waited, acted, settled}
+use Facade.{after_act, step, Event, Target, ◌-◌, ◌<◌, ◌≤◌, true, arith, ap, sym, subst, List, ◌∙◌, either, LAST_MOMENT}
+use Facade.{steps_keep_registers, is_port, read_pair, written_pair, acked, PairHasRegisters, PicPair, sound_stays, IsLoadedBy, pit_read, pit_written}
+use Facade.{IsSoundPit, Pit, reads_keep_sound, writes_keep_sound, bytes_in_keep_sound, advances_keep_sound, reads_keep_level, writes_keep_level}
+use Facade.{bytes_in_keep_level, advances_keep_level, read_of, written, came_in, advanced, Port, IsEvent, write, HasDevices, Counter, Bool, false, or_parts}
+use Facade.{nat_tests, at_step, same, read-goes_on, edge_in_parts, rises, edge_of, out_of, GoesOn, counter_of, pit_edge, pit_out, AreTurns, IsTurn, Mode, Turns}
+use Facade.{IsCalm, calm_by, later, read, calm_after, write_touches, Touch, after_all, after_by, AreWires, [], ◌∷◌, IsLevel, lines_are_taken, but_not}
+use Facade.{winner_at, served_of, winner_of, ready_among, chip_on, lines_of, slave_int_of, settled_pair, IsSoundPair, powered_on, new_pit, power_on_is_sound}
+use Facade.{bits_where, interrupt, line_of, AreEvents, SoundStays, HasLines, IsSound, power_on, inputs_of}
 use Rattle.dev_board.proofs.WireLaws.{names, wires_of-are, wires_after-are, one-lt, inputs-lt, inputs-out, inputs-serial}
 use Rattle.dev_pic.proofs.StepLaws.{steps_keep_level as pair_keeps_level}
 use Rattle.dev_pic.specs.Pair.{power_on as pair_on}

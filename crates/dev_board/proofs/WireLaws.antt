@@ -1,10 +1,10 @@
 -- The inputs of the pair, bit by bit, and the wires among them.
-use Rattle.dev_board.proofs.Facade.{◌≡◌, ◌≢◌, ℕ, ◌-◌, ◌<◌, ◌^◌, Bool, true, false, ◌&&◌, arith, bit_or, refl, ap, sym, ◌∙◌}
-use Rattle.dev_board.proofs.Facade.{false≢true, nat_tests, and_le_l, and_le_r, or_of_16, pow_below, and-false, and-true, or-false, has, bits_where, has-and}
-use Rattle.dev_board.proofs.Facade.{has-or, has-one_other, lines_of, pit_out, line_of, IsEvent, State, inputs_of, names_wire, wires_after, AreWires, is_wire}
-use Rattle.dev_board.proofs.Facade.{wires_of, with_wire, Event, Wire, WIRES, ◌+◌, ◌≤◌, ◌==◌, not, if◌then◌else◌, ⊎_elim, cases_lt}
-use Rattle.dev_board.proofs.Facade.{bit_at_not, bit_at-lt, bit_at-zero, bit_at, w16, or-true, has-one, not_test, lines_are_taken, settled_pair, wire_left}
-use Rattle.dev_board.proofs.Facade.{WiresStay, after_act, settled, step}
+use Rattle.dev_board.proofs.Facade
+use Facade.{◌≡◌, ◌≢◌, ℕ, ◌-◌, ◌<◌, ◌^◌, Bool, true, false, ◌&&◌, arith, bit_or, refl, ap, sym, ◌∙◌, false≢true, nat_tests}
+use Facade.{and_le_l, and_le_r, or_of_16, pow_below, and-false, and-true, or-false, has, bits_where, has-and, has-or, has-one_other, lines_of, pit_out, line_of}
+use Facade.{IsEvent, State, inputs_of, names_wire, wires_after, AreWires, is_wire, wires_of, with_wire, Event, Wire, WIRES, ◌+◌, ◌≤◌, ◌==◌, not}
+use Facade.{if◌then◌else◌, ⊎_elim, cases_lt, bit_at_not, bit_at-lt, bit_at-zero, bit_at, w16, or-true, has-one, not_test, lines_are_taken, settled_pair}
+use Facade.{wire_left, WiresStay, after_act, settled, step}
 
 -- ---- the inputs of the pair, bit by bit
 

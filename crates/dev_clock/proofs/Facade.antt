@@ -1,6 +1,6 @@
 -- The names of other crates, and of this crate's `specs`, that the proofs use.
-pub use Rattle.std.proofs.Common.{Bool, Err, List, Ok, Result, [], ap, arith, nat_le, refl, subst, sym, ℕ, ℤ, ◌<◌, ◌==◌, ◌∙◌, ◌∷◌}
-pub use Rattle.std.proofs.Common.{◌≡◌, ◌≤◌}
+use Rattle.std.proofs.Common
+pub use Common.{Bool, Err, List, Ok, Result, [], ap, arith, nat_le, refl, subst, sym, ℕ, ℤ, ◌<◌, ◌==◌, ◌∙◌, ◌∷◌, ◌≡◌, ◌≤◌}
 pub use Rattle.vms_hooks.specs.Numbers.{Numbers}
 pub use Rattle.vms_rtc.proofs.{StepLaws.version_stays, StepLaws.calls_keep_sound, SavedLaws.same-chip, SavedLaws.restored-own, SavedLaws.saved_is_restored}
 pub use Rattle.vms_rtc.specs.{Cells.kinds, Saved.CanRestore, Saved.hook_restored, declared.limits.TheConstants.NEWEST_CLOCK, declared.rtc.Rtc.Rtc}

@@ -1,10 +1,10 @@
 -- What each event keeps, and that devices that are alike give equal answers.
 use Rattle.std.proofs.lemmas.Bool.Decides.{nat_tests}
-use Rattle.dev_clock.proofs.Facade.{refl, NumbersAre, ◌≡◌, ℕ, ◌∙◌, either, moment_left, Answer, Event, Wait, Wire, version_stays, line_of}
-use Rattle.dev_clock.proofs.Facade.{AnswersTellInt, ClockGoesOn, ClockState, waited, acted, follows_line, step, CLOCK_INPUT, ◌<◌, Bool, List, [], ◌∷◌}
-use Rattle.dev_clock.proofs.Facade.{arith, IsLevel, IsUpTo, NEWEST, wires_stay, IsEvent, AreEvents, State, after_by, chip_on, lines_of, calls_keep_sound}
-use Rattle.dev_clock.proofs.Facade.{read_of, passed, NEWEST_CLOCK, Rtc, SoundStays, HasDevices, IsSound, power_on, on_board, clock_read, clock_written}
-use Rattle.dev_clock.proofs.Facade.{after_all, ap, stays-alike, AnswersAlike, AlikeStays, Alike}
+use Rattle.dev_clock.proofs.Facade
+use Facade.{refl, NumbersAre, ◌≡◌, ℕ, ◌∙◌, either, moment_left, Answer, Event, Wait, Wire, version_stays, line_of, AnswersTellInt, ClockGoesOn}
+use Facade.{ClockState, waited, acted, follows_line, step, CLOCK_INPUT, ◌<◌, Bool, List, [], ◌∷◌, arith, IsLevel, IsUpTo, NEWEST, wires_stay, IsEvent}
+use Facade.{AreEvents, State, after_by, chip_on, lines_of, calls_keep_sound, read_of, passed, NEWEST_CLOCK, Rtc, SoundStays, HasDevices, IsSound, power_on}
+use Facade.{on_board, clock_read, clock_written, after_all, ap, stays-alike, AnswersAlike, AlikeStays, Alike}
 use Rattle.dev_board.proofs.SavedLaws.{alike_stays as board_alike}
 use Rattle.dev_board.proofs.SoundLaws.{answers_tell_int as board_tells_int, clock_goes_on as board_goes_on, sound_stays_on as board_stays}
 use Rattle.dev_board.specs.{Sound.IsSound as IsSoundBoard, Sound.Alike as AlikeBoards, State.power_on as board_on, Step.step as board_step}

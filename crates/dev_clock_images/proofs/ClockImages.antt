@@ -1,14 +1,13 @@
 -- The images of a clock board: ready, normal, and carried from older clock sets.
-use Rattle.dev_clock_images.proofs.Facade.{AreClockCells, AreOf, AreReady, AreSavedCells, BoardCells, Bool, ChipIsReady, ClockCells, ClockState, Compatible}
-use Rattle.dev_clock_images.proofs.Facade.{Device, Image, ImagesComeBack, IsNormal, IsReady, IsSound, KindsLaw, List, MaySaveUnder, NEWEST, NEWEST_CLOCK}
-use Rattle.dev_clock_images.proofs.Facade.{NormalMayBeRestored, PlacesLaw, ReadyOf, SavedAreReady, SavedIsCarried, Set, SetsAreCompatible, Some, Sub, [], ap}
-use Rattle.dev_clock_images.proofs.Facade.{arith, bare, carried, carried_device, cells_in, clock_1, clock_2, clock_set, codes, device_cells, false, first}
-use Rattle.dev_clock_images.proofs.Facade.{first_mismatch, get_or, image_of, images_of, kinds, length, mc146818_at_1, mc146818_at_2, mc146818_rows, needed_from}
-use Rattle.dev_clock_images.proofs.Facade.{needs, newest_set, of-kinds, place_under, pos, ready-of, refl, restored, saved, saved_are_cells, saved_cells}
-use Rattle.dev_clock_images.proofs.Facade.{saved_comes_back, saved_goes_on, slice_get, suc, sym, true, unneeded, zero, ℕ, ℤ, ◌∙◌, ◌∷◌}
-use Rattle.dev_clock_images.proofs.Facade.{◌≡◌, ◌≤◌}
-use Rattle.dev_images.proofs.{NormalCells.normal_may_be_restored as board-may-be, BoardReady.saved_are_ready as board-ready}
-use Rattle.dev_images.proofs.{Carried.saved_is_carried as board-is-carried}
+use Rattle.dev_clock_images.proofs.Facade
+use Facade.{AreClockCells, AreOf, AreReady, AreSavedCells, BoardCells, Bool, ChipIsReady, ClockCells, ClockState, Compatible, Device, Image, ImagesComeBack}
+use Facade.{IsNormal, IsReady, IsSound, KindsLaw, List, MaySaveUnder, NEWEST, NEWEST_CLOCK, NormalMayBeRestored, PlacesLaw, ReadyOf, SavedAreReady}
+use Facade.{SavedIsCarried, Set, SetsAreCompatible, Some, Sub, [], ap, arith, bare, carried, carried_device, cells_in, clock_1, clock_2, clock_set, codes}
+use Facade.{device_cells, false, first, first_mismatch, get_or, image_of, images_of, kinds, length, mc146818_at_1, mc146818_at_2, mc146818_rows, needed_from}
+use Facade.{needs, newest_set, of-kinds, place_under, pos, ready-of, refl, restored, saved, saved_are_cells, saved_cells, saved_comes_back, saved_goes_on}
+use Facade.{slice_get, suc, sym, true, unneeded, zero, ℕ, ℤ, ◌∙◌, ◌∷◌, ◌≡◌, ◌≤◌}
+use Rattle.dev_images.proofs
+use proofs.{NormalCells.normal_may_be_restored as board-may-be, BoardReady.saved_are_ready as board-ready, Carried.saved_is_carried as board-is-carried}
 use Rattle.dev_images.specs.Images.{lists_of as board_lists, cells_in as board_cells_in}
 use Rattle.dev_board.specs.Saved.{saved as board_saved, carried as board_carried}
 use Rattle.dev_clock.specs.Saved.{carried as clock_carried}

@@ -1,11 +1,11 @@
 -- When a board is next due: at one wait at most, and at what was found.
-use Rattle.dev_due.proofs.Facade.{Answer, AreTurns, Board, Bool, Clock, ClockState, Event, Finds, Found, FoundAt, FoundSend, FoundSends, IfSome, IsBy, IsEnd}
-use Rattle.dev_due.proofs.Facade.{IsLoadedBy, IsSegment, IsSentAfter, IsShift, IsSound, IsTurn, Isa, LAST_MOMENT, LoadedBy, None, OneIsDue, Option, Rtc}
-use Rattle.dev_due.proofs.Facade.{SameClock, SameLine, Shift, Shown, Some, State, Tried, Turns, Wait, acted, advanced, after_act, ap, arith, board_int}
-use Rattle.dev_due.proofs.Facade.{cases_lt, character_of, clock_int, devices_of, edge_of, ends_within, false, false_from_ne_true, follows_line, has_come, inl}
-use Rattle.dev_due.proofs.Facade.{inputs_of, inr, later_by, le-leb, length, line_of, loaded, lt-leb, not_from_false, or_right, out_of, passed, period_in}
-use Rattle.dev_due.proofs.Facade.{pit-later, pit_edge, pit_out, refl, settled, shows, shows_at, shows_of, step, sym, timer_of, true, waited, wires_after}
-use Rattle.dev_due.proofs.Facade.{wires_of, ℕ, ⊎_elim, ◌*◌, ◌+◌, ◌-◌, ◌<◌, ◌==◌, ◌∙◌, ◌≡◌, ◌≤◌, ◌⊎◌}
+use Rattle.dev_due.proofs.Facade
+use Facade.{Answer, AreTurns, Board, Bool, Clock, ClockState, Event, Finds, Found, FoundAt, FoundSend, FoundSends, IfSome, IsBy, IsEnd, IsLoadedBy, IsSegment}
+use Facade.{IsSentAfter, IsShift, IsSound, IsTurn, Isa, LAST_MOMENT, LoadedBy, None, OneIsDue, Option, Rtc, SameClock, SameLine, Shift, Shown, Some, State}
+use Facade.{Tried, Turns, Wait, acted, advanced, after_act, ap, arith, board_int, cases_lt, character_of, clock_int, devices_of, edge_of, ends_within, false}
+use Facade.{false_from_ne_true, follows_line, has_come, inl, inputs_of, inr, later_by, le-leb, length, line_of, loaded, lt-leb, not_from_false, or_right}
+use Facade.{out_of, passed, period_in, pit-later, pit_edge, pit_out, refl, settled, shows, shows_at, shows_of, step, sym, timer_of, true, waited, wires_after}
+use Facade.{wires_of, ℕ, ⊎_elim, ◌*◌, ◌+◌, ◌-◌, ◌<◌, ◌==◌, ◌∙◌, ◌≡◌, ◌≤◌, ◌⊎◌}
 use Rattle.dev_due.proofs.PortLaws.{Covers, IsBase, LeavesBy, covers}
 use Rattle.dev_clock.specs.Step.{acted as clock_acted, step as clock_step, waited as clock_waited}
 

@@ -9,9 +9,9 @@ unfoldable pub use Rattle.vms_rtc.specs.Chip.{passed}
 pub use Rattle.dev_base.proofs.RuleLaws.{either}
 pub use Rattle.dev_base.specs.{Bits.has, Bits.same, declared.limits.TheConstants.LAST_MOMENT}
 pub use Rattle.dev_board.proofs.SoundLaws.{loaded}
-pub use Rattle.dev_board.specs.{Sound.IsSound, State.State, Step.later_by, declared.event.Answer.Answer, declared.event.Event.Event}
-pub use Rattle.dev_board.specs.{declared.event.Event.TheVariants.Wait}
-unfoldable pub use Rattle.dev_board.specs.{Step.acted, Step.after_act, Step.inputs_of, Step.settled, Step.step, Step.waited, Step.wires_after, Wires.wires_of}
+use Rattle.dev_board.specs
+pub use specs.{Sound.IsSound, State.State, Step.later_by, declared.event.Answer.Answer, declared.event.Event.Event, declared.event.Event.TheVariants.Wait}
+unfoldable pub use specs.{Step.acted, Step.after_act, Step.inputs_of, Step.settled, Step.step, Step.waited, Step.wires_after, Wires.wires_of}
 pub use Rattle.dev_clock.specs.State.{ClockState}
 unfoldable pub use Rattle.dev_clock.specs.Step.{follows_line}
 pub use Rattle.dev_due.specs.Boards.{IsEnd, board_int, character_of, clock_int, devices_of, shows_at, shows_of, timer_of}

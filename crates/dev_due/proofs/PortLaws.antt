@@ -1,9 +1,9 @@
 -- The serial port's line while time passes.
-use Rattle.dev_due.proofs.Facade.{Bool, IsSentAfter, List, None, Option, Port, ReceiverState, SameLine, Shift, Some, [], advanced, advances_in_parts, ap}
-use Rattle.dev_due.proofs.Facade.{append-nil, arith, bytes_of-timetable, cases_lt, character-positive, character_time, departures, either, false, gone, has}
-use Rattle.dev_due.proofs.Facade.{holding, inl, inr, interrupt, is_some, le-leb, length, line_of, loops_at_moment, lt-leb, mode_of, nat_tests, received, refl}
-use Rattle.dev_due.proofs.Facade.{run_until, same_Some, staying, still, sym, timetable, true, waits_until_due, ℕ, ⊎_elim, ◌*◌, ◌++◌, ◌+◌}
-use Rattle.dev_due.proofs.Facade.{◌<◌, ◌==◌, ◌∙◌, ◌∷◌, ◌≡◌, ◌≤◌, ◌⊎◌}
+use Rattle.dev_due.proofs.Facade
+use Facade.{Bool, IsSentAfter, List, None, Option, Port, ReceiverState, SameLine, Shift, Some, [], advanced, advances_in_parts, ap, append-nil, arith}
+use Facade.{bytes_of-timetable, cases_lt, character-positive, character_time, departures, either, false, gone, has, holding, inl, inr, interrupt, is_some}
+use Facade.{le-leb, length, line_of, loops_at_moment, lt-leb, mode_of, nat_tests, received, refl, run_until, same_Some, staying, still, sym, timetable, true}
+use Facade.{waits_until_due, ℕ, ⊎_elim, ◌*◌, ◌++◌, ◌+◌, ◌<◌, ◌==◌, ◌∙◌, ◌∷◌, ◌≡◌, ◌≤◌, ◌⊎◌}
 use Rattle.dev_serial.specs.Port.{has_come}
 
 -- ---- nothing leaves

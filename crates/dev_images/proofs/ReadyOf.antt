@@ -1,11 +1,11 @@
 -- When the image of numbers is ready.
-use Rattle.dev_images.proofs.Facade.{AreOf, AreVersionsOf, Bool, Cell, ComeAsNeeded, Device, Image, IsReady, IsValid, List, None, Number, Option, RulesHold}
-use Rattle.dev_images.proofs.Facade.{Set, Slot, Some, Sub, [], and_from, and_parts, ap, arith, bare, came_slots, cond, cond_both, counts_well, desc_cells}
-use Rattle.dev_images.proofs.Facade.{device_cells, drop, false, flat_map, get_or, get_or-drop, get_or-replicate, get_or-take, has_cell, has_left, has_right}
-use Rattle.dev_images.proofs.Facade.{image_of, image_slots, is_needed, kind_at, leb-true, length, ltb-true, map, names_append, nat_le, nat_lt, ne_eqb}
-use Rattle.dev_images.proofs.Facade.{needed_from, no_cell, or_from, or_second, own_cells, own_slots, pos, refl, replicate, rules_append, same_number}
-use Rattle.dev_images.proofs.Facade.{same_number_is, struct_cells, sub_slots, subst, suc, sym, take, true, within, zero, ℕ, ℤ, ◌&&◌, ◌++◌, ◌+◌}
-use Rattle.dev_images.proofs.Facade.{◌-◌, ◌<◌, ◌||◌, ◌∙◌, ◌∷◌, ◌≡◌, ◌≤◌}
+use Rattle.dev_images.proofs.Facade
+use Facade.{AreOf, AreVersionsOf, Bool, Cell, ComeAsNeeded, Device, Image, IsReady, IsValid, List, None, Number, Option, RulesHold, Set, Slot, Some, Sub, []}
+use Facade.{and_from, and_parts, ap, arith, bare, came_slots, cond, cond_both, counts_well, desc_cells, device_cells, drop, false, flat_map, get_or}
+use Facade.{get_or-drop, get_or-replicate, get_or-take, has_cell, has_left, has_right, image_of, image_slots, is_needed, kind_at, leb-true, length, ltb-true}
+use Facade.{map, names_append, nat_le, nat_lt, ne_eqb, needed_from, no_cell, or_from, or_second, own_cells, own_slots, pos, refl, replicate, rules_append}
+use Facade.{same_number, same_number_is, struct_cells, sub_slots, subst, suc, sym, take, true, within, zero, ℕ, ℤ, ◌&&◌, ◌++◌, ◌+◌, ◌-◌}
+use Facade.{◌<◌, ◌||◌, ◌∙◌, ◌∷◌, ◌≡◌, ◌≤◌}
 
 -- The subsections' descriptions can be written at their versions.
 abbrev pub AreSubs : List Sub → Type 0

@@ -1,13 +1,12 @@
 -- The serial port's cells are saved in a ready image, and are carried as its own table says.
-use Rattle.dev_images.proofs.Facade.{AreSaved, Bool, Carrier, Cell, Device, I8, InEachSet, InRange, IsArray, List, NEWEST, Num, Number, Origin, RX, RX_COUNT}
-use Rattle.dev_images.proofs.Facade.{RX_DATA, RX_NUMBER, Rule, RulesHold, SerialIsCarried, SerialIsReady, Set, Slot, Sub, THR_IPENDING, TIMEOUT_AT, TX}
-use Rattle.dev_images.proofs.Facade.{TX_COUNT, TX_NUMBER, Timer, U16, U8, [], and_le_l, and_numeral, ap, arith, bit_and, carried_by, carried_sub, carriers}
-use Rattle.dev_images.proofs.Facade.{carry_items, codes, counted_well, counts_well, divider, divisor, eq-eqb, eqb-false, eqb-true, false, fcr, fifo, first}
-use Rattle.dev_images.proofs.Facade.{get_or, has_cell, image_of, ints, min, names_append, nat_le, nat_of, ne_eqb, negsuc, never, newest_set, not, not-false}
-use Rattle.dev_images.proofs.Facade.{number, or_from, or_left, or_parts, or_right, place_under, pos, refl, replicate, residue, ring, rules_append, serial}
-use Rattle.dev_images.proofs.Facade.{serial_fields, serial_in, serial_rows, set_1, set_2, set_3, shipped_set, struct_cells, subst, suc, sym, thr_ipending}
-use Rattle.dev_images.proofs.Facade.{timeout, times, true, zero, ℕ, ℤ, ◌%◌, ◌++◌, ◌+◌, ◌-◌, ◌<◌, ◌==◌, ◌^◌, ◌||◌, ◌∙◌}
-use Rattle.dev_images.proofs.Facade.{◌∷◌, ◌≡◌, ◌≤◌}
+use Rattle.dev_images.proofs.Facade
+use Facade.{AreSaved, Bool, Carrier, Cell, Device, I8, InEachSet, InRange, IsArray, List, NEWEST, Num, Number, Origin, RX, RX_COUNT, RX_DATA, RX_NUMBER, Rule}
+use Facade.{RulesHold, SerialIsCarried, SerialIsReady, Set, Slot, Sub, THR_IPENDING, TIMEOUT_AT, TX, TX_COUNT, TX_NUMBER, Timer, U16, U8, [], and_le_l}
+use Facade.{and_numeral, ap, arith, bit_and, carried_by, carried_sub, carriers, carry_items, codes, counted_well, counts_well, divider, divisor, eq-eqb}
+use Facade.{eqb-false, eqb-true, false, fcr, fifo, first, get_or, has_cell, image_of, ints, min, names_append, nat_le, nat_of, ne_eqb, negsuc, never}
+use Facade.{newest_set, not, not-false, number, or_from, or_left, or_parts, or_right, place_under, pos, refl, replicate, residue, ring, rules_append, serial}
+use Facade.{serial_fields, serial_in, serial_rows, set_1, set_2, set_3, shipped_set, struct_cells, subst, suc, sym, thr_ipending, timeout, times, true, zero}
+use Facade.{ℕ, ℤ, ◌%◌, ◌++◌, ◌+◌, ◌-◌, ◌<◌, ◌==◌, ◌^◌, ◌||◌, ◌∙◌, ◌∷◌, ◌≡◌, ◌≤◌}
 use Rattle.dev_images.proofs.ReadyOf.{AreZeros, IsFineSub, kept-by, needed, ready-parts, run, run-zeros, zeros-in}
 use Rattle.dev_images.proofs.ShippedDevices.{IsSavedAs, SavedWhere, carried-in, from_four, is_serial, port_kinds, port_origins, ready-in, serial_at_1}
 use Rattle.dev_images.proofs.ShippedDevices.{serial_at_2, serial_at_3, serial_at_4}

@@ -1,10 +1,10 @@
 -- The devices of the shipped sets, their places, kinds, structures and slots.
-use Rattle.dev_images.proofs.Facade.{AreChipCells, AreOf, AreTimerCells, Bool, CarriedWhere, ChipIsCarried, ChipIsReady, Device, InEachSet, InRange, KindsLaw}
-use Rattle.dev_images.proofs.Facade.{List, NEWEST, Origin, PlacesLaw, ReadyOf, ReadyWhere, Set, TimerIsCarried, TimerIsReady, [], arith, bit_and, by_list}
-use Rattle.dev_images.proofs.Facade.{carried_by, carried_numbers, cell_count, chip_in, codes, divider, divisor, false, fcr, fifo, first, get_or, i8254_at_2}
-use Rattle.dev_images.proofs.Facade.{i8259_at_1, i8259_at_2, i8259_at_4, kinds_in, kinds_saved, length, newest_set, pit_in, place_of_pic, places, pos, refl}
-use Rattle.dev_images.proofs.Facade.{residue, ring, serial, serial_fields, serial_in, set_1, set_2, set_3, shipped_set, subst, sym, thr_ipending, timeout}
-use Rattle.dev_images.proofs.Facade.{timer, timer_in, timer_kinds, true, ℕ, ℤ, ◌++◌, ◌==◌, ◌∷◌, ◌≡◌, ◌≤◌}
+use Rattle.dev_images.proofs.Facade
+use Facade.{AreChipCells, AreOf, AreTimerCells, Bool, CarriedWhere, ChipIsCarried, ChipIsReady, Device, InEachSet, InRange, KindsLaw, List, NEWEST, Origin}
+use Facade.{PlacesLaw, ReadyOf, ReadyWhere, Set, TimerIsCarried, TimerIsReady, [], arith, bit_and, by_list, carried_by, carried_numbers, cell_count, chip_in}
+use Facade.{codes, divider, divisor, false, fcr, fifo, first, get_or, i8254_at_2, i8259_at_1, i8259_at_2, i8259_at_4, kinds_in, kinds_saved, length, newest_set}
+use Facade.{pit_in, place_of_pic, places, pos, refl, residue, ring, serial, serial_fields, serial_in, set_1, set_2, set_3, shipped_set, subst, sym}
+use Facade.{thr_ipending, timeout, timer, timer_in, timer_kinds, true, ℕ, ℤ, ◌++◌, ◌==◌, ◌∷◌, ◌≡◌, ◌≤◌}
 use Rattle.dev_images.proofs.ReadyOf.{needed, ready-of}
 use Rattle.dev_pic.specs.Cells.{kinds as pic_kinds, origins as pic_origins, carried as pic_carried}
 use Rattle.dev_pit.specs.Cells.{kinds_of, origins as origins_of_pit}

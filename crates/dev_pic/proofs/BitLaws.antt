@@ -1,8 +1,8 @@
 -- Sets of inputs, input by input, and their bounds.
-use Rattle.dev_pic.proofs.Facade.{◌≡◌, ◌≢◌, ℕ, ◌-◌, ◌<◌, ◌^◌, ◌==◌, min, max, Bool, true, false, not, ◌&&◌, arith, bit_or}
-use Rattle.dev_pic.proofs.Facade.{refl, ◌||◌, bit_at, w8, and_le_l, and_le_r, or_of_8, pow_below, bit_at_and, bit_at_or, bit_at_not, same_from_bits_below}
-use Rattle.dev_pic.proofs.Facade.{bit_at-lt, bit_at-pow_same, bit_at-pow_other, same_from_bits, or-true, or-false, has, but_not, with_input, without_input}
-use Rattle.dev_pic.proofs.Facade.{level_inputs, LevelInputsAre}
+use Rattle.dev_pic.proofs.Facade
+use Facade.{◌≡◌, ◌≢◌, ℕ, ◌-◌, ◌<◌, ◌^◌, ◌==◌, min, max, Bool, true, false, not, ◌&&◌, arith, bit_or, refl, ◌||◌, bit_at}
+use Facade.{w8, and_le_l, and_le_r, or_of_8, pow_below, bit_at_and, bit_at_or, bit_at_not, same_from_bits_below, bit_at-lt, bit_at-pow_same, bit_at-pow_other}
+use Facade.{same_from_bits, or-true, or-false, has, but_not, with_input, without_input, level_inputs, LevelInputsAre}
 use Rattle.std.proofs.Common.{bit_and}
 
 not_bit : (r i : ℕ) → r < 256 → i < 8 → bit_at (255 - r) i ≡ 1 - bit_at r i

@@ -1,6 +1,6 @@
 -- The cells that are appended for a chip.
-use Rattle.std.proofs.Common.{◌≡◌, ℕ, List, [], ◌∷◌, ◌++◌, ℤ, pos, if◌then◌else◌, nat_le, ap, sym, ◌∙◌, append_assoc}
-use Rattle.std.proofs.Common.{append-nil}
+use Rattle.std.proofs.Common
+use Common.{◌≡◌, ℕ, List, [], ◌∷◌, ◌++◌, ℤ, pos, if◌then◌else◌, nat_le, ap, sym, ◌∙◌, append_assoc, append-nil}
 use Rattle.dev_base.specs.Cells.{flag_number}
 use Rattle.dev_pic.specs.{Cells.saved_cells, declared.chip.Chip.Chip, declared.levels.TheConstants.ELCR_SINCE, declared.levels.TheConstants.LTIM_SINCE}
 

@@ -1,13 +1,13 @@
 -- What is saved of a pair and restored from it, and what its hooks return.
-use Rattle.dev_pic.proofs.Facade.{◌≡◌, ℕ, ◌≤◌, ◌%◌, true, List, ℤ, take, drop, Result, Ok, Err, arith, nat_tests, IsLevel, number-lt}
-use Rattle.dev_pic.proofs.Facade.{AllTrue, judged-ok, hook-ok, cell_count, IsChipCells, chip_of, registers_hold, rules, restored, RestoredIsSound, pair_of}
-use Rattle.dev_pic.proofs.Facade.{restored_pair, by_number, IsSoundChip, IsSoundPair, Chip, Role, Master, Slave, ChipFault, PicPair, ◌++◌, length, subst}
-use Rattle.dev_pic.proofs.Facade.{◌∙◌, sym, ap, ◌+◌, ◌-◌, ◌<◌, ◌==◌, Bool, false, cond, [], ◌∷◌, refl, pos, codes, Option, Some}
-use Rattle.dev_pic.proofs.Facade.{take-append_seam, drop-append_seam, nat_le, kinds, cell_in, flag_in, state_number, named, saved_cells, carried, levels_hold}
-use Rattle.dev_pic.proofs.Facade.{mode_holds, cells_under, i8259_rows, Numbers, flag_number, AreOf, MayRestore, NEWEST, either, byte, flag, flag-back, AllHold}
-use Rattle.dev_pic.proofs.Facade.{one_holds, none_lacks, of_rows, carried_rows, none_failing, all_true, judged-all, ok-hook, first_failing_is_first}
-use Rattle.dev_pic.proofs.Facade.{SoundMeetsRules, SavedAreCells, SavedIsRestored, FaultsAreTold, CanSave, CanRestore, pair_cells, pair_carried, hook_rule}
-use Rattle.dev_pic.proofs.Facade.{fault_of, hook_restored, HasRegisters, MeetsRules, InitState, ELCR_SINCE, LTIM_SINCE, HookFault, hook_result, judged_by}
+use Rattle.dev_pic.proofs.Facade
+use Facade.{◌≡◌, ℕ, ◌≤◌, ◌%◌, true, List, ℤ, take, drop, Result, Ok, Err, arith, nat_tests, IsLevel, number-lt, AllTrue, judged-ok, hook-ok}
+use Facade.{cell_count, IsChipCells, chip_of, registers_hold, rules, restored, RestoredIsSound, pair_of, restored_pair, by_number, IsSoundChip, IsSoundPair}
+use Facade.{Chip, Role, Master, Slave, ChipFault, PicPair, ◌++◌, length, subst, ◌∙◌, sym, ap, ◌+◌, ◌-◌, ◌<◌, ◌==◌, Bool, false, cond}
+use Facade.{[], ◌∷◌, refl, pos, codes, Option, Some, take-append_seam, drop-append_seam, nat_le, kinds, cell_in, flag_in, state_number, named}
+use Facade.{saved_cells, carried, levels_hold, mode_holds, cells_under, i8259_rows, Numbers, flag_number, AreOf, MayRestore, NEWEST, either, byte, flag}
+use Facade.{flag-back, AllHold, one_holds, none_lacks, of_rows, carried_rows, none_failing, all_true, judged-all, ok-hook, first_failing_is_first}
+use Facade.{SoundMeetsRules, SavedAreCells, SavedIsRestored, FaultsAreTold, CanSave, CanRestore, pair_cells, pair_carried, hook_rule, fault_of, hook_restored}
+use Facade.{HasRegisters, MeetsRules, InitState, ELCR_SINCE, LTIM_SINCE, HookFault, hook_result, judged_by}
 
 -- ---- a restored pair is sound
 

@@ -1,10 +1,10 @@
 -- What the data sheet says of initialization, modes, polls and rotation.
 use Rattle.dev_pic.proofs.BitLaws.{level_inputs-lt, has-and, has-or, has-but_not, has-without_same, has-without_other, has-with_same, and_not_true}
-use Rattle.dev_pic.proofs.Facade.{RotatesAtOnce, refl, NumbersAre, ◌≡◌, ℕ, ◌<◌, true, false, arith, has, started, written_even, written_odd_in}
-use Rattle.dev_pic.proofs.Facade.{InitializesByWords, Chip, Bool, Some, sym, ◌∙◌, false≢true, without_input, requests_of, in_service_of, served_of}
-use Rattle.dev_pic.proofs.Facade.{winner_at, taken, settled, ended, ended_lowest, highest_served, commanded, answered, MaskedNeverWins, ServedBlocksLower}
-use Rattle.dev_pic.proofs.Facade.{IsHighestServed, EndsService, EoiEndsHighest, AckWithoutWinner, TakesWinner, TakesLinesOver, acked_for, input_at, IsWinner}
-use Rattle.dev_pic.proofs.Facade.{Role, Option, selected, polled_by, read_of, PollsOnce, NestsSpecially}
+use Rattle.dev_pic.proofs.Facade
+use Facade.{RotatesAtOnce, refl, NumbersAre, ◌≡◌, ℕ, ◌<◌, true, false, arith, has, started, written_even, written_odd_in, InitializesByWords, Chip}
+use Facade.{Bool, Some, sym, ◌∙◌, false≢true, without_input, requests_of, in_service_of, served_of, winner_at, taken, settled, ended, ended_lowest}
+use Facade.{highest_served, commanded, answered, MaskedNeverWins, ServedBlocksLower, IsHighestServed, EndsService, EoiEndsHighest, AckWithoutWinner}
+use Facade.{TakesWinner, TakesLinesOver, acked_for, input_at, IsWinner, Role, Option, selected, polled_by, read_of, PollsOnce, NestsSpecially}
 use Rattle.dev_pic.proofs.WinnerLaws.{winner_of-means, is_highest, highest_none}
 
 -- ---- the numbers are the constants' by their definition

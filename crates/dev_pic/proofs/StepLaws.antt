@@ -1,12 +1,12 @@
 -- What each step of a chip and of the pair keeps.
 use Rattle.dev_pic.proofs.BitLaws.{level-lines, level_inputs-lt, but_not-lt, without_input-lt, with_input-lt, and-twice}
-use Rattle.dev_pic.proofs.Facade.{◌≡◌, ℕ, Option, Some, None, false, ◌-◌, ◌%◌, ◌<◌, ◌≤◌, ◌==◌, Bool, true, IfSome, arith}
-use Rattle.dev_pic.proofs.Facade.{nat_tests, or_of_8, and_le_l, bit_and, nat_le, either, has, ended, ended_lowest, commanded, selected, written_even}
-use Rattle.dev_pic.proofs.Facade.{written_odd_in, level_inputs, level_inputs_of, ltim_after, requests_of, served_of, winner_at, taken, settled, started}
-use Rattle.dev_pic.proofs.Facade.{polled_by, read_of, answered, cascaded, command_of, HasInput, Chip, InitState, Ocw2, but_not, requests_hold, mode_holds}
-use Rattle.dev_pic.proofs.Facade.{HasRegisters, IsSoundChip, Role, LTIM_SINCE, ◌^◌, or-true, cond_both, levels_hold, elcr_mask, elcr_written, cascade_input}
-use Rattle.dev_pic.proofs.Facade.{IsLevel, StepsKeepRegisters, StepsKeepLevel, chip_on, power_on, is_port, with_cascade, settled_pair, read_pair, written_pair}
-use Rattle.dev_pic.proofs.Facade.{acked_for, PairHasRegisters, IsSoundPair, Master, Slave, ELCR_SINCE, PicPair}
+use Rattle.dev_pic.proofs.Facade
+use Facade.{◌≡◌, ℕ, Option, Some, None, false, ◌-◌, ◌%◌, ◌<◌, ◌≤◌, ◌==◌, Bool, true, IfSome, arith, nat_tests, or_of_8, and_le_l}
+use Facade.{bit_and, nat_le, either, has, ended, ended_lowest, commanded, selected, written_even, written_odd_in, level_inputs, level_inputs_of, ltim_after}
+use Facade.{requests_of, served_of, winner_at, taken, settled, started, polled_by, read_of, answered, cascaded, command_of, HasInput, Chip, InitState, Ocw2}
+use Facade.{but_not, requests_hold, mode_holds, HasRegisters, IsSoundChip, Role, LTIM_SINCE, ◌^◌, or-true, cond_both, levels_hold, elcr_mask, elcr_written}
+use Facade.{cascade_input, IsLevel, StepsKeepRegisters, StepsKeepLevel, chip_on, power_on, is_port, with_cascade, settled_pair, read_pair, written_pair}
+use Facade.{acked_for, PairHasRegisters, IsSoundPair, Master, Slave, ELCR_SINCE, PicPair}
 use Rattle.dev_pic.proofs.WinnerLaws.{highest-lt, winner-lt as winners-lt}
 
 -- ---- commands that leave the requests and the lines

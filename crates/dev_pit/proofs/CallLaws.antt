@@ -1,12 +1,12 @@
 -- What calls do to one counter of a chip: its count, its OUT, and the moment at which it was
 -- loaded.
 use Rattle.dev_pit.proofs.EdgeLaws.{ticks-mono}
-use Rattle.dev_pit.proofs.Facade.{◌≡◌, ℕ, zero, suc, ◌<◌, List, [], ◌∷◌, length, slice_index_or, slice_set, refl, ap, arith, length-set}
-use Rattle.dev_pit.proofs.Facade.{powered_on, counter_of, with_counter, Counter, Pit, Bool, Option, ◌∙◌, either, latched, status_latched, read_back}
-use Rattle.dev_pit.proofs.Facade.{read_of, counted_of, GoesOn, Access, ◌+◌, ◌-◌, ◌≤◌, ◌==◌, true, false, ◌&&◌, ⊎_elim, nat_tests}
-use Rattle.dev_pit.proofs.Facade.{nat_le, cases_Bool, reads, writes, called, programs, sets_mode_of, loads, completes, control_word, out_at, out_of, written}
-use Rattle.dev_pit.proofs.Facade.{CountingGoesOn, TerminalCountStays, pit_read, pit_out, asked_back, controlled, pit_written, ControlWord, LatchCount, SetMode}
-use Rattle.dev_pit.proofs.Facade.{ReadBack, READ_BACK_LEVEL, TerminalCount, get_or_default, LoadedBy, loaded, programmed, IsLoadedBy, Mode}
+use Rattle.dev_pit.proofs.Facade
+use Facade.{◌≡◌, ℕ, zero, suc, ◌<◌, List, [], ◌∷◌, length, slice_index_or, slice_set, refl, ap, arith, length-set, powered_on, counter_of}
+use Facade.{with_counter, Counter, Pit, Bool, Option, ◌∙◌, either, latched, status_latched, read_back, read_of, counted_of, GoesOn, Access, ◌+◌}
+use Facade.{◌-◌, ◌≤◌, ◌==◌, true, false, ◌&&◌, ⊎_elim, nat_tests, nat_le, cases_Bool, reads, writes, called, programs, sets_mode_of, loads}
+use Facade.{completes, control_word, out_at, out_of, written, CountingGoesOn, TerminalCountStays, pit_read, pit_out, asked_back, controlled, pit_written}
+use Facade.{ControlWord, LatchCount, SetMode, ReadBack, READ_BACK_LEVEL, TerminalCount, get_or_default, LoadedBy, loaded, programmed, IsLoadedBy, Mode}
 
 -- ---- the counters of a chip, and what holds for each after one was replaced
 

@@ -1,10 +1,10 @@
 -- What is read of a counter: latched counts, the read-back command and the status byte.
 use Rattle.dev_pit.proofs.{CallLaws.at_counter, CallLaws.at_step, SoundLaws.flag-small, SoundLaws.mode-small, SoundLaws.access-small}
-use Rattle.dev_pit.proofs.Facade.{refl, NumbersAre, ◌≡◌, ℕ, ◌-◌, ◌<◌, ◌≤◌, ◌==◌, Bool, true, false, not, ◌&&◌, Some, arith}
-use Rattle.dev_pit.proofs.Facade.{⊎_elim, nat_tests, nat_le, is_some, cases_Bool, Call, reads, writes, IsCall, called, programs, sets_mode_of, reads_latch}
-use Rattle.dev_pit.proofs.Facade.{is_last, control_word, loaded, written, read_of, counted_of, latched, status_latched, read_back, LatchStays, counter_of}
-use Rattle.dev_pit.proofs.Facade.{pit_read, asked_back, controlled, pit_written, ControlWord, LatchCount, SetMode, ReadBack, Counter, READ_BACK_LEVEL, Pit}
-use Rattle.dev_pit.proofs.Facade.{either, status_holds, ReadBackByLevel, out_of, status_of, StatusTells, flag-back}
+use Rattle.dev_pit.proofs.Facade
+use Facade.{refl, NumbersAre, ◌≡◌, ℕ, ◌-◌, ◌<◌, ◌≤◌, ◌==◌, Bool, true, false, not, ◌&&◌, Some, arith, ⊎_elim, nat_tests, nat_le}
+use Facade.{is_some, cases_Bool, Call, reads, writes, IsCall, called, programs, sets_mode_of, reads_latch, is_last, control_word, loaded, written, read_of}
+use Facade.{counted_of, latched, status_latched, read_back, LatchStays, counter_of, pit_read, asked_back, controlled, pit_written, ControlWord, LatchCount}
+use Facade.{SetMode, ReadBack, Counter, READ_BACK_LEVEL, Pit, either, status_holds, ReadBackByLevel, out_of, status_of, StatusTells, flag-back}
 
 -- ---- the numbers are the constants' by their definition
 

@@ -1,12 +1,12 @@
 -- A chip and each of its counters are sound at power on, and stay so.
 use Rattle.dev_pit.proofs.CallLaws.{at_step, count-with, each_of, loaded_by-later}
-use Rattle.dev_pit.proofs.Facade.{◌≡◌, ℕ, ◌≤◌, ◌==◌, Bool, true, false, not, ◌&&◌, ◌||◌, Option, Some, None, refl, arith, ◌^◌}
-use Rattle.dev_pit.proofs.Facade.{◌<◌, nat_tests, nat_le, is_some, channel_of, registers_hold, moment_holds, status_holds, toggles_hold, LoadedBy, held_or}
-use Rattle.dev_pit.proofs.Facade.{live_of, out_of, status_of, written, programmed, powered_on, read_of, counted_of, latched, status_latched, read_back}
-use Rattle.dev_pit.proofs.Facade.{mode_number, access_number, HasWidths, IsSoundCounter, HeldBelow, Counter, READ_BACK_LEVEL, Access, LowByte, HighByte}
-use Rattle.dev_pit.proofs.Facade.{LowThenHigh, Mode, flag_number, LAST_MOMENT, live_at, square, either, ◌-◌, ⊎_elim, cases_Bool, IsLevel, control_word}
-use Rattle.dev_pit.proofs.Facade.{SoundStays, StepsKeepLevel, counter_of, with_counter, new_pit, pit_read, asked_back, controlled, pit_written, IsSoundPit}
-use Rattle.dev_pit.proofs.Facade.{ControlWord, LatchCount, SetMode, ReadBack, Pit, nat_lt, high_part, ◌%◌}
+use Rattle.dev_pit.proofs.Facade
+use Facade.{◌≡◌, ℕ, ◌≤◌, ◌==◌, Bool, true, false, not, ◌&&◌, ◌||◌, Option, Some, None, refl, arith, ◌^◌, ◌<◌, nat_tests}
+use Facade.{nat_le, is_some, channel_of, registers_hold, moment_holds, status_holds, toggles_hold, LoadedBy, held_or, live_of, out_of, status_of, written}
+use Facade.{programmed, powered_on, read_of, counted_of, latched, status_latched, read_back, mode_number, access_number, HasWidths, IsSoundCounter, HeldBelow}
+use Facade.{Counter, READ_BACK_LEVEL, Access, LowByte, HighByte, LowThenHigh, Mode, flag_number, LAST_MOMENT, live_at, square, either, ◌-◌, ⊎_elim}
+use Facade.{cases_Bool, IsLevel, control_word, SoundStays, StepsKeepLevel, counter_of, with_counter, new_pit, pit_read, asked_back, controlled, pit_written}
+use Facade.{IsSoundPit, ControlWord, LatchCount, SetMode, ReadBack, Pit, nat_lt, high_part, ◌%◌}
 use Rattle.dev_pit.specs.Counter.{loaded as loading}
 
 -- ---- what the rules say about a counter itself

@@ -1,10 +1,10 @@
 -- Ports that are alike answer each call alike.
-use Rattle.dev_serial.proofs.Facade.{arith, ◌≡◌, ℕ, ℤ, Bool, true, not, ◌&&◌, cond, refl, pos, negsuc, ◌||◌, Option, ◌∙◌, int_eq}
-use Rattle.dev_serial.proofs.Facade.{bit_and, bit_or, is_some, is_empty, lsr_of, iir_of, read_of, thr_written, ier_written, switch_of, fcr_cleared, fcr_written}
-use Rattle.dev_serial.proofs.Facade.{receiver_cleared, transmitter_cleared, written, came_in, advanced, has, bits_where, ipending_of, latch_of, saved, Port}
-use Rattle.dev_serial.proofs.Facade.{id_number, is_thr_empty, interrupt, line_of, Interrupt, LineStatus, ReceivedData, CharacterTimeout, ThrEmpty, NonePending}
-use Rattle.dev_serial.proofs.Facade.{AlikeItself, AlikeBack, AlikeOn, AnswersAlike, ReadsAlike, nat_tests, WritesAlike, BytesInAlike, AdvancesAlike, SavesAlike}
-use Rattle.dev_serial.proofs.Facade.{LinesAlike, Alike, Trigger}
+use Rattle.dev_serial.proofs.Facade
+use Facade.{arith, ◌≡◌, ℕ, ℤ, Bool, true, not, ◌&&◌, cond, refl, pos, negsuc, ◌||◌, Option, ◌∙◌, int_eq, bit_and, bit_or, is_some}
+use Facade.{is_empty, lsr_of, iir_of, read_of, thr_written, ier_written, switch_of, fcr_cleared, fcr_written, receiver_cleared, transmitter_cleared, written}
+use Facade.{came_in, advanced, has, bits_where, ipending_of, latch_of, saved, Port, id_number, is_thr_empty, interrupt, line_of, Interrupt, LineStatus}
+use Facade.{ReceivedData, CharacterTimeout, ThrEmpty, NonePending, AlikeItself, AlikeBack, AlikeOn, AnswersAlike, ReadsAlike, nat_tests, WritesAlike}
+use Facade.{BytesInAlike, AdvancesAlike, SavesAlike, LinesAlike, Alike, Trigger}
 
 -- ---- the line status and the saved latch, as tables of truth
 

@@ -14,8 +14,8 @@ pub use Rattle.std.specs.Prelude.{bit_and, bit_or, is_some, max, nat_le, nat_lt,
 pub use Rattle.vms_kinds.specs.{Codes.InRange, Codes.is_signed, declared.Kind.Kind}
 pub use Rattle.vms_kinds.specs.declared.Kind.TheVariants.{I8, Timer, U16, U8}
 pub use Rattle.vms_fields.specs.Serial.{serial_rows}
-pub use Rattle.vms_fields.specs.declared.serial.TheConstants.{DIVISOR, RX, RX_COUNT, RX_DATA, RX_HEAD, RX_NUMBER, THR_IPENDING, TIMEOUT_AT, TX, TX_COUNT}
-pub use Rattle.vms_fields.specs.declared.serial.TheConstants.{TX_DATA, TX_DUE, TX_HEAD, TX_NUMBER}
+use Rattle.vms_fields.specs.declared.serial.TheConstants
+pub use TheConstants.{DIVISOR, RX, RX_COUNT, RX_DATA, RX_HEAD, RX_NUMBER, THR_IPENDING, TIMEOUT_AT, TX, TX_COUNT, TX_DATA, TX_DUE, TX_HEAD, TX_NUMBER}
 pub use Rattle.vms_hooks.specs.Numbers.{Numbers}
 pub use Rattle.dev_base.proofs.CellLaws.{all_set, bytes_within, firsts_more, one_set, byte, number-lt, of_more, of_none, timer, word, AllHold, AllLack}
 pub use Rattle.dev_base.proofs.CellLaws.{carried_rows, none_lacks, of_rows, one_holds}
@@ -24,11 +24,13 @@ pub use Rattle.dev_base.specs.{Levels.IsLevel, Tables.since, declared.limits.The
 pub use Rattle.dev_base.specs.{Bits.bits_where, Bits.has, Bits.same, Rules.IsFirstFailing, Rules.first_failing, Rules.judged}
 pub use Rattle.dev_base.specs.Cells.{AreOf, cell_at, firsts, kind_at, nat_of, number_at}
 unfoldable pub use Rattle.dev_base.specs.{Hooks.hook_result, Rules.judged_by}
-pub use Rattle.dev_serial.specs.{Line.character_bits, Places.PlacesAre, Receive.emptied, Receive.taken, RoomLaws.RoomIsHeld, RoomLaws.all_came}
-pub use Rattle.dev_serial.specs.{SheetNumbers.NumbersAre, declared.interrupt.Interrupt.Interrupt, declared.mode.Mode.Mode}
-pub use Rattle.dev_serial.specs.{declared.mode.TheConstants.LONGEST_CHARACTER, declared.numbers.PortNumbers.PortNumbers, declared.numbers.TheConstants.NEVER}
-pub use Rattle.dev_serial.specs.{declared.shift.Shift.Shift, declared.stored.Counted.Counted, declared.stored.Ring.Ring, declared.trigger.Trigger.Trigger}
-pub use Rattle.dev_serial.specs.{Laws.SavedAreCells, Laws.SavedComesBack, Laws.SavesAlike, Laws.SoundMeetsRules}
+use Rattle.dev_serial.specs
+pub use specs.{Line.character_bits, Places.PlacesAre, Receive.emptied, Receive.taken, RoomLaws.RoomIsHeld, RoomLaws.all_came, SheetNumbers.NumbersAre}
+pub use specs.{declared.interrupt.Interrupt.Interrupt, declared.mode.Mode.Mode, declared.mode.TheConstants.LONGEST_CHARACTER}
+pub use specs.{declared.numbers.PortNumbers.PortNumbers, declared.numbers.TheConstants.NEVER, declared.shift.Shift.Shift, declared.stored.Counted.Counted}
+pub use specs.{declared.stored.Ring.Ring, declared.trigger.Trigger.Trigger, Laws.SavedAreCells, Laws.SavedComesBack, Laws.SavesAlike, Laws.SoundMeetsRules}
+unfoldable pub use specs.{Access.msr_of, Access.read_of, Line.character_time, Recast.recast_cells, Receive.received, Receive.taken_at, Stored.ring_holds}
+unfoldable pub use specs.{Port.interrupt, Port.line_of, Port.power_on, PortNumbers.port_of, PortNumbers.saved}
 pub use Rattle.dev_serial.specs.Access.{id_read, is_empty, leaving, lsr_read, receiver_cleared, room_of, switch_of, transmitter_cleared, with_taken}
 pub use Rattle.dev_serial.specs.Cells.{AreBytesIn, IsArray, IsPortCells, array_at, bytes_at, field_kinds, kinds, named, ring_at}
 pub use Rattle.dev_serial.specs.Laws.{WritesAlike, WritesKeepLevel, WritesKeepSound, AdvancesAlike, AdvancesKeepLevel, AdvancesKeepSound, AlikeBack}
@@ -51,8 +53,6 @@ pub use Rattle.dev_serial.specs.Transmit.{IsSentAfter, bytes_of, gone_by, looped
 pub use Rattle.dev_serial.specs.declared.interrupt.Interrupt.TheVariants.{CharacterTimeout, LineStatus, NonePending, ReceivedData, ThrEmpty}
 pub use Rattle.dev_serial.specs.declared.levels.TheConstants.{FIFOS_SINCE, RINGS_SINCE, TIMEOUT_SINCE}
 pub use Rattle.dev_serial.specs.declared.stored.TheConstants.{ARRAY_CELLS, PORT_CELLS, RING_CELLS}
-unfoldable pub use Rattle.dev_serial.specs.{Access.msr_of, Access.read_of, Line.character_time, Recast.recast_cells, Receive.received, Receive.taken_at}
-unfoldable pub use Rattle.dev_serial.specs.{Stored.ring_holds, Port.interrupt, Port.line_of, Port.power_on, PortNumbers.port_of, PortNumbers.saved}
 unfoldable pub use Rattle.dev_serial.specs.Access.{thr_written, queues, written, advanced, came_in, fcr_cleared, fcr_written, ier_written, iir_of, lsr_of}
 unfoldable pub use Rattle.dev_serial.specs.Cells.{array_cells, carried, cells_of, field_cells, numbers_of, ring_cells}
 unfoldable pub use Rattle.dev_serial.specs.Rules.{rings_hold, shift_holds, status_holds, timeout_holds, unused_hold, fcr_holds, id_holds, latch_holds}

@@ -1,10 +1,10 @@
 -- Each call keeps a port sound.
 use Rattle.dev_serial.proofs.{WaitLaws.character-positive, SoundLaws.emptied-sound, SoundLaws.thr-sound}
-use Rattle.dev_serial.proofs.Facade.{Trigger, ◌≡◌, ℕ, ◌+◌, ◌*◌, ◌<◌, ◌≤◌, ◌==◌, Bool, true, false, Option, refl, arith, ◌/◌}
-use Rattle.dev_serial.proofs.Facade.{◌%◌, inl, cond_both, leb-true, nat_le, is_some, and_le_r, and-false, with_taken, read_of, id_read, lsr_read}
-use Rattle.dev_serial.proofs.Facade.{thr_written, ier_written, switch_of, fcr_cleared, fcr_written, receiver_cleared, transmitter_cleared, written, came_in}
-use Rattle.dev_serial.proofs.Facade.{advanced, has, character_time, received, taken, IsSound, nat_tests, LONGEST_CHARACTER, either, PowerOnIsSound}
-use Rattle.dev_serial.proofs.Facade.{ReadsKeepSound, WritesKeepSound, BytesInKeepSound, AdvancesKeepSound, Port, power_on, mode_of}
+use Rattle.dev_serial.proofs.Facade
+use Facade.{Trigger, ◌≡◌, ℕ, ◌+◌, ◌*◌, ◌<◌, ◌≤◌, ◌==◌, Bool, true, false, Option, refl, arith, ◌/◌, ◌%◌, inl, cond_both}
+use Facade.{leb-true, nat_le, is_some, and_le_r, and-false, with_taken, read_of, id_read, lsr_read, thr_written, ier_written, switch_of, fcr_cleared}
+use Facade.{fcr_written, receiver_cleared, transmitter_cleared, written, came_in, advanced, has, character_time, received, taken, IsSound, nat_tests}
+use Facade.{LONGEST_CHARACTER, either, PowerOnIsSound, ReadsKeepSound, WritesKeepSound, BytesInKeepSound, AdvancesKeepSound, Port, power_on, mode_of}
 use Rattle.dev_serial.proofs.SoundLaws.{latched-sound, cleared-sound, advance-transmitter, advance-receiver, character-longest, received-sound, taken-held}
 
 pub power_on_is_sound : PowerOnIsSound

@@ -1,13 +1,12 @@
 -- Registers as the data sheet has them, the divisor latch, loop mode, and bytes that come in while
 -- there is room.
-use Rattle.dev_serial.proofs.Facade.{refl, NumbersAre, ◌≡◌, ℕ, Bool, true, false, not, List, [], ◌∷◌, ◌++◌, Option, Some, None, sym}
-use Rattle.dev_serial.proofs.Facade.{◌∙◌, arith, is_some, is_empty, switch_of, fcr_cleared, fcr_written, nat_tests, receiver_cleared, transmitter_cleared}
-use Rattle.dev_serial.proofs.Facade.{read_of, thr_written, ier_written, written, came_in, advanced, has, Port, asks, interrupt, is_pending, line_of}
-use Rattle.dev_serial.proofs.Facade.{IsFirstAsking, IdentifiesFirst, SomeAsks, LineTellsAsking, HasNoBytes, SwitchClearsBoth, IsResetBy, ResetsByBits, StaysOff}
-use Rattle.dev_serial.proofs.Facade.{IsSwitched, WritesSwitch, Interrupt, NonePending, Trigger, ReadsKeepLevel, WritesKeepLevel, BytesInKeepLevel}
-use Rattle.dev_serial.proofs.Facade.{AdvancesKeepLevel, cond_both, first_asking, priorities, All-cons, All-nil, LoopsModem, ◌+◌, ◌*◌, ◌%◌, ◌<◌}
-use Rattle.dev_serial.proofs.Facade.{bit_or, bits_where, msr_of, ReachesDivisor, ◌≤◌, length, append_assoc, append-nil, common_steps, room_of, received}
-use Rattle.dev_serial.proofs.Facade.{all_came, RoomIsHeld}
+use Rattle.dev_serial.proofs.Facade
+use Facade.{refl, NumbersAre, ◌≡◌, ℕ, Bool, true, false, not, List, [], ◌∷◌, ◌++◌, Option, Some, None, sym, ◌∙◌, arith, is_some}
+use Facade.{is_empty, switch_of, fcr_cleared, fcr_written, nat_tests, receiver_cleared, transmitter_cleared, read_of, thr_written, ier_written, written}
+use Facade.{came_in, advanced, has, Port, asks, interrupt, is_pending, line_of, IsFirstAsking, IdentifiesFirst, SomeAsks, LineTellsAsking, HasNoBytes}
+use Facade.{SwitchClearsBoth, IsResetBy, ResetsByBits, StaysOff, IsSwitched, WritesSwitch, Interrupt, NonePending, Trigger, ReadsKeepLevel, WritesKeepLevel}
+use Facade.{BytesInKeepLevel, AdvancesKeepLevel, cond_both, first_asking, priorities, All-cons, All-nil, LoopsModem, ◌+◌, ◌*◌, ◌%◌, ◌<◌, bit_or}
+use Facade.{bits_where, msr_of, ReachesDivisor, ◌≤◌, length, append_assoc, append-nil, common_steps, room_of, received, all_came, RoomIsHeld}
 
 -- ---- the numbers are the constants' by their definition
 

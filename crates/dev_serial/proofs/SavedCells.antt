@@ -1,15 +1,14 @@
 -- The saved cells of a port, of its own set and carried to the newest one.
 use Rattle.dev_serial.proofs.AlikeLaws.{lsr-status}
-use Rattle.dev_serial.proofs.Facade.{PlacesAre, IsArray, ◌≡◌, ℕ, zero, suc, ◌+◌, ◌<◌, ◌≤◌, ◌^◌, Bool, false, List, ◌∷◌}
-use Rattle.dev_serial.proofs.Facade.{◌++◌, map, replicate, ℤ, pos, refl, [], arith, append_assoc, length, take, drop, Option, None, range_with_len}
-use Rattle.dev_serial.proofs.Facade.{nat_le, is_some, get_or-append-add, get_or_append_left, get_or-map, get_or_past, and_le_r, nil_from_length, serial_rows}
-use Rattle.dev_serial.proofs.Facade.{InRange, U8, I8, of_none, of_more, byte, word, timer, AllHold, one_holds, of_rows, AreOf, firsts, cell_at, since, named}
-use Rattle.dev_serial.proofs.Facade.{field_cells, array_cells, ring_cells, cells_of, kinds, IsPortCells, FIFOS_SINCE, TIMEOUT_SINCE, RINGS_SINCE, PortNumbers}
-use Rattle.dev_serial.proofs.Facade.{Counted, Ring, NEWEST, LAST_MOMENT, lsr_of, AreSaved, SavedAreCells, IsShort, Port, interrupt, id_number, saved}
-use Rattle.dev_serial.proofs.Facade.{ipending_of, single_byte, fifo_bytes, in_array, in_ring, fcr_number, shift_number, due_number, moment_number, IsSound}
-use Rattle.dev_serial.proofs.Facade.{AreBytes, IsShift, IsTimeout, byte_of, padded, counted_of, ring_of, Interrupt, Shift, Trigger, RX, TX_COUNT, TX}
-use Rattle.dev_serial.proofs.Facade.{TIMEOUT_AT, number_at, RX_COUNT, cells_at, hook_restored, Ok, nat_tests, AllLack, none_lacks, carried_rows, carried}
-use Rattle.dev_serial.proofs.Facade.{numbers_of, SavedComesBack, Alike, Numbers, hook_result, CanSave, CanRestore}
+use Rattle.dev_serial.proofs.Facade
+use Facade.{PlacesAre, IsArray, ◌≡◌, ℕ, zero, suc, ◌+◌, ◌<◌, ◌≤◌, ◌^◌, Bool, false, List, ◌∷◌, ◌++◌, map, replicate, ℤ}
+use Facade.{pos, refl, [], arith, append_assoc, length, take, drop, Option, None, range_with_len, nat_le, is_some, get_or-append-add, get_or_append_left}
+use Facade.{get_or-map, get_or_past, and_le_r, nil_from_length, serial_rows, InRange, U8, I8, of_none, of_more, byte, word, timer, AllHold, one_holds, of_rows}
+use Facade.{AreOf, firsts, cell_at, since, named, field_cells, array_cells, ring_cells, cells_of, kinds, IsPortCells, FIFOS_SINCE, TIMEOUT_SINCE, RINGS_SINCE}
+use Facade.{PortNumbers, Counted, Ring, NEWEST, LAST_MOMENT, lsr_of, AreSaved, SavedAreCells, IsShort, Port, interrupt, id_number, saved, ipending_of}
+use Facade.{single_byte, fifo_bytes, in_array, in_ring, fcr_number, shift_number, due_number, moment_number, IsSound, AreBytes, IsShift, IsTimeout, byte_of}
+use Facade.{padded, counted_of, ring_of, Interrupt, Shift, Trigger, RX, TX_COUNT, TX, TIMEOUT_AT, number_at, RX_COUNT, cells_at, hook_restored, Ok, nat_tests}
+use Facade.{AllLack, none_lacks, carried_rows, carried, numbers_of, SavedComesBack, Alike, Numbers, hook_result, CanSave, CanRestore}
 use Rattle.dev_serial.proofs.SavedLaws.{byte_of-lt, byte_of-padded, array-short, ring-short, restored-saved}
 
 -- ---- the places are the constants' by their definition

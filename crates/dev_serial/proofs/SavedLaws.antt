@@ -1,18 +1,17 @@
 -- The saved numbers of a sound port meet every rule, and are restored as a port like it.
 use Rattle.dev_serial.proofs.SoundLaws.{not_empty}
 use Rattle.dev_serial.proofs.AlikeLaws.{IsStatus, lsr-status, latch_back, IsLatchBack, latch_comes_back}
-use Rattle.dev_serial.proofs.Facade.{◌≡◌, ℕ, ◌+◌, ◌<◌, Bool, true, false, take, ap, ◌∙◌, arith, zero, suc, ◌-◌, ◌%◌, ◌≤◌}
-use Rattle.dev_serial.proofs.Facade.{◌==◌, not, ◌&&◌, cond, List, [], ◌∷◌, length, map, refl, sym, ◌++◌, ℤ, replicate, subst, nat_tests}
-use Rattle.dev_serial.proofs.Facade.{and_from, le-leb, eq-eqb, or_right, get_or-range_with_len, length-map-range_with_len, get_or-map-range_with_len}
-use Rattle.dev_serial.proofs.Facade.{list_all_at, list_all_more, range_with_len, list_all, get_or_past, nat_lt, cond_both, is_empty, ListsComeBack}
-use Rattle.dev_serial.proofs.Facade.{HoldsWhatItGives, stored_bytes, is_unused, AreBytes, firsts, cell_at, kind_at, number_at, AreOf, byte_of, padded}
-use Rattle.dev_serial.proofs.Facade.{counted_of, counted_bytes, ring_of, ring_bytes, behind_head, is_held_or_zero, ring_holds, Counted, Ring, all_set}
-use Rattle.dev_serial.proofs.Facade.{bytes_within, InRange, U8, I8, Timer, field_kinds, kinds, AreBytesIn, bytes_at, number-lt, RX_COUNT, TIMEOUT_AT, RX_DATA}
-use Rattle.dev_serial.proofs.Facade.{judged-all, Port, is_data_ready, has_come, interrupt, id_number, ◌||◌, Option, Some, None, Ok, and-true, and-false}
-use Rattle.dev_serial.proofs.Facade.{or-true, nat_le, is_some, lsr_of, LAST_MOMENT, moment_number, due_number, shift_number, single_byte, fifo_bytes, in_array}
-use Rattle.dev_serial.proofs.Facade.{in_ring, fcr_number, moment_of, shift_of, fifos_of, bytes_held, saved, port_of, IsShort, same, has, is_stored_once}
-use Rattle.dev_serial.proofs.Facade.{longest_timeout, registers_hold, fcr_holds, unused_hold, status_holds, shift_holds, timeout_holds, latch_holds, id_holds}
-use Rattle.dev_serial.proofs.Facade.{once_holds, rings_hold, rules, restored, IsShift, IsTimeout, IsSound, Alike, Shift, Trigger, LONGEST_CHARACTER, NEVER}
+use Rattle.dev_serial.proofs.Facade
+use Facade.{◌≡◌, ℕ, ◌+◌, ◌<◌, Bool, true, false, take, ap, ◌∙◌, arith, zero, suc, ◌-◌, ◌%◌, ◌≤◌, ◌==◌, not, ◌&&◌}
+use Facade.{cond, List, [], ◌∷◌, length, map, refl, sym, ◌++◌, ℤ, replicate, subst, nat_tests, and_from, le-leb, eq-eqb, or_right}
+use Facade.{get_or-range_with_len, length-map-range_with_len, get_or-map-range_with_len, list_all_at, list_all_more, range_with_len, list_all, get_or_past}
+use Facade.{nat_lt, cond_both, is_empty, ListsComeBack, HoldsWhatItGives, stored_bytes, is_unused, AreBytes, firsts, cell_at, kind_at, number_at, AreOf}
+use Facade.{byte_of, padded, counted_of, counted_bytes, ring_of, ring_bytes, behind_head, is_held_or_zero, ring_holds, Counted, Ring, all_set, bytes_within}
+use Facade.{InRange, U8, I8, Timer, field_kinds, kinds, AreBytesIn, bytes_at, number-lt, RX_COUNT, TIMEOUT_AT, RX_DATA, judged-all, Port, is_data_ready}
+use Facade.{has_come, interrupt, id_number, ◌||◌, Option, Some, None, Ok, and-true, and-false, or-true, nat_le, is_some, lsr_of, LAST_MOMENT, moment_number}
+use Facade.{due_number, shift_number, single_byte, fifo_bytes, in_array, in_ring, fcr_number, moment_of, shift_of, fifos_of, bytes_held, saved, port_of}
+use Facade.{IsShort, same, has, is_stored_once, longest_timeout, registers_hold, fcr_holds, unused_hold, status_holds, shift_holds, timeout_holds, latch_holds}
+use Facade.{id_holds, once_holds, rings_hold, rules, restored, IsShift, IsTimeout, IsSound, Alike, Shift, Trigger, LONGEST_CHARACTER, NEVER}
 use Rattle.std.specs.Prelude.{min}
 
 -- ---- a test of each of the sixteen elements of a ring

@@ -1,10 +1,10 @@
 -- The bytes that leave, and their order.
-use Rattle.dev_serial.proofs.Facade.{◌≡◌, ℕ, ◌+◌, ◌<◌, ◌≤◌, Bool, true, false, cond, List, ◌∷◌, ◌++◌, length, Some, None, refl}
-use Rattle.dev_serial.proofs.Facade.{sym, ap, ◌∙◌, arith, [], append_assoc, append-nil, get_or, ◌-◌, Option, not, ◌&&◌, nat_tests, nat_le, remove}
-use Rattle.dev_serial.proofs.Facade.{nat_lt, is_some, not-false, map-append, length-map, ReceiverState, timetable, departures, gone, staying, holding, arrived}
-use Rattle.dev_serial.proofs.Facade.{on_line, looped_in, bytes_of, run_until, gone_by, pending_of, queued, loaded, Mode, Shift, is_empty, thr_written, advanced}
-use Rattle.dev_serial.proofs.Facade.{character_time, Port, Event, Writes, Advances, after, after_all, left_in, left_in_all, accepted_in, accepted_in_all}
-use Rattle.dev_serial.proofs.Facade.{replaces, pending, SendsInOrder, ReplacesOne, LeavesForLine, le-leb, lt-leb}
+use Rattle.dev_serial.proofs.Facade
+use Facade.{◌≡◌, ℕ, ◌+◌, ◌<◌, ◌≤◌, Bool, true, false, cond, List, ◌∷◌, ◌++◌, length, Some, None, refl, sym, ap, ◌∙◌}
+use Facade.{arith, [], append_assoc, append-nil, get_or, ◌-◌, Option, not, ◌&&◌, nat_tests, nat_le, remove, nat_lt, is_some, not-false, map-append}
+use Facade.{length-map, ReceiverState, timetable, departures, gone, staying, holding, arrived, on_line, looped_in, bytes_of, run_until, gone_by, pending_of}
+use Facade.{queued, loaded, Mode, Shift, is_empty, thr_written, advanced, character_time, Port, Event, Writes, Advances, after, after_all, left_in, left_in_all}
+use Facade.{accepted_in, accepted_in_all, replaces, pending, SendsInOrder, ReplacesOne, LeavesForLine, le-leb, lt-leb}
 use Rattle.dev_serial.specs.Transmit.{byte_of}
 
 -- ---- one byte at a time

@@ -1,11 +1,11 @@
 -- Each step of a part keeps it sound, also a byte that waits while the shift register is busy.
 use Rattle.dev_serial.proofs.{SendingLaws.bytes_of-timetable, SendingLaws.fewer, WaitLaws.stays_empty}
-use Rattle.dev_serial.proofs.Facade.{◌≡◌, ℕ, ◌+◌, ◌*◌, ◌<◌, ◌≤◌, Bool, true, false, not, ◌&&◌, cond, List, ◌∷◌, ◌++◌}
-use Rattle.dev_serial.proofs.Facade.{length, Option, Some, None, refl, arith, length-append, ◌⊎◌, mul-le-mul, nat_tests, ne_eqb, leb-true, nat_le, max}
-use Rattle.dev_serial.proofs.Facade.{is_some, is_empty, has, bits_where, character_time, character_bits, ReceiverState, TransmitterState, IsShort, [], received}
-use Rattle.dev_serial.proofs.Facade.{taken_at, emptied, longest_timeout, LongestCharacter, AreBytes, IsTimeout, IsReceiver, IsShift, IsTransmitter, queued}
-use Rattle.dev_serial.proofs.Facade.{loaded, timetable, departures, gone, staying, holding, arrived, run_until, gone_by, Mode, Shift, LONGEST_CHARACTER}
-use Rattle.dev_serial.proofs.Facade.{◌||◌, thr_written, written, Port, queues, interrupt, line_of}
+use Rattle.dev_serial.proofs.Facade
+use Facade.{◌≡◌, ℕ, ◌+◌, ◌*◌, ◌<◌, ◌≤◌, Bool, true, false, not, ◌&&◌, cond, List, ◌∷◌, ◌++◌, length, Option, Some, None}
+use Facade.{refl, arith, length-append, ◌⊎◌, mul-le-mul, nat_tests, ne_eqb, leb-true, nat_le, max, is_some, is_empty, has, bits_where, character_time}
+use Facade.{character_bits, ReceiverState, TransmitterState, IsShort, [], received, taken_at, emptied, longest_timeout, LongestCharacter, AreBytes, IsTimeout}
+use Facade.{IsReceiver, IsShift, IsTransmitter, queued, loaded, timetable, departures, gone, staying, holding, arrived, run_until, gone_by, Mode, Shift}
+use Facade.{LONGEST_CHARACTER, ◌||◌, thr_written, written, Port, queues, interrupt, line_of}
 
 -- ---- each step of a part
 

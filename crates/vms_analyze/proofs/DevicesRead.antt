@@ -1,13 +1,13 @@
 -- What is read of a description is exactly what it says.
-use Rattle.vms_analyze.proofs.Facade.{arith, map-map, ◌≡◌, ℕ, Bool, true, ◌&&◌, ◌||◌, ◌==◌, nat_le, if◌then◌else◌, List, [], Option}
-use Rattle.vms_analyze.proofs.Facade.{Some, None, ℤ, codes, refl, inl, ap, ◌∙◌, ◌∷◌, map, IfSome, Ordering, Equal, subst, ◌+◌, drop, bytes_eq}
-use Rattle.vms_analyze.proofs.Facade.{is_utf8, and_parts, eqb-true, and_from, bytes_eq-Decides, list_all, nat_cmp, match_ordering, slice_cmp, Data, number}
-use Rattle.vms_analyze.proofs.Facade.{string, object, no_members, member, array, Items, Members, of_integer, get, get_member, as_array, fits, Kind, width}
-use Rattle.vms_analyze.proofs.Facade.{MOST_UNUSED, LONGEST_NAME, in_range, kind_word, kind_named, word_named, tells_kind, natural, entry_tree, list_tree}
-use Rattle.vms_analyze.proofs.Facade.{LONGEST_PATH, Told, Fixed, Skipped, inr, told_entry, is_path, is_good, ToldSub, told_sub, ToldDevice, told_device}
-use Rattle.vms_analyze.proofs.Facade.{told_tree, fits_four, is_kept, is_good_sub, is_good_device, IsSorted, AreSorted, HoldSorted, only, path_at, sent_keys}
-use Rattle.vms_analyze.proofs.Facade.{kept_keys, unprinted, sent_as, sent_in, kept_as, kept_in, element_in, next, list_at, each, sub_keys, sub_in, device_keys}
-use Rattle.vms_analyze.proofs.Facade.{device_in, devices_in, items_of, read, value_in, is_width, Tells, ◌⊎◌, false}
+use Rattle.vms_analyze.proofs.Facade
+use Facade.{arith, map-map, ◌≡◌, ℕ, Bool, true, ◌&&◌, ◌||◌, ◌==◌, nat_le, if◌then◌else◌, List, [], Option, Some, None, ℤ, codes}
+use Facade.{refl, inl, ap, ◌∙◌, ◌∷◌, map, IfSome, Ordering, Equal, subst, ◌+◌, drop, bytes_eq, is_utf8, and_parts, eqb-true, and_from}
+use Facade.{bytes_eq-Decides, list_all, nat_cmp, match_ordering, slice_cmp, Data, number, string, object, no_members, member, array, Items, Members, of_integer}
+use Facade.{get, get_member, as_array, fits, Kind, width, MOST_UNUSED, LONGEST_NAME, in_range, kind_word, kind_named, word_named, tells_kind, natural}
+use Facade.{entry_tree, list_tree, LONGEST_PATH, Told, Fixed, Skipped, inr, told_entry, is_path, is_good, ToldSub, told_sub, ToldDevice, told_device, told_tree}
+use Facade.{fits_four, is_kept, is_good_sub, is_good_device, IsSorted, AreSorted, HoldSorted, only, path_at, sent_keys, kept_keys, unprinted, sent_as, sent_in}
+use Facade.{kept_as, kept_in, element_in, next, list_at, each, sub_keys, sub_in, device_keys, device_in, devices_in, items_of, read, value_in, is_width, Tells}
+use Facade.{◌⊎◌, false}
 use Rattle.vms_analyze.proofs.MembersRead.{is_picked, after, first_then, only_is, only_so, text_is, path_is, natural_is, whole_is, whole_back, Says, under}
 use Rattle.vms_analyze.proofs.MembersRead.{IsPathAt, four_is, flag_is, list_is, each_says, each_back, read_sorted}
 use Rattle.vms_analyze.proofs.Shapes.{sub_parts, sub_from, device_parts, device_from}

@@ -70,9 +70,9 @@ pub use Rattle.vms_json.proofs.KeyLaws.{none_left, object_is}
 pub use Rattle.vms_json.specs.{Keys.fits, Keys.has, Keys.has_all, Keys.has_no_others, Nodes.items_left, Nodes.members_left, Nodes.view, Texts.value_in}
 pub use Rattle.vms_selfdesc.proofs.{Plain.member_long, Plain.sub_name_is, Lengths.short_holds, Lengths.fit, Lengths.described_plain}
 pub use Rattle.vms_selfdesc.proofs.Fits.{AreLong, entries_few, entries_long, longer, fields_flat, natural_fits, negative_fits, part_sound}
-pub use Rattle.vms_selfdesc.proofs.ReadBack.{reads_whole, MembersHave, device_letters, devices_letters, kind_letters, sub_letters, text_good, word, Allows}
-pub use Rattle.vms_selfdesc.proofs.ReadBack.{AreSpelled, HasLetters, IsSpelled, ItemsHave, absent_sound, array_sound, device_sound, natural_sound}
-pub use Rattle.vms_selfdesc.proofs.ReadBack.{negative_sound, sent_sound, sub_sound, whole_sound}
+use Rattle.vms_selfdesc.proofs.ReadBack
+pub use ReadBack.{reads_whole, MembersHave, device_letters, devices_letters, kind_letters, sub_letters, text_good, word, Allows, AreSpelled, HasLetters}
+pub use ReadBack.{IsSpelled, ItemsHave, absent_sound, array_sound, device_sound, natural_sound, negative_sound, sent_sound, sub_sound, whole_sound}
 pub use Rattle.vms_selfdesc.specs.{Drafts.AreSound, Drafts.IsSound, Entries.entries_of, Entries.entry_of, Entries.part_entries}
 pub use Rattle.vms_selfdesc.specs.Tree.{described_text, described_tree, device_trees, entry_tree, list_tree, natural, sub_trees}
 pub use Rattle.vms_values_laws.proofs.{AllCome.short_are, ReadyParts.text_says, SecondPass.AreShort, SecondPass.of_numbers}

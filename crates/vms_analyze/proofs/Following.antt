@@ -1,9 +1,9 @@
 -- What is required, one after the other, is taken if it is at the front.
-use Rattle.vms_analyze.proofs.Facade.{◌≡◌, ℕ, ◌+◌, ◌<◌, ◌^◌, Bool, true, ◌&&◌, nat_le, List, [], ◌∷◌, ◌++◌, length}
-use Rattle.vms_analyze.proofs.Facade.{length-append, append_assoc, Some, ℤ, refl, sym, ap, ◌∙◌, arith, codes, decimal, le-leb, and_from, Kind, width}
-use Rattle.vms_analyze.proofs.Facade.{code, InRange, in_range, section_head, length-code, value_code, be32_read, front_take, front_drop, ranged, begins_itself}
-use Rattle.vms_analyze.proofs.Facade.{Want, Bytes, Any, Number, Head, Line, number_line, Took, took, only_if, take_number, taken, Found, Lines, Differs, behind}
-use Rattle.vms_analyze.proofs.Facade.{found_after, found}
+use Rattle.vms_analyze.proofs.Facade
+use Facade.{◌≡◌, ℕ, ◌+◌, ◌<◌, ◌^◌, Bool, true, ◌&&◌, nat_le, List, [], ◌∷◌, ◌++◌, length, length-append, append_assoc, Some}
+use Facade.{ℤ, refl, sym, ap, ◌∙◌, arith, codes, decimal, le-leb, and_from, Kind, width, code, InRange, in_range, section_head, length-code, value_code}
+use Facade.{be32_read, front_take, front_drop, ranged, begins_itself, Want, Bytes, Any, Number, Head, Line, number_line, Took, took, only_if, take_number}
+use Facade.{taken, Found, Lines, Differs, behind, found_after, found}
 
 -- ---- one
 

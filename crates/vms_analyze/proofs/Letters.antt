@@ -1,9 +1,9 @@
 -- Names of a well-formed set and paths are of the bytes that a description may have.
-use Rattle.vms_analyze.proofs.Facade.{decimal_all, ◌≡◌, ℕ, ◌+◌, ◌<◌, ◌≤◌, Bool, true, ◌&&◌, nat_le, List, [], ◌∷◌, ◌++◌}
-use Rattle.vms_analyze.proofs.Facade.{elements_each, what_of, length, length-append, refl, ap, ◌∙◌, arith, get_or, ℤ, list_all, AllByRecursion}
-use Rattle.vms_analyze.proofs.Facade.{and_parts, le-leb, and_from, list_all-append, Count, is_name_byte, is_name, is_sub_name, index_text, What, Constant}
-use Rattle.vms_analyze.proofs.Facade.{Filler, Rule, is_path_byte, is_path, sub_name_is, Item, MOST_UNUSED, in_range, defaults_well, is_small_item, Field, Desc}
-use Rattle.vms_analyze.proofs.Facade.{Set, no_desc, elements_in}
+use Rattle.vms_analyze.proofs.Facade
+use Facade.{decimal_all, ◌≡◌, ℕ, ◌+◌, ◌<◌, ◌≤◌, Bool, true, ◌&&◌, nat_le, List, [], ◌∷◌, ◌++◌, elements_each, what_of}
+use Facade.{length, length-append, refl, ap, ◌∙◌, arith, get_or, ℤ, list_all, AllByRecursion, and_parts, le-leb, and_from, list_all-append, Count}
+use Facade.{is_name_byte, is_name, is_sub_name, index_text, What, Constant, Filler, Rule, is_path_byte, is_path, sub_name_is, Item, MOST_UNUSED, in_range}
+use Facade.{defaults_well, is_small_item, Field, Desc, Set, no_desc, elements_in}
 use Rattle.std.specs.Fmt.{decimal}
 use Rattle.vms_elements.specs.Elements.{Number, Element, behind}
 

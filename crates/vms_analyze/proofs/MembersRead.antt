@@ -1,12 +1,11 @@
 -- What was read of an object's members and of a list's items, and keys in order.
-use Rattle.vms_analyze.proofs.Facade.{natural_at, four_at, whole_of, whole_at, each, Ordering, Less, Equal, Greater, ◌≡◌, ℕ, Bool, true, false}
-use Rattle.vms_analyze.proofs.Facade.{◌&&◌, List, [], ◌∷◌, ◌++◌, append-nil, unwrap_or, Option, Some, None, refl, sym, ap, ◌∙◌, IfSome}
-use Rattle.vms_analyze.proofs.Facade.{option_map, option_and_then, map, ℤ, arith, and_parts, nat_list_cmp_total, exact_bytes, is_eq-slice_cmp, nat_cmp}
-use Rattle.vms_analyze.proofs.Facade.{match_ordering, ordering_reverse, is_eq, slice_cmp, list_all, Data, null, boolean, number, string, array, object, Members}
-use Rattle.vms_analyze.proofs.Facade.{no_members, member, put, Items, item, unsigned, no_items, get, get_member, as_bool, as_number, as_str, as_array, as_u64}
-use Rattle.vms_analyze.proofs.Facade.{of_integer, is_one_of, has, has_no_others, has_all, fits, IsLess, IsBefore, AreOrdered, keys_of, IsSorted, AreSorted}
-use Rattle.vms_analyze.proofs.Facade.{HoldSorted, tokens, number_of, of_json, of_items, of_members, max_depth, read, items_of, natural, is_path, fits_four}
-use Rattle.vms_analyze.proofs.Facade.{next, only, path_at}
+use Rattle.vms_analyze.proofs.Facade
+use Facade.{natural_at, four_at, whole_of, whole_at, each, Ordering, Less, Equal, Greater, ◌≡◌, ℕ, Bool, true, false, ◌&&◌, List, [], ◌∷◌}
+use Facade.{◌++◌, append-nil, unwrap_or, Option, Some, None, refl, sym, ap, ◌∙◌, IfSome, option_map, option_and_then, map, ℤ, arith, and_parts}
+use Facade.{nat_list_cmp_total, exact_bytes, is_eq-slice_cmp, nat_cmp, match_ordering, ordering_reverse, is_eq, slice_cmp, list_all, Data, null, boolean}
+use Facade.{number, string, array, object, Members, no_members, member, put, Items, item, unsigned, no_items, get, get_member, as_bool, as_number, as_str}
+use Facade.{as_array, as_u64, of_integer, is_one_of, has, has_no_others, has_all, fits, IsLess, IsBefore, AreOrdered, keys_of, IsSorted, AreSorted, HoldSorted}
+use Facade.{tokens, number_of, of_json, of_items, of_members, max_depth, read, items_of, natural, is_path, fits_four, next, only, path_at}
 use Rattle.vms_analyze.proofs.Shapes.{each_good}
 use Rattle.serde_json.specs.Data.{Num}
 use Rattle.std.proofs.lemmas.Option.{same_Some}

@@ -1,14 +1,14 @@
 -- Each input has exactly one listing.
 use Rattle.vms_analyze.proofs.DevicesRead.{told_back, tells_if, not_told}
-use Rattle.vms_analyze.proofs.Facade.{TotalLaw, devices_in, ◌≡◌, ℕ, ◌+◌, ◌<◌, ◌≤◌, Bool, true, false, ◌==◌, List, length, take, refl}
-use Rattle.vms_analyze.proofs.Facade.{◌∙◌, arith, slice_index, ◌++◌, length-append, Err, sym, ap, append-nil, Vec, Global, Result, ◌≢◌, []}
-use Rattle.vms_analyze.proofs.Facade.{◌∷◌, drop, ◌-◌, length-drop, map, Option, Some, None, append_assoc, ⊎_elim, eq-eqb, cases_lt, get_or-take}
-use Rattle.vms_analyze.proofs.Facade.{drop_all, take_all, map-append, NoneAfter, Nowhere, Passes, is_byte, IsPlace, IsLastPlace, longest_input, Listing}
-use Rattle.vms_analyze.proofs.Facade.{Refused, listing_of, Lists, IsTooLong, HasNone, HasNoShape, IsRead, Text, Intake, takes_both, takes_as, breaks_more}
-use Rattle.vms_analyze.proofs.Facade.{nothing_follows, Takes, Appended, IsWhole, TakesPiece, TakesInput, HasMore, NoInput, AnalyzeFault, ListsAs, IsListed}
-use Rattle.vms_analyze.proofs.Facade.{IsTooMuch, ListsTaken, ShowsAs, Differs, Want, behind, found, Walk, left, Goes, WhyStopped, AtStart, WhyNone, Stop, Data}
-use Rattle.vms_analyze.proofs.Facade.{Items, no_items, item, next, each, ReadsAs, Unread, same_Some, ap₂, ToldDevice, wants, OneLaw, LongestLaw, zero, suc}
-use Rattle.vms_analyze.proofs.Facade.{◌&&◌, get_or, and_parts, eqb-true, value_in, number_at, TellsPlace, HasListing}
+use Rattle.vms_analyze.proofs.Facade
+use Facade.{TotalLaw, devices_in, ◌≡◌, ℕ, ◌+◌, ◌<◌, ◌≤◌, Bool, true, false, ◌==◌, List, length, take, refl, ◌∙◌, arith}
+use Facade.{slice_index, ◌++◌, length-append, Err, sym, ap, append-nil, Vec, Global, Result, ◌≢◌, [], ◌∷◌, drop, ◌-◌, length-drop, map}
+use Facade.{Option, Some, None, append_assoc, ⊎_elim, eq-eqb, cases_lt, get_or-take, drop_all, take_all, map-append, NoneAfter, Nowhere, Passes, is_byte}
+use Facade.{IsPlace, IsLastPlace, longest_input, Listing, Refused, listing_of, Lists, IsTooLong, HasNone, HasNoShape, IsRead, Text, Intake, takes_both}
+use Facade.{takes_as, breaks_more, nothing_follows, Takes, Appended, IsWhole, TakesPiece, TakesInput, HasMore, NoInput, AnalyzeFault, ListsAs, IsListed}
+use Facade.{IsTooMuch, ListsTaken, ShowsAs, Differs, Want, behind, found, Walk, left, Goes, WhyStopped, AtStart, WhyNone, Stop, Data, Items, no_items, item}
+use Facade.{next, each, ReadsAs, Unread, same_Some, ap₂, ToldDevice, wants, OneLaw, LongestLaw, zero, suc, ◌&&◌, get_or, and_parts, eqb-true, value_in}
+use Facade.{number_at, TellsPlace, HasListing}
 use Rattle.std.proofs.lemmas.List.{length-take}
 use Rattle.vms_analyze.specs.declared.input.NoInput.TheVariants as none
 use Rattle.vms_analyze.specs.declared.fault.AnalyzeFault.TheVariants as faults

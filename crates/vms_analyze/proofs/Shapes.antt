@@ -1,19 +1,17 @@
 -- The description of a well-formed set has the right shape, and what its parts consist of.
-use Rattle.vms_analyze.proofs.Facade.{nat_tests, ◌≡◌, ℕ, suc, ◌<◌, ◌≤◌, List, [], ◌∷◌, length, get_or, arith, true, ◌&&◌, ◌||◌}
-use Rattle.vms_analyze.proofs.Facade.{list_all, AllByRecursion, Bool, and_parts, and_from, LONGEST_NAME, ToldSub, ToldDevice, is_path, fits_four, is_good}
-use Rattle.vms_analyze.proofs.Facade.{is_kept, is_width, is_good_sub, is_good_device, ◌+◌, false, is_some, map, Option, ℤ, refl, ap, ◌∙◌, codes}
-use Rattle.vms_analyze.proofs.Facade.{◌*◌, nat_le, length-append, zero, is_none, ⊎_elim, length-map, lt-ltb, cases_lt, get_or-eq_default}
-use Rattle.vms_analyze.proofs.Facade.{slice_get-get_or, list_all-append, no_members, Members, member, number, string, Desc, Sub, Device, Set, AtLeast}
-use Rattle.vms_analyze.proofs.Facade.{desc_cells, struct_cells, no_desc, no_field, counted, Image, own_cells, What, shapes, elements_in, entry_of, entries_of}
-use Rattle.vms_analyze.proofs.Facade.{part_entries, sub_trees, device_trees, described_tree, natural, entry_tree, told_entry, told_sub, told_device, told_tree}
-use Rattle.vms_analyze.proofs.Facade.{Told, Sent, Kept, Fixed, Skipped, is_path_byte, told_what, tolds, told_part, told_subs, told_devices, told, told_sub_of}
-use Rattle.vms_analyze.proofs.Facade.{escape, escape_byte, compact_text, members_text, Kind, width, kind_word, of_integer, Part, MOST_UNUSED, is_name, in_range}
-use Rattle.vms_analyze.proofs.Facade.{defaults_well, counts_well, is_small_item, is_small_optional, WellFormed, struct_items, struct_depths, items_in, deepest}
-use Rattle.vms_analyze.proofs.Facade.{subs_items, devices_items, HasPart, desc_at, sub_at, field_sound, few_subs, device_clean, sub_clean, member_long, AreLong}
-use Rattle.vms_analyze.proofs.Facade.{longer, entries_few, entries_long, fit, part_sound, fields_flat, LONGEST_PATH, FitsHeads, device_at, is_well_formed}
-use Rattle.vms_analyze.proofs.Facade.{few_items, all_both}
-use Rattle.vms_analyze.proofs.Letters.{AreGoodFields, elements_good, named_path, IsNamed, named_within, name_named, sub_named, IsGoodWhat, HasPath}
-use Rattle.vms_analyze.proofs.Letters.{IsGoodElement, IsGoodField}
+use Rattle.vms_analyze.proofs.Facade
+use Facade.{nat_tests, ◌≡◌, ℕ, suc, ◌<◌, ◌≤◌, List, [], ◌∷◌, length, get_or, arith, true, ◌&&◌, ◌||◌, list_all, AllByRecursion}
+use Facade.{Bool, and_parts, and_from, LONGEST_NAME, ToldSub, ToldDevice, is_path, fits_four, is_good, is_kept, is_width, is_good_sub, is_good_device, ◌+◌}
+use Facade.{false, is_some, map, Option, ℤ, refl, ap, ◌∙◌, codes, ◌*◌, nat_le, length-append, zero, is_none, ⊎_elim, length-map, lt-ltb, cases_lt}
+use Facade.{get_or-eq_default, slice_get-get_or, list_all-append, no_members, Members, member, number, string, Desc, Sub, Device, Set, AtLeast, desc_cells}
+use Facade.{struct_cells, no_desc, no_field, counted, Image, own_cells, What, shapes, elements_in, entry_of, entries_of, part_entries, sub_trees, device_trees}
+use Facade.{described_tree, natural, entry_tree, told_entry, told_sub, told_device, told_tree, Told, Sent, Kept, Fixed, Skipped, is_path_byte, told_what, tolds}
+use Facade.{told_part, told_subs, told_devices, told, told_sub_of, escape, escape_byte, compact_text, members_text, Kind, width, kind_word, of_integer, Part}
+use Facade.{MOST_UNUSED, is_name, in_range, defaults_well, counts_well, is_small_item, is_small_optional, WellFormed, struct_items, struct_depths, items_in}
+use Facade.{deepest, subs_items, devices_items, HasPart, desc_at, sub_at, field_sound, few_subs, device_clean, sub_clean, member_long, AreLong, longer}
+use Facade.{entries_few, entries_long, fit, part_sound, fields_flat, LONGEST_PATH, FitsHeads, device_at, is_well_formed, few_items, all_both}
+use Rattle.vms_analyze.proofs.Letters
+use Letters.{AreGoodFields, elements_good, named_path, IsNamed, named_within, name_named, sub_named, IsGoodWhat, HasPath, IsGoodElement, IsGoodField}
 use Rattle.vms_elements.specs.Elements.{Element}
 use Rattle.vms_kinds.specs.declared.Kind.TheVariants as kinds
 use Rattle.vms_spec.specs.declared.Part.TheVariants as parts

@@ -1,15 +1,14 @@
 -- What is written of ready images with their description lists the values text.
 use Rattle.vms_analyze.proofs.{Streams.front, Streams.front_found}
-use Rattle.vms_analyze.proofs.Facade.{◌≡◌, ℕ, ◌+◌, ◌<◌, ◌≤◌, true, List, [], ◌∷◌, ◌++◌, length, length-append, append_assoc}
-use Rattle.vms_analyze.proofs.Facade.{take, drop, is_none, Option, Some, refl, sym, ap, ◌∙◌, subst, arith, Bool, if◌then◌else◌, None, is_utf8}
-use Rattle.vms_analyze.proofs.Facade.{flat_map, ◌*◌, false, ◌==◌, length-drop, get_or, map, ℤ, compact_text, value_in, escape_byte, read, FitsHeads}
-use Rattle.vms_analyze.proofs.Facade.{Set, Image, AreReady, be32, end_mark, trailer, written, WellFormed, few_devices, front_take, front_drop, IsMachineOf}
-use Rattle.vms_analyze.proofs.Facade.{values_lines, text_law, few_items, IsSound, described_tree, described_text, short_holds, described_plain, reads_whole}
-use Rattle.vms_analyze.proofs.Facade.{told_tree, Bytes, Lines, device_wants, wants, found, IsLastPlace, Tells, Text, listing_of, Lists, IsRead, told}
-use Rattle.vms_analyze.proofs.Facade.{ReadBackLaw, ShownLaw, width, MOST_UNUSED, number_at, bytes_at, Sub, Device, Desc, desc_cells, struct_cells, own_cells}
-use Rattle.vms_analyze.proofs.Facade.{struct_items, items_in, subs_items, devices_items, width_small, Told, is_good, Want, Any, Number, Machine, Head, Foot}
-use Rattle.vms_analyze.proofs.Facade.{Line, element_want, sub_wants, Took, took, only_if, take_machine, taken, Found, Differs, behind, found_after, told_part}
-use Rattle.vms_analyze.proofs.Facade.{told_subs, told_devices, told_device_of, told_sub_of}
+use Rattle.vms_analyze.proofs.Facade
+use Facade.{◌≡◌, ℕ, ◌+◌, ◌<◌, ◌≤◌, true, List, [], ◌∷◌, ◌++◌, length, length-append, append_assoc, take, drop, is_none, Option}
+use Facade.{Some, refl, sym, ap, ◌∙◌, subst, arith, Bool, if◌then◌else◌, None, is_utf8, flat_map, ◌*◌, false, ◌==◌, length-drop, get_or}
+use Facade.{map, ℤ, compact_text, value_in, escape_byte, read, FitsHeads, Set, Image, AreReady, be32, end_mark, trailer, written, WellFormed, few_devices}
+use Facade.{front_take, front_drop, IsMachineOf, values_lines, text_law, few_items, IsSound, described_tree, described_text, short_holds, described_plain}
+use Facade.{reads_whole, told_tree, Bytes, Lines, device_wants, wants, found, IsLastPlace, Tells, Text, listing_of, Lists, IsRead, told, ReadBackLaw, ShownLaw}
+use Facade.{width, MOST_UNUSED, number_at, bytes_at, Sub, Device, Desc, desc_cells, struct_cells, own_cells, struct_items, items_in, subs_items, devices_items}
+use Facade.{width_small, Told, is_good, Want, Any, Number, Machine, Head, Foot, Line, element_want, sub_wants, Took, took, only_if, take_machine, taken, Found}
+use Facade.{Differs, behind, found_after, told_part, told_subs, told_devices, told_device_of, told_sub_of}
 use Rattle.vms_analyze.proofs.Shapes.{each_good, width_few, all_good, told_good, tree_same, IsGoodPart, AreGoodSubs, IsGoodDevice, AreGoodDevices}
 use Rattle.vms_analyze.proofs.Texts.{told_text, HasNoMark, last_place, tree_sound, text_printed, no_mark}
 

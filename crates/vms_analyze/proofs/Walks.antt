@@ -1,12 +1,12 @@
 -- A walk over what is required, part after part.
-use Rattle.vms_analyze.proofs.Facade.{section_line, map-map, ◌≡◌, ℕ, ◌+◌, List, [], ◌∷◌, ◌++◌, length, append_assoc, append-nil, take}
-use Rattle.vms_analyze.proofs.Facade.{drop, ℤ, refl, sym, ap, ◌∙◌, arith, ◌<◌, get_or, ◌≤◌, true, nat_le, map, take-append-drop, drop-drop}
-use Rattle.vms_analyze.proofs.Facade.{take_more, flat_map, list_all, flat_map-append, and_parts, leb-true, flat_map_single, flat_map-map, Result, Ok, Err, OnOk}
-use Rattle.vms_analyze.proofs.Facade.{IfErr, ◌^◌, false, ◌==◌, length-append, length-drop, ◌-◌, take_all, Kind, code, InRange, text_of, Want}
-use Rattle.vms_analyze.proofs.Facade.{Number, Line, number_line, behind, found, Bytes, Machine, Head, Foot, element_want, sub_wants, device_wants, start_wants}
-use Rattle.vms_analyze.proofs.Facade.{wants, left, IsInside, Goes, Stops, Prints, WhyStopped, Walks, Walk, text_append, Stop, LONGEST_NAME, end_mark, is_path}
-use Rattle.vms_analyze.proofs.Facade.{told_of, sub_of, device_of, element_wants, subs_wants, devices_wants, Element, number_at, bytes_at, is_name_byte}
-use Rattle.vms_analyze.proofs.Facade.{begins_with, configuration, section_head, is_machine, machine_line, found_after, begun}
+use Rattle.vms_analyze.proofs.Facade
+use Facade.{section_line, map-map, ◌≡◌, ℕ, ◌+◌, List, [], ◌∷◌, ◌++◌, length, append_assoc, append-nil, take, drop, ℤ, refl, sym, ap}
+use Facade.{◌∙◌, arith, ◌<◌, get_or, ◌≤◌, true, nat_le, map, take-append-drop, drop-drop, take_more, flat_map, list_all, flat_map-append}
+use Facade.{and_parts, leb-true, flat_map_single, flat_map-map, Result, Ok, Err, OnOk, IfErr, ◌^◌, false, ◌==◌, length-append, length-drop, ◌-◌}
+use Facade.{take_all, Kind, code, InRange, text_of, Want, Number, Line, number_line, behind, found, Bytes, Machine, Head, Foot, element_want, sub_wants}
+use Facade.{device_wants, start_wants, wants, left, IsInside, Goes, Stops, Prints, WhyStopped, Walks, Walk, text_append, Stop, LONGEST_NAME, end_mark, is_path}
+use Facade.{told_of, sub_of, device_of, element_wants, subs_wants, devices_wants, Element, number_at, bytes_at, is_name_byte, begins_with, configuration}
+use Facade.{section_head, is_machine, machine_line, found_after, begun}
 use Rattle.vms_analyze.proofs.Following.{Takes, one_follows, takes_line, takes_number, behind_both, takes_head}
 use Rattle.vms_analyze.proofs.Streams.{takes_machine, no_machine}
 use Rattle.vms_analyze.specs.declared.told.Device.{Device}

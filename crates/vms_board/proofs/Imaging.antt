@@ -1,11 +1,11 @@
 -- The images of a board of any family, and those of a clock board.
-use Rattle.vms_board.proofs.Facade.{map, Some, ◌≡◌, ℕ, zero, suc, ◌+◌, ◌<◌, ◌≤◌, List, [], ◌∷◌, length, get_or, None, ℤ}
-use Rattle.vms_board.proofs.Facade.{pos, refl, sym, ap, ◌∙◌, arith, ◌-◌, Result, Err, slice_get, ext_get_or, length-map, get_or-map, slice_get-get_or}
-use Rattle.vms_board.proofs.Facade.{same_at, kinds_at, U8, device_at, same_image, Typed, state_of, IsImageOf, AreImagesOf, Image, FitCells}
-use Rattle.vms_board.proofs.Facade.{no_desc, no_cell, device_cells, AtLeast, Sub, Device, Set, bare, image_of, images_of, needed_from, AreReady, written}
-use Rattle.vms_board.proofs.Facade.{FitDevice, typed_of, needed_at, version_needed, stops_as, Outlet, Stops, described_text, Family, MaySaveIn, Stands}
-use Rattle.vms_board.proofs.Facade.{images_saved, saved_stream, stream_with, Saves, SaveFault, take, drop, leb-true, take_rest, MOST_CELLS, NEWEST, shipped_set}
-use Rattle.vms_board.proofs.Facade.{clock_set, first, ArrayVec, BoardCells, ClockCells, cells_in, NEWEST_CLOCK}
+use Rattle.vms_board.proofs.Facade
+use Facade.{map, Some, ◌≡◌, ℕ, zero, suc, ◌+◌, ◌<◌, ◌≤◌, List, [], ◌∷◌, length, get_or, None, ℤ, pos, refl, sym, ap, ◌∙◌}
+use Facade.{arith, ◌-◌, Result, Err, slice_get, ext_get_or, length-map, get_or-map, slice_get-get_or, same_at, kinds_at, U8, device_at, same_image, Typed}
+use Facade.{state_of, IsImageOf, AreImagesOf, Image, FitCells, no_desc, no_cell, device_cells, AtLeast, Sub, Device, Set, bare, image_of, images_of}
+use Facade.{needed_from, AreReady, written, FitDevice, typed_of, needed_at, version_needed, stops_as, Outlet, Stops, described_text, Family, MaySaveIn, Stands}
+use Facade.{images_saved, saved_stream, stream_with, Saves, SaveFault, take, drop, leb-true, take_rest, MOST_CELLS, NEWEST, shipped_set, clock_set, first}
+use Facade.{ArrayVec, BoardCells, ClockCells, cells_in, NEWEST_CLOCK}
 use Rattle.dev_images.specs.Images.{cells_in as board_cells_in}
 use Rattle.vms_board.specs.declared.save.SaveFault.TheVariants as faults
 

@@ -1,14 +1,13 @@
 -- The events and the sum of `drill`.
 use Rattle.std.proofs.lemmas.Bool.{cond_both}
-use Rattle.vms_board_commands.proofs.Facade.{◌≡◌, [], ◌∷◌, map, true, false, refl, Read, Write, Byte, Wait, Wire, Ack, next_number, event_by}
-use Rattle.vms_board_commands.proofs.Facade.{event_of, events_after, is_save_due, set_of, ℕ, List, length, Option, sym, ap, ◌∙◌, MaySaveUnder, restored}
-use Rattle.vms_board_commands.proofs.Facade.{IsSound, State, back_of, came_back, saved_is_carried, isa, Back, Restores, saved_stream, isa_laws, Reason, suc}
-use Rattle.vms_board_commands.proofs.Facade.{◌+◌, ◌-◌, ◌/◌, ◌≤◌, eqb-true, arith, step, Answer, Event, BETWEEN_SAVES, Counts, counted}
-use Rattle.vms_board_commands.proofs.Facade.{saves_of, after_save, Drill, bytes_after, taken_after, drill_on, drilled_on, with_drill_event, zero, ◌<◌}
-use Rattle.vms_board_commands.proofs.Facade.{◌%◌, IsTrue, mod-add-mod, IsEvent, AreEvents, names, names_wire, EventsAreGood, SavesLeaveCounts, NEWEST}
-use Rattle.vms_board_commands.proofs.Facade.{alike_stays, likeness, clock_goes_on, restored_is_sound, saved_comes_back, sound_stays_on, saved, carried, Alike}
-use Rattle.vms_board_commands.proofs.Facade.{power_on, observe, after_all, after_by, answers_by, Progress, counted_all, with_event, drilled, NumbersAre}
-use Rattle.vms_board_commands.proofs.Facade.{◌*◌, streams_are_short, STREAM_ROOM, ProgressIsSame, SizesAreSmall}
+use Rattle.vms_board_commands.proofs.Facade
+use Facade.{◌≡◌, [], ◌∷◌, map, true, false, refl, Read, Write, Byte, Wait, Wire, Ack, next_number, event_by, event_of, events_after, is_save_due}
+use Facade.{set_of, ℕ, List, length, Option, sym, ap, ◌∙◌, MaySaveUnder, restored, IsSound, State, back_of, came_back, saved_is_carried, isa, Back}
+use Facade.{Restores, saved_stream, isa_laws, Reason, suc, ◌+◌, ◌-◌, ◌/◌, ◌≤◌, eqb-true, arith, step, Answer, Event, BETWEEN_SAVES, Counts}
+use Facade.{counted, saves_of, after_save, Drill, bytes_after, taken_after, drill_on, drilled_on, with_drill_event, zero, ◌<◌, ◌%◌, IsTrue, mod-add-mod}
+use Facade.{IsEvent, AreEvents, names, names_wire, EventsAreGood, SavesLeaveCounts, NEWEST, alike_stays, likeness, clock_goes_on, restored_is_sound}
+use Facade.{saved_comes_back, sound_stays_on, saved, carried, Alike, power_on, observe, after_all, after_by, answers_by, Progress, counted_all, with_event}
+use Facade.{drilled, NumbersAre, ◌*◌, streams_are_short, STREAM_ROOM, ProgressIsSame, SizesAreSmall}
 use Rattle.vms_board.specs.Restoring.{Refused}
 
 -- ---- worked drills: the events that seeds give, and the sets of saves

@@ -27,8 +27,8 @@ pub use Rattle.vms_board_streams.proofs.FamilyLaws.{bytes_come, no_fault, one_re
 pub use Rattle.vms_board_streams.specs.{Streams.after_events, Streams.answers_to, Streams.trace_of, declared.memory.TheConstants.STREAM_ROOM}
 pub use Rattle.vms_commands.proofs.EndLemmas.{writes_serve, wrong, asked, draws_none, draws_took, looked_so, same_so, so_since, unshelved_so, writes_end}
 pub use Rattle.vms_commands.proofs.EndLemmas.{comes_to_nothing, quiet_same, takes_nothing, text_written}
-pub use Rattle.vms_commands.proofs.StepLemmas.{first_err, had_by, mapped_by, sound_fetch, sound_next, text_ends, then_as, then_text, ended_by, ending_mapped}
-pub use Rattle.vms_commands.proofs.StepLemmas.{ending_passed, fetched_gives}
+use Rattle.vms_commands.proofs.StepLemmas
+pub use StepLemmas.{first_err, had_by, mapped_by, sound_fetch, sound_next, text_ends, then_as, then_text, ended_by, ending_mapped, ending_passed, fetched_gives}
 pub use Rattle.vms_commands.specs.{Lines.refused_line, declared.ending.Ending.Ending, declared.ending.Ending.TheVariants.WouldLose}
 pub use Rattle.vms_commands.specs.Courses.{Course, Draws, EndsSo, Risen, is_among, of_shelf, text_course}
 pub use Rattle.vms_commands.specs.Endings.{EndsAs, EndsWith, SetCause, WritesAs, ending_of, status_of}

@@ -1,14 +1,13 @@
 -- The run of a command, from the steps before its work, what is seen of the input, and the work
 -- itself.
-use Rattle.vms_board_commands.proofs.Facade.{◌≡◌, ℕ, Bool, true, false, ◌||◌, List, [], ◌∷◌, ◌++◌, Result, Ok, Err, refl, Option, Some}
-use Rattle.vms_board_commands.proofs.Facade.{None, or_right, ArrayVec, Saves, SaveFault, Rose, Looks, Intake, Outlet, Stock, serves_none, Goes, PlayFault}
-use Rattle.vms_board_commands.proofs.Facade.{asked, draws_none, looked_so, same_so, unshelved_so, writes_serve, wrong, mapped_by, Course, Draws, EndsSo, Risen}
-use Rattle.vms_board_commands.proofs.Facade.{is_among, of_shelf, text_course, SetCause, WritesAs, status_of, Ending, Refused, ReadFault, drill_course}
-use Rattle.vms_board_commands.proofs.Facade.{play_course, save_course, stream_course, ending_by, ◌+◌, ◌≤◌, length, drop, drop_at, IfSome, sym, ap}
-use Rattle.vms_board_commands.proofs.Facade.{◌∙◌, arith, length-append, length-drop, Consumes, IsSomeAnd, same_Some, reads_as, reads_told, Last, Reads}
-use Rattle.vms_board_commands.proofs.Facade.{Takes, IsBytes, Image, Set, Fault, Refusal, LoadReads, fault_within, text_written, EndsAs, EndsWith, Outcome}
-use Rattle.vms_board_commands.proofs.Facade.{TakesBytes, done, ended, StepAs, Step, WouldLose, Seen, SeenAs, Sees, WithGiven, ◌<◌, ◌^◌, subst, Held}
-use Rattle.vms_board_commands.proofs.Facade.{TextEnds, next, comes_to_nothing, ended_by, quiet_same, so_since, text_ends, then_text}
+use Rattle.vms_board_commands.proofs.Facade
+use Facade.{◌≡◌, ℕ, Bool, true, false, ◌||◌, List, [], ◌∷◌, ◌++◌, Result, Ok, Err, refl, Option, Some, None, or_right, ArrayVec, Saves}
+use Facade.{SaveFault, Rose, Looks, Intake, Outlet, Stock, serves_none, Goes, PlayFault, asked, draws_none, looked_so, same_so, unshelved_so, writes_serve}
+use Facade.{wrong, mapped_by, Course, Draws, EndsSo, Risen, is_among, of_shelf, text_course, SetCause, WritesAs, status_of, Ending, Refused, ReadFault}
+use Facade.{drill_course, play_course, save_course, stream_course, ending_by, ◌+◌, ◌≤◌, length, drop, drop_at, IfSome, sym, ap, ◌∙◌, arith}
+use Facade.{length-append, length-drop, Consumes, IsSomeAnd, same_Some, reads_as, reads_told, Last, Reads, Takes, IsBytes, Image, Set, Fault, Refusal}
+use Facade.{LoadReads, fault_within, text_written, EndsAs, EndsWith, Outcome, TakesBytes, done, ended, StepAs, Step, WouldLose, Seen, SeenAs, Sees, WithGiven}
+use Facade.{◌<◌, ◌^◌, subst, Held, TextEnds, next, comes_to_nothing, ended_by, quiet_same, so_since, text_ends, then_text}
 use Rattle.vms_board_commands.specs.{Save.ending_by as save_ending, Runs.Runs, Runs.RunsBehind, Runs.Task, Runs.moment, Runs.unread_task}
 use Rattle.vms_commands.proofs.EndLemmas.{same_keeps}
 use Rattle.vms_commands.specs.{Steps.HasBy, Steps.HasText}

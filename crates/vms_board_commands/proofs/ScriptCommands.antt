@@ -1,16 +1,15 @@
 -- The commands that play a script: `save`, `play` and `load`.
-use Rattle.vms_board_commands.proofs.Facade.{Appends, AreEvents, AreLines, ArrayVec, Asks, Back, Bool, ComesTo, DoesSome, Ending, Ends, EndsAs, Err, Event}
-use Rattle.vms_board_commands.proofs.Facade.{Family, Faulty, FetchCause, FitsHeads, Gives, Global, HadCause, Held, HoldsAll, IfOk, Intake, IsBytes, IsErrAnd}
-use Rattle.vms_board_commands.proofs.Facade.{IsLevel, IsRefused, IsSomeAnd, Line, LinesEnd, List, LoadGives, Loads, Looks, NoMemory, None, Ok, Option, Outcome}
-use Rattle.vms_board_commands.proofs.Facade.{Outlet, Part, PlayFault, Plays, PlaysAll, ReadCause, ReadFault, ReadsLines, Refusal, Restore, RestoreReads}
-use Rattle.vms_board_commands.proofs.Facade.{Restores, Result, SaveFault, Saves, ScriptFault, ScriptLine, Seen, Session, SetCause, ShelfFault, Some, Standing}
-use Rattle.vms_board_commands.proofs.Facade.{State, Step, StepAs, Stock, TextEnds, Traces, Unfit, Untold, Vec, WellFormed, WriteFault, WritesAs, []}
-use Rattle.vms_board_commands.proofs.Facade.{after_events, answers_to, ap, are_events, arith, begun_whole, bytes_come, done, ended, ending_by, event_lines}
-use Rattle.vms_board_commands.proofs.Facade.{events_back, events_of, fault_within, fetched_gives, inl, inr, length, length-append, lines_view, longest_script}
-use Rattle.vms_board_commands.proofs.Facade.{mapped_by, most_given, next, no_fault, one_fault_holds, one_restore, power_on, power_on-sound, reads_as}
-use Rattle.vms_board_commands.proofs.Facade.{reads_exactly, refl, refused_line, rose_since, said_lines, saved_after, saved_stream, script_read, scripted}
-use Rattle.vms_board_commands.proofs.Facade.{session_of, sessions_are_one, sessions_end, sound_fetch, sound_next, stops_prefix, subst, sym, takes_nothing}
-use Rattle.vms_board_commands.proofs.Facade.{text_of, trace_from, trace_of, true, ℕ, ◌+◌, ◌<◌, ◌^◌, ◌∙◌, ◌∷◌, ◌≡◌, ◌≤◌}
+use Rattle.vms_board_commands.proofs.Facade
+use Facade.{Appends, AreEvents, AreLines, ArrayVec, Asks, Back, Bool, ComesTo, DoesSome, Ending, Ends, EndsAs, Err, Event, Family, Faulty, FetchCause}
+use Facade.{FitsHeads, Gives, Global, HadCause, Held, HoldsAll, IfOk, Intake, IsBytes, IsErrAnd, IsLevel, IsRefused, IsSomeAnd, Line, LinesEnd, List, LoadGives}
+use Facade.{Loads, Looks, NoMemory, None, Ok, Option, Outcome, Outlet, Part, PlayFault, Plays, PlaysAll, ReadCause, ReadFault, ReadsLines, Refusal, Restore}
+use Facade.{RestoreReads, Restores, Result, SaveFault, Saves, ScriptFault, ScriptLine, Seen, Session, SetCause, ShelfFault, Some, Standing, State, Step, StepAs}
+use Facade.{Stock, TextEnds, Traces, Unfit, Untold, Vec, WellFormed, WriteFault, WritesAs, [], after_events, answers_to, ap, are_events, arith, begun_whole}
+use Facade.{bytes_come, done, ended, ending_by, event_lines, events_back, events_of, fault_within, fetched_gives, inl, inr, length, length-append, lines_view}
+use Facade.{longest_script, mapped_by, most_given, next, no_fault, one_fault_holds, one_restore, power_on, power_on-sound, reads_as, reads_exactly, refl}
+use Facade.{refused_line, rose_since, said_lines, saved_after, saved_stream, script_read, scripted, session_of, sessions_are_one, sessions_end, sound_fetch}
+use Facade.{sound_next, stops_prefix, subst, sym, takes_nothing, text_of, trace_from, trace_of, true, ℕ, ◌+◌, ◌<◌, ◌^◌, ◌∙◌, ◌∷◌}
+use Facade.{◌≡◌, ◌≤◌}
 use Rattle.vms_board_commands.proofs.RunLemmas.{TakesSo, reads_all, seen_refused, seen_written}
 use Rattle.vms_board_commands.specs.Save.{ending_by as save_ending}
 use Rattle.vms_commands.proofs.StepLemmas.{IsSound}

@@ -1,11 +1,11 @@
 -- The streams of both families of boards: short, of bytes, and with the laws of a family.
 use Rattle.std.proofs.Common.{⊎_elim}
 use Rattle.vms_board_streams.proofs.FamilyLaws as family
-use Rattle.vms_board_streams.proofs.Facade.{cases_lt, Alike, Bool, Compatible, IsSound, NEWEST, NEWEST_CLOCK_SET, Set, StreamsAreBytes, StreamsAreShort}
-use Rattle.vms_board_streams.proofs.Facade.{StreamsStand, WellFormed, alike_stays, arith, by_number, clock, clock_formed, clock_holds, clock_machine, clock_set}
-use Rattle.vms_board_streams.proofs.Facade.{clock_stands, devices_long, first, first_mismatch, formed, images_come_back, isa, isa_stands, list_all, ltb-true}
-use Rattle.vms_board_streams.proofs.Facade.{machine_of, nat_lt, none_is, refl, saved_images, sets_are_compatible, shipped_compatible, shipped_holds}
-use Rattle.vms_board_streams.proofs.Facade.{shipped_set, shipped_sets, suc, true, zero, ℕ, ◌<◌, ◌≡◌, ◌≤◌}
+use Rattle.vms_board_streams.proofs.Facade
+use Facade.{cases_lt, Alike, Bool, Compatible, IsSound, NEWEST, NEWEST_CLOCK_SET, Set, StreamsAreBytes, StreamsAreShort, StreamsStand, WellFormed, alike_stays}
+use Facade.{arith, by_number, clock, clock_formed, clock_holds, clock_machine, clock_set, clock_stands, devices_long, first, first_mismatch, formed}
+use Facade.{images_come_back, isa, isa_stands, list_all, ltb-true, machine_of, nat_lt, none_is, refl, saved_images, sets_are_compatible, shipped_compatible}
+use Facade.{shipped_holds, shipped_set, shipped_sets, suc, true, zero, ℕ, ◌<◌, ◌≡◌, ◌≤◌}
 use Rattle.vms_board_streams.proofs.{FamilyBytes.IsMachineName, FamilyBytes.IsSmall, FamilyBytes.family_bytes, FamilyBytes.family_short, FamilyLaws.Laws}
 use Rattle.dev_board.proofs.SavedLaws.{alike_stays as isa_alike}
 use Rattle.dev_board.specs.Sound.{IsSound as IsSoundIsa, Alike as AlikeIsa}

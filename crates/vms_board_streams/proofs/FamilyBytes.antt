@@ -1,14 +1,13 @@
 -- The streams of a family's boards are short, and are bytes.
-use Rattle.vms_board_streams.proofs.Facade.{AllByRecursion, AllParts, AllSubs, Allows, AreBytes, AreSpelled, Bool, Clean, Constant, Count, Desc, Device}
-use Rattle.vms_board_streams.proofs.Facade.{EachPart, Element, Entry, Family, Field, Filler, HasLetters, Image, IsSound, IsSpelled, ItemsHave, List, MaySaveIn}
-use Rattle.vms_board_streams.proofs.Facade.{None, Number, One, Option, Rule, STREAM_ROOM, Set, Some, StreamsAreBytes, StreamsAreShort, Sub, WellFormed, What}
-use Rattle.vms_board_streams.proofs.Facade.{[], all_both, all_from, all_parts, and_parts, arith, bytes_at, codes, counted, decimal_good, desc_cells}
-use Rattle.vms_board_streams.proofs.Facade.{described_text, described_tree, device_letters, device_parts, device_tree, device_trees, devices_letters}
-use Rattle.vms_board_streams.proofs.Facade.{devices_long, elements_each, entries_of, entry_of, get_none, get_or, get_or_from_slice_get, images_saved}
-use Rattle.vms_board_streams.proofs.Facade.{index_text, is_name, is_named, is_some, items_of, kind_letters, length, listed_if, no_desc, own_cells, part_entries}
-use Rattle.vms_board_streams.proofs.Facade.{parts_named, refl, saved_stream, saved_text, sent_entry, slice_get, slice_set, stream_le, struct_cells}
-use Rattle.vms_board_streams.proofs.Facade.{struct_clean, sub_clean, sub_letters, sub_trees, text_good, true, word, written, written_are_bytes, ℕ, ℤ}
-use Rattle.vms_board_streams.proofs.Facade.{◌+◌, ◌<◌, ◌∷◌, ◌≡◌, ◌≤◌}
+use Rattle.vms_board_streams.proofs.Facade
+use Facade.{AllByRecursion, AllParts, AllSubs, Allows, AreBytes, AreSpelled, Bool, Clean, Constant, Count, Desc, Device, EachPart, Element, Entry, Family}
+use Facade.{Field, Filler, HasLetters, Image, IsSound, IsSpelled, ItemsHave, List, MaySaveIn, None, Number, One, Option, Rule, STREAM_ROOM, Set, Some}
+use Facade.{StreamsAreBytes, StreamsAreShort, Sub, WellFormed, What, [], all_both, all_from, all_parts, and_parts, arith, bytes_at, codes, counted}
+use Facade.{decimal_good, desc_cells, described_text, described_tree, device_letters, device_parts, device_tree, device_trees, devices_letters, devices_long}
+use Facade.{elements_each, entries_of, entry_of, get_none, get_or, get_or_from_slice_get, images_saved, index_text, is_name, is_named, is_some, items_of}
+use Facade.{kind_letters, length, listed_if, no_desc, own_cells, part_entries, parts_named, refl, saved_stream, saved_text, sent_entry, slice_get, slice_set}
+use Facade.{stream_le, struct_cells, struct_clean, sub_clean, sub_letters, sub_trees, text_good, true, word, written, written_are_bytes, ℕ, ℤ, ◌+◌}
+use Facade.{◌<◌, ◌∷◌, ◌≡◌, ◌≤◌}
 
 -- ---- a single byte as a list
 

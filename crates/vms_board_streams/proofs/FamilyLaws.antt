@@ -1,11 +1,11 @@
 -- The laws of the streams of any family of boards.
-use Rattle.vms_board_streams.proofs.Facade.{Alike, Answer, Back, BoardsGoOn, BytesAreOne, Err, Event, Family, Faulty, FitsHeads, HasRoomFor, IfSome, Image}
-use Rattle.vms_board_streams.proofs.Facade.{IsBytes, IsConfiguration, IsContinued, IsFaultAt, IsSound, IsWholeStream, List, MaySaveIn, Misfit, Ok, Option}
-use Rattle.vms_board_streams.proofs.Facade.{Reason, Refused, Restore, Restores, Result, Set, Some, Stands, StreamComesBack, StreamsComeBack, StreamsStand}
-use Rattle.vms_board_streams.proofs.Facade.{Taken, Takes, TakesBoard, WellFormed, [], answers_by, answers_to, ap, append-nil, arith, bytes_eq-Decides}
-use Rattle.vms_board_streams.proofs.Facade.{either_holds, images_carried, images_saved, inl, inr, is_among, is_one_of, length, lists_in, misfit_reason}
-use Rattle.vms_board_streams.proofs.Facade.{misfit_section, never_both_holds, one_fault_holds, one_stream_holds, refl, saved_stream, saved_text, stream_with}
-use Rattle.vms_board_streams.proofs.Facade.{sym, trace_of, true, upgrade_stands, ℕ, ℤ, ◌-◌, ◌∷◌, ◌≡◌, ◌≤◌}
+use Rattle.vms_board_streams.proofs.Facade
+use Facade.{Alike, Answer, Back, BoardsGoOn, BytesAreOne, Err, Event, Family, Faulty, FitsHeads, HasRoomFor, IfSome, Image, IsBytes, IsConfiguration}
+use Facade.{IsContinued, IsFaultAt, IsSound, IsWholeStream, List, MaySaveIn, Misfit, Ok, Option, Reason, Refused, Restore, Restores, Result, Set, Some, Stands}
+use Facade.{StreamComesBack, StreamsComeBack, StreamsStand, Taken, Takes, TakesBoard, WellFormed, [], answers_by, answers_to, ap, append-nil, arith}
+use Facade.{bytes_eq-Decides, either_holds, images_carried, images_saved, inl, inr, is_among, is_one_of, length, lists_in, misfit_reason, misfit_section}
+use Facade.{never_both_holds, one_fault_holds, one_stream_holds, refl, saved_stream, saved_text, stream_with, sym, trace_of, true, upgrade_stands, ℕ, ℤ}
+use Facade.{◌-◌, ◌∷◌, ◌≡◌, ◌≤◌}
 
 -- ---- a restore of bytes has exactly one outcome
 

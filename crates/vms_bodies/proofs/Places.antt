@@ -1,12 +1,11 @@
 -- Where the slots of a description begin, and which cells they name.
-use Rattle.vms_bodies.proofs.Facade.{◌≡◌, ℕ, List, ◌∷◌, ◌++◌, refl, sym, ◌∙◌, true, false, [], ◌||◌, if◌then◌else◌, or_parts}
-use Rattle.vms_bodies.proofs.Facade.{or_right, or_assoc, Slot, Number, has_cell, zero, suc, ◌+◌, ◌*◌, ◌<◌, ◌≤◌, length, get_or, drop, Option}
-use Rattle.vms_bodies.proofs.Facade.{ℤ, pos, ap, arith, length-append, not, AllByRecursion, Item, Num, Count, Own, Formula, Not, And, Or, Field, Desc, truth}
-use Rattle.vms_bodies.proofs.Facade.{is_there, place_of, field_cells, item_size, capacity_of, cells_from, numbers_of, no_field, no_parent, all_hold}
-use Rattle.vms_bodies.proofs.Facade.{elements_of, field_size, IsNumber, IsOne, IsEarlier, NamesEarlier, IsSoundTest, IsSoundCount, Struct, Meaning, no_meaning}
-use Rattle.vms_bodies.proofs.Facade.{no_desc, item_slots, times, field_slots, slots_from, desc_slots, counted, first, meaning, meanings, one_more, first_cells}
-use Rattle.vms_bodies.proofs.Facade.{drop_on, map, append_assoc, get_or-map, Cell, no_cell, item_cells, desc_cells, AreCells, size_same, elements_fit, Kind}
-use Rattle.vms_bodies.proofs.Facade.{width}
+use Rattle.vms_bodies.proofs.Facade
+use Facade.{◌≡◌, ℕ, List, ◌∷◌, ◌++◌, refl, sym, ◌∙◌, true, false, [], ◌||◌, if◌then◌else◌, or_parts, or_right, or_assoc, Slot}
+use Facade.{Number, has_cell, zero, suc, ◌+◌, ◌*◌, ◌<◌, ◌≤◌, length, get_or, drop, Option, ℤ, pos, ap, arith, length-append, not}
+use Facade.{AllByRecursion, Item, Num, Count, Own, Formula, Not, And, Or, Field, Desc, truth, is_there, place_of, field_cells, item_size, capacity_of}
+use Facade.{cells_from, numbers_of, no_field, no_parent, all_hold, elements_of, field_size, IsNumber, IsOne, IsEarlier, NamesEarlier, IsSoundTest, IsSoundCount}
+use Facade.{Struct, Meaning, no_meaning, no_desc, item_slots, times, field_slots, slots_from, desc_slots, counted, first, meaning, meanings, one_more}
+use Facade.{first_cells, drop_on, map, append_assoc, get_or-map, Cell, no_cell, item_cells, desc_cells, AreCells, size_same, elements_fit, Kind, width}
 use Rattle.std.proofs.Common.{Bool as Truth}
 use Rattle.vms_spec.specs.Layout.{Cell as OneCell}
 use Rattle.vms_spec.specs.Sets as sets

@@ -1,13 +1,13 @@
 -- Bodies that are read: what was taken is spelled by its slots, and reading slot by slot gives the
 -- same.
-use Rattle.vms_bodies.proofs.Facade.{IsCell, AreCells, ◌≡◌, ◌≢◌, ℕ, ◌+◌, ◌≤◌, ◌≤ℤ◌, List, ◌∷◌, ◌++◌, length, get_or}
-use Rattle.vms_bodies.proofs.Facade.{take, slice_set, ℤ, pos, refl, sym, ap, ◌∙◌, arith, append_assoc, append-nil, length-append, true, false, not}
-use Rattle.vms_bodies.proofs.Facade.{nat_lt, ◌==◌, get_or-set_other, [], AllByRecursion, take-append-drop, length-take-le, length-set, not-not, ltb-false}
-use Rattle.vms_bodies.proofs.Facade.{eq-eqb, or_parts, big_number, Kind, width, value_of, code, InRange, IsBadBool, value_taken, bytes_first, bytes_rest}
-use Rattle.vms_bodies.proofs.Facade.{IsBytes, is_bad_bool, exceeds, same_number, Slot, Number, Constant, Filler, Rule, Cell, Spells, RulesHold, has_cell}
-use Rattle.vms_bodies.proofs.Facade.{Progress, Refusal, on, take_slot, same_number_is, within_all, Ok, Desc, meanings, desc_slots, desc_cells, takers, cells_of}
-use Rattle.vms_bodies.proofs.Facade.{take_desc, IsSound, AreSound, suc, drop, Err, drop-append_seam, Taken, zero, ◌<◌, Some, slice_get, Option, length-drop}
-use Rattle.vms_bodies.proofs.Facade.{Verdict, Goes, Reading, reading_from, reading_after, reading_on, Advances}
+use Rattle.vms_bodies.proofs.Facade
+use Facade.{IsCell, AreCells, ◌≡◌, ◌≢◌, ℕ, ◌+◌, ◌≤◌, ◌≤ℤ◌, List, ◌∷◌, ◌++◌, length, get_or, take, slice_set, ℤ, pos}
+use Facade.{refl, sym, ap, ◌∙◌, arith, append_assoc, append-nil, length-append, true, false, not, nat_lt, ◌==◌, get_or-set_other, [], AllByRecursion}
+use Facade.{take-append-drop, length-take-le, length-set, not-not, ltb-false, eq-eqb, or_parts, big_number, Kind, width, value_of, code, InRange, IsBadBool}
+use Facade.{value_taken, bytes_first, bytes_rest, IsBytes, is_bad_bool, exceeds, same_number, Slot, Number, Constant, Filler, Rule, Cell, Spells, RulesHold}
+use Facade.{has_cell, Progress, Refusal, on, take_slot, same_number_is, within_all, Ok, Desc, meanings, desc_slots, desc_cells, takers, cells_of, take_desc}
+use Facade.{IsSound, AreSound, suc, drop, Err, drop-append_seam, Taken, zero, ◌<◌, Some, slice_get, Option, length-drop, Verdict, Goes, Reading}
+use Facade.{reading_from, reading_after, reading_on, Advances}
 use Rattle.vms_bodies.proofs.Places.{SameBelow, same_refl, same_less, none_in_both}
 use Rattle.vms_bodies.proofs.WalkLaws.{Left, Gives, IsOther, Keeping, whole_gives, value_gives, ComesTo, set_desc_comes}
 use Rattle.std.proofs.Common.{get_or-set_same, drop_at}

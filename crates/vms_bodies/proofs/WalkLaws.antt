@@ -1,14 +1,13 @@
 -- What the structural reader takes and leaves, by the slots that it goes through: whatever each
 -- slot keeps, the whole keeps.
-use Rattle.vms_bodies.proofs.Facade.{◌≡◌, ◌≢◌, ◌>>=◌, ℕ, zero, suc, ◌+◌, ◌*◌, ◌≤◌, List, ◌∷◌, ◌++◌, length, get_or}
-use Rattle.vms_bodies.proofs.Facade.{map, take, drop, Ok, Err, IfOk, ℤ, refl, sym, ap, ◌∙◌, arith, append_assoc, append-nil, length-append, Bool, true}
-use Rattle.vms_bodies.proofs.Facade.{false, if◌then◌else◌, nat_lt, slice_set, get_or-set_other, [], mul-le-mul_right, Kind, Item, Num, Equal, Unused}
-use Rattle.vms_bodies.proofs.Facade.{Struct, width, value_of, Reason, is_bad_bool, Field, Desc, is_there, Slot, Number, Rule, Meaning, no_meaning, no_desc}
-use Rattle.vms_bodies.proofs.Facade.{item_slots, item_size, times, field_slots, slots_from, desc_slots, desc_cells, cells_from, field_cells, place_of}
-use Rattle.vms_bodies.proofs.Facade.{numbers_of, elements_of, capacity_of, counted, all_hold, no_parent, first, meanings, Taken, Progress, Refusal, Taker}
-use Rattle.vms_bodies.proofs.Facade.{no_taker, takers, cells_of, take_value, take_slot, take_item, take_items, take_field, take_fields, take_desc, check_rules}
-use Rattle.vms_bodies.proofs.Facade.{refuse, on, if_whole, IsSound, AreSound, IsSoundField, AreSoundFields, IsEarlier, field_size, elements_fit, ◌-◌}
-use Rattle.vms_bodies.proofs.Facade.{drop-drop}
+use Rattle.vms_bodies.proofs.Facade
+use Facade.{◌≡◌, ◌≢◌, ◌>>=◌, ℕ, zero, suc, ◌+◌, ◌*◌, ◌≤◌, List, ◌∷◌, ◌++◌, length, get_or, map, take, drop, Ok, Err}
+use Facade.{IfOk, ℤ, refl, sym, ap, ◌∙◌, arith, append_assoc, append-nil, length-append, Bool, true, false, if◌then◌else◌, nat_lt, slice_set}
+use Facade.{get_or-set_other, [], mul-le-mul_right, Kind, Item, Num, Equal, Unused, Struct, width, value_of, Reason, is_bad_bool, Field, Desc, is_there, Slot}
+use Facade.{Number, Rule, Meaning, no_meaning, no_desc, item_slots, item_size, times, field_slots, slots_from, desc_slots, desc_cells, cells_from, field_cells}
+use Facade.{place_of, numbers_of, elements_of, capacity_of, counted, all_hold, no_parent, first, meanings, Taken, Progress, Refusal, Taker, no_taker, takers}
+use Facade.{cells_of, take_value, take_slot, take_item, take_items, take_field, take_fields, take_desc, check_rules, refuse, on, if_whole, IsSound, AreSound}
+use Facade.{IsSoundField, AreSoundFields, IsEarlier, field_size, elements_fit, ◌-◌, drop-drop}
 use Rattle.vms_bodies.proofs.Places.{IsAbove, MeanAbove, above_none, above_append, above_less, items_above, fields_above, meanings_above, SameBelow, same_refl}
 use Rattle.vms_bodies.proofs.Places.{same_less, same_trans, own_same, there_same, elements_same, hold_same, place_next, place_end, if_so}
 pub use Rattle.vms_bodies.proofs.Places.{place_first}

@@ -1,9 +1,9 @@
 -- Which sets are compatible: worked examples, and the shipped sets.
-use Rattle.vms_check.proofs.Facade.{◌≡◌, ℕ, List, [], ◌∷◌, Option, Some, None, pos, refl, codes, U8, U16, I8, Equal, Unused, Struct, Place, Fixed}
-use Rattle.vms_check.proofs.Facade.{Counted, Eq, Lt, Own, Set, Desc, Field, Sub, Formula, Below, Cell, And, first, here, in_field, Mismatch, first_mismatch}
-use Rattle.vms_check.proofs.Facade.{carried, set_0, set_1, set_3, number, box, box_set, counted_set, subsection_set, tested_set, empty_set, zero, suc, ◌<◌}
-use Rattle.vms_check.proofs.Facade.{◌≤◌, length, get_or, drop, Bool, true, sym, ap, ◌∙◌, arith, ◌&&◌, is_none, list_all, and_parts, NEWEST_SET}
-use Rattle.vms_check.proofs.Facade.{shipped_sets, shipped_set, none_is, numbered, Compatible}
+use Rattle.vms_check.proofs.Facade
+use Facade.{◌≡◌, ℕ, List, [], ◌∷◌, Option, Some, None, pos, refl, codes, U8, U16, I8, Equal, Unused, Struct, Place, Fixed, Counted, Eq, Lt, Own}
+use Facade.{Set, Desc, Field, Sub, Formula, Below, Cell, And, first, here, in_field, Mismatch, first_mismatch, carried, set_0, set_1, set_3, number, box}
+use Facade.{box_set, counted_set, subsection_set, tested_set, empty_set, zero, suc, ◌<◌, ◌≤◌, length, get_or, drop, Bool, true, sym, ap, ◌∙◌}
+use Facade.{arith, ◌&&◌, is_none, list_all, and_parts, NEWEST_SET, shipped_sets, shipped_set, none_is, numbered, Compatible}
 use Rattle.vms_spec.proofs.Examples.{sub_of}
 use Rattle.vms_spec.specs.declared.Part.TheVariants as parts
 

@@ -1,12 +1,12 @@
 -- Two fields of the same position, tests over lists, and the positions of present fields.
-use Rattle.vms_check.proofs.Facade.{◌≡◌, ℕ, suc, ◌+◌, List, ◌∷◌, Bool, true, false, Option, Some, None, refl, arith, [], slice_get, list_all}
-use Rattle.vms_check.proofs.Facade.{Place, first_answer, both_none, failing_pair, in_new, each, ◌≤◌, ◌==◌, if◌then◌else◌, and_parts}
-use Rattle.vms_check.proofs.Facade.{AllByRecursion, and_from, cases_Bool, eq-eqb, inl, inr, nat_tests, leb-true, Formula, Field, Desc, is_nothing, same_rest}
-use Rattle.vms_check.proofs.Facade.{same_reduced, Comparer, Entry, absent_hold, has_room, holds_as_much, is_absent, is_covered, pair_rules, uncovered_rules}
-use Rattle.vms_check.proofs.Facade.{Reduced, left_of, presence, tree_of, field_reduced, Struct, Count, Counted, Part, AreAlike, ArePaired, in_old, IsFirst}
-use Rattle.vms_check.proofs.Facade.{Present, Side, zero, ◌<◌, ◌++◌, length, get_or, take, map, replicate, sym, ap, ◌∙◌, drop, add-one, not}
-use Rattle.vms_check.proofs.Facade.{ne_eqb, slice_get-get_or, slice_get-map, slice_get_past, length-map, map-append, take-map, take_more, drop_more, no_field}
-use Rattle.vms_check.proofs.Facade.{field_of, get_map_at, entry_of, position_from, fields_from, count_present, position_in, desc_on}
+use Rattle.vms_check.proofs.Facade
+use Facade.{◌≡◌, ℕ, suc, ◌+◌, List, ◌∷◌, Bool, true, false, Option, Some, None, refl, arith, [], slice_get, list_all, Place, first_answer}
+use Facade.{both_none, failing_pair, in_new, each, ◌≤◌, ◌==◌, if◌then◌else◌, and_parts, AllByRecursion, and_from, cases_Bool, eq-eqb, inl, inr}
+use Facade.{nat_tests, leb-true, Formula, Field, Desc, is_nothing, same_rest, same_reduced, Comparer, Entry, absent_hold, has_room, holds_as_much, is_absent}
+use Facade.{is_covered, pair_rules, uncovered_rules, Reduced, left_of, presence, tree_of, field_reduced, Struct, Count, Counted, Part, AreAlike, ArePaired}
+use Facade.{in_old, IsFirst, Present, Side, zero, ◌<◌, ◌++◌, length, get_or, take, map, replicate, sym, ap, ◌∙◌, drop, add-one, not, ne_eqb}
+use Facade.{slice_get-get_or, slice_get-map, slice_get_past, length-map, map-append, take-map, take_more, drop_more, no_field, field_of, get_map_at, entry_of}
+use Facade.{position_from, fields_from, count_present, position_in, desc_on}
 use Rattle.vms_parts.specs.declared.types.Field.{Field as CodeField}
 
 -- ---- tests over lists and numbered rules, and what they say of each place

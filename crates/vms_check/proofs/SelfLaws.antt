@@ -1,15 +1,15 @@
 -- A well-formed set is compatible to itself.
 use Rattle.vms_check.proofs.{PairLaws.spot_is, PairLaws.same_at, SetsFit.so_fits}
 use Rattle.vms_check.proofs.CapacityLaws.{IfOpen, IsByParts, all_least, counted_at, open_reduced}
-use Rattle.vms_check.proofs.Facade.{◌≡◌, ℕ, zero, suc, ◌≤◌, List, ◌∷◌, ◌++◌, Bool, true, false, Some, refl, ap, arith, [], Option, None}
-use Rattle.vms_check.proofs.Facade.{inr, ◌+◌, ◌<◌, length, get_or, ◌==◌, ◌&&◌, nat_lt, slice_get, eq-eqb, and_parts, le-leb, leb-true, and_from}
-use Rattle.vms_check.proofs.Facade.{eqb-true, or_left, or_right, slice_get-get_or, bytes_eq, bytes_eq-Decides, any_passes_from_place, Item, Count, Counted}
-use Rattle.vms_check.proofs.Facade.{counted, no_desc, Field, Formula, Desc, Sub, Device, Set, bound, holds_as_much, is_absent, same_constant, same_count}
-use Rattle.vms_check.proofs.Facade.{same_item, same_place, same_reduced, same_rest, same_test, Compatible, Entry, entry_of, is_found, has_no_test, is_num}
-use Rattle.vms_check.proofs.Facade.{is_one, is_steady, is_steady_in, names_well, nobody, count_names_well, is_counting, is_earlier_in, test_names_well}
-use Rattle.vms_check.proofs.Facade.{untested, Clean, struct_clean, device_parts, sub_clean, device_found, sub_found, Reduced, presence, reduced, field_reduced}
-use Rattle.vms_check.proofs.Facade.{position_in, fields_from, find_device, is_version_of, is_one_of, WellFormed, struct_rules, device_rules, sub_rules}
-use Rattle.vms_check.proofs.Facade.{ArePaired, DescsFit, DevicesFit, IsSubFor, fields_at, AllByRecursion}
+use Rattle.vms_check.proofs.Facade
+use Facade.{◌≡◌, ℕ, zero, suc, ◌≤◌, List, ◌∷◌, ◌++◌, Bool, true, false, Some, refl, ap, arith, [], Option, None, inr, ◌+◌, ◌<◌}
+use Facade.{length, get_or, ◌==◌, ◌&&◌, nat_lt, slice_get, eq-eqb, and_parts, le-leb, leb-true, and_from, eqb-true, or_left, or_right, slice_get-get_or}
+use Facade.{bytes_eq, bytes_eq-Decides, any_passes_from_place, Item, Count, Counted, counted, no_desc, Field, Formula, Desc, Sub, Device, Set, bound}
+use Facade.{holds_as_much, is_absent, same_constant, same_count, same_item, same_place, same_reduced, same_rest, same_test, Compatible, Entry, entry_of}
+use Facade.{is_found, has_no_test, is_num, is_one, is_steady, is_steady_in, names_well, nobody, count_names_well, is_counting, is_earlier_in, test_names_well}
+use Facade.{untested, Clean, struct_clean, device_parts, sub_clean, device_found, sub_found, Reduced, presence, reduced, field_reduced, position_in}
+use Facade.{fields_from, find_device, is_version_of, is_one_of, WellFormed, struct_rules, device_rules, sub_rules, ArePaired, DescsFit, DevicesFit, IsSubFor}
+use Facade.{fields_at, AllByRecursion}
 use Rattle.vms_check.specs.Comparing.{least_of}
 use Rattle.std.specs.Prelude.{nat_le}
 

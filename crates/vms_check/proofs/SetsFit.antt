@@ -1,12 +1,12 @@
 -- Two descriptions and two sets: no rule fails exactly where they fit as the rules say.
-use Rattle.vms_check.proofs.Facade.{◌≡◌, inl, inr, ℕ, zero, suc, List, [], ◌∷◌, length, get_or, Bool, true, Option, Some, None, refl, sym}
-use Rattle.vms_check.proofs.Facade.{◌∙◌, arith, nat_tests, AllZip, AllZip-long, AllZip-left, ◌+◌, ◌<◌, slice_get, is_none, ltb-true}
-use Rattle.vms_check.proofs.Facade.{slice_get-get_or, Item, Struct, Part, no_desc, struct_cells, or_else, first_answer, uses_below, Formula, Desc, Sub, Device}
-use Rattle.vms_check.proofs.Facade.{Set, here, in_field, WellFormed, struct_rules, device_rules, sub_rules, Comparer, Entry, compare_desc, compare_fields}
-use Rattle.vms_check.proofs.Facade.{failing_pair, is_kept, no_comparer, pair_rules, pair_structs, Compatible, compare_device, compare_sub, compare_subs, is_in}
-use Rattle.vms_check.proofs.Facade.{ArePaired, DescsFit, IsKept, fields_at, in_old, in_new, DevicesFit, Fits, IsSubFor, SetsFit, Reduced, Known, reduced}
-use Rattle.vms_check.proofs.Facade.{Mismatch, or_else_none, answers_none, both_none, find_device, find_sub, index, is_one_of, Clean, struct_clean, device_parts}
-use Rattle.vms_check.proofs.Facade.{sub_clean, none_is, AreRules, table, device_mismatch, lost_mismatch, machines_mismatch, each}
+use Rattle.vms_check.proofs.Facade
+use Facade.{◌≡◌, inl, inr, ℕ, zero, suc, List, [], ◌∷◌, length, get_or, Bool, true, Option, Some, None, refl, sym, ◌∙◌, arith, nat_tests}
+use Facade.{AllZip, AllZip-long, AllZip-left, ◌+◌, ◌<◌, slice_get, is_none, ltb-true, slice_get-get_or, Item, Struct, Part, no_desc, struct_cells}
+use Facade.{or_else, first_answer, uses_below, Formula, Desc, Sub, Device, Set, here, in_field, WellFormed, struct_rules, device_rules, sub_rules, Comparer}
+use Facade.{Entry, compare_desc, compare_fields, failing_pair, is_kept, no_comparer, pair_rules, pair_structs, Compatible, compare_device, compare_sub}
+use Facade.{compare_subs, is_in, ArePaired, DescsFit, IsKept, fields_at, in_old, in_new, DevicesFit, Fits, IsSubFor, SetsFit, Reduced, Known, reduced, Mismatch}
+use Facade.{or_else_none, answers_none, both_none, find_device, find_sub, index, is_one_of, Clean, struct_clean, device_parts, sub_clean, none_is, AreRules}
+use Facade.{table, device_mismatch, lost_mismatch, machines_mismatch, each}
 use Rattle.vms_check.proofs.PairLaws.{passes, pass, at_every, none_answers, paired_so, so_paired}
 use Rattle.vms_check.proofs.WholeLaws.{desc_split, AllBelow, all_uses, structs_are, whole_is}
 use Rattle.vms_spec.specs.Layout.{Cell}

@@ -1,13 +1,13 @@
 -- Descriptions, structures and whole sets: no rule depends on where cells begin, and what is found by its name.
-use Rattle.vms_check.proofs.Facade.{◌≡◌, ℕ, suc, ◌+◌, List, [], ◌∷◌, ◌++◌, length, map, Bool, true, false, Option, Some, None, refl, sym}
-use Rattle.vms_check.proofs.Facade.{ap, ◌∙◌, drop, ◌<◌, get_or, arith, ltb-true, slice_get-get_or, fun_ext, Part, Place, field_cells, first, no_desc}
-use Rattle.vms_check.proofs.Facade.{no_field, struct_cells, or_else, first_answer, position, Formula, Field, Desc, Set, Device, Sub, in_field, here, Comparer}
-use Rattle.vms_check.proofs.Facade.{Entry, compare_desc, compare_fields, compare_validations, entry_of, failing_pair, pair_structs, position_from, present}
-use Rattle.vms_check.proofs.Facade.{present_from, comparer_of, no_comparer, compare_device, compare_sub, compare_subs, first_mismatch, is_in, presence}
-use Rattle.vms_check.proofs.Facade.{failing_number, IsFirst, fields_on, pair_mismatch, rules_on, structs_on, table_on, struct_mismatch, table, fields_from}
-use Rattle.vms_check.proofs.Facade.{position_in, desc_on, position_on, Mismatch, Item, Struct, Present, Side, uses_below, first_at, first_long, is_well_formed}
-use Rattle.vms_check.proofs.Facade.{HasPart, desc_at, sub_at, reach, field_clean, reach_whole, find_device, find_sub, index, found_inside, slice_get}
-use Rattle.vms_check.proofs.Facade.{get_or_from_slice_get, slice_get_within, device_mismatch, is_missing, lost_mismatch, machines_mismatch, AllByRecursion}
+use Rattle.vms_check.proofs.Facade
+use Facade.{◌≡◌, ℕ, suc, ◌+◌, List, [], ◌∷◌, ◌++◌, length, map, Bool, true, false, Option, Some, None, refl, sym, ap, ◌∙◌, drop}
+use Facade.{◌<◌, get_or, arith, ltb-true, slice_get-get_or, fun_ext, Part, Place, field_cells, first, no_desc, no_field, struct_cells, or_else}
+use Facade.{first_answer, position, Formula, Field, Desc, Set, Device, Sub, in_field, here, Comparer, Entry, compare_desc, compare_fields, compare_validations}
+use Facade.{entry_of, failing_pair, pair_structs, position_from, present, present_from, comparer_of, no_comparer, compare_device, compare_sub, compare_subs}
+use Facade.{first_mismatch, is_in, presence, failing_number, IsFirst, fields_on, pair_mismatch, rules_on, structs_on, table_on, struct_mismatch, table}
+use Facade.{fields_from, position_in, desc_on, position_on, Mismatch, Item, Struct, Present, Side, uses_below, first_at, first_long, is_well_formed, HasPart}
+use Facade.{desc_at, sub_at, reach, field_clean, reach_whole, find_device, find_sub, index, found_inside, slice_get, get_or_from_slice_get, slice_get_within}
+use Facade.{device_mismatch, is_missing, lost_mismatch, machines_mismatch, AllByRecursion}
 use Rattle.vms_spec.specs.Layout.{Cell}
 use Rattle.vms_desc.proofs.Clean.{struct_clean}
 use Rattle.vms_parts.specs.Devices.{device_at}

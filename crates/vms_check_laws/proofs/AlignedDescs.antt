@@ -3,16 +3,16 @@
 -- and counts may name is the same then. This is repeated position by position. Also a position at which two
 -- constants differ, which the newer set can't read.
 use Rattle.vms_check_laws.proofs.FieldsRead.{pair_meets, named_pair}
-use Rattle.vms_check_laws.proofs.Facade.{◌≡◌, inl, inr, ℕ, zero, suc, ◌+◌, ◌<◌, ◌≤◌, Bool, true, List, ◌∷◌, ◌++◌, length}
-use Rattle.vms_check_laws.proofs.Facade.{get_or, Some, None, sym, ap, ◌∙◌, code_read, big_number, arith, ℤ, pos, if◌then◌else◌, ◌⊎◌, nat_lt}
-use Rattle.vms_check_laws.proofs.Facade.{take, refl, slice_get, and_parts, ltb-true, eq-or-lt_of_le, [], Kind, Item, Equal, width, residue, code, Count, One}
-use Rattle.vms_check_laws.proofs.Facade.{is_steady_in, is_num, is_one, is_earlier_in, Slot, Number, times, counted, elements_of, item_slots, kind_of, Spells}
-use Rattle.vms_check_laws.proofs.Facade.{zeroed, length-code, Entry, same_count, same_item, FitsAt, Aligns, desc_cells, AllZip, eq-eqb, position_from}
-use Rattle.vms_check_laws.proofs.Facade.{same_place}
+use Rattle.vms_check_laws.proofs.Facade
+use Facade.{◌≡◌, inl, inr, ℕ, zero, suc, ◌+◌, ◌<◌, ◌≤◌, Bool, true, List, ◌∷◌, ◌++◌, length, get_or, Some, None, sym, ap}
+use Facade.{◌∙◌, code_read, big_number, arith, ℤ, pos, if◌then◌else◌, ◌⊎◌, nat_lt, take, refl, slice_get, and_parts, ltb-true}
+use Facade.{eq-or-lt_of_le, [], Kind, Item, Equal, width, residue, code, Count, One, is_steady_in, is_num, is_one, is_earlier_in, Slot, Number, times, counted}
+use Facade.{elements_of, item_slots, kind_of, Spells, zeroed, length-code, Entry, same_count, same_item, FitsAt, Aligns, desc_cells, AllZip, eq-eqb}
+use Facade.{position_from, same_place}
 use Rattle.vms_check_laws.proofs.Premises.{olds, older, newer, kinds_same, slots_at, IsKnown, entries_slots, AreKnown, known_there, Two, PairGood, Sides}
 use Rattle.vms_check_laws.proofs.Premises.{IsSingle, NamesEarlier, OldFields, Met}
-use Rattle.vms_check_laws.proofs.Presence.{spells_split, behind_first, same_some, at_or_later, Above, none_before}
-use Rattle.vms_check_laws.proofs.Presence.{apart, same_bytes, aligns_nil, aligns_number, aligns_constant}
+use Rattle.vms_check_laws.proofs.Presence
+use Presence.{spells_split, behind_first, same_some, at_or_later, Above, none_before, apart, same_bytes, aligns_nil, aligns_number, aligns_constant}
 
 -- two constants of one kind that have other bytes
 pub record Differ (i j : Item) : Type 0 where

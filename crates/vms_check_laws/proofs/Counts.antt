@@ -1,18 +1,16 @@
 -- Numbers that count fit all capacities, and what well-formedness gives to the laws on pairs of
 -- sets.
-use Rattle.vms_check_laws.proofs.Facade.{absent_hold, bound, least_of, has_room, AllZip, ◌≤ℤ◌, ◌≡◌, inl, inr, ℕ, zero, suc, ◌+◌, ◌≤◌}
-use Rattle.vms_check_laws.proofs.Facade.{true, List, ◌∷◌, ◌++◌, length, get_or, Some, refl, arith, ℤ, pos, if◌then◌else◌, AllByRecursion}
-use Rattle.vms_check_laws.proofs.Facade.{slice_get, eq-eqb, ints, ◌<◌, [], min, Bool, false, Option, None, sym, nat_le, and_parts, eqb-true, leb-true, Kind}
-use Rattle.vms_check_laws.proofs.Facade.{U8, U16, U32, Item, Num, width, residue, Count, Counted, Field, Cell, times, counted, capacity_of, item_cells}
-use Rattle.vms_check_laws.proofs.Facade.{field_cells, cells_from, place_of, no_field, kind_of, FitsCell, is_num, is_one, ItemBelow, FitsAt, Desc, is_steady_in}
-use Rattle.vms_check_laws.proofs.Facade.{no_desc, highest, Formula, presence, Entry, entry_of, present_from, position_from, same_place, same_count}
-use Rattle.vms_check_laws.proofs.Facade.{holds_as_much, defaults, and_from, slice_get-get_or, Own, Parent, Not, And, Or, Sub, Device, Set, names_well, nobody}
-use Rattle.vms_check_laws.proofs.Facade.{is_steady, is_earlier_in, ◌&&◌, test_names_well, count_names_well, is_counting, defaults_well, counts_well}
-use Rattle.vms_check_laws.proofs.Facade.{has_good_count, validation_rules, WellFormed, AllTrue, item_below, Clean, within, struct_clean, device_parts}
-use Rattle.vms_check_laws.proofs.Facade.{sub_clean}
+use Rattle.vms_check_laws.proofs.Facade
+use Facade.{absent_hold, bound, least_of, has_room, AllZip, ◌≤ℤ◌, ◌≡◌, inl, inr, ℕ, zero, suc, ◌+◌, ◌≤◌, true, List, ◌∷◌}
+use Facade.{◌++◌, length, get_or, Some, refl, arith, ℤ, pos, if◌then◌else◌, AllByRecursion, slice_get, eq-eqb, ints, ◌<◌, [], min, Bool, false}
+use Facade.{Option, None, sym, nat_le, and_parts, eqb-true, leb-true, Kind, U8, U16, U32, Item, Num, width, residue, Count, Counted, Field, Cell, times}
+use Facade.{counted, capacity_of, item_cells, field_cells, cells_from, place_of, no_field, kind_of, FitsCell, is_num, is_one, ItemBelow, FitsAt, Desc}
+use Facade.{is_steady_in, no_desc, highest, Formula, presence, Entry, entry_of, present_from, position_from, same_place, same_count, holds_as_much, defaults}
+use Facade.{and_from, slice_get-get_or, Own, Parent, Not, And, Or, Sub, Device, Set, names_well, nobody, is_steady, is_earlier_in, ◌&&◌, test_names_well}
+use Facade.{count_names_well, is_counting, defaults_well, counts_well, has_good_count, validation_rules, WellFormed, AllTrue, item_below, Clean, within}
+use Facade.{struct_clean, device_parts, sub_clean}
 use Rattle.vms_check_laws.proofs.Premises.{Met, NewGood, news, IsSingle, CountFits, OldFields, DefaultsGood, NamesEarlier, NewFields, RulesNamed, Sides}
-use Rattle.vms_check_laws.proofs.Premises.{Matched}
-use Rattle.vms_check_laws.proofs.Premises.{decoded, CountNamed, ItemDefault}
+use Rattle.vms_check_laws.proofs.Premises.{Matched, decoded, CountNamed, ItemDefault}
 use Rattle.vms_check_laws.proofs.Presence.{fits_right, Steady, covers_unused, at_or_later, Above, NamedRest, steady}
 use Rattle.vms_check.proofs.CapacityLaws.{counted_at}
 use Rattle.vms_spec.specs.Sets as sets

@@ -3,19 +3,19 @@
 -- fit the cells of the newer set.
 use Rattle.vms_check_laws.proofs.AlignedDescs.{Clashes, entries_align, entries_clash, State}
 use Rattle.vms_check_laws.proofs.Counts.{caps_follow, IsIndexed, DescGood, indexed}
-use Rattle.vms_check_laws.proofs.Facade.{no_parent, reduced, reduced_holds, same_reduced, truth, truth_of, either_of, ◌≡◌, inl, inr, ℕ, suc, ◌+◌}
-use Rattle.vms_check_laws.proofs.Facade.{◌<◌, Bool, true, List, ◌∷◌, ◌++◌, get_or, Option, None, refl, arith, ℤ, [], cells_in, Item, Formula}
-use Rattle.vms_check_laws.proofs.Facade.{Field, Cell, counted, item_cells, field_cells, cells_from, Entry, defaults, carry_field, carry_from, FitsAt, ItemBelow}
-use Rattle.vms_check_laws.proofs.Facade.{FieldsBelow, desc_cells, is_steady_in, present, AllZip, sym, ◌∙◌, and_from, and_parts, list_all, list_any, Desc}
-use Rattle.vms_check_laws.proofs.Facade.{Rule, Meaning, slots_from, desc_slots, all_hold, Part, position_from, Comparer, compare_desc, Carrier, carry_desc}
-use Rattle.vms_check_laws.proofs.Facade.{Holds, Aligns, or_else_none, Spells, zeroed, Carries, Known, Reduced, compare_validations, is_kept}
+use Rattle.vms_check_laws.proofs.Facade
+use Facade.{no_parent, reduced, reduced_holds, same_reduced, truth, truth_of, either_of, ◌≡◌, inl, inr, ℕ, suc, ◌+◌, ◌<◌, Bool, true, List}
+use Facade.{◌∷◌, ◌++◌, get_or, Option, None, refl, arith, ℤ, [], cells_in, Item, Formula, Field, Cell, counted, item_cells, field_cells, cells_from}
+use Facade.{Entry, defaults, carry_field, carry_from, FitsAt, ItemBelow, FieldsBelow, desc_cells, is_steady_in, present, AllZip, sym, ◌∙◌, and_from}
+use Facade.{and_parts, list_all, list_any, Desc, Rule, Meaning, slots_from, desc_slots, all_hold, Part, position_from, Comparer, compare_desc, Carrier}
+use Facade.{carry_desc, Holds, Aligns, or_else_none, Spells, zeroed, Carries, Known, Reduced, compare_validations, is_kept}
 use Rattle.vms_check_laws.proofs.FieldsRead.{linked, agree_from, fields_settle, fields_carry, by_fields, field_sized, matched, covered_cells, there}
 use Rattle.vms_check_laws.proofs.PairLists.{settled_more}
 use Rattle.vms_check_laws.proofs.Premises.{olds, news, older, newer, decoded, OldFields, NewFields, DefaultsGood, ItemDefault, Sides}
 use Rattle.vms_check_laws.proofs.Premises.{fields_below, FitCells, GoodCells, fit_none, fit_append, fit_defaults, good_append, good_times, Met, entries_slots}
 use Rattle.vms_check_laws.proofs.Premises.{slots_entries, all_known, AreKnown, Two, Table, Meets, Reads, RulesNamed, all_met}
-use Rattle.vms_check_laws.proofs.Presence.{present_above, Agree, Named, named_left, same_reduced_truth, holds_at}
-use Rattle.vms_check_laws.proofs.Presence.{carries_append, spells_split, behind_first, aligns_append, aligns_rule}
+use Rattle.vms_check_laws.proofs.Presence
+use Presence.{present_above, Agree, Named, named_left, same_reduced_truth, holds_at, carries_append, spells_split, behind_first, aligns_append, aligns_rule}
 
 -- ---- the carried numbers fit new's cells
 

@@ -4,8 +4,7 @@ pub use Rattle.std.proofs.Common.{Bool, IfSome, List, None, Option, Some, [], ap
 pub use Rattle.std.proofs.Common.{map, min, nat_le, nat_lt, negsuc, pos, refl, replicate, slice_set, suc, sym, take, true, zero, ℕ, ℤ, ◌&&◌, ◌*◌}
 pub use Rattle.std.proofs.Common.{◌++◌, ◌+◌, ◌-◌, ◌<◌, ◌==◌, ◌||◌, ◌∙◌, ◌∷◌, ◌≡◌, ◌≤ℤ◌, ◌≤◌, ◌⊎◌}
 pub use Rattle.std.proofs.Math.Seq.{drop-append_seam, take-append_seam}
-pub use Rattle.std.proofs.lemmas.Bool.{and_from, and_parts, cases_eq, cases_lt, eq-eqb, eqb-true, false_from_ne_true, leb-true, ltb-true}
-pub use Rattle.std.proofs.lemmas.Bool.{or_cases, or_parts}
+pub use Rattle.std.proofs.lemmas.Bool.{and_from, and_parts, cases_eq, cases_lt, eq-eqb, eqb-true, false_from_ne_true, leb-true, ltb-true, or_cases, or_parts}
 pub use Rattle.std.proofs.lemmas.List.{append-nil, ext_get_or, get_or-append-add, get_or_append_left, get_or_past, length-append, length-map, length-replicate}
 pub use Rattle.std.proofs.lemmas.Option.{get_or_from_slice_get, slice_get-get_or, slice_get-map, slice_get_within}
 pub use Rattle.std.specs.{List.AllByRecursion, List.AllZip, List.flat_map, List.list_all, List.list_any, List.slice_get, Option.option_and_then}
@@ -46,10 +45,9 @@ pub use Rattle.vms_check.specs.{declared.mismatch.Mismatch.Mismatch, Comparing.p
 pub use Rattle.vms_check.specs.Carrying.{Carrier, carried_at, carried_device, carried_sub, carrier_of, carriers, carry_desc, carry_field, carry_from}
 pub use Rattle.vms_check.specs.Carrying.{carry_item, carry_items, carry_next, carrying, default_field, defaults, entries_left, no_carrier, no_image, sub_came}
 pub use Rattle.vms_check.specs.Comparing.{same_constant, same_count, same_item, same_kind, same_place, same_reduced, same_rest, same_test, uncovered_rules}
-pub use Rattle.vms_check.specs.Comparing.{Comparer, Compatible}
-pub use Rattle.vms_check.specs.Comparing.{Entry, absent_hold, bound, compare_desc, compare_device, compare_fields, compare_sub, compare_subs}
-pub use Rattle.vms_check.specs.Comparing.{compare_validations, comparer_of, comparers, comparing, entry_of, failing_pair, greatest, has_room, holds_as_much}
-pub use Rattle.vms_check.specs.Comparing.{is_covered, is_found, is_in, is_kept, least_of, no_comparer, pair_rules, pair_structs, paired_device}
+pub use Rattle.vms_check.specs.Comparing.{Comparer, Compatible, Entry, absent_hold, bound, compare_desc, compare_device, compare_fields, compare_sub}
+pub use Rattle.vms_check.specs.Comparing.{compare_subs, compare_validations, comparer_of, comparers, comparing, entry_of, failing_pair, greatest, has_room}
+pub use Rattle.vms_check.specs.Comparing.{holds_as_much, is_covered, is_found, is_in, is_kept, least_of, no_comparer, pair_rules, pair_structs, paired_device}
 pub use Rattle.vms_check.specs.Partners.{Pairer, array_partners, desc_partners, field_partners, fields_left, item_partners, named_partners, no_pairer}
 pub use Rattle.vms_check.specs.Partners.{pairer_of, pairers, part_partners, partners_from, unpaired}
 pub use Rattle.vms_check.specs.Reducing.{Known, Open, Reduced, left_of, presence, reduced, truth_of}

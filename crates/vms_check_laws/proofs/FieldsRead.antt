@@ -1,21 +1,20 @@
 -- Fields of both sides at one position: they take the same bytes, the newer set reads what the older one writes with the carried numbers,
 -- which fit its cells, and what isn't in the bytes is at its default.
-use Rattle.vms_check_laws.proofs.Presence.{carries_nil, carries_append, carries_filler, aligns_nil, aligns_append, aligns_number, aligns_constant}
-use Rattle.vms_check_laws.proofs.Presence.{aligns_filler}
-use Rattle.vms_check_laws.proofs.Facade.{◌≡◌, inl, inr, ℕ, zero, suc, ◌+◌, ◌*◌, ◌≤◌, Bool, true, false, List, ◌∷◌, length, get_or}
-use Rattle.vms_check_laws.proofs.Facade.{Option, None, refl, sym, eq-eqb, ◌∙◌, arith, ℤ, pos, if◌then◌else◌, ◌++◌, Some, eqb-true, ap, []}
-use Rattle.vms_check_laws.proofs.Facade.{length-append, Kind, Item, Num, Equal, Unused, Struct, Count, Formula, Field, is_there, Slot, no_parent, times}
-use Rattle.vms_check_laws.proofs.Facade.{counted, capacity_of, item_cells, field_cells, elements_of, item_slots, Entry, same_rest, same_count, same_constant}
-use Rattle.vms_check_laws.proofs.Facade.{holds_as_much, entry_of, present_from, defaults, carry_item, carry_items, carry_field, Holds, FitsAt, Carries}
-use Rattle.vms_check_laws.proofs.Facade.{size_same, elements_fit, ItemBelow, same_number_is, here, Aligns, FitsCell, AllByRecursion, highest, ◌≤ℤ◌}
-use Rattle.vms_check_laws.proofs.Facade.{presence, Cell, cells_from, slots_from, is_steady_in, is_num, position_from, same_place, carry_next, carry_from}
-use Rattle.vms_check_laws.proofs.Facade.{entries_left, field_size, FieldsBelow, desc_cells, AllZip}
+use Rattle.vms_check_laws.proofs.Presence
+use Presence.{carries_nil, carries_append, carries_filler, aligns_nil, aligns_append, aligns_number, aligns_constant, aligns_filler, covers_unused}
+use Presence.{filler_length, at_or_later, Agree, same_there, presence_named, there_here, not_covered, steady, steady_rest, rest_none, one_number, Steady}
+use Presence.{holds_left, holds_right, holds_at, fits_left, fits_right, fits_at}
+use Rattle.vms_check_laws.proofs.Facade
+use Facade.{◌≡◌, inl, inr, ℕ, zero, suc, ◌+◌, ◌*◌, ◌≤◌, Bool, true, false, List, ◌∷◌, length, get_or, Option, None, refl, sym}
+use Facade.{eq-eqb, ◌∙◌, arith, ℤ, pos, if◌then◌else◌, ◌++◌, Some, eqb-true, ap, [], length-append, Kind, Item, Num, Equal, Unused, Struct}
+use Facade.{Count, Formula, Field, is_there, Slot, no_parent, times, counted, capacity_of, item_cells, field_cells, elements_of, item_slots, Entry, same_rest}
+use Facade.{same_count, same_constant, holds_as_much, entry_of, present_from, defaults, carry_item, carry_items, carry_field, Holds, FitsAt, Carries, size_same}
+use Facade.{elements_fit, ItemBelow, same_number_is, here, Aligns, FitsCell, AllByRecursion, highest, ◌≤ℤ◌, presence, Cell, cells_from, slots_from}
+use Facade.{is_steady_in, is_num, position_from, same_place, carry_next, carry_from, entries_left, field_size, FieldsBelow, desc_cells, AllZip}
 use Rattle.vms_check_laws.proofs.PairLists.{when_there, defaults_size, Settled, settled_defaults, settled_empty, settled_append, same_defaults, if_least}
-use Rattle.vms_check_laws.proofs.Premises.{olds, news, older, newer, kinds_same, slots_at, entries_slots, known_there, Pairs, decoded, CoveredBy, Matched}
-use Rattle.vms_check_laws.proofs.Premises.{Sides, CountFits, CountNamed, OldGood, NewGood, OldFields, NewFields, Reads, covered_slots, Met, PairGood, GoodCells}
-use Rattle.vms_check_laws.proofs.Premises.{FitCells, fit_append, fit_defaults}
-use Rattle.vms_check_laws.proofs.Presence.{covers_unused, filler_length, at_or_later, Agree, same_there, presence_named, there_here, not_covered, steady}
-use Rattle.vms_check_laws.proofs.Presence.{steady_rest, rest_none, one_number, Steady, holds_left, holds_right, holds_at, fits_left, fits_right, fits_at}
+use Rattle.vms_check_laws.proofs.Premises
+use Premises.{olds, news, older, newer, kinds_same, slots_at, entries_slots, known_there, Pairs, decoded, CoveredBy, Matched, Sides, CountFits, CountNamed}
+use Premises.{OldGood, NewGood, OldFields, NewFields, Reads, covered_slots, Met, PairGood, GoodCells, FitCells, fit_append, fit_defaults}
 
 -- what the older number fits, the newer's cell does
 abbrev pub Follows : (i j : Item) → (caps caps' : List ℕ) → Type 0

@@ -7,8 +7,7 @@ use Rattle.vms_check_laws.proofs.Facade.{own_slots, own_cells, came_slots, sub_s
 use Rattle.vms_check_laws.proofs.Facade.{sub_place_up, part_apart, defaults_at, defaults_long, device_parts, sub_clean, sub_found, carrying, carried_sub}
 use Rattle.vms_check_laws.proofs.Facade.{carried_device, IsCarried, IsAtVersions, part_partners, named_partners}
 use Rattle.vms_check_laws.proofs.PairDevices.{Found, look_up, Comes, comes, has_part, one_part, device_paired, sized, rest_paired, in_one, sub_top, StandsIn}
-use Rattle.vms_check_laws.proofs.PairDevices.{all_long, at_place}
-use Rattle.vms_check_laws.proofs.PairDevices.{number_at, stands_in}
+use Rattle.vms_check_laws.proofs.PairDevices.{all_long, at_place, number_at, stands_in}
 use Rattle.vms_check_laws.proofs.PairLists.{goes_append, IsWithin, Goes, at_none}
 
 module _ (old new : Set) (good_old : WellFormed old) (good_new : WellFormed new) (i i' : ℕ) (d e : Device) (at_i : slice_get old.devices i ≡ Some d)

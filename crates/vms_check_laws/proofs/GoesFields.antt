@@ -1,20 +1,18 @@
 -- What is carried of a description, cell by cell, and of structures, each by the earlier ones.
 use Rattle.vms_check_laws.proofs.{Parts.carrier_at, Counts.item_further, Premises.by_less, Premises.kinds_same, Premises.fields_below}
-use Rattle.vms_check_laws.proofs.Facade.{◌≡◌, inl, inr, ℕ, zero, suc, ◌+◌, ◌*◌, ◌<◌, ◌≤◌, Bool, true, false, List, ◌∷◌}
-use Rattle.vms_check_laws.proofs.Facade.{◌++◌, length, get_or, replicate, Option, Some, None, ℤ, pos, refl, sym, ap, ◌∙◌, arith}
-use Rattle.vms_check_laws.proofs.Facade.{if◌then◌else◌, slice_get, cases_lt, eq-eqb, or-false, [], Kind, Item, Num, Struct, Formula, Field, Desc}
-use Rattle.vms_check_laws.proofs.Facade.{is_there, Cell, no_cell, Slot, Number, Rule, Meaning, no_meaning, no_parent, times, counted, capacity_of, item_cells}
-use Rattle.vms_check_laws.proofs.Facade.{item_size, field_cells, cells_from, desc_cells, elements_of, item_slots, field_slots, slots_from, desc_slots}
-use Rattle.vms_check_laws.proofs.Facade.{numbers_of, has_cell, size_same, field_size, elements_fit, ItemBelow, FieldsBelow, AreCells, MeanAbove, IsAbove}
-use Rattle.vms_check_laws.proofs.Facade.{item_above, field_above, MeanCells, item_are, field_are, named_inside, skip_long, stands_behind, names_append}
-use Rattle.vms_check_laws.proofs.Facade.{cells_in, presence, Entry, entry_of, present_from, same_kind, Carrier, no_carrier, defaults, carry_item, carry_items}
-use Rattle.vms_check_laws.proofs.Facade.{carry_next, carry_from, carry_desc, default_field, entries_left, Pairer, no_pairer, unpaired, item_partners}
-use Rattle.vms_check_laws.proofs.Facade.{array_partners, field_partners, fields_left, partners_from, desc_partners, Set, no_desc, meanings, struct_cells}
-use Rattle.vms_check_laws.proofs.Facade.{WellFormed, first_at, struct_slots, struct_cells_at, meanings_above, meanings_are, cells_first, carriers, carrying}
-use Rattle.vms_check_laws.proofs.Facade.{pairer_of, pairers, part_partners, within, get_or_past, slice_get-get_or, desc_cells_same, first_same, item_below}
-use Rattle.vms_check_laws.proofs.Facade.{first_long, Clean, struct_clean, first, carrier_of}
-use Rattle.vms_check_laws.proofs.PairLists.{paired_append, same_defaults, defaults_append, paired_none, one_cell, Goes, IsWithin, goes_absent}
-use Rattle.vms_check_laws.proofs.PairLists.{goes_alone, goes_append}
+use Rattle.vms_check_laws.proofs.Facade
+use Facade.{◌≡◌, inl, inr, ℕ, zero, suc, ◌+◌, ◌*◌, ◌<◌, ◌≤◌, Bool, true, false, List, ◌∷◌, ◌++◌, length, get_or, replicate}
+use Facade.{Option, Some, None, ℤ, pos, refl, sym, ap, ◌∙◌, arith, if◌then◌else◌, slice_get, cases_lt, eq-eqb, or-false, [], Kind, Item, Num}
+use Facade.{Struct, Formula, Field, Desc, is_there, Cell, no_cell, Slot, Number, Rule, Meaning, no_meaning, no_parent, times, counted, capacity_of, item_cells}
+use Facade.{item_size, field_cells, cells_from, desc_cells, elements_of, item_slots, field_slots, slots_from, desc_slots, numbers_of, has_cell, size_same}
+use Facade.{field_size, elements_fit, ItemBelow, FieldsBelow, AreCells, MeanAbove, IsAbove, item_above, field_above, MeanCells, item_are, field_are}
+use Facade.{named_inside, skip_long, stands_behind, names_append, cells_in, presence, Entry, entry_of, present_from, same_kind, Carrier, no_carrier, defaults}
+use Facade.{carry_item, carry_items, carry_next, carry_from, carry_desc, default_field, entries_left, Pairer, no_pairer, unpaired, item_partners}
+use Facade.{array_partners, field_partners, fields_left, partners_from, desc_partners, Set, no_desc, meanings, struct_cells, WellFormed, first_at, struct_slots}
+use Facade.{struct_cells_at, meanings_above, meanings_are, cells_first, carriers, carrying, pairer_of, pairers, part_partners, within, get_or_past}
+use Facade.{slice_get-get_or, desc_cells_same, first_same, item_below, first_long, Clean, struct_clean, first, carrier_of}
+use Rattle.vms_check_laws.proofs.PairLists
+use PairLists.{paired_append, same_defaults, defaults_append, paired_none, one_cell, Goes, IsWithin, goes_absent, goes_alone, goes_append}
 
 -- ---- slots are within their cells
 

@@ -1,11 +1,10 @@
 -- The subsections of a device, and the partners of its cells.
-use Rattle.vms_check_laws.proofs.Facade.{places_apart, IsCellOf, ◌≡◌, ◌⊎◌, inl, inr, ℕ, zero, suc, ◌+◌, ◌<◌, ◌≤◌, true, List}
-use Rattle.vms_check_laws.proofs.Facade.{◌∷◌, length, get_or, Option, Some, None, ℤ, refl, sym, ◌∙◌, arith, flat_map, sub_is, Image, carried_sub}
-use Rattle.vms_check_laws.proofs.Facade.{carrying, defaults, sub_came, index, slice_get, length-append, bytes_eq-Decides, cases_lt, [], slice_get-get_or, Sub}
-use Rattle.vms_check_laws.proofs.Facade.{Device, Set, Cell, desc_cells, device_cells, struct_cells, has_cell, own_cells, came_slots, sub_slots, sub_place}
-use Rattle.vms_check_laws.proofs.Facade.{find_sub, names_append, sub_size, ◌*◌, ap, length-replicate, WellFormed, part_partners, no_cell, sub_place_up}
-use Rattle.vms_check_laws.proofs.Facade.{device_parts, sub_clean, sub_found, ArePartners, named_partners, device_partners, get_or_from_slice_get, cells_of_sub}
-use Rattle.vms_check_laws.proofs.Facade.{◌-◌, or_cases}
+use Rattle.vms_check_laws.proofs.Facade
+use Facade.{places_apart, IsCellOf, ◌≡◌, ◌⊎◌, inl, inr, ℕ, zero, suc, ◌+◌, ◌<◌, ◌≤◌, true, List, ◌∷◌, length, get_or, Option}
+use Facade.{Some, None, ℤ, refl, sym, ◌∙◌, arith, flat_map, sub_is, Image, carried_sub, carrying, defaults, sub_came, index, slice_get, length-append}
+use Facade.{bytes_eq-Decides, cases_lt, [], slice_get-get_or, Sub, Device, Set, Cell, desc_cells, device_cells, struct_cells, has_cell, own_cells, came_slots}
+use Facade.{sub_slots, sub_place, find_sub, names_append, sub_size, ◌*◌, ap, length-replicate, WellFormed, part_partners, no_cell, sub_place_up}
+use Facade.{device_parts, sub_clean, sub_found, ArePartners, named_partners, device_partners, get_or_from_slice_get, cells_of_sub, ◌-◌, or_cases}
 use Rattle.vms_check_laws.proofs.GoesFields.{part_goes, below_of}
 use Rattle.vms_check_laws.proofs.PairLists.{IsBehind, at_left, at_right, before_or_behind, behind_at, AreFrom, at_none, IsOnce, IsPair, paired_append}
 

@@ -1,9 +1,9 @@
 -- Partners of cells among the cells from a place on; numbers that are in the bytes, or at their defaults.
-use Rattle.vms_check_laws.proofs.Facade.{◌≡◌, ◌⊎◌, inl, inr, ℕ, zero, suc, ◌+◌, ◌-◌, ◌<◌, ◌≤◌, List, ◌∷◌, ◌++◌}
-use Rattle.vms_check_laws.proofs.Facade.{length, get_or, replicate, Option, Some, None, refl, sym, ◌∙◌, arith, slice_get, get_or_append_left}
-use Rattle.vms_check_laws.proofs.Facade.{get_or-append-add, length-replicate, cases_lt, ℤ, pos, true, length-append, length-map, Bool, if◌then◌else◌}
-use Rattle.vms_check_laws.proofs.Facade.{[], false, or-false, or_parts, false_from_ne_true, slice_get_within, Cell, no_cell, Kind, Item, Slot, item_cells}
-use Rattle.vms_check_laws.proofs.Facade.{has_cell, has_left, has_right, defaults, names_append, defaults_at, defaults_long, either_of}
+use Rattle.vms_check_laws.proofs.Facade
+use Facade.{◌≡◌, ◌⊎◌, inl, inr, ℕ, zero, suc, ◌+◌, ◌-◌, ◌<◌, ◌≤◌, List, ◌∷◌, ◌++◌, length, get_or, replicate, Option}
+use Facade.{Some, None, refl, sym, ◌∙◌, arith, slice_get, get_or_append_left, get_or-append-add, length-replicate, cases_lt, ℤ, pos, true}
+use Facade.{length-append, length-map, Bool, if◌then◌else◌, [], false, or-false, or_parts, false_from_ne_true, slice_get_within, Cell, no_cell, Kind}
+use Facade.{Item, Slot, item_cells, has_cell, has_left, has_right, defaults, names_append, defaults_at, defaults_long, either_of}
 
 abbrev pub one_cell : Kind → List ℕ → ℤ → List Cell
 one_cell kind caps default = record { kind = kind; capacities = caps; default = default } ∷ []

@@ -2,13 +2,13 @@
 use Rattle.vms_check_laws.proofs.{Presence.holds_left, Presence.holds_right, AlignedDescs.Clashes, AlignedDescs.front_aligns}
 use Rattle.vms_check_laws.proofs.Counts.{old_fields, StructsGood, plains_further, DescGood, structs_good, device_good, sub_good}
 use Rattle.vms_check_laws.proofs.Descriptions.{desc_meets, sides, desc_clashes, first_state, good_fields}
-use Rattle.vms_check_laws.proofs.Facade.{◌≡◌, ℕ, ◌<◌, ◌≤◌, List, length, get_or, None, sym, ap, ◌∙◌, arith, ℤ, [], ◌⊎◌, inl}
-use Rattle.vms_check_laws.proofs.Facade.{inr, zero, suc, ◌+◌, ◌∷◌, map, Option, Some, refl, flat_map, slice_get, cells_in, Desc, no_desc, Cell}
-use Rattle.vms_check_laws.proofs.Facade.{Meaning, meanings, desc_cells, first_long, struct_slots, struct_cells_at, Comparer, no_comparer, comparer_of}
-use Rattle.vms_check_laws.proofs.Facade.{comparers, Carrier, no_carrier, carrier_of, carriers, FitsAt, first_at, Part, Set, struct_cells, desc_slots}
-use Rattle.vms_check_laws.proofs.Facade.{WellFormed, comparing, carrying, cells_first, Holds, Sub, Device, Image, IsVersionOf, AreVersionsOf, RulesHold}
-use Rattle.vms_check_laws.proofs.Facade.{sub_slots, sub_place, came_slots, carried_sub, defaults, rules_append, ◌++◌, Spells, zeroed, own_slots, present}
-use Rattle.vms_check_laws.proofs.Facade.{position_from, is_earlier_in, Field, numbers_of, Entry, IsPartOf, IsRead, FrontAligns}
+use Rattle.vms_check_laws.proofs.Facade
+use Facade.{◌≡◌, ℕ, ◌<◌, ◌≤◌, List, length, get_or, None, sym, ap, ◌∙◌, arith, ℤ, [], ◌⊎◌, inl, inr, zero, suc, ◌+◌}
+use Facade.{◌∷◌, map, Option, Some, refl, flat_map, slice_get, cells_in, Desc, no_desc, Cell, Meaning, meanings, desc_cells, first_long, struct_slots}
+use Facade.{struct_cells_at, Comparer, no_comparer, comparer_of, comparers, Carrier, no_carrier, carrier_of, carriers, FitsAt, first_at, Part, Set}
+use Facade.{struct_cells, desc_slots, WellFormed, comparing, carrying, cells_first, Holds, Sub, Device, Image, IsVersionOf, AreVersionsOf, RulesHold, sub_slots}
+use Facade.{sub_place, came_slots, carried_sub, defaults, rules_append, ◌++◌, Spells, zeroed, own_slots, present, position_from, is_earlier_in, Field}
+use Facade.{numbers_of, Entry, IsPartOf, IsRead, FrontAligns}
 use Rattle.vms_check_laws.proofs.FieldsRead.{fields_sized, pair_meets}
 use Rattle.vms_check_laws.proofs.PairLists.{Settled, settled_defaults, settled_append, settled_empty}
 use Rattle.vms_check_laws.proofs.Premises.{Table, by_less, Meets, fields_below, Reads, GoodCells, FitCells, fit_append, fit_defaults, fit_length, IsKnown}

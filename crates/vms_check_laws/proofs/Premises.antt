@@ -1,14 +1,14 @@
 -- What is known of fields and structures on both sides: present fields paired by position, numbers that fit cells, and premises.
 use Rattle.vms_check_laws.proofs.{Presence.from_zero, PairLists.Settled}
-use Rattle.vms_check_laws.proofs.Facade.{AllZip-long, ◌≡◌, ◌⊎◌, inl, inr, ℕ, Bool, true, List, ◌∷◌, Option, None, and_parts, [], zero, suc}
-use Rattle.vms_check_laws.proofs.Facade.{◌+◌, ◌<◌, ◌++◌, length, get_or, refl, arith, ℤ, pos, ◌≤◌, Some, slice_get, eqb-true, ◌∙◌}
-use Rattle.vms_check_laws.proofs.Facade.{get_or_from_slice_get, Item, Desc, counted, in_field, Part, Entry, same_rest, same_count, same_item, same_constant}
-use Rattle.vms_check_laws.proofs.Facade.{is_covered, holds_as_much, absent_hold, bound, Comparer, failing_pair, pair_rules, pair_structs, compare_fields}
-use Rattle.vms_check_laws.proofs.Facade.{passes, ItemBelow, or_else_none, uncovered_rules, Cell, no_cell, times, defaults, FitsCell, cells_in, Equal, Unused}
-use Rattle.vms_check_laws.proofs.Facade.{Count, Counted, Formula, Field, Meaning, no_meaning, names_well, nobody, is_one, no_comparer, Carrier, no_carrier}
-use Rattle.vms_check_laws.proofs.Facade.{Holds, FitsAt, Carries, Aligns, FieldsBelow, Slot, is_earlier_in, Num, Filler, Fixed, Kind, One, cells_from}
-use Rattle.vms_check_laws.proofs.Facade.{elements_of, entry_of, field_cells, here, is_there, item_slots, kind_of, presence, present_from, residue, same_kind}
-use Rattle.vms_check_laws.proofs.Facade.{slots_from, width, zeroed, no_field, field_slots, numbers_of, place_of, AllByRecursion, AllZip, flat_map}
+use Rattle.vms_check_laws.proofs.Facade
+use Facade.{AllZip-long, ◌≡◌, ◌⊎◌, inl, inr, ℕ, Bool, true, List, ◌∷◌, Option, None, and_parts, [], zero, suc, ◌+◌, ◌<◌, ◌++◌}
+use Facade.{length, get_or, refl, arith, ℤ, pos, ◌≤◌, Some, slice_get, eqb-true, ◌∙◌, get_or_from_slice_get, Item, Desc, counted, in_field, Part}
+use Facade.{Entry, same_rest, same_count, same_item, same_constant, is_covered, holds_as_much, absent_hold, bound, Comparer, failing_pair, pair_rules}
+use Facade.{pair_structs, compare_fields, passes, ItemBelow, or_else_none, uncovered_rules, Cell, no_cell, times, defaults, FitsCell, cells_in, Equal, Unused}
+use Facade.{Count, Counted, Formula, Field, Meaning, no_meaning, names_well, nobody, is_one, no_comparer, Carrier, no_carrier, Holds, FitsAt, Carries, Aligns}
+use Facade.{FieldsBelow, Slot, is_earlier_in, Num, Filler, Fixed, Kind, One, cells_from, elements_of, entry_of, field_cells, here, is_there, item_slots}
+use Facade.{kind_of, presence, present_from, residue, same_kind, slots_from, width, zeroed, no_field, field_slots, numbers_of, place_of, AllByRecursion, AllZip}
+use Facade.{flat_map}
 use Rattle.vms_check_laws.proofs.Presence.{if_is, NamedRest, constant_length, numbers_length, presence_there, fits_at, fits_left, fits_right, one_on, at_first}
 use Rattle.vms_spec.specs.Images.{FitCells as AreFit}
 use Rattle.vms_kinds.specs.contracts.Kind.{the_type as kind_type}

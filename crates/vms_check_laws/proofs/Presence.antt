@@ -1,14 +1,13 @@
 -- Where fields are: whether they are there, at which position, and which numbers and slots they
 -- have.
-use Rattle.vms_check_laws.proofs.Facade.{◌≡◌, ◌⊎◌, inl, inr, ℕ, suc, ◌+◌, ◌<◌, ◌≤◌, Bool, true, false, ◌==◌, List, ◌∷◌}
-use Rattle.vms_check_laws.proofs.Facade.{◌++◌, length, Option, Some, None, refl, sym, ap, arith, if◌then◌else◌, eqb-true, eq-eqb, [], Formula, Field}
-use Rattle.vms_check_laws.proofs.Facade.{Cell, field_cells, Entry, entry_of, present_from, position_from, same_place, and_parts, and_from, zero, ◌*◌}
-use Rattle.vms_check_laws.proofs.Facade.{get_or, ℤ, pos, length-append, length-replicate, truth, is_there, Reduced, reduced, left_of, presence, truth_of}
-use Rattle.vms_check_laws.proofs.Facade.{reduced_holds, Own, Not, And, Or, names_well, nobody, same_test, same_rest, same_reduced, IfOpen, open_reduced, Kind}
-use Rattle.vms_check_laws.proofs.Facade.{Item, Unused, width, Count, Number, Constant, times, zeroed, is_steady, is_num, is_one, has_no_test, length-code}
-use Rattle.vms_check_laws.proofs.Facade.{is_covered, Holds, Filler, ◌∙◌, append_assoc, get_or_append_left, get_or-append-add, append-nil, slice_get}
-use Rattle.vms_check_laws.proofs.Facade.{no_cell, Slot, Rule, FitsAt, Carries, rules_append, spells_append, code, Spells, Aligns, rules_split, drop-append_seam}
-use Rattle.vms_check_laws.proofs.Facade.{take-append_seam}
+use Rattle.vms_check_laws.proofs.Facade
+use Facade.{◌≡◌, ◌⊎◌, inl, inr, ℕ, suc, ◌+◌, ◌<◌, ◌≤◌, Bool, true, false, ◌==◌, List, ◌∷◌, ◌++◌, length, Option, Some}
+use Facade.{None, refl, sym, ap, arith, if◌then◌else◌, eqb-true, eq-eqb, [], Formula, Field, Cell, field_cells, Entry, entry_of, present_from}
+use Facade.{position_from, same_place, and_parts, and_from, zero, ◌*◌, get_or, ℤ, pos, length-append, length-replicate, truth, is_there, Reduced, reduced}
+use Facade.{left_of, presence, truth_of, reduced_holds, Own, Not, And, Or, names_well, nobody, same_test, same_rest, same_reduced, IfOpen, open_reduced, Kind}
+use Facade.{Item, Unused, width, Count, Number, Constant, times, zeroed, is_steady, is_num, is_one, has_no_test, length-code, is_covered, Holds, Filler}
+use Facade.{◌∙◌, append_assoc, get_or_append_left, get_or-append-add, append-nil, slice_get, no_cell, Slot, Rule, FitsAt, Carries, rules_append}
+use Facade.{spells_append, code, Spells, Aligns, rules_split, drop-append_seam, take-append_seam}
 use Rattle.vms_spec.specs.contracts.Rel.{the_type as rel_type}
 use denote.Enum.Bare.{same_true}
 use Rattle.vms_spec.specs.Sets as sets

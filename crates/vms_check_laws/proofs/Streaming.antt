@@ -1,13 +1,12 @@
 -- What the older set writes is a stream of the newer, with the carried images: each device's section is one of the newer set's, and the
 -- order takes each device once.
-use Rattle.vms_check_laws.proofs.Facade.{found_is, option_and_then, ◌≡◌, ℕ, suc, ◌+◌, Bool, true, false, List, ◌∷◌, Option, Some, None, refl}
-use Rattle.vms_check_laws.proofs.Facade.{◌∙◌, arith, slice_get, bytes_eq-Decides, ◌≤◌, length, map, get_or, list_all, IfSome, length-map, ap, []}
-use Rattle.vms_check_laws.proofs.Facade.{sym, first_answer, Device, Set, find_device, index, WellFormed, here, Mismatch, failing_pair, compare_device}
-use Rattle.vms_check_laws.proofs.Facade.{paired_device, is_found, is_in, passes, device_found, Image, HasSection, SectionsSpell, IsReady, EachOnce, is_one_of}
-use Rattle.vms_check_laws.proofs.Facade.{written_section, written_sections, is_version_of, Compatible, first_mismatch, comparing, compare_subs, carried}
-use Rattle.vms_check_laws.proofs.Facade.{carried_device, carried_at, no_image, ArePaired, DeviceLaw, or_else_none, IsStream, IsConfiguration, configuration}
-use Rattle.vms_check_laws.proofs.Facade.{trailer, optional, longest_text, written, AreReady, every_one, machine_short, few_devices, UpgradeLaw, trailed}
-use Rattle.vms_check_laws.proofs.Facade.{answers_none}
+use Rattle.vms_check_laws.proofs.Facade
+use Facade.{found_is, option_and_then, ◌≡◌, ℕ, suc, ◌+◌, Bool, true, false, List, ◌∷◌, Option, Some, None, refl, ◌∙◌, arith, slice_get}
+use Facade.{bytes_eq-Decides, ◌≤◌, length, map, get_or, list_all, IfSome, length-map, ap, [], sym, first_answer, Device, Set, find_device, index}
+use Facade.{WellFormed, here, Mismatch, failing_pair, compare_device, paired_device, is_found, is_in, passes, device_found, Image, HasSection, SectionsSpell}
+use Facade.{IsReady, EachOnce, is_one_of, written_section, written_sections, is_version_of, Compatible, first_mismatch, comparing, compare_subs, carried}
+use Facade.{carried_device, carried_at, no_image, ArePaired, DeviceLaw, or_else_none, IsStream, IsConfiguration, configuration, trailer, optional, longest_text}
+use Facade.{written, AreReady, every_one, machine_short, few_devices, UpgradeLaw, trailed, answers_none}
 use Rattle.vms_check_laws.proofs.Presence.{RestAt, at_first, one_on, from_zero}
 use Rattle.vms_check_laws.proofs.Wholes.{saved, Among, section_whole, at_map, from_map, Rises, takes_each, all_came}
 use Rattle.vms_spec.specs.declared.Part.TheVariants as parts

@@ -2,14 +2,14 @@
 -- one, and none twice, takes each once.
 use Rattle.vms_check_laws.proofs.{PairDevices.Found, PairDevices.look_up, PairDevices.comes, PairLists.Settled, PairLists.settled_append, Counts.device_good}
 use Rattle.vms_check_laws.proofs.Counts.{sub_good}
-use Rattle.vms_check_laws.proofs.Facade.{◌≡◌, ◌⊎◌, inl, inr, ℕ, zero, suc, Bool, true, false, cases_eq, slice_get-map, List, ◌∷◌, slice_set}
-use Rattle.vms_check_laws.proofs.Facade.{Option, Some, None, refl, sym, ap, ◌∙◌, slice_get, [], ◌+◌, ◌<◌, ◌++◌, length, map, arith, ℤ}
-use Rattle.vms_check_laws.proofs.Facade.{flat_map, slice_get_within, AreAll, ComesOnce, AllCame, at_other, Part, first_answer, Sub, Device, Set, struct_cells}
-use Rattle.vms_check_laws.proofs.Facade.{desc_cells, device_cells, Image, zeroed, own_slots, own_cells, sub_slots, sub_place, came_slots, IsSection, SubSpells}
-use Rattle.vms_check_laws.proofs.Facade.{SubsSpell, sub_head, written_subs, written_section, find_sub, index, is_version_of, WellFormed, comparing}
-use Rattle.vms_check_laws.proofs.Facade.{compare_subs, carrying, carried_sub, carried_device, defaults, sub_came, sub_found, defaults_at, version_decides}
-use Rattle.vms_check_laws.proofs.Facade.{rules_append, IsSaved, Holds, FitsAt, answers_none, at_set, rules_split, sub_size, ◌≤◌, option_and_then, Cell}
-use Rattle.vms_check_laws.proofs.Facade.{FitCells, RulesHold, IsReady, ComeAsNeeded, or_else_none, part_apart, cells_of_sub}
+use Rattle.vms_check_laws.proofs.Facade
+use Facade.{◌≡◌, ◌⊎◌, inl, inr, ℕ, zero, suc, Bool, true, false, cases_eq, slice_get-map, List, ◌∷◌, slice_set, Option, Some, None, refl}
+use Facade.{sym, ap, ◌∙◌, slice_get, [], ◌+◌, ◌<◌, ◌++◌, length, map, arith, ℤ, flat_map, slice_get_within, AreAll, ComesOnce, AllCame}
+use Facade.{at_other, Part, first_answer, Sub, Device, Set, struct_cells, desc_cells, device_cells, Image, zeroed, own_slots, own_cells, sub_slots, sub_place}
+use Facade.{came_slots, IsSection, SubSpells, SubsSpell, sub_head, written_subs, written_section, find_sub, index, is_version_of, WellFormed, comparing}
+use Facade.{compare_subs, carrying, carried_sub, carried_device, defaults, sub_came, sub_found, defaults_at, version_decides, rules_append, IsSaved, Holds}
+use Facade.{FitsAt, answers_none, at_set, rules_split, sub_size, ◌≤◌, option_and_then, Cell, FitCells, RulesHold, IsReady, ComeAsNeeded, or_else_none}
+use Facade.{part_apart, cells_of_sub}
 use Rattle.vms_check_laws.proofs.Parts.{Came, Facts, subs_fit, subs_read, sub_held, part_meets, sub_reads, good_cells, Stayed}
 use Rattle.vms_check_laws.proofs.Premises.{fit_append, fit_length, are_fit}
 use Rattle.vms_check_laws.proofs.Presence.{holds_left, holds_right, holds_at, fits_left, RestAt, at_first, one_on, from_zero, fits_right, fits_at}

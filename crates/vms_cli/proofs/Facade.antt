@@ -45,9 +45,9 @@ pub use Rattle.vms_cli.specs.Commands.{save_of, save_on, task_of, with_file, Pla
 pub use Rattle.vms_cli.specs.Commands.AnalyzeCommand.{EndsLike, FailsReading, FailsWriting, GivesListed, IsListing, IsRefused, analyze_course, analyze_entry}
 pub use Rattle.vms_cli.specs.Commands.AnalyzeCommand.{bytes_taken, listing_outcome, unlisted_line}
 pub use Rattle.vms_cli.specs.Commands.CheckCommand.{AreCompatible, asks_shelf, check_entry, checked, compared, compatible_text, verdict}
-pub use Rattle.vms_cli.specs.Commands.ConvertCommand.{CanBeConverted, ConvertGives, Converts, ConvertsBy, ConvertsStream, ConvertsWell, ConvertsWith, IsDone}
-pub use Rattle.vms_cli.specs.Commands.ConvertCommand.{IsInNewest, IsLost, IsMismatch, LacksLine, LacksMemory, NamesCell, Rewrites, WouldLose, agreed, agrees}
-pub use Rattle.vms_cli.specs.Commands.ConvertCommand.{convert_course, convert_entry, lost_line, newest, target}
+use Rattle.vms_cli.specs.Commands.ConvertCommand
+pub use ConvertCommand.{CanBeConverted, ConvertGives, Converts, ConvertsBy, ConvertsStream, ConvertsWell, ConvertsWith, IsDone, IsInNewest, IsLost, IsMismatch}
+pub use ConvertCommand.{LacksLine, LacksMemory, NamesCell, Rewrites, WouldLose, agreed, agrees, convert_course, convert_entry, lost_line, newest, target}
 pub use Rattle.vms_cli.specs.Commands.CounterCommand.{Answers, CountersBy, counted, counter_entry, counter_text, no_state}
 pub use Rattle.vms_cli.specs.Commands.PackCommand.{packed, packed_by, packed_parts, packs, parts_of, with_values, CanBePacked, Parts, described_stream}
 pub use Rattle.vms_cli.specs.Commands.SaveCommand.{save_entry, saved_on}

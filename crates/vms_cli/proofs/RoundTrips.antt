@@ -1,19 +1,18 @@
 -- One command after the other: what was written is read again.
 use Rattle.vms_cli.proofs.{RowLemmas.fits_of, Entries.words_ask, RowLemmas.next_gives, RowLemmas.caused_so, RowLemmas.row_so, TextCommands.verdict_so, StreamCommands.pack_gives}
-use Rattle.vms_cli.proofs.Facade.{fetched, named_parts, scripted, HasBy, ℕ, List, length, Option, None, Some, subst, ◌≡◌, [], append-nil, refl, ap}
-use Rattle.vms_cli.proofs.Facade.{◌∙◌, IfSome, Family, LoadsBy, Traces, stream_with, BoardsGoOn, Outcome, Outside, DoesOrStops, Step, Gives, Both, both}
-use Rattle.vms_cli.proofs.Facade.{next, ScriptLine, events_of, HasOutcome, Asked, BoardOf, Load, Show, asked_of, Continuation, ContinuesBy, goes_on, Held}
-use Rattle.vms_cli.proofs.Facade.{HoldsAll, Image, Set, written, WellFormed, Compatible, carried, Takes, upgrade_stands, named_sets, set_in, sets_in, word_set}
-use Rattle.vms_cli.proofs.Facade.{SetWord, FitStep, fit_word, AreCompatible, CheckThenShowLaw, ShowsBy, IsWritten, Upgrade, UpgradesTo, shown_newer, Intake}
-use Rattle.vms_cli.proofs.Facade.{Outlet, Stock, Serves, Ending, Tells, around, outcome_so, Runs, moment, task_of, machine_known, Answers, AlwaysNamedLaw}
-use Rattle.vms_cli.proofs.Facade.{Prints, RefusesSo, StateLaw, ◌≤◌, Bool, true, if◌then◌else◌, ◌∷◌, sym, arith, ◌-◌, ℤ, ◌++◌}
-use Rattle.vms_cli.proofs.Facade.{LONGEST_TEXT, AreReady, is_one_of, configuration, end_mark, optional, stream_head, trailer, written_sections, values_text}
-use Rattle.vms_cli.proofs.Facade.{ValuesRead, Values, Bad, values_read, IsFit, IsMachineOf, accepted_holds, written_only, printed_holds, described_text}
-use Rattle.vms_cli.proofs.Facade.{short_holds, Listing, Text, Lists, IsTooLong, HasNone, HasNoShape, IsRead, longest_input, fetched_set, longest_file, Part}
-use Rattle.vms_cli.proofs.Facade.{done, ended, Untold, Ends, HasText, fetched_gives, IsListing, PackThenAnalyzeLaw, ShowThenAnalyzeLaw, PrintsAlike}
-use Rattle.vms_cli.proofs.Facade.{SaveThenAnalyzeLaw, PackThenShowLaw, ShowThenPackLaw, CanBeAsked, described_stream, packed_by, packed_parts, packs}
-use Rattle.vms_cli.proofs.Facade.{with_values, Shows, Refuses, ReachesSet, AreEvents, Event, IsNumber, images_saved, saved_stream, scripted_lines, saved_after}
-use Rattle.vms_cli.proofs.Facade.{after_events, after_number, lines_are_events, Fault, further_holds, Mismatch, Counters, Finds, always_holds, named_holds}
+use Rattle.vms_cli.proofs.Facade
+use Facade.{fetched, named_parts, scripted, HasBy, ℕ, List, length, Option, None, Some, subst, ◌≡◌, [], append-nil, refl, ap, ◌∙◌, IfSome, Family}
+use Facade.{LoadsBy, Traces, stream_with, BoardsGoOn, Outcome, Outside, DoesOrStops, Step, Gives, Both, both, next, ScriptLine, events_of, HasOutcome, Asked}
+use Facade.{BoardOf, Load, Show, asked_of, Continuation, ContinuesBy, goes_on, Held, HoldsAll, Image, Set, written, WellFormed, Compatible, carried, Takes}
+use Facade.{upgrade_stands, named_sets, set_in, sets_in, word_set, SetWord, FitStep, fit_word, AreCompatible, CheckThenShowLaw, ShowsBy, IsWritten, Upgrade}
+use Facade.{UpgradesTo, shown_newer, Intake, Outlet, Stock, Serves, Ending, Tells, around, outcome_so, Runs, moment, task_of, machine_known, Answers}
+use Facade.{AlwaysNamedLaw, Prints, RefusesSo, StateLaw, ◌≤◌, Bool, true, if◌then◌else◌, ◌∷◌, sym, arith, ◌-◌, ℤ, ◌++◌}
+use Facade.{LONGEST_TEXT, AreReady, is_one_of, configuration, end_mark, optional, stream_head, trailer, written_sections, values_text, ValuesRead, Values, Bad}
+use Facade.{values_read, IsFit, IsMachineOf, accepted_holds, written_only, printed_holds, described_text, short_holds, Listing, Text, Lists, IsTooLong, HasNone}
+use Facade.{HasNoShape, IsRead, longest_input, fetched_set, longest_file, Part, done, ended, Untold, Ends, HasText, fetched_gives, IsListing}
+use Facade.{PackThenAnalyzeLaw, ShowThenAnalyzeLaw, PrintsAlike, SaveThenAnalyzeLaw, PackThenShowLaw, ShowThenPackLaw, CanBeAsked, described_stream, packed_by}
+use Facade.{packed_parts, packs, with_values, Shows, Refuses, ReachesSet, AreEvents, Event, IsNumber, images_saved, saved_stream, scripted_lines, saved_after}
+use Facade.{after_events, after_number, lines_are_events, Fault, further_holds, Mismatch, Counters, Finds, always_holds, named_holds}
 use Rattle.vms_cli.proofs.KindLaws.{goes_on_of, numbers_of, sound_of, stands_of}
 use Rattle.vms_cli.specs.{Answers.Answers as CallAnswers, Commands.ShowCommand.Values as Printed}
 use Rattle.vms_analyze.proofs.Shown.{shown_holds as shown_listing}

@@ -1,17 +1,16 @@
 -- The commands that write a stream: `pack` and `convert`.
-use Rattle.vms_cli.proofs.Facade.{◌≡◌, ℕ, ◌<◌, List, length, map, Option, Some, None, Ok, refl, arith, [], ForSome, slice_get-get_or, Held, Outlet}
-use Rattle.vms_cli.proofs.Facade.{at_option, Set, AreReady, IsFit, ValuesRead, Values, Bad, values_read, state_of, machine_of, ReadsAs, accepted_holds, Ending}
-use Rattle.vms_cli.proofs.Facade.{fetched, longest_file, word_set, SetWord, TextEnds, WrittenAs, Step, Gives, next, IsSound, sound_fetch, sound_next, sound_set}
-use Rattle.vms_cli.proofs.Facade.{sound_word, described_stream, packed, packs, sees_as, ConvertGives, ConvertsBy, agrees, newest, Err, ◌+◌, ap, Intake}
-use Rattle.vms_cli.proofs.Facade.{Stock, Outcome, StepAs, Both, both, Untold, Ends, HasBy, first_err, then_as, SeenAs, WithGiven, kept_so, wrote_so, draws_none}
-use Rattle.vms_cli.proofs.Facade.{draws_took, ◌⊎◌, zero, suc, ◌∷◌, get_or, ℤ, inl, inr, sym, ◌∙◌, ◌^◌, Bool, false, Result, IfSome}
-use Rattle.vms_cli.proofs.Facade.{length-map, string_bytes, Image, device_cells, written, device_at, AreKept, described_text, carried, Compatible}
-use Rattle.vms_cli.proofs.Facade.{first_mismatch, IsStreamFor, LosesFirst, AreBack, recast_each, KeepsAll, Loses, OfCell, OfDevice, OfMachine, first_cell}
-use Rattle.vms_cli.proofs.Facade.{numbers_in, answered, same_backs, one_lost, newest_kinds, recast_long, fit_word, Isa, SetOf, Shipped, IsInNewest, Converts}
-use Rattle.vms_cli.proofs.Facade.{ConvertsStream, ConvertsWith, IsDone, IsLost, IsMismatch, LacksLine, LacksMemory, NamesCell, Rewrites, WouldLose, agreed}
-use Rattle.vms_cli.proofs.Facade.{lost_line, ArrayVec, reads_as, IsBytes, Refusal, LoadReads, name_of, loads_kept, Mismatch, ConvertFault, EndsSo, is_among}
-use Rattle.vms_cli.proofs.Facade.{EndsAs, WritesAs, status_of, refused_line, done, ended, mismatch_line, wrong, comes_to_nothing, ends_with, same_keeps, Seen}
-use Rattle.vms_cli.proofs.Facade.{content_seen, load_seen, other_seen, seen_lost, seen_written, convert_course}
+use Rattle.vms_cli.proofs.Facade
+use Facade.{◌≡◌, ℕ, ◌<◌, List, length, map, Option, Some, None, Ok, refl, arith, [], ForSome, slice_get-get_or, Held, Outlet, at_option, Set}
+use Facade.{AreReady, IsFit, ValuesRead, Values, Bad, values_read, state_of, machine_of, ReadsAs, accepted_holds, Ending, fetched, longest_file, word_set}
+use Facade.{SetWord, TextEnds, WrittenAs, Step, Gives, next, IsSound, sound_fetch, sound_next, sound_set, sound_word, described_stream, packed, packs, sees_as}
+use Facade.{ConvertGives, ConvertsBy, agrees, newest, Err, ◌+◌, ap, Intake, Stock, Outcome, StepAs, Both, both, Untold, Ends, HasBy, first_err, then_as}
+use Facade.{SeenAs, WithGiven, kept_so, wrote_so, draws_none, draws_took, ◌⊎◌, zero, suc, ◌∷◌, get_or, ℤ, inl, inr, sym, ◌∙◌, ◌^◌, Bool}
+use Facade.{false, Result, IfSome, length-map, string_bytes, Image, device_cells, written, device_at, AreKept, described_text, carried, Compatible}
+use Facade.{first_mismatch, IsStreamFor, LosesFirst, AreBack, recast_each, KeepsAll, Loses, OfCell, OfDevice, OfMachine, first_cell, numbers_in, answered}
+use Facade.{same_backs, one_lost, newest_kinds, recast_long, fit_word, Isa, SetOf, Shipped, IsInNewest, Converts, ConvertsStream, ConvertsWith, IsDone, IsLost}
+use Facade.{IsMismatch, LacksLine, LacksMemory, NamesCell, Rewrites, WouldLose, agreed, lost_line, ArrayVec, reads_as, IsBytes, Refusal, LoadReads, name_of}
+use Facade.{loads_kept, Mismatch, ConvertFault, EndsSo, is_among, EndsAs, WritesAs, status_of, refused_line, done, ended, mismatch_line, wrong}
+use Facade.{comes_to_nothing, ends_with, same_keeps, Seen, content_seen, load_seen, other_seen, seen_lost, seen_written, convert_course}
 use Rattle.vms_cli.proofs.TextCommands.{Front, HasFront, Invalid, Stream, one_front}
 use Rattle.vms_cli.specs.Commands.ConvertCommand.{EndsLike, FailsReading, FailsWriting, IsRefused, Refuses}
 use Rattle.vms_values.specs.declared.fault.Values.{Values as Given}

@@ -1,19 +1,18 @@
 -- The commands that write a text: `show`, `counter`, `analyze` and `check`.
-use Rattle.vms_cli.proofs.Facade.{◌≡◌, ℕ, suc, ◌+◌, ◌<◌, ◌≤◌, true, List, ◌∷◌, length, get_or, map, inl, inr, Option, Some, None}
-use Rattle.vms_cli.proofs.Facade.{Ok, Err, IsSomeAnd, refl, sym, ap, ◌∙◌, subst, arith, [], ◌++◌, length-map, get_or-map, Global, Vec}
-use Rattle.vms_cli.proofs.Facade.{slice_get-get_or, ArrayVec, reads_as, Held, Intake, Outlet, Stock, Reason, IsBytes, no_desc, Device, Set, Image, values_text}
-use Rattle.vms_cli.proofs.Facade.{WellFormed, IsFit, Fault, Takes, one_stream_holds, never_both_holds, one_fault_holds, Refusal, LoadReads, AreShaped, no_image}
-use Rattle.vms_cli.proofs.Facade.{name_of, accepted_of, most_given, device_at, is_well_formed, few_cells, Typed, state_of, AreImagesOf, AreOf, IsOf, machine_of}
-use Rattle.vms_cli.proofs.Facade.{Ending, Refused, WritesAs, refused_line, Outcome, done, ended, StepAs, Step, Untold, Gives, Ends, Both, HasText, both, next}
-use Rattle.vms_cli.proofs.Facade.{Seen, load_seen, seen_written, GivesWithin, Shows, Refuses, at_option, Mismatch, Counters, computed, one_answer_holds}
-use Rattle.vms_cli.proofs.Facade.{computed_holds, Finding, answer_of, fetched_set, named_sets, SetText, sets_in, mismatch_line, SetWord, FitStep, fit_text}
-use Rattle.vms_cli.proofs.Facade.{IsSound, sound_next, sound_sets, Answers, CountersBy, counted, counter_text, no_state, length-append, Result, IfSome}
-use Rattle.vms_cli.proofs.Facade.{IsErrAnd, draws_took, drop_at, MatchResult, Reads, Course, Last, MayFollow, nothing_follows, Analyzes, IsListed, IsTooMuch}
-use Rattle.vms_cli.proofs.Facade.{ListsTaken, HasListing, Listing, Text, Lists, longest_input, AnalyzeFault, AnalyzeReason, one_holds, total_holds, wrong}
-use Rattle.vms_cli.proofs.Facade.{EndsSo, EndsAs, ending_of, comes_to_nothing, same_keeps, SeenAs, Sees, TakesSo, content_seen, other_seen, reads_all}
-use Rattle.vms_cli.proofs.Facade.{seen_refused, analyze_course, EndsLike, IsRefused, FailsReading, FailsWriting, GivesListed, IsListing, bytes_taken}
-use Rattle.vms_cli.proofs.Facade.{listing_outcome, unlisted_line, kept_so, wrote_so, checked, compared, verdict, AreCompatible, Verdict, HasOutcome, Asked}
-use Rattle.vms_cli.proofs.Facade.{Check, Outside, DoesOrStops}
+use Rattle.vms_cli.proofs.Facade
+use Facade.{◌≡◌, ℕ, suc, ◌+◌, ◌<◌, ◌≤◌, true, List, ◌∷◌, length, get_or, map, inl, inr, Option, Some, None, Ok, Err, IsSomeAnd}
+use Facade.{refl, sym, ap, ◌∙◌, subst, arith, [], ◌++◌, length-map, get_or-map, Global, Vec, slice_get-get_or, ArrayVec, reads_as, Held, Intake}
+use Facade.{Outlet, Stock, Reason, IsBytes, no_desc, Device, Set, Image, values_text, WellFormed, IsFit, Fault, Takes, one_stream_holds, never_both_holds}
+use Facade.{one_fault_holds, Refusal, LoadReads, AreShaped, no_image, name_of, accepted_of, most_given, device_at, is_well_formed, few_cells, Typed, state_of}
+use Facade.{AreImagesOf, AreOf, IsOf, machine_of, Ending, Refused, WritesAs, refused_line, Outcome, done, ended, StepAs, Step, Untold, Gives, Ends, Both}
+use Facade.{HasText, both, next, Seen, load_seen, seen_written, GivesWithin, Shows, Refuses, at_option, Mismatch, Counters, computed, one_answer_holds}
+use Facade.{computed_holds, Finding, answer_of, fetched_set, named_sets, SetText, sets_in, mismatch_line, SetWord, FitStep, fit_text, IsSound, sound_next}
+use Facade.{sound_sets, Answers, CountersBy, counted, counter_text, no_state, length-append, Result, IfSome, IsErrAnd, draws_took, drop_at, MatchResult, Reads}
+use Facade.{Course, Last, MayFollow, nothing_follows, Analyzes, IsListed, IsTooMuch, ListsTaken, HasListing, Listing, Text, Lists, longest_input, AnalyzeFault}
+use Facade.{AnalyzeReason, one_holds, total_holds, wrong, EndsSo, EndsAs, ending_of, comes_to_nothing, same_keeps, SeenAs, Sees, TakesSo, content_seen}
+use Facade.{other_seen, reads_all, seen_refused, analyze_course, EndsLike, IsRefused, FailsReading, FailsWriting, GivesListed, IsListing, bytes_taken}
+use Facade.{listing_outcome, unlisted_line, kept_so, wrote_so, checked, compared, verdict, AreCompatible, Verdict, HasOutcome, Asked, Check, Outside}
+use Facade.{DoesOrStops}
 use Rattle.vms_cli.specs.{Commands.ShowCommand.Values, Commands.AnalyzeCommand.IsDone, Commands.AnalyzeCommand.LacksMemory}
 use Rattle.vms_frames.specs.declared.fault.Refusal.{Refusal as RefusedAt}
 use Rattle.vms_counter_laws.specs.Counters.{Answer}

@@ -9,8 +9,8 @@ use Rattle.vms_commands.specs.{StepEndings.TextEnds, Steps.Gives, declared.endin
 use Rattle.vms_commands.specs.Courses.{Course, Draws, EndsSo, Risen, is_among}
 use Rattle.vms_commands.specs.Endings.{WritesAs, status_of, Caused, EndsAs, EndsWith, Quiet, Tells}
 use Rattle.vms_commands.specs.Outcomes.{Part, Outcome, Outside, ComesTo, ComesToFault, FailsToStore, TellsShelfFault, DoesOrStops, TakesBytes, done, ended}
-use Rattle.vms_commands.specs.declared.ending.Ending.TheVariants.{ReadFault, WriteFault, ShelfFault, Refused, BadWords, BadText, NotCompatible, NotThere}
-use Rattle.vms_commands.specs.declared.ending.Ending.TheVariants.{TooLarge, NoMemory, WouldLose}
+use Rattle.vms_commands.specs.declared.ending.Ending.TheVariants
+use TheVariants.{ReadFault, WriteFault, ShelfFault, Refused, BadWords, BadText, NotCompatible, NotThere, TooLarge, NoMemory, WouldLose}
 
 -- ---- how a command ends, by its steps
 

@@ -2,14 +2,14 @@
 -- all is kept or something is lost first.
 use Rattle.vms_convert.proofs.{BackNormal.gives_long, HasBack.Made, HasBack.made, HasBack.extend, HasBack.has_back}
 use Rattle.vms_convert.proofs.Converts.{may_be, ready_if, given_carried, newest_kinds, recast_long}
-use Rattle.vms_convert.proofs.Facade.{◌≡◌, ℕ, ◌<◌, List, [], ◌∷◌, length, get_or, map, Option, Some, None, Result, Ok, Err, ℤ, refl, sym}
-use Rattle.vms_convert.proofs.Facade.{◌∙◌, arith, length-map, slice_get-get_or, slice_get_within, slice_get, IsFit, Device, Set, Image, Cell}
-use Rattle.vms_convert.proofs.Facade.{device_cells, find_device, newest_set, AreReady, IsReady, WellFormed, device_at, IsNameAt, device_is, Typed, state_of}
-use Rattle.vms_convert.proofs.Facade.{shipped_holds, AreKept, name_of, device_below, carried, Compatible, AreOfKinds, back, pair, all_in, AreBack, recast_each}
-use Rattle.vms_convert.proofs.Facade.{AreWritable, FirstInvalid, Judges, KeepsMachine, KeepsName, first_cell_at, first_of, IsValidAt, Loses, OfDevice}
-use Rattle.vms_convert.proofs.Facade.{OfMachine, first_cell, numbers_in, AreReturned, IsFirstLost, Loss, LostCell, ext_get_or, ◌⊎◌, inl, inr, zero, suc}
-use Rattle.vms_convert.proofs.Facade.{Bool, true, false, pos, Slot, Rule, RulesHold, image_slots, is_one_of, no_image, older, device_partners, IsBack, IsPairAt}
-use Rattle.vms_convert.proofs.Facade.{AnswerLaw, DifferAt, KeepsAll, OfCell}
+use Rattle.vms_convert.proofs.Facade
+use Facade.{◌≡◌, ℕ, ◌<◌, List, [], ◌∷◌, length, get_or, map, Option, Some, None, Result, Ok, Err, ℤ, refl, sym, ◌∙◌, arith}
+use Facade.{length-map, slice_get-get_or, slice_get_within, slice_get, IsFit, Device, Set, Image, Cell, device_cells, find_device, newest_set, AreReady}
+use Facade.{IsReady, WellFormed, device_at, IsNameAt, device_is, Typed, state_of, shipped_holds, AreKept, name_of, device_below, carried, Compatible}
+use Facade.{AreOfKinds, back, pair, all_in, AreBack, recast_each, AreWritable, FirstInvalid, Judges, KeepsMachine, KeepsName, first_cell_at, first_of}
+use Facade.{IsValidAt, Loses, OfDevice, OfMachine, first_cell, numbers_in, AreReturned, IsFirstLost, Loss, LostCell, ext_get_or, ◌⊎◌, inl, inr, zero, suc}
+use Facade.{Bool, true, false, pos, Slot, Rule, RulesHold, image_slots, is_one_of, no_image, older, device_partners, IsBack, IsPairAt, AnswerLaw, DifferAt}
+use Facade.{KeepsAll, OfCell}
 use Rattle.vms_convert.proofs.LostLaws.{all_carried, cell_lost, no_device, older_pair, there_is, there_long}
 
 -- ---- one device

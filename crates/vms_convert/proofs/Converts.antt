@@ -2,18 +2,17 @@
 -- one by one.
 use Rattle.vms_convert.proofs.{TakeLaws.first_slots, TakeLaws.walk_next, TakeLaws.one_slots, HasBack.one_back, Settling.back_versions, Settling.some_at}
 use Rattle.vms_convert.proofs.BackNormal.{back_may, at_get, gives, given_all, steps_long}
-use Rattle.vms_convert.proofs.Facade.{◌≡◌, zero, suc, Bool, true, false, List, [], ◌∷◌, get_or, map, Some, ℤ, refl, sym, arith}
-use Rattle.vms_convert.proofs.Facade.{if◌then◌else◌, ℕ, ◌<◌, length, ap, Option, None, IfSome, slice_get, Device, Set, Cell, first, device_cells}
-use Rattle.vms_convert.proofs.Facade.{Image, IsNormal, newest_set, timer, i8259_at_4, i8254_at_2, AreOf, kind-of, count-of, kinds, IsPortCells, recast_cells}
-use Rattle.vms_convert.proofs.Facade.{recast_kinds, AreRecastOf, RecastOfLaw, OneLostLaw, AreOfKinds, recast, wants_arrays, is_port, AreKept, serial_at_4}
-use Rattle.vms_convert.proofs.Facade.{port-of, recast_each, is_one_of, one_number, DifferAt, Loses, OfCell, OfDevice, OfMachine, KeepsAll, ◌+◌, ◌≤◌}
-use Rattle.vms_convert.proofs.Facade.{◌∙◌, append-nil, slice_get-get_or, take_all, own_slots, image_slots, is_well_formed, sub_at, few_cells}
-use Rattle.vms_convert.proofs.Facade.{own_inside_device, sub_inside, Typed, HasSpot, spot_slots, steps_of, SettlesSub, part_of, part_slots, sub_slots_at}
-use Rattle.vms_convert.proofs.Facade.{changed, part_place, give_step, subst, slice_get_within, get_or-map, length-map, Ok, AreReady, longest_text, written}
-use Rattle.vms_convert.proofs.Facade.{WellFormed, no_cell, IsFit, same_lists, well_good, Compatible, carried, carried_device, pair, back, all_in}
-use Rattle.vms_convert.proofs.Facade.{upgrade_stands, recast_twice, AreBack, IsConverted, IsPairAt, OneBackLaw, BackLaw, numbers_in, device_partners}
-use Rattle.vms_convert.proofs.Facade.{device_paired, U8, ArePartners, carried_stands, kinds_at, default_at, state_of, IsBack, Changes, AreTargets, AreSources}
-use Rattle.vms_convert.proofs.Facade.{IsWholeStream, Converts, at_option, IsStreamFor, PutsStream, Judges, stream_of, ArePut, Pair, MayBeWritten, IsValidAt}
+use Rattle.vms_convert.proofs.Facade
+use Facade.{◌≡◌, zero, suc, Bool, true, false, List, [], ◌∷◌, get_or, map, Some, ℤ, refl, sym, arith, if◌then◌else◌, ℕ, ◌<◌, length}
+use Facade.{ap, Option, None, IfSome, slice_get, Device, Set, Cell, first, device_cells, Image, IsNormal, newest_set, timer, i8259_at_4, i8254_at_2, AreOf}
+use Facade.{kind-of, count-of, kinds, IsPortCells, recast_cells, recast_kinds, AreRecastOf, RecastOfLaw, OneLostLaw, AreOfKinds, recast, wants_arrays, is_port}
+use Facade.{AreKept, serial_at_4, port-of, recast_each, is_one_of, one_number, DifferAt, Loses, OfCell, OfDevice, OfMachine, KeepsAll, ◌+◌, ◌≤◌}
+use Facade.{◌∙◌, append-nil, slice_get-get_or, take_all, own_slots, image_slots, is_well_formed, sub_at, few_cells, own_inside_device, sub_inside, Typed}
+use Facade.{HasSpot, spot_slots, steps_of, SettlesSub, part_of, part_slots, sub_slots_at, changed, part_place, give_step, subst, slice_get_within, get_or-map}
+use Facade.{length-map, Ok, AreReady, longest_text, written, WellFormed, no_cell, IsFit, same_lists, well_good, Compatible, carried, carried_device, pair, back}
+use Facade.{all_in, upgrade_stands, recast_twice, AreBack, IsConverted, IsPairAt, OneBackLaw, BackLaw, numbers_in, device_partners, device_paired, U8}
+use Facade.{ArePartners, carried_stands, kinds_at, default_at, state_of, IsBack, Changes, AreTargets, AreSources, IsWholeStream, Converts, at_option}
+use Facade.{IsStreamFor, PutsStream, Judges, stream_of, ArePut, Pair, MayBeWritten, IsValidAt}
 use Rattle.vms_parts.specs.Devices.{device_at}
 use Rattle.vms_spec.specs.declared.Part.TheVariants as parts
 

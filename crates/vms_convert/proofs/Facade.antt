@@ -1,11 +1,10 @@
 -- The names of other crates, and of this crate's `specs`, that the proofs use.
 pub use Rattle.std.proofs.{Math.ListN.get_or-map, Math.Seq.get_or-append_seam, lemmas.Bool.false_from_ne_true, lemmas.Bool.leb-true, lemmas.Bool.ltb-false}
 pub use Rattle.std.proofs.{lemmas.Int.to_z-of_z, lemmas.Result.err_from_is_err_and, lemmas.Result.on_ok_weaker}
-pub use Rattle.std.proofs.Common.{Bool, Err, IfSome, List, None, Ok, Option, Result, Some, [], add-one, ap, append_assoc, arith, codes, drop, false, get_or}
-pub use Rattle.std.proofs.Common.{if◌then◌else◌, inl, inr, length, length-append, length-set, map, nat_lt, negsuc, not, pos, refl, replicate, rules}
-pub use Rattle.std.proofs.Common.{slice_set}
-pub use Rattle.std.proofs.Common.{subst, suc, sym, take, true, zero, ℕ, ℤ, ◌*◌, ◌++◌, ◌+◌, ◌-◌, ◌<◌, ◌==◌, ◌∙◌, ◌∷◌}
-pub use Rattle.std.proofs.Common.{◌≡◌, ◌≤◌, ◌⊎◌}
+use Rattle.std.proofs.Common
+pub use Common.{Bool, Err, IfSome, List, None, Ok, Option, Result, Some, [], add-one, ap, append_assoc, arith, codes, drop, false, get_or, if◌then◌else◌}
+pub use Common.{inl, inr, length, length-append, length-set, map, nat_lt, negsuc, not, pos, refl, replicate, rules, slice_set, subst, suc, sym, take, true}
+pub use Common.{zero, ℕ, ℤ, ◌*◌, ◌++◌, ◌+◌, ◌-◌, ◌<◌, ◌==◌, ◌∙◌, ◌∷◌, ◌≡◌, ◌≤◌, ◌⊎◌}
 pub use Rattle.std.proofs.lemmas.Bool.{ltb-true, ne_eqb, not-false, or_parts, OnFalse_at, OnFalse_from, OnTrue_at, OnTrue_from, and_parts, cases_lt, eq-eqb}
 pub use Rattle.std.proofs.lemmas.List.{append-nil, drop_all, drop_more, ext_get_or, get_or-set_other, get_or-set_same, get_or_append_left, get_or_default}
 pub use Rattle.std.proofs.lemmas.List.{length-map, map-append, replicate-append-replicate, take_all, take_more_set, with_items_is}

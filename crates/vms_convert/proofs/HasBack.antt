@@ -1,15 +1,14 @@
 -- Which cells are in the bytes is known, cell by cell, from the numbers before: tests and counts name only earlier
 -- fields.
-use Rattle.vms_convert.proofs.Facade.{get_or_append_left, get_or_from_slice_get, slice_get_within, ◌≡◌, ℕ, zero, suc, ◌+◌, ◌<◌, ◌≤◌, List}
-use Rattle.vms_convert.proofs.Facade.{[], ◌∷◌, ◌++◌, ◌⊎◌, length, get_or, drop, Option, Some, None, ℤ, refl, sym, ap, ◌∙◌, arith, Bool}
-use Rattle.vms_convert.proofs.Facade.{if◌then◌else◌, length-append, pos, inl, inr, slice_get, ext_get_or, slice_get-get_or, cases_lt, sub_place_up}
-use Rattle.vms_convert.proofs.Facade.{IsCellOf, one_part, Item, Field, Desc, Sub, Device, Set, is_there, Slot, Meaning, no_meaning, no_desc, item_slots}
-use Rattle.vms_convert.proofs.Facade.{item_size, times, field_slots, slots_from, desc_slots, desc_cells, struct_cells, field_cells, place_of, numbers_of}
-use Rattle.vms_convert.proofs.Facade.{elements_of, no_parent, first, meaning, meanings, Cell, no_cell, device_cells, has_cell, own_cells, came_slots}
-use Rattle.vms_convert.proofs.Facade.{image_slots, Image, one_more, IsSound, AreSound, IsSoundField, AreSoundFields, IsEarlier, names_append, SameBelow}
-use Rattle.vms_convert.proofs.Facade.{there_same, elements_same, place_next, MeanAbove, meanings_above, field_above, SameIn, in_less, own_in, cells_in}
-use Rattle.vms_convert.proofs.Facade.{drop_next, place_first, zero_plus, is_needed, well_good, sub_within, image_of, AreSettled, AreTaken, taken, whole, IsBack}
-use Rattle.vms_convert.proofs.Facade.{ComesBackLaw, own_or_sub}
+use Rattle.vms_convert.proofs.Facade
+use Facade.{get_or_append_left, get_or_from_slice_get, slice_get_within, ◌≡◌, ℕ, zero, suc, ◌+◌, ◌<◌, ◌≤◌, List, [], ◌∷◌, ◌++◌}
+use Facade.{◌⊎◌, length, get_or, drop, Option, Some, None, ℤ, refl, sym, ap, ◌∙◌, arith, Bool, if◌then◌else◌, length-append, pos, inl, inr}
+use Facade.{slice_get, ext_get_or, slice_get-get_or, cases_lt, sub_place_up, IsCellOf, one_part, Item, Field, Desc, Sub, Device, Set, is_there, Slot, Meaning}
+use Facade.{no_meaning, no_desc, item_slots, item_size, times, field_slots, slots_from, desc_slots, desc_cells, struct_cells, field_cells, place_of, numbers_of}
+use Facade.{elements_of, no_parent, first, meaning, meanings, Cell, no_cell, device_cells, has_cell, own_cells, came_slots, image_slots, Image, one_more}
+use Facade.{IsSound, AreSound, IsSoundField, AreSoundFields, IsEarlier, names_append, SameBelow, there_same, elements_same, place_next, MeanAbove}
+use Facade.{meanings_above, field_above, SameIn, in_less, own_in, cells_in, drop_next, place_first, zero_plus, is_needed, well_good, sub_within, image_of}
+use Facade.{AreSettled, AreTaken, taken, whole, IsBack, ComesBackLaw, own_or_sub}
 use Rattle.vms_convert.proofs.Settling.{by_last}
 
 -- both have slot c, or neither has it

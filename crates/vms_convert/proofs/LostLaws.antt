@@ -1,14 +1,13 @@
 -- What is lost first, from what is found of each of the older set's devices.
 use Rattle.vms_convert.proofs.Converts.{there, newest_kinds, port_cells, port_is, recast_at}
-use Rattle.vms_convert.proofs.Facade.{◌≡◌, ℕ, ◌+◌, ◌<◌, Bool, true, false, nat_lt, List, [], ◌∷◌, ◌++◌, length, get_or, map, Option}
-use Rattle.vms_convert.proofs.Facade.{Some, None, ℤ, refl, sym, ap, ◌∙◌, arith, if◌then◌else◌, get_or-append_seam, ltb-true, ltb-false}
-use Rattle.vms_convert.proofs.Facade.{get_or_append_left, length-map, get_or_from_slice_get, slice_get-get_or, slice_get_within, slice_get, take_all}
-use Rattle.vms_convert.proofs.Facade.{length-append, ◌≤◌, slice_set, take, map-append, take_more_set, back, Device, Set, Image, find_device, index}
-use Rattle.vms_convert.proofs.Facade.{WellFormed, device_at, device_is, carried, carried_at, carried_device, no_image, Compatible, found_device, pair, all_in}
-use Rattle.vms_convert.proofs.Facade.{at_map, DifferAt, Loses, OfCell, numbers_in, FirstDifference, ArePaired, IsFirstLost, IsLostCell, carried_of, LostCell}
-use Rattle.vms_convert.proofs.Facade.{IsBack, device_partners, default_image, Typed, state_of, AreImagesOf, default_at, typed, IsReturned, AreReturnedTo}
-use Rattle.vms_convert.proofs.Facade.{AreReturned, IsRecastFor, kinds_at, recast, AreFresh, AreRoutes, IsRoute, Route, first, newest_set, AreKept, kinds}
-use Rattle.vms_convert.proofs.Facade.{recast_each, at_other, IsImageOf, Older, older, ext_get_or}
+use Rattle.vms_convert.proofs.Facade
+use Facade.{◌≡◌, ℕ, ◌+◌, ◌<◌, Bool, true, false, nat_lt, List, [], ◌∷◌, ◌++◌, length, get_or, map, Option, Some, None, ℤ, refl, sym}
+use Facade.{ap, ◌∙◌, arith, if◌then◌else◌, get_or-append_seam, ltb-true, ltb-false, get_or_append_left, length-map, get_or_from_slice_get}
+use Facade.{slice_get-get_or, slice_get_within, slice_get, take_all, length-append, ◌≤◌, slice_set, take, map-append, take_more_set, back, Device, Set}
+use Facade.{Image, find_device, index, WellFormed, device_at, device_is, carried, carried_at, carried_device, no_image, Compatible, found_device, pair, all_in}
+use Facade.{at_map, DifferAt, Loses, OfCell, numbers_in, FirstDifference, ArePaired, IsFirstLost, IsLostCell, carried_of, LostCell, IsBack, device_partners}
+use Facade.{default_image, Typed, state_of, AreImagesOf, default_at, typed, IsReturned, AreReturnedTo, AreReturned, IsRecastFor, kinds_at, recast, AreFresh}
+use Facade.{AreRoutes, IsRoute, Route, first, newest_set, AreKept, kinds, recast_each, at_other, IsImageOf, Older, older, ext_get_or}
 use Rattle.vms_convert.proofs.HasBack.{extend, appended}
 use Rattle.vms_convert.specs.Returns.{IsEarlier}
 use Rattle.std.proofs.lemmas.List.{length-set}

@@ -1,10 +1,10 @@
 -- The partners of the rest of two descriptions, field by field.
-use Rattle.vms_convert.proofs.Facade.{add-one, ◌≡◌, ℕ, zero, suc, ◌+◌, ◌-◌, ◌*◌, ◌<◌, ◌≤◌, List, [], ◌∷◌, ◌++◌, length}
-use Rattle.vms_convert.proofs.Facade.{length-append, get_or, drop, true, false, Option, Some, None, refl, arith, drop_more, Item, Struct, Cell, first, no_desc}
-use Rattle.vms_convert.proofs.Facade.{no_field, capacity_of, item_size, field_cells, cells_from, struct_cells, uses_below, Formula, Field, Desc, Set, ItemBelow}
-use Rattle.vms_convert.proofs.Facade.{FieldsBelow, all_below, first_at, is_well_formed, struct_clean, Entry, entry_of, is_absent, is_nothing, present}
-use Rattle.vms_convert.proofs.Facade.{present_from, presence, Pairer, no_pairer, pairer_of, unpaired, item_partners, array_partners, field_partners}
-use Rattle.vms_convert.proofs.Facade.{fields_left, partners_from, desc_partners, table, struct_on}
+use Rattle.vms_convert.proofs.Facade
+use Facade.{add-one, ◌≡◌, ℕ, zero, suc, ◌+◌, ◌-◌, ◌*◌, ◌<◌, ◌≤◌, List, [], ◌∷◌, ◌++◌, length, length-append, get_or}
+use Facade.{drop, true, false, Option, Some, None, refl, arith, drop_more, Item, Struct, Cell, first, no_desc, no_field, capacity_of, item_size, field_cells}
+use Facade.{cells_from, struct_cells, uses_below, Formula, Field, Desc, Set, ItemBelow, FieldsBelow, all_below, first_at, is_well_formed, struct_clean, Entry}
+use Facade.{entry_of, is_absent, is_nothing, present, present_from, presence, Pairer, no_pairer, pairer_of, unpaired, item_partners, array_partners}
+use Facade.{field_partners, fields_left, partners_from, desc_partners, table, struct_on}
 
 -- how far down structures go
 abbrev pub depth : Item → ℕ

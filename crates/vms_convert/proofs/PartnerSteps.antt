@@ -1,12 +1,11 @@
 -- Pairing step by step, as the code has it.
-use Rattle.vms_convert.proofs.Facade.{append_assoc, ◌≡◌, ℕ, ◌+◌, ◌-◌, ◌*◌, ◌<◌, ◌≤◌, List, [], ◌∷◌, ◌++◌, length}
-use Rattle.vms_convert.proofs.Facade.{get_or, replicate, true, false, Option, Some, None, ap, arith, append-nil, drop_all, Bor, flat_map, slice_get-get_or}
-use Rattle.vms_convert.proofs.Facade.{Cell, no_desc, no_field, capacity_of, item_size, desc_cells, struct_cells, find_sub, Field, Set, DescSet, few_cells}
-use Rattle.vms_convert.proofs.Facade.{own_inside_device, sub_inside, struct_is, MOST_ITEMS, field_size, in_u32, Part, uses_below, described, device_at, well_of}
-use Rattle.vms_convert.proofs.Facade.{is_well_formed, HasPart, desc_at, sub_at, reach, field_clean, reach_whole, uses_more, Entry, is_absent, device_partners}
-use Rattle.vms_convert.proofs.Facade.{named_partners, array_on, item_on, AreArrays, HasRoom, PairsElement, arrays_on, elements_left, HasFew, IsStart}
-use Rattle.vms_convert.proofs.Facade.{IsNextStart, IsBehind, PairsField, entries_at, partners_left, partners_on, sub_on, IsSide, desc_on, own_side, Arrays}
-use Rattle.vms_convert.proofs.Facade.{Start, Side}
+use Rattle.vms_convert.proofs.Facade
+use Facade.{append_assoc, ◌≡◌, ℕ, ◌+◌, ◌-◌, ◌*◌, ◌<◌, ◌≤◌, List, [], ◌∷◌, ◌++◌, length, get_or, replicate, true, false}
+use Facade.{Option, Some, None, ap, arith, append-nil, drop_all, Bor, flat_map, slice_get-get_or, Cell, no_desc, no_field, capacity_of, item_size, desc_cells}
+use Facade.{struct_cells, find_sub, Field, Set, DescSet, few_cells, own_inside_device, sub_inside, struct_is, MOST_ITEMS, field_size, in_u32, Part, uses_below}
+use Facade.{described, device_at, well_of, is_well_formed, HasPart, desc_at, sub_at, reach, field_clean, reach_whole, uses_more, Entry, is_absent}
+use Facade.{device_partners, named_partners, array_on, item_on, AreArrays, HasRoom, PairsElement, arrays_on, elements_left, HasFew, IsStart, IsNextStart}
+use Facade.{IsBehind, PairsField, entries_at, partners_left, partners_on, sub_on, IsSide, desc_on, own_side, Arrays, Start, Side}
 use Rattle.vms_convert.proofs.PartnerLaws.{depth, depth_within, something, entries_found, cells_here, left_absent, left_alone, left_paired, desc_left}
 use Rattle.vms_convert.proofs.PartnerLaws.{element_paired, element_alone, all_but_one, one_of_all}
 use Rattle.vms_desc.specs.Asks.{first_cell}

@@ -1,8 +1,8 @@
 -- Worked rows: small sets, and the serial port of two shipped sets.
-use Rattle.vms_convert.proofs.Facade.{◌≡◌, ℕ, suc, List, [], ◌∷◌, ◌++◌, get_or, map, replicate, Option, Some, None, ℤ, pos, negsuc, codes}
-use Rattle.vms_convert.proofs.Facade.{range_with_len, U8, Num, Unused, One, Counted, Field, Sub, Device, Set, set_1, set_2, set_4, serial, serial_fields}
-use Rattle.vms_convert.proofs.Facade.{divider, divisor, fcr, thr_ipending, fifo, timeout, ring, never, i8254_at_1, i8254_at_2, first, device_cells, has_cell}
-use Rattle.vms_convert.proofs.Facade.{image_slots, carried_device, image_of, taken, whole, device_partners}
+use Rattle.vms_convert.proofs.Facade
+use Facade.{◌≡◌, ℕ, suc, List, [], ◌∷◌, ◌++◌, get_or, map, replicate, Option, Some, None, ℤ, pos, negsuc, codes, range_with_len, U8, Num}
+use Facade.{Unused, One, Counted, Field, Sub, Device, Set, set_1, set_2, set_4, serial, serial_fields, divider, divisor, fcr, thr_ipending, fifo, timeout, ring}
+use Facade.{never, i8254_at_1, i8254_at_2, first, device_cells, has_cell, image_slots, carried_device, image_of, taken, whole, device_partners}
 use Rattle.vms_spec.specs.Layout.{Cell as OneCell}
 
 abbrev number : List ℕ → Field

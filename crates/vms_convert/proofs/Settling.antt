@@ -1,11 +1,11 @@
 -- Whether a subsection is needed depends on its own cells and on those of its device.
-use Rattle.vms_convert.proofs.Facade.{cases_lt, inl, inr, ◌≡◌, ℕ, ◌+◌, List, length, get_or, Option, Some, None, ℤ, refl, ap, ◌∙◌, arith}
-use Rattle.vms_convert.proofs.Facade.{Bool, true, not, suc, ◌<◌, ◌≤◌, pos, sym, if◌then◌else◌, zero, [], ◌∷◌, slice_get, and_parts}
-use Rattle.vms_convert.proofs.Facade.{slice_get_within, slice_get-get_or, Own, Parent, Formula, Not, And, Or, Field, Desc, Sub, Device, Set, truth, place_of}
-use Rattle.vms_convert.proofs.Facade.{numbers_of, desc_cells, no_cell, device_cells, Image, own_cells, is_needed, is_steady, is_steady_in, names_well}
-use Rattle.vms_convert.proofs.Facade.{WellFormed, IsEarlier, place_up, place_below, place_end, sub_size, sub_place_up, places_apart, part_place, SameIn}
-use Rattle.vms_convert.proofs.Facade.{earlier, sub_clean, bare, needed_from, IsCellOf, AreSettled, whole, IsBack, same_lists, IsAtVersions, device_at}
-use Rattle.vms_convert.proofs.Facade.{needed_at, sub_at, Typed, SettlesSub}
+use Rattle.vms_convert.proofs.Facade
+use Facade.{cases_lt, inl, inr, ◌≡◌, ℕ, ◌+◌, List, length, get_or, Option, Some, None, ℤ, refl, ap, ◌∙◌, arith, Bool, true, not, suc}
+use Facade.{◌<◌, ◌≤◌, pos, sym, if◌then◌else◌, zero, [], ◌∷◌, slice_get, and_parts, slice_get_within, slice_get-get_or, Own, Parent}
+use Facade.{Formula, Not, And, Or, Field, Desc, Sub, Device, Set, truth, place_of, numbers_of, desc_cells, no_cell, device_cells, Image, own_cells, is_needed}
+use Facade.{is_steady, is_steady_in, names_well, WellFormed, IsEarlier, place_up, place_below, place_end, sub_size, sub_place_up, places_apart, part_place}
+use Facade.{SameIn, earlier, sub_clean, bare, needed_from, IsCellOf, AreSettled, whole, IsBack, same_lists, IsAtVersions, device_at, needed_at, sub_at, Typed}
+use Facade.{SettlesSub}
 use Rattle.vms_spec.specs.{Sets.Cell, Layout.Cell as OneCell}
 
 -- a test that names only fields of these numbers

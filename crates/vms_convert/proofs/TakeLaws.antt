@@ -1,14 +1,13 @@
 -- What is taken of the older cells, and the defaults of the others.
-use Rattle.vms_convert.proofs.Facade.{subst, ne_eqb, inl, inr, cases_lt, ◌≡◌, ℕ, zero, suc, ◌<◌, List, [], ◌∷◌, ◌++◌, length, get_or}
-use Rattle.vms_convert.proofs.Facade.{take, drop, slice_set, ℤ, pos, refl, ap, arith, ◌+◌, map, Option, Some, None, sym, ◌∙◌, append_assoc, Bool}
-use Rattle.vms_convert.proofs.Facade.{true, length-set, if◌then◌else◌, ◌≤◌, slice_get, get_or-set_other, get_or-set_same, map-append, length-map}
-use Rattle.vms_convert.proofs.Facade.{eq-eqb, get_or-map, slice_get-get_or, append-nil, take_all, add-one, IsSound, AreSound, Sub, Device, Set, Slot}
-use Rattle.vms_convert.proofs.Facade.{desc_cells, struct_cells, Cell, no_cell, Number, device_cells, own_cells, own_slots, sub_slots, sub_place, came_slots}
-use Rattle.vms_convert.proofs.Facade.{has_cell, image_slots, its_same, its_below, part_place, image_are, sub_size, sub_place_up, SameBelow, SameIn, exceeds}
-use Rattle.vms_convert.proofs.Facade.{AreCells, least_of, steps_of, step_of, exceeds_least, taken, AreTaken, whole, changed, changed_append, Changes}
-use Rattle.vms_convert.proofs.Facade.{put_partner, put_step, AreSources, Keeps, WalkStep, has_step_of, put_keeps, takes_keeps, Kind, Typed, InRange, U8}
-use Rattle.vms_convert.proofs.Facade.{FitsHeads, own_cell_count, device_at, is_well_formed, desc_at, kinds_at, good_of, ArePut, ArePutAt, at_map, IsGood}
-use Rattle.vms_convert.proofs.Facade.{spot_slots, part_of, sub_at}
+use Rattle.vms_convert.proofs.Facade
+use Facade.{subst, ne_eqb, inl, inr, cases_lt, ◌≡◌, ℕ, zero, suc, ◌<◌, List, [], ◌∷◌, ◌++◌, length, get_or, take, drop, slice_set, ℤ}
+use Facade.{pos, refl, ap, arith, ◌+◌, map, Option, Some, None, sym, ◌∙◌, append_assoc, Bool, true, length-set, if◌then◌else◌, ◌≤◌}
+use Facade.{slice_get, get_or-set_other, get_or-set_same, map-append, length-map, eq-eqb, get_or-map, slice_get-get_or, append-nil, take_all, add-one, IsSound}
+use Facade.{AreSound, Sub, Device, Set, Slot, desc_cells, struct_cells, Cell, no_cell, Number, device_cells, own_cells, own_slots, sub_slots, sub_place}
+use Facade.{came_slots, has_cell, image_slots, its_same, its_below, part_place, image_are, sub_size, sub_place_up, SameBelow, SameIn, exceeds, AreCells}
+use Facade.{least_of, steps_of, step_of, exceeds_least, taken, AreTaken, whole, changed, changed_append, Changes, put_partner, put_step, AreSources, Keeps}
+use Facade.{WalkStep, has_step_of, put_keeps, takes_keeps, Kind, Typed, InRange, U8, FitsHeads, own_cell_count, device_at, is_well_formed, desc_at, kinds_at}
+use Facade.{good_of, ArePut, ArePutAt, at_map, IsGood, spot_slots, part_of, sub_at}
 use Rattle.vms_desc.specs.Asks.{first_cell}
 use Rattle.vms_spec.specs.declared.Part.TheVariants as parts
 

@@ -13,8 +13,8 @@ pub use Rattle.vms_bodies.proofs.{SpellLaws.at_set, PartLaws.at_other}
 pub use Rattle.vms_stream.proofs.{Stated.never_both_holds, Written.AllParts, Written.AllSubs, Written.EachPart, Written.EachSub, Written.all_parts}
 pub use Rattle.vms_stream.specs.{Faults.Fault, Streams.Takes}
 pub use Rattle.vms_check.proofs.{SelfLaws.is_among}
-pub use Rattle.vms_check.specs.{Comparing.first_mismatch, Wholes.verdict_of, declared.mismatch.Mismatch.Mismatch}
-pub use Rattle.vms_check.specs.{declared.mismatch.Verdict.TheVariants.Accepted}
+use Rattle.vms_check.specs
+pub use specs.{Comparing.first_mismatch, Wholes.verdict_of, declared.mismatch.Mismatch.Mismatch, declared.mismatch.Verdict.TheVariants.Accepted}
 pub use Rattle.vms_counter.specs.{Found.HasRoom, Found.refusal_of, Room.devices_in, Room.subs_in, Trying.Tries}
 pub use Rattle.vms_counter_laws.specs.Candidates.{and_raised, default_images, lacking, machine_for, raised}
 pub use Rattle.vms_counter_laws.specs.Counters.{Agree, Counters, Finds, Here, IsFirst, Lacks, Later, NoState, Shows, State}

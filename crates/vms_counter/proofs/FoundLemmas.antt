@@ -1,9 +1,9 @@
 -- The candidates of `counter`: machines and images, and the result of trying them in turn.
-use Rattle.vms_counter.proofs.Facade.{◌≡◌, ℕ, ◌<◌, false, List, ◌∷◌, drop, length, get_or, Some, sym, ◌∙◌, refl, true, slice_set, arith, [], Option, None}
-use Rattle.vms_counter.proofs.Facade.{IfSome, map, slice_get, drop_more, length-set, slice_get_read, cases_eq, inl, inr, is_one_of, lacking, and_raised}
-use Rattle.vms_counter.proofs.Facade.{default_images, machine_for, raised, at_set, at_other, Set, Typed, IsImageOf, AreImagesOf, state_of, at_option, Image}
-use Rattle.vms_counter.proofs.Facade.{Mismatch, verdict_of, Accepted, first_mismatch, NoState, State, Shows, Here, Later, Counters, Lacks, Finds, refusal_of}
-use Rattle.vms_counter.proofs.Facade.{Tries, is_among, subst, IsFirst}
+use Rattle.vms_counter.proofs.Facade
+use Facade.{◌≡◌, ℕ, ◌<◌, false, List, ◌∷◌, drop, length, get_or, Some, sym, ◌∙◌, refl, true, slice_set, arith, [], Option, None, IfSome}
+use Facade.{map, slice_get, drop_more, length-set, slice_get_read, cases_eq, inl, inr, is_one_of, lacking, and_raised, default_images, machine_for, raised}
+use Facade.{at_set, at_other, Set, Typed, IsImageOf, AreImagesOf, state_of, at_option, Image, Mismatch, verdict_of, Accepted, first_mismatch, NoState, State}
+use Facade.{Shows, Here, Later, Counters, Lacks, Finds, refusal_of, Tries, is_among, subst, IsFirst}
 use Rattle.vms_frames.specs.declared.fault.Refusal.{Refusal as Refused}
 
 -- ---- The first machine that isn't one of those names.

@@ -1,11 +1,11 @@
 -- The bytes of structures, fields and sections, and the room that is made for a stream.
-use Rattle.vms_counter.proofs.Facade.{◌≡◌, ℕ, ◌+◌, ◌*◌, ◌^◌, ◌<◌, true, List, [], ◌∷◌, ◌++◌, length, get_or, map, refl}
-use Rattle.vms_counter.proofs.Facade.{◌∙◌, arith, add-one, length-map, map-append, Item, capacity_of, first, no_desc, Field, Desc, Device, in_u32}
-use Rattle.vms_counter.proofs.Facade.{is_well_formed, desc_of, device_of, field_of, get_map_at, capped_product, capped_at, item_bytes, fields_bytes}
-use Rattle.vms_counter.proofs.Facade.{struct_bytes, subs_bytes, devices_most, most_small, subs_in, devices_in, LONGEST_SUB_HEAD, ◌≤◌, Option, None}
-use Rattle.vms_counter.proofs.Facade.{IfSome, get_or_from_slice_get, slice_get_within, LONGEST_NAME, Image, Sub, Set, optional, configuration, written}
-use Rattle.vms_counter.proofs.Facade.{is_one_of, subs_long, devices_long, stream_le, AllSubs, AllParts, EachSub, EachPart, all_parts, BESIDE_SECTIONS}
-use Rattle.vms_counter.proofs.Facade.{machine_short, device_at, sub_at, device_is, well_of, device_short, sub_short, HasRoom}
+use Rattle.vms_counter.proofs.Facade
+use Facade.{◌≡◌, ℕ, ◌+◌, ◌*◌, ◌^◌, ◌<◌, true, List, [], ◌∷◌, ◌++◌, length, get_or, map, refl, ◌∙◌, arith, add-one}
+use Facade.{length-map, map-append, Item, capacity_of, first, no_desc, Field, Desc, Device, in_u32, is_well_formed, desc_of, device_of, field_of, get_map_at}
+use Facade.{capped_product, capped_at, item_bytes, fields_bytes, struct_bytes, subs_bytes, devices_most, most_small, subs_in, devices_in, LONGEST_SUB_HEAD}
+use Facade.{◌≤◌, Option, None, IfSome, get_or_from_slice_get, slice_get_within, LONGEST_NAME, Image, Sub, Set, optional, configuration, written}
+use Facade.{is_one_of, subs_long, devices_long, stream_le, AllSubs, AllParts, EachSub, EachPart, all_parts, BESIDE_SECTIONS, machine_short, device_at, sub_at}
+use Facade.{device_is, well_of, device_short, sub_short, HasRoom}
 use Rattle.vms_spec.specs.Sets as sets
 
 -- ---- bytes of structures, fields and sections, where those of structures end at 2 ^ 32 - 1

@@ -1,19 +1,17 @@
 -- The defaults show three kinds of mismatch, where they are ready: streams with a machine, and the
 -- sections before the one that a mismatch concerns.
-use Rattle.vms_counter_laws.proofs.Facade.{◌≡◌, ℕ, ◌^◌, ◌<◌, List, [], ◌++◌, length, refl, sym, ap, ◌∙◌, append_assoc, Bool, true}
-use Rattle.vms_counter_laws.proofs.Facade.{false, ◌&&◌, ◌∷◌, get_or, Option, Some, None, arith, list_all, or_left, or_right, bytes_eq-Decides, be32}
-use Rattle.vms_counter_laws.proofs.Facade.{section_head, stream_head, configuration, is_one_of, IsConfiguration, be32_read, apart, Device, Set, Image}
-use Rattle.vms_counter_laws.proofs.Facade.{HasSection, SectionsSpell, Takes, lacking, subst, zero, suc, ◌+◌, ◌≤◌, slice_set, slice_get, length-set}
-use Rattle.vms_counter_laws.proofs.Facade.{slice_get_within, first_answer, IsBytes, FitsHeads, IsReady, written_section, written_sections, Accepted, WellFormed}
-use Rattle.vms_counter_laws.proofs.Facade.{here, reading_on, at_other, bytes_rest, Tail, Footed, Bare, judge, between, by_state, BeginsSection}
-use Rattle.vms_counter_laws.proofs.Facade.{section_read_holds, section_found_holds, compare_device, failing_pair, is_in, ArePaired, compared, Pair, pair, back}
-use Rattle.vms_counter_laws.proofs.Facade.{device_stands, at_first, one_on, saved, ◌==◌, if◌then◌else◌, inl, inr, map, append-nil, ℤ, struct_cells}
-use Rattle.vms_counter_laws.proofs.Facade.{desc_cells, Spells, default_image, own_slots, own_cells, zeroed, IsVersionOf, magic, end_mark, foot, written}
-use Rattle.vms_counter_laws.proofs.Facade.{written_subs, AreReady, Magic, Version, find_device, few_devices, machine_short, falses, defaults_of}
-use Rattle.vms_counter_laws.proofs.Facade.{version_decides, well_good, device_found, Unknown, AtMagic, AtVersion, reading, Headed, at_start, unit_on}
-use Rattle.vms_counter_laws.proofs.Facade.{taken_holds, Mismatch, reduced, compare_fields, comparers, Comparer, Entry, first_mismatch, is_kept, present}
-use Rattle.vms_counter_laws.proofs.Facade.{position_from, FitsAt, fits_left, from_zero, fits_whole, devices_clash, at_map, default_images, machine_for}
-use Rattle.vms_counter_laws.proofs.Facade.{stream_of, Shows, IsPlain, AlwaysShown, OfMachine, OfVersion, OfConstant}
+use Rattle.vms_counter_laws.proofs.Facade
+use Facade.{◌≡◌, ℕ, ◌^◌, ◌<◌, List, [], ◌++◌, length, refl, sym, ap, ◌∙◌, append_assoc, Bool, true, false, ◌&&◌, ◌∷◌}
+use Facade.{get_or, Option, Some, None, arith, list_all, or_left, or_right, bytes_eq-Decides, be32, section_head, stream_head, configuration, is_one_of}
+use Facade.{IsConfiguration, be32_read, apart, Device, Set, Image, HasSection, SectionsSpell, Takes, lacking, subst, zero, suc, ◌+◌, ◌≤◌, slice_set}
+use Facade.{slice_get, length-set, slice_get_within, first_answer, IsBytes, FitsHeads, IsReady, written_section, written_sections, Accepted, WellFormed, here}
+use Facade.{reading_on, at_other, bytes_rest, Tail, Footed, Bare, judge, between, by_state, BeginsSection, section_read_holds, section_found_holds}
+use Facade.{compare_device, failing_pair, is_in, ArePaired, compared, Pair, pair, back, device_stands, at_first, one_on, saved, ◌==◌, if◌then◌else◌}
+use Facade.{inl, inr, map, append-nil, ℤ, struct_cells, desc_cells, Spells, default_image, own_slots, own_cells, zeroed, IsVersionOf, magic, end_mark, foot}
+use Facade.{written, written_subs, AreReady, Magic, Version, find_device, few_devices, machine_short, falses, defaults_of, version_decides, well_good}
+use Facade.{device_found, Unknown, AtMagic, AtVersion, reading, Headed, at_start, unit_on, taken_holds, Mismatch, reduced, compare_fields, comparers, Comparer}
+use Facade.{Entry, first_mismatch, is_kept, present, position_from, FitsAt, fits_left, from_zero, fits_whole, devices_clash, at_map, default_images}
+use Facade.{machine_for, stream_of, Shows, IsPlain, AlwaysShown, OfMachine, OfVersion, OfConstant}
 use Rattle.vms_counter_laws.proofs.Inverted.{present_fields, clashes, else_some, one_rule, struct_no_device, tables_within, IsDevice, OfDevice, of_device}
 use Rattle.vms_counter_laws.proofs.Inverted.{Version as OfItsVersion, Own, Below, part_within, DeviceFails, device_fails, machine_fails}
 use Rattle.vms_stream.specs.State.{State}

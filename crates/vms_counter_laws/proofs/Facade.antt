@@ -1,11 +1,9 @@
 -- The names of other crates, and of this crate's `specs`, that the proofs use.
 pub use Rattle.std.proofs.{Common.◌≤◌, Common.◌⊎◌, lemmas.Bool.or_left, lemmas.Bool.or_right, lemmas.Bool.Decides.Decides-and}
-pub use Rattle.std.proofs.{lemmas.Bool.Decides.Decides-like}
-pub use Rattle.std.proofs.{lemmas.List.length-set, lemmas.Option.slice_get_within, lemmas.Slice.Eq.bytes_eq-Decides}
+pub use Rattle.std.proofs.{lemmas.Bool.Decides.Decides-like, lemmas.List.length-set, lemmas.Option.slice_get_within, lemmas.Slice.Eq.bytes_eq-Decides}
 pub use Rattle.std.proofs.Common.{Bool, IfSome, List, None, Option, Some, [], ap, append-nil, append_assoc, arith, codes, false, get_or, if◌then◌else◌}
-pub use Rattle.std.proofs.Common.{inl}
-pub use Rattle.std.proofs.Common.{inr, length, map, pos, refl, slice_set, subst, suc, sym, true, zero, ℕ, ℤ, ◌&&◌, ◌++◌, ◌+◌, ◌<◌, ◌==◌}
-pub use Rattle.std.proofs.Common.{◌^◌, ◌∙◌, ◌∷◌, ◌≡◌}
+pub use Rattle.std.proofs.Common.{inl, inr, length, map, pos, refl, slice_set, subst, suc, sym, true, zero, ℕ, ℤ, ◌&&◌, ◌++◌, ◌+◌, ◌<◌}
+pub use Rattle.std.proofs.Common.{◌==◌, ◌^◌, ◌∙◌, ◌∷◌, ◌≡◌}
 pub use Rattle.std.specs.{Bool.Decides, List.AllByRecursion, List.list_all, List.slice_get}
 pub use Rattle.vms_kinds.proofs.{ByteLemmas.bytes_rest}
 pub use Rattle.vms_kinds.specs.{Bytes.IsBytes, Codes.InRange, declared.Item.Item, declared.Item.TheVariants.Equal, declared.Item.TheVariants.Struct}
@@ -35,10 +33,9 @@ pub use Rattle.vms_stream.specs.{StreamLaws.BeginsSection, StreamLaws.Faulty, St
 pub use Rattle.vms_stream.specs.SoFar.{Bare, Footed, Tail, Unknown}
 unfoldable pub use Rattle.vms_stream.specs.{Finding.behind_at, Finding.between_at, Finding.trailer_at, Judge.reading}
 pub use Rattle.vms_check.specs.{Carrying.carried_device, Reducing.presence, Reducing.reduced, declared.mismatch.Mismatch.Mismatch}
-pub use Rattle.vms_check.specs.Comparing.{Comparer, Entry, compare_desc, compare_device, compare_fields, compare_sub}
-pub use Rattle.vms_check.specs.Comparing.{compare_validations, comparer_of, comparers, comparing, entry_of, failing_pair, is_covered, is_in}
-pub use Rattle.vms_check.specs.Comparing.{is_kept, no_comparer, pair_rules, pair_structs, position_from, present, present_from}
-pub use Rattle.vms_check.specs.Comparing.{same_constant, same_item, same_rest, uncovered_rules}
+pub use Rattle.vms_check.specs.Comparing.{Comparer, Entry, compare_desc, compare_device, compare_fields, compare_sub, compare_validations, comparer_of}
+pub use Rattle.vms_check.specs.Comparing.{comparers, comparing, entry_of, failing_pair, is_covered, is_in, is_kept, no_comparer, pair_rules, pair_structs}
+pub use Rattle.vms_check.specs.Comparing.{position_from, present, present_from, same_constant, same_item, same_rest, uncovered_rules}
 unfoldable pub use Rattle.vms_check.specs.Comparing.{first_mismatch}
 pub use Rattle.vms_check_laws.proofs.{Parts.devices_clash, Premises.Two, Premises.kinds_same, Wholes.at_map, Wholes.fits_whole, Wholes.saved}
 pub use Rattle.vms_check_laws.proofs.AlignedDescs.{Clash, Clashes, Differ}

@@ -1,12 +1,12 @@
 -- Which rule an answer of the comparison is of, and what that says of the two sets.
-use Rattle.vms_counter_laws.proofs.Facade.{◌≡◌, ◌⊎◌, inl, inr, ℕ, zero, suc, ◌+◌, ◌<◌, Bool, true, false, List, [], ◌∷◌, length}
-use Rattle.vms_counter_laws.proofs.Facade.{get_or, if◌then◌else◌, Option, Some, None, refl, arith, slice_get, list_all, Item, Struct, Part, Place}
-use Rattle.vms_counter_laws.proofs.Facade.{or_else, first_answer, Cell, first, no_desc, Desc, Sub, Device, Set, is_one_of, index, is_version_of, here, in_field}
-use Rattle.vms_counter_laws.proofs.Facade.{Mismatch, first_mismatch, comparing, compare_device, compare_sub, is_in, Entry, Comparer, no_comparer, comparer_of}
-use Rattle.vms_counter_laws.proofs.Facade.{comparers, compare_desc, compare_fields, compare_validations, failing_pair, is_covered, pair_rules, pair_structs}
-use Rattle.vms_counter_laws.proofs.Facade.{present, same_rest, uncovered_rules, one_more, compared, ◌++◌, sym, ℤ, Kind, AllByRecursion, Equal, InRange}
-use Rattle.vms_counter_laws.proofs.Facade.{code, same_number, Formula, Field, field_cells, value_code, ConstantFits, ConstantsFit, is_same, presence, entry_of}
-use Rattle.vms_counter_laws.proofs.Facade.{present_from, same_constant, same_item, RestAt, at_first, one_on, kinds_same, Two, Clash, Clashes, Differ}
+use Rattle.vms_counter_laws.proofs.Facade
+use Facade.{◌≡◌, ◌⊎◌, inl, inr, ℕ, zero, suc, ◌+◌, ◌<◌, Bool, true, false, List, [], ◌∷◌, length, get_or, if◌then◌else◌}
+use Facade.{Option, Some, None, refl, arith, slice_get, list_all, Item, Struct, Part, Place, or_else, first_answer, Cell, first, no_desc, Desc, Sub, Device}
+use Facade.{Set, is_one_of, index, is_version_of, here, in_field, Mismatch, first_mismatch, comparing, compare_device, compare_sub, is_in, Entry, Comparer}
+use Facade.{no_comparer, comparer_of, comparers, compare_desc, compare_fields, compare_validations, failing_pair, is_covered, pair_rules, pair_structs, present}
+use Facade.{same_rest, uncovered_rules, one_more, compared, ◌++◌, sym, ℤ, Kind, AllByRecursion, Equal, InRange, code, same_number, Formula, Field}
+use Facade.{field_cells, value_code, ConstantFits, ConstantsFit, is_same, presence, entry_of, present_from, same_constant, same_item, RestAt, at_first, one_on}
+use Facade.{kinds_same, Two, Clash, Clashes, Differ}
 use Rattle.vms_spec.specs.declared.Part.TheVariants as parts
 
 -- ---- answers

@@ -1,15 +1,14 @@
 -- The laws as they are stated, and worked pairs of sets.
 use Rattle.vms_counter_laws.proofs.Always.{shown}
-use Rattle.vms_counter_laws.proofs.Facade.{◌≡◌, ℕ, true, false, List, [], ◌∷◌, Option, Some, None, IfSome, refl, if◌then◌else◌, or_left}
-use Rattle.vms_counter_laws.proofs.Facade.{or_right, bytes_eq-Decides, IsBytes, Set, Image, is_one_of, WellFormed, bytes_at, machine_bytes, written_are_bytes}
-use Rattle.vms_counter_laws.proofs.Facade.{Mismatch, lacking, machine_for, candidates, stream_of, Refusal, Answer, State, IsFirst, Here, Later, NoneShows}
-use Rattle.vms_counter_laws.proofs.Facade.{Counters, Agree, Lacks, Finds, Fault, one_fault_holds, OneAnswerLaw, subst, pos, codes, code, U8, U16, Struct}
-use Rattle.vms_counter_laws.proofs.Facade.{Counted, Place, first, Desc, Field, set_1, set_3, here, in_field, number, box, box_set, sub_of, counted_set}
-use Rattle.vms_counter_laws.proofs.Facade.{subsection_set, reading, between_at, behind_at, trailer_at, first_mismatch, default_images, AreCompatible, NoState}
-use Rattle.vms_counter_laws.proofs.Facade.{computed, NamedLaw, AlwaysLaw, ComputedLaw, zero, suc, Bool, length, arith, slice_get, Decides, Decides-and}
-use Rattle.vms_counter_laws.proofs.Facade.{Decides-like, Device, FitsHeads, Reading, Accepted, Refused, AreReady, IsReady, ready_decides, at_start, by_state}
-use Rattle.vms_counter_laws.proofs.Facade.{Taken, Faulty, state_refuses, accepted_holds, told_holds, either_holds, never_both_holds, Shows, all_ready}
-use Rattle.vms_counter_laws.proofs.Facade.{answer_to, first_refused, or_next, refused, refusal_of}
+use Rattle.vms_counter_laws.proofs.Facade
+use Facade.{◌≡◌, ℕ, true, false, List, [], ◌∷◌, Option, Some, None, IfSome, refl, if◌then◌else◌, or_left, or_right, bytes_eq-Decides}
+use Facade.{IsBytes, Set, Image, is_one_of, WellFormed, bytes_at, machine_bytes, written_are_bytes, Mismatch, lacking, machine_for, candidates, stream_of}
+use Facade.{Refusal, Answer, State, IsFirst, Here, Later, NoneShows, Counters, Agree, Lacks, Finds, Fault, one_fault_holds, OneAnswerLaw, subst, pos, codes}
+use Facade.{code, U8, U16, Struct, Counted, Place, first, Desc, Field, set_1, set_3, here, in_field, number, box, box_set, sub_of, counted_set, subsection_set}
+use Facade.{reading, between_at, behind_at, trailer_at, first_mismatch, default_images, AreCompatible, NoState, computed, NamedLaw, AlwaysLaw, ComputedLaw}
+use Facade.{zero, suc, Bool, length, arith, slice_get, Decides, Decides-and, Decides-like, Device, FitsHeads, Reading, Accepted, Refused, AreReady, IsReady}
+use Facade.{ready_decides, at_start, by_state, Taken, Faulty, state_refuses, accepted_holds, told_holds, either_holds, never_both_holds, Shows, all_ready}
+use Facade.{answer_to, first_refused, or_next, refused, refusal_of}
 use Rattle.vms_stream.specs.{State.State as Standing, StreamLaws.Answer as Either}
 use Rattle.vms_spec.specs.declared.Part.TheVariants as parts
 use Rattle.vms_spec.specs.declared.Reason.TheVariants as reasons

@@ -1,12 +1,12 @@
 -- The fields that tests and counts of a well-formed set name exist, and the code's answers are
 -- those of the definitions.
 use Rattle.vms_desc.proofs.{Clean.small_layout, Clean.field_clean, Clean.validate_clean, Clean.sub_clean, EvalLaws.truth_same}
-use Rattle.vms_desc.proofs.Facade.{◌≡◌, ℕ, zero, suc, ◌+◌, ◌<◌, ◌≤◌, List, [], ◌∷◌, length, length-append, get_or, map, Some, refl}
-use Rattle.vms_desc.proofs.Facade.{sym, ap, ◌∙◌, arith, Bool, true, flat_map, slice_get, list_all, and_parts, length-map, get_or_from_slice_get}
-use Rattle.vms_desc.proofs.Facade.{get_or-map, MOST_ITEMS, Counted, Own, Parent, Part, Formula, AtLeast, Below, Cell, Not, And, Or, Field, Desc, Sub, Device}
-use Rattle.vms_desc.proofs.Facade.{Set, own_cells, sub_place, no_desc, no_field, no_parent, all_hold, desc_cells, struct_cells, device_cells, is_steady_in}
-use Rattle.vms_desc.proofs.Facade.{is_earlier_in, is_counting, names_well, nobody, test_names_well, count_names_well, device_at, field_of, desc_of, sub_of}
-use Rattle.vms_desc.proofs.Facade.{device_of, form_of, get_map_at, Scope, is_well_formed, fields_in, HasPart, desc_at, sub_at, is_number_in, is_placed}
+use Rattle.vms_desc.proofs.Facade
+use Facade.{◌≡◌, ℕ, zero, suc, ◌+◌, ◌<◌, ◌≤◌, List, [], ◌∷◌, length, length-append, get_or, map, Some, refl, sym, ap, ◌∙◌}
+use Facade.{arith, Bool, true, flat_map, slice_get, list_all, and_parts, length-map, get_or_from_slice_get, get_or-map, MOST_ITEMS, Counted, Own, Parent, Part}
+use Facade.{Formula, AtLeast, Below, Cell, Not, And, Or, Field, Desc, Sub, Device, Set, own_cells, sub_place, no_desc, no_field, no_parent, all_hold}
+use Facade.{desc_cells, struct_cells, device_cells, is_steady_in, is_earlier_in, is_counting, names_well, nobody, test_names_well, count_names_well, device_at}
+use Facade.{field_of, desc_of, sub_of, device_of, form_of, get_map_at, Scope, is_well_formed, fields_in, HasPart, desc_at, sub_at, is_number_in, is_placed}
 pub use Rattle.vms_spec.proofs.ListsAndNumbers.{sub_first}
 use Rattle.vms_parts.specs.{declared.types.Desc.Desc as CodeDesc, declared.types.Device.Device as CodeDevice, declared.types.Field.Field as CodeField}
 use Rattle.vms_parts.specs.declared.types.Sub.{Sub as CodeSub}

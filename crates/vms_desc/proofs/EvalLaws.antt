@@ -1,16 +1,15 @@
 -- The tables and heads that are made row by row, and the numbers that are computed by their sizes:
 -- those of the definition.
-use Rattle.vms_desc.proofs.Facade.{◌≡◌, ℕ, zero, suc, ◌+◌, ◌*◌, ◌<◌, List, ◌∷◌, ◌++◌, append_assoc, length, length-append, get_or}
-use Rattle.vms_desc.proofs.Facade.{take, map, ◌∙◌, arith, Some, inl, inr, [], slice_get, get_or-map, cases_lt, get_or_append_left, length-map, map-append}
-use Rattle.vms_desc.proofs.Facade.{map_more, get_or_default, FitsHeads, capacity_of, no_field, no_desc, Field, Sub, Device, AtLeast, get_or_push, Cells, Parts}
-use Rattle.vms_desc.proofs.Facade.{in_u32, size_of, fields_size, set_of, field_of, device_of, get_map_at, Table, HeadsFit, sub_at, IsTable, no_table, AreTables}
-use Rattle.vms_desc.proofs.Facade.{device_fields, AreDeviceTables, ◌≤◌, min, refl, sym, ap, true, ◌&&◌, Option, None, ℤ, flat_map, and_parts}
-use Rattle.vms_desc.proofs.Facade.{take_min, map-map, Item, Struct, Count, Part, MOST_ITEMS, Own, Parent, first, times, counted, item_cells, item_size}
-use Rattle.vms_desc.proofs.Facade.{field_cells, cells_from, desc_cells, struct_cells, device_cells, numbers_of, place_of, is_num, is_one, names_well, Formula}
-use Rattle.vms_desc.proofs.Facade.{Below, Cell, Not, And, Or, Desc, Set, truth, field_size, sizes_to, form_of, capped_fields, Scope, item_forms, fields_forms}
-use Rattle.vms_desc.proofs.Facade.{subs_forms, device_forms, forms_to, sizes_of, place_in, number_of, number_of_parent, desc_at, is_number, is_number_in}
-use Rattle.vms_desc.proofs.Facade.{is_number_of_parent, is_placed, parent_of, HasParentCells, may_ask, may_ask_parent, IsInside, IsInsideParent, IsScope}
-use Rattle.vms_desc.proofs.Facade.{IsParent, AreStarts, slice_get-map, slice_get_within, slice_get-get_or}
+use Rattle.vms_desc.proofs.Facade
+use Facade.{◌≡◌, ℕ, zero, suc, ◌+◌, ◌*◌, ◌<◌, List, ◌∷◌, ◌++◌, append_assoc, length, length-append, get_or, take, map, ◌∙◌}
+use Facade.{arith, Some, inl, inr, [], slice_get, get_or-map, cases_lt, get_or_append_left, length-map, map-append, map_more, get_or_default, FitsHeads}
+use Facade.{capacity_of, no_field, no_desc, Field, Sub, Device, AtLeast, get_or_push, Cells, Parts, in_u32, size_of, fields_size, set_of, field_of, device_of}
+use Facade.{get_map_at, Table, HeadsFit, sub_at, IsTable, no_table, AreTables, device_fields, AreDeviceTables, ◌≤◌, min, refl, sym, ap, true, ◌&&◌}
+use Facade.{Option, None, ℤ, flat_map, and_parts, take_min, map-map, Item, Struct, Count, Part, MOST_ITEMS, Own, Parent, first, times, counted, item_cells}
+use Facade.{item_size, field_cells, cells_from, desc_cells, struct_cells, device_cells, numbers_of, place_of, is_num, is_one, names_well, Formula, Below, Cell}
+use Facade.{Not, And, Or, Desc, Set, truth, field_size, sizes_to, form_of, capped_fields, Scope, item_forms, fields_forms, subs_forms, device_forms, forms_to}
+use Facade.{sizes_of, place_in, number_of, number_of_parent, desc_at, is_number, is_number_in, is_number_of_parent, is_placed, parent_of, HasParentCells}
+use Facade.{may_ask, may_ask_parent, IsInside, IsInsideParent, IsScope, IsParent, AreStarts, slice_get-map, slice_get_within, slice_get-get_or}
 use Rattle.vms_parts.specs.{declared.types.Device.Device as CodeDevice, declared.types.Field.Field as CodeField}
 use Rattle.std.proofs.Common.{◌%◌, ◌^◌}
 use Rattle.vms_kinds.specs.{Codes.residue, Codes.width, declared.Kind.Kind}

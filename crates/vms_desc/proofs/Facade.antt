@@ -15,10 +15,11 @@ pub use Rattle.vms_kinds.specs.declared.Item.TheVariants.{Num, Struct}
 pub use Rattle.vms_spec.proofs.{ListsAndNumbers.found_one, WellFormedLaws.AllTrue, WellFormedLaws.Clean, WellFormedLaws.device_parts, WellFormedLaws.well_good}
 pub use Rattle.vms_spec.proofs.ShippedSets.{all_fit, device_fits, each, fit, heads_fit, is_fit}
 pub use Rattle.vms_spec.proofs.Tables.{element_room, field_size, first_at, first_long, first_take}
-pub use Rattle.vms_spec.specs.{declared.Count.TheVariants.Counted, declared.Whose.TheVariants.Parent, declared.TheConstants.MOST_ITEMS, declared.Count.Count}
-pub use Rattle.vms_spec.specs.{declared.Whose.TheVariants.Own, Shipped.shipped_sets}
-pub use Rattle.vms_spec.specs.{declared.Part.Part, Lookup.find_device, Streams.is_one_of, Images.own_cells, Images.sub_place, Names.is_name}
-pub use Rattle.vms_spec.specs.{Good.DefaultsFit, Heads.FitsHeads, Lookup.find_sub, Lists.position, Tests.truth, Good.IsGood, Good.IsFit}
+use Rattle.vms_spec.specs
+pub use specs.{declared.Count.TheVariants.Counted, declared.Whose.TheVariants.Parent, declared.TheConstants.MOST_ITEMS, declared.Count.Count}
+pub use specs.{declared.Whose.TheVariants.Own, Shipped.shipped_sets, declared.Part.Part, Lookup.find_device, Streams.is_one_of, Images.own_cells}
+pub use specs.{Images.sub_place, Names.is_name, Good.DefaultsFit, Heads.FitsHeads, Lookup.find_sub, Lists.position, Tests.truth, Good.IsGood, Good.IsFit}
+unfoldable pub use specs.{Layout.first, WellFormed.first_fault}
 pub use Rattle.vms_spec.specs.Layout.{all_hold, capacity_of, cells_from, counted, desc_cells, device_cells, field_cells, item_cells, item_size, kind_of}
 pub use Rattle.vms_spec.specs.Layout.{no_cell, no_desc, no_field, no_parent, numbers_of, place_of, struct_cells, times}
 pub use Rattle.vms_spec.specs.Places.{cell_in, desc_of_sub, element_at, item_at, own_cell_count, path_at}
@@ -43,4 +44,3 @@ pub use Rattle.vms_spots.proofs.{SpotLaws.are_apart, LayoutLaws.kinds_again, Lay
 pub use Rattle.vms_spots.specs.Spots.{Held}
 pub use mir.Syntax.{w128}
 pub use mir.Val.{SFits}
-unfoldable pub use Rattle.vms_spec.specs.{Layout.first, WellFormed.first_fault}

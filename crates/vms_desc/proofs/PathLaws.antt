@@ -1,12 +1,12 @@
 -- The cell of a path, given the numbers of cells of the structures, and the first cell of a path.
-use Rattle.vms_desc.proofs.Facade.{◌≡◌, ℕ, zero, suc, ◌+◌, ◌*◌, ◌<◌, ◌≤◌, List, ◌∷◌, length, length-append, length-take-le}
-use Rattle.vms_desc.proofs.Facade.{get_or, take, map, refl, ap, cases_Bool, ◌∙◌, arith, inl, inr, Option, Some, None, [], nat_lt, if◌then◌else◌}
-use Rattle.vms_desc.proofs.Facade.{flat_map, slice_get, ltb-true, lt-ltb, cases_lt, length-map, take_all, take-append-le, take-map, map-map, get_or-map, Kind}
-use Rattle.vms_desc.proofs.Facade.{Item, Num, Struct, MOST_ITEMS, first, no_desc, no_field, capacity_of, place_of, item_size, desc_cells, struct_cells}
-use Rattle.vms_desc.proofs.Facade.{device_cells, sub_place, own_cells, item_at, element_at, path_at, cell_in, element_room, first_long, first_at, Cells, in_u32}
-use Rattle.vms_desc.proofs.Facade.{size_of, fields_size, subs_size, field_of, desc_of, form_of, layout_of, capped_fields, capped_subs, Placed, Element}
-use Rattle.vms_desc.proofs.Facade.{sizes_of, element_in, element_of, begin_desc, begin_base, Begins, Enters, IsPlaced, slice_get-map, slice_get_within}
-use Rattle.vms_desc.proofs.Facade.{slice_get-get_or, get_or_from_slice_get}
+use Rattle.vms_desc.proofs.Facade
+use Facade.{◌≡◌, ℕ, zero, suc, ◌+◌, ◌*◌, ◌<◌, ◌≤◌, List, ◌∷◌, length, length-append, length-take-le, get_or, take, map, refl}
+use Facade.{ap, cases_Bool, ◌∙◌, arith, inl, inr, Option, Some, None, [], nat_lt, if◌then◌else◌, flat_map, slice_get, ltb-true, lt-ltb, cases_lt}
+use Facade.{length-map, take_all, take-append-le, take-map, map-map, get_or-map, Kind, Item, Num, Struct, MOST_ITEMS, first, no_desc, no_field, capacity_of}
+use Facade.{place_of, item_size, desc_cells, struct_cells, device_cells, sub_place, own_cells, item_at, element_at, path_at, cell_in, element_room, first_long}
+use Facade.{first_at, Cells, in_u32, size_of, fields_size, subs_size, field_of, desc_of, form_of, layout_of, capped_fields, capped_subs, Placed, Element}
+use Facade.{sizes_of, element_in, element_of, begin_desc, begin_base, Begins, Enters, IsPlaced, slice_get-map, slice_get_within, slice_get-get_or}
+use Facade.{get_or_from_slice_get}
 use Rattle.vms_desc.proofs.EvalLaws.{cells_size, place_is, size_taken, take_less, exact}
 use Rattle.vms_spec.specs.Layout.{Cell}
 use Rattle.vms_parts.specs.declared.types.Field.{Field}

@@ -1,13 +1,13 @@
 -- Descriptions, subsections, devices and sets can be read back from their files.
-use Rattle.vms_descfile.proofs.Facade.{◌≡◌, ℕ, ◌≤◌, List, ◌∷◌, get_or, length, map, Bool, true, false, ◌&&◌, ◌==◌, nat_le, Option}
-use Rattle.vms_descfile.proofs.Facade.{Some, None, refl, ◌∙◌, codes, arith, [], slice_get, and_parts, leb-true, false≢true, Data, string, ◌++◌}
-use Rattle.vms_descfile.proofs.Facade.{is_one_of, get, as_str, items_of, Formula, Field, Desc, Count, nodes, is_small_test, is_small_optional, is_small_item}
-use Rattle.vms_descfile.proofs.Facade.{is_steady_in, is_earlier_in, names_well, nobody, test_names_well, count_names_well, defaults_well, counts_well, counted}
-use Rattle.vms_descfile.proofs.Facade.{has_few, Clean, good, names_of, text_or_none, maybe_at, u32_of, text_of, Scope, names_if, number_in, DEEPEST, test_of}
-use Rattle.vms_descfile.proofs.Facade.{field_of, desc_needs, desc_allows, Head, head_of, minimum_or, rest_of, struct_of, FitsTest, FitsOptional, FitsDesc}
-use Rattle.vms_descfile.proofs.Facade.{list_file, natural_file, own_names, counter_in, test_file, field_file, desc_members, struct_file, set_file, Sub, Device}
-use Rattle.vms_descfile.proofs.Facade.{Set, WellFormed, struct_depths, struct_rules, sub_rules, device_rules, struct_clean, device_parts, sub_clean, sub_of}
-use Rattle.vms_descfile.proofs.Facade.{Whole, whole_of, device_of, set_of, parts_of, FitsSub, FitsWhole, FitsDevice, FitsSet, sub_file, whole_file, device_file}
+use Rattle.vms_descfile.proofs.Facade
+use Facade.{◌≡◌, ℕ, ◌≤◌, List, ◌∷◌, get_or, length, map, Bool, true, false, ◌&&◌, ◌==◌, nat_le, Option, Some, None, refl, ◌∙◌}
+use Facade.{codes, arith, [], slice_get, and_parts, leb-true, false≢true, Data, string, ◌++◌, is_one_of, get, as_str, items_of, Formula, Field, Desc}
+use Facade.{Count, nodes, is_small_test, is_small_optional, is_small_item, is_steady_in, is_earlier_in, names_well, nobody, test_names_well, count_names_well}
+use Facade.{defaults_well, counts_well, counted, has_few, Clean, good, names_of, text_or_none, maybe_at, u32_of, text_of, Scope, names_if, number_in, DEEPEST}
+use Facade.{test_of, field_of, desc_needs, desc_allows, Head, head_of, minimum_or, rest_of, struct_of, FitsTest, FitsOptional, FitsDesc, list_file}
+use Facade.{natural_file, own_names, counter_in, test_file, field_file, desc_members, struct_file, set_file, Sub, Device, Set, WellFormed, struct_depths}
+use Facade.{struct_rules, sub_rules, device_rules, struct_clean, device_parts, sub_clean, sub_of, Whole, whole_of, device_of, set_of, parts_of, FitsSub}
+use Facade.{FitsWhole, FitsDevice, FitsSet, sub_file, whole_file, device_file}
 use Rattle.vms_descfile.proofs.FieldBack.{field_table, field_tabled, field_back}
 use Rattle.vms_descfile.proofs.ObjectLaws.{list_good, list_or_good, natural_good, Table, members_in, object_of, found, found_behind, or_none, got, table_fits}
 use Rattle.vms_descfile.proofs.ObjectLaws.{kept, listed, unless_if, list_if}

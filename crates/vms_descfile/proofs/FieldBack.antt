@@ -1,11 +1,11 @@
 -- A field can be read back from its file.
-use Rattle.vms_descfile.proofs.Facade.{item_word, capacity_in, length_in, counter_in, equal_in, size_in, Answer, Front, test_file, front_file, field_file}
-use Rattle.vms_descfile.proofs.Facade.{◌≡◌, ℕ, ◌≤◌, List, [], ◌∷◌, get_or, map, Bool, true, false, not, ◌&&◌, ◌==◌, natural}
-use Rattle.vms_descfile.proofs.Facade.{if◌then◌else◌, Option, Some, None, option_map, is_some, ℤ, pos, negsuc, int_le, int_lt, IfSome, refl, sym, ap}
-use Rattle.vms_descfile.proofs.Facade.{◌∙◌, codes, arith, eqb-true, ints, Data, string, get, as_str, Kind, Item, Count, One, Formula, Field, in_range}
-use Rattle.vms_descfile.proofs.Facade.{defaults_well, same_number, ranges, Sort, good, fits, maybe_at, u16_of, u32_of, integer_of, text_of, Names, number_in}
-use Rattle.vms_descfile.proofs.Facade.{name_in, test_of, sort_named, counts_fit, values_fit, sort_fits, field_needs, field_allows, field_fits, count_as}
-use Rattle.vms_descfile.proofs.Facade.{count_of, item_as, front_of, field_after, field_in, field_of, FitsField, natural_file, integer_file, is_zero}
+use Rattle.vms_descfile.proofs.Facade
+use Facade.{item_word, capacity_in, length_in, counter_in, equal_in, size_in, Answer, Front, test_file, front_file, field_file, ◌≡◌, ℕ, ◌≤◌, List}
+use Facade.{[], ◌∷◌, get_or, map, Bool, true, false, not, ◌&&◌, ◌==◌, natural, if◌then◌else◌, Option, Some, None, option_map, is_some, ℤ}
+use Facade.{pos, negsuc, int_le, int_lt, IfSome, refl, sym, ap, ◌∙◌, codes, arith, eqb-true, ints, Data, string, get, as_str, Kind, Item, Count, One}
+use Facade.{Formula, Field, in_range, defaults_well, same_number, ranges, Sort, good, fits, maybe_at, u16_of, u32_of, integer_of, text_of, Names, number_in}
+use Facade.{name_in, test_of, sort_named, counts_fit, values_fit, sort_fits, field_needs, field_allows, field_fits, count_as, count_of, item_as, front_of}
+use Facade.{field_after, field_in, field_of, FitsField, natural_file, integer_file, is_zero}
 use Rattle.vms_descfile.proofs.ObjectLaws.{list_if, found, number_named, judged_good, maybe_good, default_good, list_or_good, natural_good}
 use Rattle.vms_descfile.proofs.ObjectLaws.{integer_good, Table, members_in, object_of, or_none, got, table_fits, kept, listed, given_if, unless_if}
 use Rattle.vms_descfile.proofs.ShownLaws.{number_shown, test_shown, count_shown, field_shown, map_same}

@@ -1,12 +1,12 @@
 -- Values of a file: lists, objects whose members may be missing, good answers, and plain fields.
-use Rattle.vms_descfile.proofs.Facade.{◌≡◌, ℕ, ◌+◌, ◌<◌, List, [], ◌∷◌, ◌++◌, length, get_or, map, refl, ap, sym, ◌∙◌, drop}
-use Rattle.vms_descfile.proofs.Facade.{append_assoc, zero, suc, arith, map-append, Data, Members, put, items_of, Value, own_names, list_file, list_as, drop_is}
-use Rattle.vms_descfile.proofs.Facade.{Bool, true, false, ◌&&◌, if◌then◌else◌, Option, Some, None, is_some, option_map, bytes_eq, false≢true}
-use Rattle.vms_descfile.proofs.Facade.{and_parts, and_from, bytes_eq-Decides, no_members, member, object, get, get_member, get_member-put, get_member-put_other}
-use Rattle.vms_descfile.proofs.Facade.{is_one_of, has, has_no_others, has_all, fits, given_as, unless, natural_file, integer_file, ◌≤◌, ℤ, pos, negsuc}
-use Rattle.vms_descfile.proofs.Facade.{int_le, int_lt, slice_get, le-leb, number, Answer, good, under, next, each_from, list_of, at, at_or, maybe_at, natural}
-use Rattle.vms_descfile.proofs.Facade.{integer_of, judged, IfSome, option_and_then, codes, as_str, Names, Kind, One, TellsKind, kind_word, Number, Front}
-use Rattle.vms_descfile.proofs.Facade.{IsPlain, field_after, field_fits, plain_field, plain_members, sort_named, sort_of}
+use Rattle.vms_descfile.proofs.Facade
+use Facade.{◌≡◌, ℕ, ◌+◌, ◌<◌, List, [], ◌∷◌, ◌++◌, length, get_or, map, refl, ap, sym, ◌∙◌, drop, append_assoc, zero, suc}
+use Facade.{arith, map-append, Data, Members, put, items_of, Value, own_names, list_file, list_as, drop_is, Bool, true, false, ◌&&◌, if◌then◌else◌}
+use Facade.{Option, Some, None, is_some, option_map, bytes_eq, false≢true, and_parts, and_from, bytes_eq-Decides, no_members, member, object, get, get_member}
+use Facade.{get_member-put, get_member-put_other, is_one_of, has, has_no_others, has_all, fits, given_as, unless, natural_file, integer_file, ◌≤◌, ℤ}
+use Facade.{pos, negsuc, int_le, int_lt, slice_get, le-leb, number, Answer, good, under, next, each_from, list_of, at, at_or, maybe_at, natural, integer_of}
+use Facade.{judged, IfSome, option_and_then, codes, as_str, Names, Kind, One, TellsKind, kind_word, Number, Front, IsPlain, field_after, field_fits}
+use Facade.{plain_field, plain_members, sort_named, sort_of}
 use Rattle.serde_json.specs.View.{view}
 use Rattle.vms_parts.specs.{Views.field_of, declared.types.Field.Field}
 use Rattle.vms_kinds.specs.declared.Kind.TheVariants as kinds

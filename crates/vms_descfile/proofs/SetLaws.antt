@@ -1,7 +1,7 @@
 -- Lists of a set's parts, as they are written.
-use Rattle.vms_descfile.proofs.Facade.{struct_file, sub_file, device_file, ◌≡◌, ℕ, List, [], map, ap, codes, ◌==◌, Data, Members, no_members}
-use Rattle.vms_descfile.proofs.Facade.{string, object, put, formula, desc_of, Test, own_names, natural_file, unless, desc_members, whole_file, set_file}
-use Rattle.vms_descfile.proofs.Facade.{list_file, list_as, test_file, field_file}
+use Rattle.vms_descfile.proofs.Facade
+use Facade.{struct_file, sub_file, device_file, ◌≡◌, ℕ, List, [], map, ap, codes, ◌==◌, Data, Members, no_members, string, object, put, formula}
+use Facade.{desc_of, Test, own_names, natural_file, unless, desc_members, whole_file, set_file, list_file, list_as, test_file, field_file}
 use Rattle.vms_descfile.proofs.ObjectLaws.{list_seen, list_as_seen}
 use Rattle.vms_parts.specs.{Views.field_of, Views.sub_of, Views.device_of, Views.set_of, declared.types.Field.Field, declared.types.Desc.Desc}
 use Rattle.vms_parts.specs.{declared.types.Sub.Sub, declared.types.Device.Device, declared.types.Parts.Parts}

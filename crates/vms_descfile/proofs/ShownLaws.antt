@@ -1,14 +1,13 @@
 -- What a walk over a file finds, and tests that are read back.
-use Rattle.vms_descfile.proofs.Facade.{compared_file, test_file, FitsTest, ◌≡◌, ℕ, List, [], ◌∷◌, map, Bool, true, false, Option, Some, None}
-use Rattle.vms_descfile.proofs.Facade.{option_map, refl, ap, ◌∙◌, Count, One, Fixed, Counted, Formula, AtLeast, Below, Cell, Not, And, Or, Field, Desc}
-use Rattle.vms_descfile.proofs.Facade.{Sub, Device, Set, first_of, Names, zero, suc, ◌+◌, ◌≤◌, ◌++◌, length, get_or, take, min, not, nat_lt}
-use Rattle.vms_descfile.proofs.Facade.{nat_le, arith, position, position_or_len, slice_get, bytes_eq, and_parts, or_parts, not-true, leb-true, lt-ltb}
-use Rattle.vms_descfile.proofs.Facade.{length-map, bytes_eq-Decides, slice_get_within, all_names, are_new, is_one_of, is_steady, is_steady_in, is_earlier_in}
-use Rattle.vms_descfile.proofs.Facade.{has_few, Clean, good, number_in, own_names, ◌-◌, ◌<◌, subst, Result, unary_clauses, Data, formula, Test, Form}
-use Rattle.vms_descfile.proofs.Facade.{Fault, Answer, next, Refuses, Answers, Scope, test_within, test_as, form_of, max, Ordering, Equal, sym, codes, same_Some}
-use Rattle.vms_descfile.proofs.Facade.{nat_cmp, match_ordering, slice_cmp, object, item, Members, no_members, member, depth, members_depth, get, get_member}
-use Rattle.vms_descfile.proofs.Facade.{DEEPEST, bad, under, changed, member_of, Pair, key_of, joined, two_of, both, DepthLaw, string, put, Rel, Own, Parent}
-use Rattle.vms_descfile.proofs.Facade.{names_well, rel_of, parent_cell, with_parent, rel_file}
+use Rattle.vms_descfile.proofs.Facade
+use Facade.{compared_file, test_file, FitsTest, ◌≡◌, ℕ, List, [], ◌∷◌, map, Bool, true, false, Option, Some, None, option_map, refl, ap}
+use Facade.{◌∙◌, Count, One, Fixed, Counted, Formula, AtLeast, Below, Cell, Not, And, Or, Field, Desc, Sub, Device, Set, first_of, Names, zero, suc}
+use Facade.{◌+◌, ◌≤◌, ◌++◌, length, get_or, take, min, not, nat_lt, nat_le, arith, position, position_or_len, slice_get, bytes_eq, and_parts}
+use Facade.{or_parts, not-true, leb-true, lt-ltb, length-map, bytes_eq-Decides, slice_get_within, all_names, are_new, is_one_of, is_steady, is_steady_in}
+use Facade.{is_earlier_in, has_few, Clean, good, number_in, own_names, ◌-◌, ◌<◌, subst, Result, unary_clauses, Data, formula, Test, Form, Fault, Answer}
+use Facade.{next, Refuses, Answers, Scope, test_within, test_as, form_of, max, Ordering, Equal, sym, codes, same_Some, nat_cmp, match_ordering, slice_cmp}
+use Facade.{object, item, Members, no_members, member, depth, members_depth, get, get_member, DEEPEST, bad, under, changed, member_of, Pair, key_of, joined}
+use Facade.{two_of, both, DepthLaw, string, put, Rel, Own, Parent, names_well, rel_of, parent_cell, with_parent, rel_file}
 use Rattle.vms_descfile.proofs.ObjectLaws.{natural_good}
 use Rattle.vms_spec.specs.Rules.{depth as test_depth}
 use Rattle.vms_json.specs.declared.fault.Fault.TheVariants as faults

@@ -1,11 +1,11 @@
 -- The walk that looks up names, and what a description says if it names no field.
-use Rattle.vms_descfile.proofs.Facade.{◌≡◌, ℕ, ◌+◌, Bool, true, false, ◌&&◌, List, [], Option, Some, None, is_some, option_and_then, refl}
-use Rattle.vms_descfile.proofs.Facade.{◌∙◌, arith, codes, or_parts, Data, Items, no_items, item, get, as_array, Answer, good, bad, under, next, changed}
-use Rattle.vms_descfile.proofs.Facade.{each_from, each_of, list_of, has, judged, member_of, member_or, at, at_or, maybe_at, u16_of, u32_of, text_of, Names}
-use Rattle.vms_descfile.proofs.Facade.{names_if, name_in, Front, sort_of, count_of, front_of, field_after, field_of, Head, head_of, rest_of, struct_in, sub_of}
-use Rattle.vms_descfile.proofs.Facade.{whole_in, asks_a_name, some_ask, asks_in, asks_names, zero, suc, pos, Formula, Set, DEEPEST, Form, Leaf, Fault, Refuses}
-use Rattle.vms_descfile.proofs.Facade.{integer_of, u64_of, Scope, rel_of, own_cell, parent_cell, with_parent, leaf_as, both, test_as, test_within, test_of}
-use Rattle.vms_descfile.proofs.Facade.{struct_of, whole_of, device_of, set_of, parts_of}
+use Rattle.vms_descfile.proofs.Facade
+use Facade.{◌≡◌, ℕ, ◌+◌, Bool, true, false, ◌&&◌, List, [], Option, Some, None, is_some, option_and_then, refl, ◌∙◌, arith, codes}
+use Facade.{or_parts, Data, Items, no_items, item, get, as_array, Answer, good, bad, under, next, changed, each_from, each_of, list_of, has, judged, member_of}
+use Facade.{member_or, at, at_or, maybe_at, u16_of, u32_of, text_of, Names, names_if, name_in, Front, sort_of, count_of, front_of, field_after, field_of, Head}
+use Facade.{head_of, rest_of, struct_in, sub_of, whole_in, asks_a_name, some_ask, asks_in, asks_names, zero, suc, pos, Formula, Set, DEEPEST, Form, Leaf, Fault}
+use Facade.{Refuses, integer_of, u64_of, Scope, rel_of, own_cell, parent_cell, with_parent, leaf_as, both, test_as, test_within, test_of, struct_of, whole_of}
+use Facade.{device_of, set_of, parts_of}
 use Rattle.std.specs.Option.{option_map}
 use Rattle.vms_descfile.specs.declared.read.cells.Leaf.TheVariants as leaves
 

@@ -1,14 +1,13 @@
 -- What the elements of a description are: slots of its bytes, and lines of its text.
-use Rattle.vms_elements.proofs.Facade.{◌≡◌, ℕ, zero, suc, ◌+◌, ◌-◌, ◌≤◌, List, [], ◌++◌, map, arith, Bool, true, false, ◌&&◌}
-use Rattle.vms_elements.proofs.Facade.{Field, Element, Stand, behind, array_elements, index_text, ◌∷◌, length, get_or, ℤ, refl, sym, ap, ◌∙◌}
-use Rattle.vms_elements.proofs.Facade.{two_more, if◌then◌else◌, Item, Struct, Desc, Set, Slot, Meaning, no_meaning, no_desc, first, times, counted}
-use Rattle.vms_elements.proofs.Facade.{capacity_of, elements_of, item_size, item_slots, slots_from, desc_slots, meaning, meanings, pick_append, first_cells}
-use Rattle.vms_elements.proofs.Facade.{elements_fit, first_long, Shape, no_shape, shape, cells_in, dotted, item_elements, stand_of, elements_from}
-use Rattle.vms_elements.proofs.Facade.{desc_elements, slots_of, elements_in, machine_lines, values_lines, is_number, append-nil, append_assoc, Option, codes}
-use Rattle.vms_elements.proofs.Facade.{map-append, decimal, Num, Count, One, Sub, Device, Image, own_cells, desc_cells, struct_cells, Printer, no_printer}
-use Rattle.vms_elements.proofs.Facade.{printer, printers, item_lines, element_lines, array_lines, field_lines, desc_lines, values_text, version_text}
-use Rattle.vms_elements.proofs.Facade.{field_elements, text_of, printed, number_line, number_lines, subs_lines, device_lines, devices_lines, Entry, OfNumber}
-use Rattle.vms_elements.proofs.Facade.{number_entries, subs_entries, device_entries, devices_entries, entry_line, EntryLaw}
+use Rattle.vms_elements.proofs.Facade
+use Facade.{◌≡◌, ℕ, zero, suc, ◌+◌, ◌-◌, ◌≤◌, List, [], ◌++◌, map, arith, Bool, true, false, ◌&&◌, Field, Element, Stand, behind}
+use Facade.{array_elements, index_text, ◌∷◌, length, get_or, ℤ, refl, sym, ap, ◌∙◌, two_more, if◌then◌else◌, Item, Struct, Desc, Set, Slot}
+use Facade.{Meaning, no_meaning, no_desc, first, times, counted, capacity_of, elements_of, item_size, item_slots, slots_from, desc_slots, meaning, meanings}
+use Facade.{pick_append, first_cells, elements_fit, first_long, Shape, no_shape, shape, cells_in, dotted, item_elements, stand_of, elements_from, desc_elements}
+use Facade.{slots_of, elements_in, machine_lines, values_lines, is_number, append-nil, append_assoc, Option, codes, map-append, decimal, Num, Count, One, Sub}
+use Facade.{Device, Image, own_cells, desc_cells, struct_cells, Printer, no_printer, printer, printers, item_lines, element_lines, array_lines, field_lines}
+use Facade.{desc_lines, values_text, version_text, field_elements, text_of, printed, number_line, number_lines, subs_lines, device_lines, devices_lines, Entry}
+use Facade.{OfNumber, number_entries, subs_entries, device_entries, devices_entries, entry_line, EntryLaw}
 use Rattle.vms_elements.proofs.Members.{shapes_cells, both}
 use Rattle.vms_spec.specs.Values as texts
 

@@ -1,10 +1,10 @@
 -- What holds of each element of a list or a description, and of one of them; and tables of
 -- structures.
-use Rattle.vms_elements.proofs.Facade.{◌≡◌, ◌⊎◌, inl, inr, ℕ, zero, suc, ◌+◌, Bool, true, List, [], ◌∷◌, ◌++◌, map, get_or, ℤ}
-use Rattle.vms_elements.proofs.Facade.{Some, refl, subst, slice_get, Element, Item, Field, Desc, Set, no_desc, first, counted, capacity_of, one_more, What}
-use Rattle.vms_elements.proofs.Facade.{Rule, Shape, no_shape, AllByRecursion, shape, shapes, dotted, behind, single, index_text, item_elements, Stand, stand_of}
-use Rattle.vms_elements.proofs.Facade.{array_elements, field_elements, elements_from, desc_elements, elements_in, ◌<◌, ◌/◌, ◌%◌, ◌==◌, false}
-use Rattle.vms_elements.proofs.Facade.{if◌then◌else◌, arith, decimal, digits, digits_onto, digit_glyph, lt-ltb, desc_cells, first_cells, cells_in}
+use Rattle.vms_elements.proofs.Facade
+use Facade.{◌≡◌, ◌⊎◌, inl, inr, ℕ, zero, suc, ◌+◌, Bool, true, List, [], ◌∷◌, ◌++◌, map, get_or, ℤ, Some, refl, subst, slice_get}
+use Facade.{Element, Item, Field, Desc, Set, no_desc, first, counted, capacity_of, one_more, What, Rule, Shape, no_shape, AllByRecursion, shape, shapes, dotted}
+use Facade.{behind, single, index_text, item_elements, Stand, stand_of, array_elements, field_elements, elements_from, desc_elements, elements_in, ◌<◌}
+use Facade.{◌/◌, ◌%◌, ◌==◌, false, if◌then◌else◌, arith, decimal, digits, digits_onto, digit_glyph, lt-ltb, desc_cells, first_cells, cells_in}
 use Rattle.vms_kinds.specs.declared.Item.TheVariants as items
 use Rattle.vms_elements.specs.Elements as whats
 

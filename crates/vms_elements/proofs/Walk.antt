@@ -1,12 +1,12 @@
 -- Walks over the elements of a description, and the laws that they give.
-use Rattle.vms_elements.proofs.Facade.{get_or-append_right, cells_with, cells_of, names_of, CountsUp, elements_in, ◌≡◌, ℕ, zero, suc, ◌+◌, Bool}
-use Rattle.vms_elements.proofs.Facade.{true, false, ◌&&◌, if◌then◌else◌, List, [], ◌∷◌, ◌++◌, length, get_or, map, ℤ, refl, ap, ◌∙◌}
-use Rattle.vms_elements.proofs.Facade.{subst, arith, append-nil, map-append, length-map, Item, Num, Struct, Field, Desc, Set, Cell, no_desc, first, times}
-use Rattle.vms_elements.proofs.Facade.{counted, item_cells, field_cells, cells_from, desc_cells, struct_cells, numbers_of, pick_append, size_same, one_more}
-use Rattle.vms_elements.proofs.Facade.{What, Number, Rule, Element, Shape, no_shape, shape, cells_in, dotted, behind, single, item_elements, Stand}
-use Rattle.vms_elements.proofs.Facade.{array_elements, field_elements, elements_from, desc_elements, absent, is_number, numbers_in, ElementsLaw, DeviceLaw}
-use Rattle.vms_elements.proofs.Facade.{TextLaw, Option, Some, None, zero-add, flat_map, Sub, Device, device_cells, Image, came_slots, slots_of, device_elements}
-use Rattle.vms_elements.proofs.Facade.{sub_elements, subs_elements, index_text, ◌-◌, ◌*◌, ◌<◌, ◌≤◌, nat_lt, get_or-map, get_or_append_left}
+use Rattle.vms_elements.proofs.Facade
+use Facade.{get_or-append_right, cells_with, cells_of, names_of, CountsUp, elements_in, ◌≡◌, ℕ, zero, suc, ◌+◌, Bool, true, false, ◌&&◌}
+use Facade.{if◌then◌else◌, List, [], ◌∷◌, ◌++◌, length, get_or, map, ℤ, refl, ap, ◌∙◌, subst, arith, append-nil, map-append, length-map}
+use Facade.{Item, Num, Struct, Field, Desc, Set, Cell, no_desc, first, times, counted, item_cells, field_cells, cells_from, desc_cells, struct_cells}
+use Facade.{numbers_of, pick_append, size_same, one_more, What, Number, Rule, Element, Shape, no_shape, shape, cells_in, dotted, behind, single, item_elements}
+use Facade.{Stand, array_elements, field_elements, elements_from, desc_elements, absent, is_number, numbers_in, ElementsLaw, DeviceLaw, TextLaw, Option, Some}
+use Facade.{None, zero-add, flat_map, Sub, Device, device_cells, Image, came_slots, slots_of, device_elements, sub_elements, subs_elements, index_text, ◌-◌}
+use Facade.{◌*◌, ◌<◌, ◌≤◌, nat_lt, get_or-map, get_or_append_left}
 use Rattle.vms_elements.proofs.LinesOf.{elements_slots, slots_append, text_is}
 use Rattle.vms_elements.proofs.Members.{shapes_cells, cells_at, Each, all_both, all_map}
 

@@ -6,7 +6,8 @@ pub use Rattle.vms_frames.specs.Calls.{AnswersAfter, AnswersBehind, AnswersEnd, 
 pub use Rattle.vms_frames.specs.Reads.{BehindReads, BetweenReads, CutsShort, EndReads, Grows, HeadReads, IsLong, Passes, ReadsAs, ReadsBehind, ReadsCode}
 pub use Rattle.vms_frames.specs.Reads.{ReadsFoot, ReadsMagic, ReadsNext, ReadsStep, ReadsSub, ReadsText, ReadsTrailer, ReadsUnit, ReadsVersion}
 pub use Rattle.vms_frames.specs.Reads.{configuration_seen, described, foot_seen, head_seen, held_bytes, IsStartReason, start_seen, sub_long, IsMarkReason}
-pub use Rattle.vms_io.proofs.ReadingLemmas.{takes_both, takes_none, breaks_more, misses_more, nothing_follows, reads_as, reads_behind, reads_both, reads_last}
+use Rattle.vms_io.proofs.ReadingLemmas
+pub use ReadingLemmas.{takes_both, takes_none, breaks_more, misses_more, nothing_follows, reads_as, reads_behind, reads_both, reads_last, takes_as}
 pub use Rattle.std.proofs.{lemmas.Int.to_z-of_z, lemmas.Option.same_Some, lemmas.Slice.Eq.bytes_eq-Decides, lemmas.Result.on_ok_weaker}
 pub use Rattle.std.proofs.{lemmas.Result.IfErr-weaker, Common.◌∙◌, Common.◌∷◌, Common.◌≡◌, Common.◌≤◌}
 pub use Rattle.std.proofs.lemmas.List.{append-nil, get_or-take, length-take-le, take-append-le}
@@ -26,7 +27,6 @@ pub use Rattle.vms_frames.specs.{declared.units.Between.TheVariants.First, decla
 pub use Rattle.vms_frames.specs.{declared.units.Behind.TheVariants.Next, declared.units.Behind.TheVariants.Sub, declared.fault.FrameFault.FrameFault}
 pub use Rattle.vms_frames.specs.{declared.units.Behind.Behind, declared.units.Step.Step, declared.units.Tail.Tail, Reads.sub_seen, Reads.CutsHead}
 pub use Rattle.vms_frames.specs.Calls.{held_of, in_section, step_long, tail_of, unit_of_step}
-pub use Rattle.vms_io.proofs.ReadingLemmas.{takes_as}
 pub use Rattle.vms_io.specs.{Told.Intake, Told.intake, Reading.Breaks, Reading.Takes}
 pub use Rattle.vms_marks.specs.{declared.sub_head.TheConstants.LONGEST_SUB_HEAD, declared.head.TheConstants.LONGEST_HEAD, declared.sub_head.SubHead.SubHead}
 pub use Rattle.vms_marks.specs.{declared.mark.Mark.Mark, Heads.configuration_in, Heads.sub_head_in, Marks.byte_of, Marks.mark_of, Heads.head_in}

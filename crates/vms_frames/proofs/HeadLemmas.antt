@@ -1,13 +1,13 @@
 -- Units by the bytes that came: numbers, heads, footers, and what ends a stream.
-use Rattle.vms_frames.proofs.Facade.{◌≡◌, ℕ, suc, zero, ◌+◌, ◌<◌, ◌≤◌, List, [], ◌++◌, length, get_or, drop, Some, Ok, Err, refl, sym}
-use Rattle.vms_frames.proofs.Facade.{ap, arith, length-drop, take-append-le, le-ltb, lt-ltb, big_from, Reason, number_at, bytes_at, Refused, Piece, Known, Due}
-use Rattle.vms_frames.proofs.Facade.{first_row, alone, needs, Seen, Good, Bad, Short, seen_in, seen_by, not, ℤ, Bool, true, false, if◌then◌else◌}
-use Rattle.vms_frames.proofs.Facade.{slice_index, take, None, ◌∙◌, length-append, take_at, false_from_ne_true, ltb-true, bytes_eq, bytes_eq-Decides}
-use Rattle.vms_frames.proofs.Facade.{big_number, Kind, width, value_of, IsBadBool, is_bad_bool, Magic, Number, raw_same, bad_same, magic, AMagic, Field, raw}
-use Rattle.vms_frames.proofs.Facade.{seen, nothing_known, ◌==◌, nat_lt, take_all, eq-eqb, ne_eqb, get_or-take, length-take-le, Long, Start, Foot, head_in}
-use Rattle.vms_frames.proofs.Facade.{sub_head_in, AfterFields, text_at, Section, step_long, unit_of_step, in_section, head_seen, start_seen, IsStartReason}
-use Rattle.vms_frames.proofs.Facade.{sub_seen, foot_seen, ReadsTrailer, ◌-◌, ◌∷◌, Option, Result, Intake, Takes, Breaks, reads_behind, reads_last}
-use Rattle.vms_frames.proofs.Facade.{longest_text, Description, AfterEnd, trailer_at, FrameFault, ReadFault, AnswersEnd, ReadsText, if_both}
+use Rattle.vms_frames.proofs.Facade
+use Facade.{◌≡◌, ℕ, suc, zero, ◌+◌, ◌<◌, ◌≤◌, List, [], ◌++◌, length, get_or, drop, Some, Ok, Err, refl, sym, ap, arith, length-drop}
+use Facade.{take-append-le, le-ltb, lt-ltb, big_from, Reason, number_at, bytes_at, Refused, Piece, Known, Due, first_row, alone, needs, Seen, Good, Bad, Short}
+use Facade.{seen_in, seen_by, not, ℤ, Bool, true, false, if◌then◌else◌, slice_index, take, None, ◌∙◌, length-append, take_at, false_from_ne_true}
+use Facade.{ltb-true, bytes_eq, bytes_eq-Decides, big_number, Kind, width, value_of, IsBadBool, is_bad_bool, Magic, Number, raw_same, bad_same, magic, AMagic}
+use Facade.{Field, raw, seen, nothing_known, ◌==◌, nat_lt, take_all, eq-eqb, ne_eqb, get_or-take, length-take-le, Long, Start, Foot, head_in, sub_head_in}
+use Facade.{AfterFields, text_at, Section, step_long, unit_of_step, in_section, head_seen, start_seen, IsStartReason, sub_seen, foot_seen, ReadsTrailer}
+use Facade.{◌-◌, ◌∷◌, Option, Result, Intake, Takes, Breaks, reads_behind, reads_last, longest_text, Description, AfterEnd, trailer_at, FrameFault}
+use Facade.{ReadFault, AnswersEnd, ReadsText, if_both}
 use Rattle.std.proofs.{Common.Result, Math.Bool.and-false, lemmas.List.get_or_append_left, lemmas.List.drop-append-le}
 use Rattle.vms_spec.specs.{Layout.Number as NumberSlot, Units.SubHead as ASub, Units.Mark}
 use Rattle.vms_stream.specs.Dues.{Between as IsBetween}

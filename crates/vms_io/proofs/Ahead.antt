@@ -1,8 +1,8 @@
 -- The bytes that a buffered reader still gives, as they are read and given.
 use Rattle.vms_io.proofs.{Filling.left_split, Gathering.part_is}
-use Rattle.vms_io.proofs.Facade.{bytes_only, between, ◌≡◌, ℕ, ◌+◌, ◌-◌, ◌≤◌, List, [], ◌++◌, length, take, drop, Option, Some, None}
-use Rattle.vms_io.proofs.Facade.{refl, sym, ◌∙◌, arith, append_assoc, drop_all, length-take, length-take-le, take-take, list_all-append, Consumes, Keeps}
-use Rattle.vms_io.proofs.Facade.{ahead}
+use Rattle.vms_io.proofs.Facade
+use Facade.{bytes_only, between, ◌≡◌, ℕ, ◌+◌, ◌-◌, ◌≤◌, List, [], ◌++◌, length, take, drop, Option, Some, None, refl, sym, ◌∙◌}
+use Facade.{arith, append_assoc, drop_all, length-take, length-take-le, take-take, list_all-append, Consumes, Keeps, ahead}
 
 -- after the front of a list of bytes there are bytes
 only_after : (xs bs ys : List ℕ) → xs ≡ bs ++ ys → Consumes (bytes_only xs) (bytes_only ys) bs

@@ -1,9 +1,9 @@
 -- The names of other crates, and of this crate's `specs`, that the proofs use.
 pub use Rattle.std.proofs.{Math.Seq.take-append-add, lemmas.Map.Text.btree_map_updates_text, lemmas.Slice.take-put_mid_below, lemmas.Slice.Eq.bytes_eq-Decides}
-pub use Rattle.std.proofs.Common.{Bool, Err, IfSome, List, None, Ok, OnErr, Option, Result, Some, [], ap, append-nil, append_assoc, arith, cond, drop}
-pub use Rattle.std.proofs.Common.{drop-drop, drop_at, false, if◌then◌else◌, inl, inr, le_refl, length, length-append, length-drop, length-take}
-pub use Rattle.std.proofs.Common.{length-take-le, refl, rules, subst, sym, take, take-append-drop, take_all, true, ℕ, ◌&&◌, ◌++◌, ◌+◌, ◌-◌}
-pub use Rattle.std.proofs.Common.{◌<◌, ◌^◌, ◌∙◌, ◌≡◌, ◌≢◌, ◌≤◌}
+use Rattle.std.proofs.Common
+pub use Common.{Bool, Err, IfSome, List, None, Ok, OnErr, Option, Result, Some, [], ap, append-nil, append_assoc, arith, cond, drop, drop-drop, drop_at, false}
+pub use Common.{if◌then◌else◌, inl, inr, le_refl, length, length-append, length-drop, length-take, length-take-le, refl, rules, subst, sym, take}
+pub use Common.{take-append-drop, take_all, true, ℕ, ◌&&◌, ◌++◌, ◌+◌, ◌-◌, ◌<◌, ◌^◌, ◌∙◌, ◌≡◌, ◌≢◌, ◌≤◌}
 pub use Rattle.std.proofs.KnownBytes.{Appends-nil, Appends-trans, Consumes-nil, Consumes-trans}
 pub use Rattle.std.proofs.lemmas.List.{drop-append-le, drop-take, drop_all, take-take, take_rest, Folds.list_all-append}
 pub use Rattle.std.specs.{Io.Take.take_limit, Io.Take.take_remaining, Map.update, Option.option_map, Str.bytes_eq}

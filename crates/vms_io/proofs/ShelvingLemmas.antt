@@ -1,6 +1,6 @@
 -- Calls over a shelf, one after the other, and shelves whose contents are known.
-use Rattle.vms_io.proofs.Facade.{◌≡◌, List, ℕ, Option, Some, None, refl, ◌∙◌, subst, arith, Held, IfToldBoth, PutsUnder, Looks, Reaches, Stores}
-use Rattle.vms_io.proofs.Facade.{Stock}
+use Rattle.vms_io.proofs.Facade
+use Facade.{◌≡◌, List, ℕ, Option, Some, None, refl, ◌∙◌, subst, arith, Held, IfToldBoth, PutsUnder, Looks, Reaches, Stores, Stock}
 
 pub reaches_none : (a : Stock) → Reaches a a
 reaches_none a = record { later = omega arith; promise = refl }

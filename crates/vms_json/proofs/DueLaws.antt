@@ -1,13 +1,13 @@
 -- What is due while a text is read, one token later, with the rows that are laid.
-use Rattle.vms_json.proofs.Facade.{◌≡◌, ℕ, suc, ◌-◌, ◌<◌, ◌≤◌, List, [], ◌∷◌, ◌++◌, length, true, false, Option, Some, None}
-use Rattle.vms_json.proofs.Facade.{refl, sym, ap, ◌∙◌, arith, length-append, Bor, Token, after_end_array, read_key, value, token_of, value_is}
-use Rattle.vms_json.proofs.Facade.{read_key-shorter, Data, array, object, no_items, no_members, of_json, converted, max_depth, Row, Laid, rows_view, Frame}
-use Rattle.vms_json.proofs.Facade.{in_list, in_object, before, room, after, value_due, due, AreBelow, AreEnough, InList, IsLaid, HasValue, IsRowOf, is_in_list}
-use Rattle.vms_json.proofs.Facade.{IsUnder, HasEnded, zero, ◌+◌, get_or, Bool, append_assoc, get_or_at, same_from_push, set, slice_get, Members, put}
-use Rattle.vms_json.proofs.Facade.{members_due, InObject, IsWhole, is_list, IsOpen, IsRun, set-append_seam}
+use Rattle.vms_json.proofs.Facade
+use Facade.{◌≡◌, ℕ, suc, ◌-◌, ◌<◌, ◌≤◌, List, [], ◌∷◌, ◌++◌, length, true, false, Option, Some, None, refl, sym, ap, ◌∙◌}
+use Facade.{arith, length-append, Bor, Token, after_end_array, read_key, value, token_of, value_is, read_key-shorter, Data, array, object, no_items, no_members}
+use Facade.{of_json, converted, max_depth, Row, Laid, rows_view, Frame, in_list, in_object, before, room, after, value_due, due, AreBelow, AreEnough, InList}
+use Facade.{IsLaid, HasValue, IsRowOf, is_in_list, IsUnder, HasEnded, zero, ◌+◌, get_or, Bool, append_assoc, get_or_at, same_from_push, set, slice_get}
+use Facade.{Members, put, members_due, InObject, IsWhole, is_list, IsOpen, IsRun, set-append_seam}
 use Rattle.vms_json.proofs.FrameLaws.{value_ends, value_refused, list_begins, object_begins, list_ends, no_tokens, item_due, object_ends, no_key, member_due}
-use Rattle.vms_json.proofs.LaidLaws.{no_members_laid, object_laid, value_in_list, no_items_laid, begun, key_laid, run_laid, row_laid, starts_below, below_more}
-use Rattle.vms_json.proofs.LaidLaws.{value_in_object}
+use Rattle.vms_json.proofs.LaidLaws
+use LaidLaws.{no_members_laid, object_laid, value_in_list, no_items_laid, begun, key_laid, run_laid, row_laid, starts_below, below_more, value_in_object}
 use Rattle.json.specs.declared.token.Token.{Token as TokenRead}
 use Rattle.json.specs.declared.token.Token.TheVariants as reads
 use Rattle.vms_json.specs.declared.node.Row.TheVariants as rows

@@ -1,12 +1,12 @@
 -- Lists of keys, lists of answers of items, the value of bytes, and members one after the other.
-use Rattle.vms_json.proofs.Facade.{MatchOption, ◌≡◌, ℕ, zero, suc, take, drop, false, List, ◌∷◌, ◌++◌, ◌&&◌, Bool, map, Ordering, Less}
-use Rattle.vms_json.proofs.Facade.{Equal, Greater, is_eq, refl, ap, true, sym, ◌∙◌, [], ◌||◌, ◌+◌, decimal, append_assoc, if◌then◌else◌}
-use Rattle.vms_json.proofs.Facade.{Option, Some, None, is_some, Result, IfOk, IsUtf8, is_eq-slice_cmp, bytes_eq-Decides, slice_cmp, nat_cmp, match_ordering}
-use Rattle.vms_json.proofs.Facade.{list_all, list_any, bytes_eq, is_utf8, and-false, and_self_left, Bor, append-nil, map-append, IsUtf8-from_is_utf8}
-use Rattle.vms_json.proofs.Facade.{is_utf8-from_IsUtf8, Data, object, Members, no_members, member, put, Items, no_items, item, as_object, Row, front, data_in}
-use Rattle.vms_json.proofs.Facade.{members_in, tree_view, is_one_of, one_of_both, has, has_all, has_no_others, Fault, Answer, good, bad, under, next, changed}
-use Rattle.vms_json.proofs.Facade.{each_from, Refuses, read, value_in, Tree, NoNode, ◌≤◌, cond, eqb, ltb, option_and_then, length, codes, arith, position}
-use Rattle.vms_json.proofs.Facade.{length-append, position_or_len_push, prefix_len-le-length, get, as_str, or_else, at_name, text_or_none, names_of, first_of}
+use Rattle.vms_json.proofs.Facade
+use Facade.{MatchOption, ◌≡◌, ℕ, zero, suc, take, drop, false, List, ◌∷◌, ◌++◌, ◌&&◌, Bool, map, Ordering, Less, Equal, Greater, is_eq}
+use Facade.{refl, ap, true, sym, ◌∙◌, [], ◌||◌, ◌+◌, decimal, append_assoc, if◌then◌else◌, Option, Some, None, is_some, Result, IfOk}
+use Facade.{IsUtf8, is_eq-slice_cmp, bytes_eq-Decides, slice_cmp, nat_cmp, match_ordering, list_all, list_any, bytes_eq, is_utf8, and-false, and_self_left, Bor}
+use Facade.{append-nil, map-append, IsUtf8-from_is_utf8, is_utf8-from_IsUtf8, Data, object, Members, no_members, member, put, Items, no_items, item, as_object}
+use Facade.{Row, front, data_in, members_in, tree_view, is_one_of, one_of_both, has, has_all, has_no_others, Fault, Answer, good, bad, under, next, changed}
+use Facade.{each_from, Refuses, read, value_in, Tree, NoNode, ◌≤◌, cond, eqb, ltb, option_and_then, length, codes, arith, position, length-append}
+use Facade.{position_or_len_push, prefix_len-le-length, get, as_str, or_else, at_name, text_or_none, names_of, first_of}
 use Rattle.vms_json.specs.Answers.{IsUnder}
 use Rattle.vms_json.specs.declared.node.Row.TheVariants as rows
 use Rattle.vms_json.specs.declared.fault.Fault.TheVariants as faults

@@ -1,12 +1,12 @@
 -- The value of rows, and rows that are laid in order.
-use Rattle.vms_json.proofs.Facade.{◌≡◌, Bool, true, false, cond, if◌then◌else◌, Option, Some, None, ℕ, zero, suc, ◌+◌, ◌*◌, ◌<◌}
-use Rattle.vms_json.proofs.Facade.{◌≤◌, List, [], ◌∷◌, length, take, drop, refl, sym, ap, ap₂, ◌∙◌, arith, length-take, length-drop}
-use Rattle.vms_json.proofs.Facade.{◌++◌, append_assoc, ◌||◌, Bor, bytes_eq, false≢true, bytes_eq-Decides, append-nil, length-append, take-append_seam}
-use Rattle.vms_json.proofs.Facade.{drop-append_seam, Data, null, array, object, Members, no_members, put, no_items, item, get_member-put, get_member-put_other}
-use Rattle.vms_json.proofs.Facade.{get_member, as_number, as_str, as_bool, as_array, as_object, Row, flag_at, is_list, is_object, key_at, number_at, text_at}
-use Rattle.vms_json.proofs.Facade.{front, data_in, items_in, members_in, rows_view, count_at, Token, token_of, value, value_is, number_view, Number, number_of}
-use Rattle.vms_json.proofs.Facade.{of_json, converted, Frame, in_list, in_object, before, has_one, AreBelow, IsRowOf, items_of, IsOpen, IsRun, AreItems}
-use Rattle.vms_json.proofs.Facade.{AreMembers, InList, InObject, IsLaid, HasValue}
+use Rattle.vms_json.proofs.Facade
+use Facade.{◌≡◌, Bool, true, false, cond, if◌then◌else◌, Option, Some, None, ℕ, zero, suc, ◌+◌, ◌*◌, ◌<◌, ◌≤◌, List, []}
+use Facade.{◌∷◌, length, take, drop, refl, sym, ap, ap₂, ◌∙◌, arith, length-take, length-drop, ◌++◌, append_assoc, ◌||◌, Bor, bytes_eq}
+use Facade.{false≢true, bytes_eq-Decides, append-nil, length-append, take-append_seam, drop-append_seam, Data, null, array, object, Members, no_members, put}
+use Facade.{no_items, item, get_member-put, get_member-put_other, get_member, as_number, as_str, as_bool, as_array, as_object, Row, flag_at, is_list, is_object}
+use Facade.{key_at, number_at, text_at, front, data_in, items_in, members_in, rows_view, count_at, Token, token_of, value, value_is, number_view, Number}
+use Facade.{number_of, of_json, converted, Frame, in_list, in_object, before, has_one, AreBelow, IsRowOf, items_of, IsOpen, IsRun, AreItems, AreMembers, InList}
+use Facade.{InObject, IsLaid, HasValue}
 use Rattle.vms_json.proofs.FrameLaws.{before_one}
 use Rattle.json.specs.declared.token.Token.{Token as TokenRead}
 use Rattle.vms_json.specs.declared.node.Row.TheVariants as rows

@@ -1,12 +1,12 @@
 -- A section, as the judge reads it: its head, and what comes after the fields of a part.
-use Rattle.vms_load.proofs.Facade.{◌≡◌, ℕ, ◌+◌, ◌<◌, List, length, map, drop, slice_set, Option, Some, None, Bool, true, false, Result, Ok, Err}
-use Rattle.vms_load.proofs.Facade.{refl, sym, ap, ◌∙◌, subst, zero, suc, ◌-◌, [], ◌∷◌, get_or, IfSome, arith, map-set, drop_all}
-use Rattle.vms_load.proofs.Facade.{slice_get-get_or, slice_get, Set, Device, Sub, Image, Piece, SubHead, Goes, reading_after, find_device, find_sub, reading_on}
-use Rattle.vms_load.proofs.Facade.{set_twice, at_set, judge, ask, judge_seen, State, Free, Inside, after, by_state, or_none, slots_at, due_by, known_at, Head}
-use Rattle.vms_load.proofs.Facade.{Stand, Tail, Refusal, Typed, Unfit, opened_at, section_opened, opened_unless, reason_against_sub, sub_opened, Onward, Reads}
-use Rattle.vms_load.proofs.Facade.{ReadsOn, ReadsBehind, behind, Settles, concerning, state_in, in_fields, after_part, bytes_of, subs_due, spot_in, all_passed}
-use Rattle.vms_load.proofs.Facade.{after_fields, image_at, state_of, LoadFault, Section, Staged, AfterFields, begins_next, rules_hold, Good, seen, judged_holds}
-use Rattle.vms_load.proofs.Facade.{next_holds, seen_holds, device_at, sub_at, AnswersBehind, in_section, tail_of, FrameFault, Open, LONGEST_SUB_HEAD}
+use Rattle.vms_load.proofs.Facade
+use Facade.{◌≡◌, ℕ, ◌+◌, ◌<◌, List, length, map, drop, slice_set, Option, Some, None, Bool, true, false, Result, Ok, Err, refl, sym, ap}
+use Facade.{◌∙◌, subst, zero, suc, ◌-◌, [], ◌∷◌, get_or, IfSome, arith, map-set, drop_all, slice_get-get_or, slice_get, Set, Device, Sub, Image}
+use Facade.{Piece, SubHead, Goes, reading_after, find_device, find_sub, reading_on, set_twice, at_set, judge, ask, judge_seen, State, Free, Inside, after}
+use Facade.{by_state, or_none, slots_at, due_by, known_at, Head, Stand, Tail, Refusal, Typed, Unfit, opened_at, section_opened, opened_unless}
+use Facade.{reason_against_sub, sub_opened, Onward, Reads, ReadsOn, ReadsBehind, behind, Settles, concerning, state_in, in_fields, after_part, bytes_of}
+use Facade.{subs_due, spot_in, all_passed, after_fields, image_at, state_of, LoadFault, Section, Staged, AfterFields, begins_next, rules_hold, Good, seen}
+use Facade.{judged_holds, next_holds, seen_holds, device_at, sub_at, AnswersBehind, in_section, tail_of, FrameFault, Open, LONGEST_SUB_HEAD}
 use Rattle.vms_load.proofs.HeadLemmas.{device_is, known_sub, sub_below, sub_is, verdict, section_judged, sub_judged}
 use Rattle.vms_load.proofs.ReadLemmas.{IsLong, refused_here, unit_fails, unit_settled, unit_of}
 use Rattle.vms_spec.specs.Units.{Head as HeadUnit}

@@ -1,10 +1,10 @@
 -- Readings of the fields of a part that go on: numbers, constants and rules.
-use Rattle.vms_load.proofs.Facade.{false_from_ne_true, ◌≡◌, ℕ, ◌+◌, List, [], length, take, drop, slice_set, Option, Some, Result, Ok, Err, OnOk}
-use Rattle.vms_load.proofs.Facade.{ℤ, refl, sym, ap, ◌∙◌, arith, Bool, true, false, not, ◌&&◌, nat_lt, ◌<◌, ◌^◌, IfErr, drop_all, Kind}
-use Rattle.vms_load.proofs.Facade.{width, value_of, Reason, same_number, exceeds, is_truth, is_above, Slot, Rule, Taken, Progress, take_slot, Piece, raw, Seen}
-use Rattle.vms_load.proofs.Facade.{Good, Bad, seen, nothing_known, put, taken_by, IsUnit, by_tests, tested, slot_seen, AnswersSeen, Fails, ReadsNumber}
-use Rattle.vms_load.proofs.Facade.{ReadsFiller, FrameFault, TakesAs, ReadsCapped, ReadsConstant, TakesOn, progress, same_number_is, Intake, takes_none}
-use Rattle.vms_load.proofs.Facade.{reads_as, reads_last, ReadsAs, Told, Fills, keeps_same, ◌∷◌}
+use Rattle.vms_load.proofs.Facade
+use Facade.{false_from_ne_true, ◌≡◌, ℕ, ◌+◌, List, [], length, take, drop, slice_set, Option, Some, Result, Ok, Err, OnOk, ℤ, refl, sym, ap}
+use Facade.{◌∙◌, arith, Bool, true, false, not, ◌&&◌, nat_lt, ◌<◌, ◌^◌, IfErr, drop_all, Kind, width, value_of, Reason, same_number, exceeds}
+use Facade.{is_truth, is_above, Slot, Rule, Taken, Progress, take_slot, Piece, raw, Seen, Good, Bad, seen, nothing_known, put, taken_by, IsUnit, by_tests}
+use Facade.{tested, slot_seen, AnswersSeen, Fails, ReadsNumber, ReadsFiller, FrameFault, TakesAs, ReadsCapped, ReadsConstant, TakesOn, progress, same_number_is}
+use Facade.{Intake, takes_none, reads_as, reads_last, ReadsAs, Told, Fills, keeps_same, ◌∷◌}
 use Rattle.vms_load.proofs.RunReads.{step_fills}
 use Rattle.vms_spec.specs.Layout.{Number as NumberSlot, Constant as ConstantSlot, Filler as FillerSlot}
 use Rattle.vms_spec.specs.Units.{Number, Constant, Filler}

@@ -1,11 +1,11 @@
 -- What a load returns: images that are normal and valid, and exactly what the input is.
-use Rattle.vms_load.proofs.Facade.{⊎_elim, cases_eq, ◌≡◌, ℕ, Bool, true, false, List, [], ◌∷◌, slice_set, Option, Some, map, suc, zero, refl}
-use Rattle.vms_load.proofs.Facade.{sym, ap, ◌∙◌, ◌+◌, ◌++◌, drop, Result, Ok, Err, IfSome, inl, ◌≤◌, arith, length, length-append}
-use Rattle.vms_load.proofs.Facade.{length-drop, slice_get, same_Some, Device, Set, Image, EachOnce, none_left, HasSection, SectionsSpell, Takes, at_other}
-use Rattle.vms_load.proofs.Facade.{IsKept, AreKept, IsBytes, WellFormed, Reading, Refused, FitsHeads, reading, State, by_state, at_start, accepted_holds}
-use Rattle.vms_load.proofs.Facade.{one_stream_holds, never_both_holds, one_fault_holds, state_refuses, Refusal, Intake, Last, MayFollow, bytes_both, no_bytes}
-use Rattle.vms_load.proofs.Facade.{reads_as, reads_told, Loads, GoesThrough, LoadReads, ReadsAll, name_of, most_given, LoadFault, Staged, capped, Piece, spell}
-use Rattle.vms_load.proofs.Facade.{spelled, Reason, Fault, Why, Cut, Wrong, EndsAtUnit, GivesStream, IsRefusedAt, ExactLaw, UnitLaw}
+use Rattle.vms_load.proofs.Facade
+use Facade.{⊎_elim, cases_eq, ◌≡◌, ℕ, Bool, true, false, List, [], ◌∷◌, slice_set, Option, Some, map, suc, zero, refl, sym, ap, ◌∙◌}
+use Facade.{◌+◌, ◌++◌, drop, Result, Ok, Err, IfSome, inl, ◌≤◌, arith, length, length-append, length-drop, slice_get, same_Some, Device, Set}
+use Facade.{Image, EachOnce, none_left, HasSection, SectionsSpell, Takes, at_other, IsKept, AreKept, IsBytes, WellFormed, Reading, Refused, FitsHeads, reading}
+use Facade.{State, by_state, at_start, accepted_holds, one_stream_holds, never_both_holds, one_fault_holds, state_refuses, Refusal, Intake, Last, MayFollow}
+use Facade.{bytes_both, no_bytes, reads_as, reads_told, Loads, GoesThrough, LoadReads, ReadsAll, name_of, most_given, LoadFault, Staged, capped, Piece, spell}
+use Facade.{spelled, Reason, Fault, Why, Cut, Wrong, EndsAtUnit, GivesStream, IsRefusedAt, ExactLaw, UnitLaw}
 use Rattle.vms_image.specs.Typed.{state_of as untyped}
 use Rattle.vms_stream.specs.Faults.{Fails}
 use Rattle.vms_load.specs.declared.fault.LoadFault.TheVariants as faults

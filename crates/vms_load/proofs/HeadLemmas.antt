@@ -1,13 +1,12 @@
 -- What heads open, as the judge has it, and what is read of a stream so far.
-use Rattle.vms_load.proofs.Facade.{◌≡◌, ℕ, ◌<◌, List, length, get_or, Option, Some, None, Bool, true, false, if◌then◌else◌, Ok, refl, sym, ap}
-use Rattle.vms_load.proofs.Facade.{◌∙◌, arith, Result, Err, not, nat_lt, slice_get, slice_get-get_or, slice_get_within, Reason, at_option, Device, Sub}
-use Rattle.vms_load.proofs.Facade.{Set, find_device, find_sub, index, found_inside, device_at, sub_at, section_opened, device_opened, opened_unless}
-use Rattle.vms_load.proofs.Facade.{reason_against, reason_against_sub, sub_opened, sub_opened_at, opened_at, unfit, Unfit, Piece, SubHead, device_named}
-use Rattle.vms_load.proofs.Facade.{found_is, first_row, is_none, test_some, asking, Known, ask, by_row, State, open_at, known_at, after, by_state, Verdict}
-use Rattle.vms_load.proofs.Facade.{Goes, Faulty, zero, suc, ◌+◌, ◌≤◌, [], ◌∷◌, map, replicate, slice_set, length-map, length-set, ext_get_or}
-use Rattle.vms_load.proofs.Facade.{get_or-map, ⊎_elim, cases_eq, get_or-set_same, get_or-set_other, get_or_from_slice_get, at_set, Image, default_image}
-use Rattle.vms_load.proofs.Facade.{Unknown, Before, at_start, Typed, default_at, IsImageOf, AreImagesOf, AreShaped, begun_at, no_image, section_bytes}
-use Rattle.vms_load.proofs.Facade.{sections_due, at_other}
+use Rattle.vms_load.proofs.Facade
+use Facade.{◌≡◌, ℕ, ◌<◌, List, length, get_or, Option, Some, None, Bool, true, false, if◌then◌else◌, Ok, refl, sym, ap, ◌∙◌, arith}
+use Facade.{Result, Err, not, nat_lt, slice_get, slice_get-get_or, slice_get_within, Reason, at_option, Device, Sub, Set, find_device, find_sub, index}
+use Facade.{found_inside, device_at, sub_at, section_opened, device_opened, opened_unless, reason_against, reason_against_sub, sub_opened, sub_opened_at}
+use Facade.{opened_at, unfit, Unfit, Piece, SubHead, device_named, found_is, first_row, is_none, test_some, asking, Known, ask, by_row, State, open_at}
+use Facade.{known_at, after, by_state, Verdict, Goes, Faulty, zero, suc, ◌+◌, ◌≤◌, [], ◌∷◌, map, replicate, slice_set, length-map, length-set}
+use Facade.{ext_get_or, get_or-map, ⊎_elim, cases_eq, get_or-set_same, get_or-set_other, get_or_from_slice_get, at_set, Image, default_image, Unknown, Before}
+use Facade.{at_start, Typed, default_at, IsImageOf, AreImagesOf, AreShaped, begun_at, no_image, section_bytes, sections_due, at_other}
 use Rattle.vms_spec.specs.Units.{Head}
 use Rattle.vms_bodies.proofs.Heads.{sub_is as sub_found}
 use Rattle.vms_stream.specs.State.{image_at}

@@ -1,13 +1,13 @@
 -- The fields of a part: its steps take what the structural reader takes, and the judge reads the same.
-use Rattle.vms_load.proofs.Facade.{◌≡◌, ℕ, ◌+◌, ◌≤◌, List, [], ◌∷◌, ◌++◌, length, take, append_assoc, append-nil, ℤ, Option, Some}
-use Rattle.vms_load.proofs.Facade.{Ok, Err, ◌||◌, ◌==◌, refl, sym, ap, ◌∙◌, subst, ◌-◌, ◌<◌, drop, None, Result, IfSome, OnOk, arith}
-use Rattle.vms_load.proofs.Facade.{eq-eqb, or_parts, drop-drop, drop_all, slice_get, slice_get-get_or, ⊎_elim, cases_lt, Kind, Desc, Set, Device, has_cell}
-use Rattle.vms_load.proofs.Facade.{Image, Slot, Number, meanings, desc_slots, Taken, Progress, takers, take_desc, on, take_slot, IsSound, AreSound, IsAbove}
-use Rattle.vms_load.proofs.Facade.{desc_above, meanings_above, SameBelow, same_refl, same_trans, Keeps, Keeping, Gives, ComesTo, IsFrom, slot_keeps}
-use Rattle.vms_load.proofs.Facade.{set_desc_comes, FrameFault, WalkStep, step_of, steps_of, steps_append, exceeds_least, TakesAs, slot_of, take_steps}
-use Rattle.vms_load.proofs.Facade.{last_numbers, numbers_then, take_append, last_taken, Told, from, IsFilled, Refused, part_slots, State, Inside, by_state}
-use Rattle.vms_load.proofs.Facade.{judge, reading_on, body_read, after_read, Stand, tail_of, IsGood, Leaves, desc_leaves, device_at, sub_at, Reads, ReadsOn}
-use Rattle.vms_load.proofs.Facade.{concerning, IsIn, IsOpen, part_desc, part_base, state_in, in_fields, after_fields, Section}
+use Rattle.vms_load.proofs.Facade
+use Facade.{◌≡◌, ℕ, ◌+◌, ◌≤◌, List, [], ◌∷◌, ◌++◌, length, take, append_assoc, append-nil, ℤ, Option, Some, Ok, Err, ◌||◌}
+use Facade.{◌==◌, refl, sym, ap, ◌∙◌, subst, ◌-◌, ◌<◌, drop, None, Result, IfSome, OnOk, arith, eq-eqb, or_parts, drop-drop, drop_all}
+use Facade.{slice_get, slice_get-get_or, ⊎_elim, cases_lt, Kind, Desc, Set, Device, has_cell, Image, Slot, Number, meanings, desc_slots, Taken, Progress}
+use Facade.{takers, take_desc, on, take_slot, IsSound, AreSound, IsAbove, desc_above, meanings_above, SameBelow, same_refl, same_trans, Keeps, Keeping, Gives}
+use Facade.{ComesTo, IsFrom, slot_keeps, set_desc_comes, FrameFault, WalkStep, step_of, steps_of, steps_append, exceeds_least, TakesAs, slot_of, take_steps}
+use Facade.{last_numbers, numbers_then, take_append, last_taken, Told, from, IsFilled, Refused, part_slots, State, Inside, by_state, judge, reading_on}
+use Facade.{body_read, after_read, Stand, tail_of, IsGood, Leaves, desc_leaves, device_at, sub_at, Reads, ReadsOn, concerning, IsIn, IsOpen, part_desc}
+use Facade.{part_base, state_in, in_fields, after_fields, Section}
 use Rattle.vms_spec.specs.Taking.{Refusal}
 use Rattle.vms_stream.proofs.Bodies.{Reads as ReadsBody}
 use Rattle.vms_frames.specs.declared.fault.FrameFault.TheVariants as faults

@@ -1,11 +1,11 @@
 -- Readings that go on from call to call.
 pub use Rattle.vms_frames.proofs.HeadLemmas.{err_is}
-use Rattle.vms_load.proofs.Facade.{◌≡◌, ℕ, ◌+◌, ◌-◌, ◌≤◌, List, drop, Option, Some, None, Result, Ok, Err, OnOk, refl, ap, ◌∙◌}
-use Rattle.vms_load.proofs.Facade.{arith, ◌<◌, ◌^◌, [], IfErr, drop-drop, drop_all, Reason, Verdict, Goes, Faulty, Over, Reading, Refused}
-use Rattle.vms_load.proofs.Facade.{reading_after, Piece, Set, State, by_state, Seen, Good, judge_seen, judge, advances, solid, Stand, ahead, Fails, AnswersSeen}
-use Rattle.vms_load.proofs.Facade.{FrameFault, Refusal, Onward, behind, LeadsOn, Refuses, Reads, ReadsOn, ReadsBehind, IsBehind, Settles, concerning, IsRefused}
-use Rattle.vms_load.proofs.Facade.{reach, LoadFault, reading_on, one_unit, Intake, On, takes_none, reads_as, reads_both, reads_last, course, fault_course}
-use Rattle.vms_load.proofs.Facade.{IsSpent, GoesOn, GoesSoFar, GoesBehind, Moves}
+use Rattle.vms_load.proofs.Facade
+use Facade.{◌≡◌, ℕ, ◌+◌, ◌-◌, ◌≤◌, List, drop, Option, Some, None, Result, Ok, Err, OnOk, refl, ap, ◌∙◌, arith, ◌<◌, ◌^◌}
+use Facade.{[], IfErr, drop-drop, drop_all, Reason, Verdict, Goes, Faulty, Over, Reading, Refused, reading_after, Piece, Set, State, by_state, Seen, Good}
+use Facade.{judge_seen, judge, advances, solid, Stand, ahead, Fails, AnswersSeen, FrameFault, Refusal, Onward, behind, LeadsOn, Refuses, Reads, ReadsOn}
+use Facade.{ReadsBehind, IsBehind, Settles, concerning, IsRefused, reach, LoadFault, reading_on, one_unit, Intake, On, takes_none, reads_as, reads_both}
+use Facade.{reads_last, course, fault_course, IsSpent, GoesOn, GoesSoFar, GoesBehind, Moves}
 use Rattle.vms_io.specs.Reading.{Reads as Takes}
 use Rattle.vms_frames.specs.Reads.{fault_course as frame_course}
 use Rattle.vms_frames.specs.declared.fault.FrameFault.TheVariants as frames

@@ -1,11 +1,11 @@
 -- Steps that are taken or refused, and runs of numbers of one kind.
-use Rattle.vms_load.proofs.Facade.{◌≡◌, ℕ, List, [], ◌∷◌, Option, Some, Result, Ok, Err, OnErr, OnOk, ℤ, ap, arith, zero, suc, ◌+◌, ◌*◌}
-use Rattle.vms_load.proofs.Facade.{◌<◌, ◌≤◌, ◌++◌, length, take, drop, slice_set, None, refl, ◌∙◌, length-append, length-drop, false}
-use Rattle.vms_load.proofs.Facade.{◌/◌, sym, subst, take-append-le, drop-append-le, drop_all, length-take-le, take-append-drop, take-take, IsAtEnd}
-use Rattle.vms_load.proofs.Facade.{div-le_of_le-mul, div-lt_iff_lt-mul, lt-div-mul-add, div-mul-le_self, Typed, Taken, ◌>>=◌, take_slot, Progress, refuse}
-use Rattle.vms_load.proofs.Facade.{on, reads_as, nothing_follows, FrameFault, WalkStep, TakesAs, TakesOn, progress, slot_of, take_steps, last_numbers}
-use Rattle.vms_load.proofs.Facade.{numbers_then, step_long, Told, from, Fills, IsFilled, steps_long, take_append, last_taken, told, Kind, width, value_of}
-use Rattle.vms_load.proofs.Facade.{is_bad_bool, values_of, put_from, run_of, keeps_same, keeps_more, keeps_put, run_split, Intake, Breaks, width_positive}
+use Rattle.vms_load.proofs.Facade
+use Facade.{◌≡◌, ℕ, List, [], ◌∷◌, Option, Some, Result, Ok, Err, OnErr, OnOk, ℤ, ap, arith, zero, suc, ◌+◌, ◌*◌, ◌<◌, ◌≤◌}
+use Facade.{◌++◌, length, take, drop, slice_set, None, refl, ◌∙◌, length-append, length-drop, false, ◌/◌, sym, subst, take-append-le}
+use Facade.{drop-append-le, drop_all, length-take-le, take-append-drop, take-take, IsAtEnd, div-le_of_le-mul, div-lt_iff_lt-mul, lt-div-mul-add}
+use Facade.{div-mul-le_self, Typed, Taken, ◌>>=◌, take_slot, Progress, refuse, on, reads_as, nothing_follows, FrameFault, WalkStep, TakesAs, TakesOn}
+use Facade.{progress, slot_of, take_steps, last_numbers, numbers_then, step_long, Told, from, Fills, IsFilled, steps_long, take_append, last_taken, told, Kind}
+use Facade.{width, value_of, is_bad_bool, values_of, put_from, run_of, keeps_same, keeps_more, keeps_put, run_split, Intake, Breaks, width_positive}
 use Rattle.vms_walk.specs.{Inside.Keeps, declared.step.WalkStep.TheVariants.Number}
 use Rattle.std.proofs.lemmas.List.{append-nil}
 use Rattle.vms_kinds.specs.declared.Kind.TheVariants.{Bool}

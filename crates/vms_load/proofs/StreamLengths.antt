@@ -1,18 +1,17 @@
 -- What each description set has, and how many bytes the parts and the streams of a set may have.
-use Rattle.vms_load.proofs.Facade.{◌≡◌, ℕ, ◌+◌, ◌<◌, ◌≤◌, List, [], ◌∷◌, ◌++◌, length, map, Option, Some, None, ℤ, refl, sym}
-use Rattle.vms_load.proofs.Facade.{◌∙◌, arith, true, nat_le, suc, get_or, Bool, ◌&&◌, zero, ◌*◌, ◌^◌, false, and_parts, leb-true, get_or-map}
-use Rattle.vms_load.proofs.Facade.{slice_get-get_or, slice_get, State, at_start, Set, Sub, Desc, Field, Device, Slot, Number, Rule, Cell, no_cell, no_desc}
-use Rattle.vms_load.proofs.Facade.{desc_slots, device_cells, first, capacity_of, own_cells, own_slots, sub_place, sub_slots, Kind, U8, own_cell_count}
-use Rattle.vms_load.proofs.Facade.{first_fault, WellFormed, has_few, item_count, items_in, struct_items, subs_items, devices_items, AreCells, sub_are, own_are}
-use Rattle.vms_load.proofs.Facade.{device_parts, Clean, struct_clean, sub_clean, device_at, is_well_formed, first_cell, HasPart, desc_at, sub_at, kinds_at}
-use Rattle.vms_load.proofs.Facade.{few_cells, own_inside_device, sub_inside, none_is, few_items, few_devices, IsIn, part_of, part_desc, part_base, bytes_of}
-use Rattle.vms_load.proofs.Facade.{subs_due, HasSpot, table, spot_slots, steps_of, WalkStep, IsOfKind, AreOfKinds, PartAt, is_small_item, is_small_optional}
-use Rattle.vms_load.proofs.Facade.{Item, MOST_UNUSED, first_long, width_small, item_bytes, fields_bytes, desc_bytes, struct_bytes, section_bytes, sections_due}
-use Rattle.vms_load.proofs.Facade.{subs_bytes, devices_most, FOOT_LENGTH, LONGEST_HEAD, LONGEST_SUB_HEAD, length-append, mul-le-mul_right, length-replicate}
-use Rattle.vms_load.proofs.Facade.{is_there, Meaning, no_meaning, item_slots, item_size, times, field_slots, slots_from, field_cells, numbers_of, elements_of}
-use Rattle.vms_load.proofs.Facade.{counted, all_hold, no_parent, meaning, meanings, desc_cells, struct_cells, elements_fit, cells_in, steps_append, field_bytes}
-use Rattle.vms_load.proofs.Facade.{steps_long, long_append, length-code, Image, zeroed, optional, configuration, trailer, written, written_section}
-use Rattle.vms_load.proofs.Facade.{written_sections, written_subs}
+use Rattle.vms_load.proofs.Facade
+use Facade.{◌≡◌, ℕ, ◌+◌, ◌<◌, ◌≤◌, List, [], ◌∷◌, ◌++◌, length, map, Option, Some, None, ℤ, refl, sym, ◌∙◌, arith, true}
+use Facade.{nat_le, suc, get_or, Bool, ◌&&◌, zero, ◌*◌, ◌^◌, false, and_parts, leb-true, get_or-map, slice_get-get_or, slice_get, State, at_start}
+use Facade.{Set, Sub, Desc, Field, Device, Slot, Number, Rule, Cell, no_cell, no_desc, desc_slots, device_cells, first, capacity_of, own_cells, own_slots}
+use Facade.{sub_place, sub_slots, Kind, U8, own_cell_count, first_fault, WellFormed, has_few, item_count, items_in, struct_items, subs_items, devices_items}
+use Facade.{AreCells, sub_are, own_are, device_parts, Clean, struct_clean, sub_clean, device_at, is_well_formed, first_cell, HasPart, desc_at, sub_at, kinds_at}
+use Facade.{few_cells, own_inside_device, sub_inside, none_is, few_items, few_devices, IsIn, part_of, part_desc, part_base, bytes_of, subs_due, HasSpot, table}
+use Facade.{spot_slots, steps_of, WalkStep, IsOfKind, AreOfKinds, PartAt, is_small_item, is_small_optional, Item, MOST_UNUSED, first_long, width_small}
+use Facade.{item_bytes, fields_bytes, desc_bytes, struct_bytes, section_bytes, sections_due, subs_bytes, devices_most, FOOT_LENGTH, LONGEST_HEAD}
+use Facade.{LONGEST_SUB_HEAD, length-append, mul-le-mul_right, length-replicate, is_there, Meaning, no_meaning, item_slots, item_size, times, field_slots}
+use Facade.{slots_from, field_cells, numbers_of, elements_of, counted, all_hold, no_parent, meaning, meanings, desc_cells, struct_cells, elements_fit, cells_in}
+use Facade.{steps_append, field_bytes, steps_long, long_append, length-code, Image, zeroed, optional, configuration, trailer, written, written_section}
+use Facade.{written_sections, written_subs}
 use Rattle.vms_bodies.proofs.Places.{if_there}
 use Rattle.vms_spec.proofs.Tables.{two_more}
 use Rattle.std.specs.List.{AllByRecursion}

@@ -1,12 +1,12 @@
 -- A whole stream, as the judge reads it: the units before, between and after its sections.
 use Rattle.vms_load.proofs.{PartReads.concerns, AfterReads.head_unit, AfterReads.head_long, AfterReads.section_long}
-use Rattle.vms_load.proofs.Facade.{LoadFault, Staged, ◌≡◌, ℕ, ◌+◌, ◌-◌, ◌≤◌, true, false, List, length, take, drop, Option, Some, None}
-use Rattle.vms_load.proofs.Facade.{Result, Ok, Err, IfSome, OnOk, refl, sym, ap, ◌∙◌, arith, [], ◌∷◌, drop-drop, Set, Reason, number_at, bytes_at}
-use Rattle.vms_load.proofs.Facade.{Piece, Magic, Version, Verdict, Goes, Reading, reading_after, Accepted, Refused, reading_on, AMagic, AVersion, AfterEnd}
-use Rattle.vms_load.proofs.Facade.{alone, needs, text_at, trailer_at, judge, reading, ask, judge_seen, Seen, Good, seen, seen_by, seen_in, State, Spot, Before}
-use Rattle.vms_load.proofs.Facade.{Headed, Free, by_state, Ended, at_start, nothing_known, judged_holds, Head, Stand, ahead, due_of, unit_of_step, ReadsBetween}
-use Rattle.vms_load.proofs.Facade.{AnswersSeen, AnswersAfter, AnswersHead, Fails, AnswersEnd, ReadsEnd, Between, Step, FrameFault, Onward, Reads, ReadsOn}
-use Rattle.vms_load.proofs.Facade.{LeadsOn, ReadsBehind, IsBehind, Settles, concerning, state_of, spot_of, is_first, is_configured, ReadsAll}
+use Rattle.vms_load.proofs.Facade
+use Facade.{LoadFault, Staged, ◌≡◌, ℕ, ◌+◌, ◌-◌, ◌≤◌, true, false, List, length, take, drop, Option, Some, None, Result, Ok, Err, IfSome}
+use Facade.{OnOk, refl, sym, ap, ◌∙◌, arith, [], ◌∷◌, drop-drop, Set, Reason, number_at, bytes_at, Piece, Magic, Version, Verdict, Goes, Reading}
+use Facade.{reading_after, Accepted, Refused, reading_on, AMagic, AVersion, AfterEnd, alone, needs, text_at, trailer_at, judge, reading, ask, judge_seen, Seen}
+use Facade.{Good, seen, seen_by, seen_in, State, Spot, Before, Headed, Free, by_state, Ended, at_start, nothing_known, judged_holds, Head, Stand, ahead, due_of}
+use Facade.{unit_of_step, ReadsBetween, AnswersSeen, AnswersAfter, AnswersHead, Fails, AnswersEnd, ReadsEnd, Between, Step, FrameFault, Onward, Reads, ReadsOn}
+use Facade.{LeadsOn, ReadsBehind, IsBehind, Settles, concerning, state_of, spot_of, is_first, is_configured, ReadsAll}
 use Rattle.vms_load.proofs.ReadLemmas.{unit_fault, unit_settled, unit_behind, reads_on, unit_of, still_behind, unit_fails}
 use Rattle.vms_stream.specs.{Dues.Between as IsBetween, State.Over}
 use Rattle.vms_frames.specs.Calls.{step_long}

@@ -19,7 +19,7 @@ pub use Rattle.vms_rtc.specs.Saved.{nmi_mask_in, pf_in, register_in, registers_h
 pub use Rattle.vms_rtc.specs.declared.limits.TheConstants.{INDEX_PORT, NEWEST_CLOCK, NMI_SINCE, REGISTERS, REGISTER_A, REGISTER_C, REGISTER_D}
 unfoldable pub use Rattle.vms_rtc.specs.{Cells.saved_cells, Ends.moment_of, Saved.chip_of}
 unfoldable pub use Rattle.vms_rtc.specs.Chip.{data_read, data_written, index_written, line_of, passed, period_of, power_on, read_of, ticks, written}
-pub use Rattle.dev_base.proofs.CellLaws.{size_at, stands, whole, all_set, bytes_within, one_set, byte, flag, flag-back, number-lt, of_more, of_none, AllHold}
-pub use Rattle.dev_base.proofs.CellLaws.{carried_rows, of_rows}
+use Rattle.dev_base.proofs.CellLaws
+pub use CellLaws.{size_at, stands, whole, all_set, bytes_within, one_set, byte, flag, flag-back, number-lt, of_more, of_none, AllHold, carried_rows, of_rows}
 pub use Rattle.dev_base.proofs.RuleLaws.{either, grown, quotient_mono, AllTrue, all_true, hook-ok, judged-all, judged-ok, none_failing, ok-hook}
 pub use Rattle.dev_base.specs.{Bits.has, Cells.AreOf, Cells.cell_at, Cells.firsts, Cells.flag_number, Cells.nat_of, Levels.IsUpTo, Rules.first_failing}

@@ -1,13 +1,12 @@
 -- What is saved of a clock chip and restored from it, and the rules that it meets.
-use Rattle.vms_rtc.proofs.Facade.{◌≡◌, ℕ, zero, suc, ◌+◌, ◌<◌, ◌≤◌, ◌||◌, not, nat_le, Bool, true, false, List, [], ◌∷◌, length}
-use Rattle.vms_rtc.proofs.Facade.{map, replicate, get_or, ℤ, pos, codes, Ok, refl, sym, ap, subst, ◌∙◌, arith, nat_tests, get_or-map, mc146818_rows}
-use Rattle.vms_rtc.proofs.Facade.{place_of_clock, numbers_of, Numbers, U8, of_none, of_more, byte, flag, flag-back, AllHold, size_at, whole, of_rows}
-use Rattle.vms_rtc.proofs.Facade.{carried_rows, stands, all_set, AllTrue, judged-all, ok-hook, cell_at, nat_of, flag_number, firsts, AreOf, named, kinds}
-use Rattle.vms_rtc.proofs.Facade.{saved_cells, carried, register, SavedAreCells, SavedIsRestored, CanSave, CanRestore, MayRestore, register_in, nmi_mask_in}
-use Rattle.vms_rtc.proofs.Facade.{pf_in, rules, chip_of, restored, hook_restored, IsSound, NEWEST_CLOCK, NMI_SINCE, REGISTER_A, REGISTER_C, REGISTER_D}
-use Rattle.vms_rtc.proofs.Facade.{REGISTERS, Rtc, drop, get_or-map-range_with_len, length-map-range_with_len, CMOS, InRange}
-use Rattle.vms_rtc.proofs.Facade.{Kind, bytes_within, number-lt, judged-ok, hook-ok, IsUpTo, RestoredIsSound, registers_hold, None}
-use Rattle.vms_rtc.proofs.Facade.{get_or_append_left, length-map, none_failing, all_true, first_failing, IsTold, SoundMeetsRules}
+use Rattle.vms_rtc.proofs.Facade
+use Facade.{◌≡◌, ℕ, zero, suc, ◌+◌, ◌<◌, ◌≤◌, ◌||◌, not, nat_le, Bool, true, false, List, [], ◌∷◌, length, map, replicate}
+use Facade.{get_or, ℤ, pos, codes, Ok, refl, sym, ap, subst, ◌∙◌, arith, nat_tests, get_or-map, mc146818_rows, place_of_clock, numbers_of, Numbers, U8}
+use Facade.{of_none, of_more, byte, flag, flag-back, AllHold, size_at, whole, of_rows, carried_rows, stands, all_set, AllTrue, judged-all, ok-hook, cell_at}
+use Facade.{nat_of, flag_number, firsts, AreOf, named, kinds, saved_cells, carried, register, SavedAreCells, SavedIsRestored, CanSave, CanRestore, MayRestore}
+use Facade.{register_in, nmi_mask_in, pf_in, rules, chip_of, restored, hook_restored, IsSound, NEWEST_CLOCK, NMI_SINCE, REGISTER_A, REGISTER_C, REGISTER_D}
+use Facade.{REGISTERS, Rtc, drop, get_or-map-range_with_len, length-map-range_with_len, CMOS, InRange, Kind, bytes_within, number-lt, judged-ok, hook-ok}
+use Facade.{IsUpTo, RestoredIsSound, registers_hold, None, get_or_append_left, length-map, none_failing, all_true, first_failing, IsTold, SoundMeetsRules}
 
 -- ---- the kinds of what is saved
 

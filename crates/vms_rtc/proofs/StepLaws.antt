@@ -1,12 +1,12 @@
 -- What time and calls do to a clock chip.
-use Rattle.vms_rtc.proofs.Facade.{refl, arith, line_of, read_of, written, ticks, NumbersAre, ◌≡◌, ℕ, ◌-◌, ◌*◌, ◌/◌, ◌%◌, ◌^◌}
-use Rattle.vms_rtc.proofs.Facade.{◌<◌, ◌≤◌, ◌==◌, Bool, true, false, ◌||◌, Option, Some, None, ◌⊎◌, inl, inr, ⊎_elim, ◌↔◌, sym}
-use Rattle.vms_rtc.proofs.Facade.{ltb-true, nat_tests, div-mul-le_self, le-div, pow_pos, either, grown, quotient_mono, register, period_of_rate, period_of}
-use Rattle.vms_rtc.proofs.Facade.{ends_within, passed, PartsAreWhole, HasMultiple, FlagIsSetAtMultiples, REGISTER_A, Rtc, div-lt_iff_lt-mul, false≢true}
-use Rattle.vms_rtc.proofs.Facade.{◌+◌, ◌∙◌, div-add-mod', nat_lt, IsNextEnd, moment_of, ◌≢◌, eqb-true, eq-eqb, cond_both, get_or-set_other}
-use Rattle.vms_rtc.proofs.Facade.{power_on, data_read, index_written, data_written, ReadsClearFlag, FlagsAreKept, VersionStays, REGISTER_C, REGISTER_D}
-use Rattle.vms_rtc.proofs.Facade.{INDEX_PORT, if◌then◌else◌, List, length, replicate, set, get_or, subst, cases_Bool, get_or-replicate, get_or-set_same}
-use Rattle.vms_rtc.proofs.Facade.{length-set, cases_eq, has, CallsKeepSound, IsSound}
+use Rattle.vms_rtc.proofs.Facade
+use Facade.{refl, arith, line_of, read_of, written, ticks, NumbersAre, ◌≡◌, ℕ, ◌-◌, ◌*◌, ◌/◌, ◌%◌, ◌^◌, ◌<◌, ◌≤◌}
+use Facade.{◌==◌, Bool, true, false, ◌||◌, Option, Some, None, ◌⊎◌, inl, inr, ⊎_elim, ◌↔◌, sym, ltb-true, nat_tests, div-mul-le_self}
+use Facade.{le-div, pow_pos, either, grown, quotient_mono, register, period_of_rate, period_of, ends_within, passed, PartsAreWhole, HasMultiple}
+use Facade.{FlagIsSetAtMultiples, REGISTER_A, Rtc, div-lt_iff_lt-mul, false≢true, ◌+◌, ◌∙◌, div-add-mod', nat_lt, IsNextEnd, moment_of, ◌≢◌}
+use Facade.{eqb-true, eq-eqb, cond_both, get_or-set_other, power_on, data_read, index_written, data_written, ReadsClearFlag, FlagsAreKept, VersionStays}
+use Facade.{REGISTER_C, REGISTER_D, INDEX_PORT, if◌then◌else◌, List, length, replicate, set, get_or, subst, cases_Bool, get_or-replicate, get_or-set_same}
+use Facade.{length-set, cases_eq, has, CallsKeepSound, IsSound}
 
 -- ---- the numbers of the data sheet
 

@@ -1,13 +1,13 @@
 -- Names that are distinct, and the earlier fields that a field may name.
-use Rattle.vms_rules.proofs.Facade.{◌≡◌, ℕ, ◌+◌, ◌<◌, ◌≤◌, List, ◌∷◌, ◌++◌, length, length-take, length-append, get_or, drop}
-use Rattle.vms_rules.proofs.Facade.{take, map, Bool, true, false, Ordering, refl, sym, ◌∙◌, arith, [], ◌&&◌, not, nat_eq, ◌||◌, BTreeSet}
-use Rattle.vms_rules.proofs.Facade.{UpdatesBy, KeepsOthers, IsKeyTest, AreApart, IsTotalOrder, then_total, on_total, nat_cmp_total, unequal, slice_cmp}
-use Rattle.vms_rules.proofs.Facade.{nat_list_cmp_total, nat_cmp, is_eq, eq_by_cmp, ordering_then, list_any, bytes_eq, length-map, map-append, take_more}
-use Rattle.vms_rules.proofs.Facade.{is_eq-slice_cmp, bytes_eq-Decides, and-true, or-false, and_assoc, or_assoc, or_comm, Bor, is_name, is_sub_name, is_one_of}
-use Rattle.vms_rules.proofs.Facade.{or_turned, drop_is, get_map_at, key, by_key, has_name, with_name, are_new_to, one_of_both, Field, field_of, zero, suc}
-use Rattle.vms_rules.proofs.Facade.{append_assoc, nat_lt, slice_get, nat_tests, take-map, and-false, Formula, is_steady, names_well, all_names, are_new}
-use Rattle.vms_rules.proofs.Facade.{append-nil, IsDistinct, AllByRecursion, IsStrictlyIncreasing, IsPermutation, eq_by_cmp_equiv, take-append-drop}
-use Rattle.vms_rules.proofs.Facade.{IsPermutation-sym, IsDistinct-IsPermutation, IsDistinct-from_sorted, sorted_from_strictly_increasing, all_right, either_of}
+use Rattle.vms_rules.proofs.Facade
+use Facade.{◌≡◌, ℕ, ◌+◌, ◌<◌, ◌≤◌, List, ◌∷◌, ◌++◌, length, length-take, length-append, get_or, drop, take, map, Bool, true}
+use Facade.{false, Ordering, refl, sym, ◌∙◌, arith, [], ◌&&◌, not, nat_eq, ◌||◌, BTreeSet, UpdatesBy, KeepsOthers, IsKeyTest, AreApart}
+use Facade.{IsTotalOrder, then_total, on_total, nat_cmp_total, unequal, slice_cmp, nat_list_cmp_total, nat_cmp, is_eq, eq_by_cmp, ordering_then, list_any}
+use Facade.{bytes_eq, length-map, map-append, take_more, is_eq-slice_cmp, bytes_eq-Decides, and-true, or-false, and_assoc, or_assoc, or_comm, Bor, is_name}
+use Facade.{is_sub_name, is_one_of, or_turned, drop_is, get_map_at, key, by_key, has_name, with_name, are_new_to, one_of_both, Field, field_of, zero, suc}
+use Facade.{append_assoc, nat_lt, slice_get, nat_tests, take-map, and-false, Formula, is_steady, names_well, all_names, are_new, append-nil, IsDistinct}
+use Facade.{AllByRecursion, IsStrictlyIncreasing, IsPermutation, eq_by_cmp_equiv, take-append-drop, IsPermutation-sym, IsDistinct-IsPermutation}
+use Facade.{IsDistinct-from_sorted, sorted_from_strictly_increasing, all_right, either_of}
 use Rattle.vms_rules.proofs.WalkLaws.{needed_names}
 use Rattle.std.specs.Cmp.{eq_by_cmp_equiv as equiv_by}
 use Rattle.vms_spec.specs.Sets as sets

@@ -1,13 +1,12 @@
 -- The walk over a set: rules at a place, sizes, capacities, structures, devices and machines.
-use Rattle.vms_rules.proofs.Facade.{arith, ◌≡◌, ℕ, ◌<◌, List, ◌∷◌, length, get_or, Bool, true, Option, Some, None, ℤ, pos, refl, []}
-use Rattle.vms_rules.proofs.Facade.{◌&&◌, and_assoc, counted, int_le, counts_well, both_below, lesser, least_from, AreLeast, fits, ◌+◌, ◌≤◌, drop}
-use Rattle.vms_rules.proofs.Facade.{false, ap, ◌∙◌, add-one, drop_all, drop_more, Place, failing, map, nat_le, nat_tests, MOST_ITEMS, items_in}
-use Rattle.vms_rules.proofs.Facade.{struct_items, subs_items, devices_items, Items, in_u32, subs_size, sizes_to, capped_fields, capped_subs, items_are}
-use Rattle.vms_rules.proofs.Facade.{items_to, Result, sym, IsErrAnd, err_from_is_err_and, or_else, first_answer, SetFault, DescFault, IsFirst, Judges, take}
-use Rattle.vms_rules.proofs.Facade.{◌==◌, list_any, bytes_eq, take-map, Own, Parent, names_well, Formula, Cell, Not, And, Or, is_same_device, Device}
-use Rattle.vms_rules.proofs.Facade.{device_of, zero, suc, ◌++◌, length-map, Item, first, item_depth, deepest, struct_depths, Desc, field_of, desc_of}
-use Rattle.vms_rules.proofs.Facade.{get_map_at, first_long, are_new_to, not, ◌||◌, is_at, BTreeSet, nat_list_eq_equiv, Bor, is_one_of, are_distinct}
-use Rattle.vms_rules.proofs.Facade.{and_swap, key, by_key, has_name, with_name, get_or_default}
+use Rattle.vms_rules.proofs.Facade
+use Facade.{arith, ◌≡◌, ℕ, ◌<◌, List, ◌∷◌, length, get_or, Bool, true, Option, Some, None, ℤ, pos, refl, [], ◌&&◌, and_assoc, counted}
+use Facade.{int_le, counts_well, both_below, lesser, least_from, AreLeast, fits, ◌+◌, ◌≤◌, drop, false, ap, ◌∙◌, add-one, drop_all, drop_more}
+use Facade.{Place, failing, map, nat_le, nat_tests, MOST_ITEMS, items_in, struct_items, subs_items, devices_items, Items, in_u32, subs_size, sizes_to}
+use Facade.{capped_fields, capped_subs, items_are, items_to, Result, sym, IsErrAnd, err_from_is_err_and, or_else, first_answer, SetFault, DescFault, IsFirst}
+use Facade.{Judges, take, ◌==◌, list_any, bytes_eq, take-map, Own, Parent, names_well, Formula, Cell, Not, And, Or, is_same_device, Device, device_of, zero}
+use Facade.{suc, ◌++◌, length-map, Item, first, item_depth, deepest, struct_depths, Desc, field_of, desc_of, get_map_at, first_long, are_new_to, not}
+use Facade.{◌||◌, is_at, BTreeSet, nat_list_eq_equiv, Bor, is_one_of, are_distinct, and_swap, key, by_key, has_name, with_name, get_or_default}
 use Rattle.vms_spec.specs.Sets.{Field}
 use Rattle.vms_spec.specs.Sets as sets
 

@@ -1,17 +1,16 @@
 -- The relations and rules that the tests of names, at a field and at a validation decide.
-use Rattle.vms_rules_laws.proofs.Facade.{names_of, ◌≡◌, ◌⊎◌, ℕ, zero, suc, ◌+◌, ◌<◌, ◌&&◌, nat_le, List, [], ◌∷◌, ◌++◌}
-use Rattle.vms_rules_laws.proofs.Facade.{append_assoc, length, length-append, take, drop, le_decides, inl, inr, refl, sym, ap, ◌∙◌, subst, arith, Decides}
-use Rattle.vms_rules_laws.proofs.Facade.{Decides-and, Decides-at, Decides-eqb, Decides-like, Decides-not, Decides-or, or_assoc, drop_at, take-append-drop}
-use Rattle.vms_rules_laws.proofs.Facade.{take_at, bytes_eq-Decides, all_names, are_new, is_name, is_name_byte, is_sub_name, Field, are_distinct, AreNewNames}
-use Rattle.vms_rules_laws.proofs.Facade.{At, IsName, IsNameByte, IsSubName, IsWithin, Bool, true, false, ◌==◌, if◌then◌else◌, Option, Some, None, ℤ}
-use Rattle.vms_rules_laws.proofs.Facade.{pos, ◌≤ℤ◌, AllByRecursion, slice_get, and_from, and_parts, eq-eqb, eqb-true, Decides-ltb, Item, Num, Equal}
-use Rattle.vms_rules_laws.proofs.Facade.{Unused, Struct, Kind, InRange, MOST_UNUSED, Count, One, Fixed, Counted, counted, same_number, count_names_well}
-use Rattle.vms_rules_laws.proofs.Facade.{counts_well, defaults_well, field_rules, has_good_count, in_range, is_counting, is_counting_item, is_earlier_in}
-use Rattle.vms_rules_laws.proofs.Facade.{is_small_item, is_small_optional, is_small_test, names_well, nobody, test_names_well, uses_below, validation_rules}
-use Rattle.vms_rules_laws.proofs.Facade.{Formula, Desc, AllTrue, same_number_is, ranges, within, counted_well, is_same, ranged, CountFits, DefaultFits}
-use Rattle.vms_rules_laws.proofs.Facade.{IsCounting, IsEarlier, IsField, IsSmall, IsSteady, IsValidation, NamesOnly, Nobody}
-use Rattle.vms_rules_laws.proofs.Tests.{all_decides, one_of_decides, steady_decides, at_places, earlier_decides, names_decides, never, nobody_decides}
-use Rattle.vms_rules_laws.proofs.Tests.{one_decides, small_decides}
+use Rattle.vms_rules_laws.proofs.Facade
+use Facade.{names_of, ◌≡◌, ◌⊎◌, ℕ, zero, suc, ◌+◌, ◌<◌, ◌&&◌, nat_le, List, [], ◌∷◌, ◌++◌, append_assoc, length}
+use Facade.{length-append, take, drop, le_decides, inl, inr, refl, sym, ap, ◌∙◌, subst, arith, Decides, Decides-and, Decides-at, Decides-eqb}
+use Facade.{Decides-like, Decides-not, Decides-or, or_assoc, drop_at, take-append-drop, take_at, bytes_eq-Decides, all_names, are_new, is_name, is_name_byte}
+use Facade.{is_sub_name, Field, are_distinct, AreNewNames, At, IsName, IsNameByte, IsSubName, IsWithin, Bool, true, false, ◌==◌, if◌then◌else◌}
+use Facade.{Option, Some, None, ℤ, pos, ◌≤ℤ◌, AllByRecursion, slice_get, and_from, and_parts, eq-eqb, eqb-true, Decides-ltb, Item, Num, Equal, Unused}
+use Facade.{Struct, Kind, InRange, MOST_UNUSED, Count, One, Fixed, Counted, counted, same_number, count_names_well, counts_well, defaults_well, field_rules}
+use Facade.{has_good_count, in_range, is_counting, is_counting_item, is_earlier_in, is_small_item, is_small_optional, is_small_test, names_well, nobody}
+use Facade.{test_names_well, uses_below, validation_rules, Formula, Desc, AllTrue, same_number_is, ranges, within, counted_well, is_same, ranged, CountFits}
+use Facade.{DefaultFits, IsCounting, IsEarlier, IsField, IsSmall, IsSteady, IsValidation, NamesOnly, Nobody}
+use Rattle.vms_rules_laws.proofs.Tests
+use Tests.{all_decides, one_of_decides, steady_decides, at_places, earlier_decides, names_decides, never, nobody_decides, one_decides, small_decides}
 
 -- ---- bytes and names
 

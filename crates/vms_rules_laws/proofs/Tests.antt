@@ -1,15 +1,14 @@
 -- The levels, tests of lists and of formulas, and numbers of items that the walk computes.
-use Rattle.vms_rules_laws.proofs.Facade.{◌≡◌, ◌⊎◌, ℕ, zero, suc, ◌+◌, ◌<◌, ◌≤◌, max, nat_lt, true, false, List, [], ◌∷◌}
-use Rattle.vms_rules_laws.proofs.Facade.{length, get_or, length-append, inl, inr, refl, arith, max-le, cases_Bool, ltb-true, get_or_past, get_or_from_slice_get}
-use Rattle.vms_rules_laws.proofs.Facade.{slice_get-get_or, slice_get_within, Item, Struct, first, no_desc, depth, nodes, Formula, AtLeast, Not, And, Or, Field}
-use Rattle.vms_rules_laws.proofs.Facade.{Desc, deepest, item_depth, struct_depths, first_at, first_long, At, IsWithinTest, Nests, UsesOn, parts_of, Bool, not}
-use Rattle.vms_rules_laws.proofs.Facade.{take, map, le_decides, None, subst, Decides, list_all, Decides-and, Decides-like, Decides-ltb, Decides-not, Decides-or}
-use Rattle.vms_rules_laws.proofs.Facade.{bytes_eq-Decides, Kind, Num, Count, One, Own, Parent, is_earlier_in, is_num, is_one, is_small_test, is_steady_in}
-use Rattle.vms_rules_laws.proofs.Facade.{names_well, nobody, Cell, is_one_of, IsEarlier, IsNew, IsSmall, IsSteady, NamesOnly, Nobody, ◌*◌, ◌++◌, ℤ}
-use Rattle.vms_rules_laws.proofs.Facade.{sym, ◌∙◌, field_cells, Sub, Device, Set, capacity_of, desc_cells, struct_cells, all_hold, item_count, items_in}
-use Rattle.vms_rules_laws.proofs.Facade.{struct_items, subs_items, devices_items, Element, Shape, no_shape, shape, cells_in, dotted, behind, item_elements}
-use Rattle.vms_rules_laws.proofs.Facade.{Stand, array_elements, field_elements, elements_from, desc_elements, absent, elements_in, subs_elements, two_more}
-use Rattle.vms_rules_laws.proofs.Facade.{items_among, items_of}
+use Rattle.vms_rules_laws.proofs.Facade
+use Facade.{◌≡◌, ◌⊎◌, ℕ, zero, suc, ◌+◌, ◌<◌, ◌≤◌, max, nat_lt, true, false, List, [], ◌∷◌, length, get_or, length-append}
+use Facade.{inl, inr, refl, arith, max-le, cases_Bool, ltb-true, get_or_past, get_or_from_slice_get, slice_get-get_or, slice_get_within, Item, Struct, first}
+use Facade.{no_desc, depth, nodes, Formula, AtLeast, Not, And, Or, Field, Desc, deepest, item_depth, struct_depths, first_at, first_long, At, IsWithinTest}
+use Facade.{Nests, UsesOn, parts_of, Bool, not, take, map, le_decides, None, subst, Decides, list_all, Decides-and, Decides-like, Decides-ltb, Decides-not}
+use Facade.{Decides-or, bytes_eq-Decides, Kind, Num, Count, One, Own, Parent, is_earlier_in, is_num, is_one, is_small_test, is_steady_in, names_well, nobody}
+use Facade.{Cell, is_one_of, IsEarlier, IsNew, IsSmall, IsSteady, NamesOnly, Nobody, ◌*◌, ◌++◌, ℤ, sym, ◌∙◌, field_cells, Sub, Device, Set}
+use Facade.{capacity_of, desc_cells, struct_cells, all_hold, item_count, items_in, struct_items, subs_items, devices_items, Element, Shape, no_shape, shape}
+use Facade.{cells_in, dotted, behind, item_elements, Stand, array_elements, field_elements, elements_from, desc_elements, absent, elements_in, subs_elements}
+use Facade.{two_more, items_among, items_of}
 
 -- ---- tests
 

@@ -1,15 +1,15 @@
 -- What the grammar says of a script's text is what the reader takes, in both directions.
-use Rattle.vms_script.proofs.Facade.{append_assoc, cond_both, first_line, IsBadHere, IsRefused, RefusesFirst, ◌≡◌, [], ◌∷◌, Some, None, Ok, Err}
-use Rattle.vms_script.proofs.Facade.{true, refl, codes, Happens, Saves, Restores, line_read, bad, script_read, nat_tests, ℕ, ◌+◌, ◌^◌, ◌<◌, Bool}
-use Rattle.vms_script.proofs.Facade.{false, not, ◌==◌, List, ◌++◌, Option, pos, if◌then◌else◌, ap, ◌∙◌, arith, decimal, list_all, ne_eqb}
-use Rattle.vms_script.proofs.Facade.{digits_decimal, Event, numerals, number_holds, port_text, event_text, line_text, script_text, IsEvent, IsLine, AreLines}
-use Rattle.vms_script.proofs.Facade.{is_wire, NEWEST, ScriptLine, Read, or_form, number_in, is_wait, is_set_of, out_line, wire_line, set_spelled, save_line}
-use Rattle.vms_script.proofs.Facade.{is_name_byte, name_byte_high, is_shelf_name, Split, Reading, lines_of, with_line, lines_read, text_read, first_word}
-use Rattle.vms_script.proofs.Facade.{longer_word, byte_spelled, byte_text, port_spelled, level_spelled, ScriptReason, ℤ, negsuc, sym, subst, bytes_eq}
-use Rattle.vms_script.proofs.Facade.{eqb-true, bytes_eq-Decides, number_spelled, spelled_holds, ReadsExactly, or_range, in_line, byte_line, wait_line}
-use Rattle.vms_script.proofs.Facade.{name_spelled, restore_line, play_line, line_split, begun, tail_read, level_text}
-use Rattle.vms_script.proofs.NumberLemmas.{lacks, lacks-append, byte_lacks, port_lacks, digits_lack, byte_back, port_back, EndsEarly, waits_end, wires_end}
-use Rattle.vms_script.proofs.NumberLemmas.{sets_end, byte_is, port_is}
+use Rattle.vms_script.proofs.Facade
+use Facade.{append_assoc, cond_both, first_line, IsBadHere, IsRefused, RefusesFirst, ◌≡◌, [], ◌∷◌, Some, None, Ok, Err, true, refl, codes, Happens}
+use Facade.{Saves, Restores, line_read, bad, script_read, nat_tests, ℕ, ◌+◌, ◌^◌, ◌<◌, Bool, false, not, ◌==◌, List, ◌++◌, Option, pos}
+use Facade.{if◌then◌else◌, ap, ◌∙◌, arith, decimal, list_all, ne_eqb, digits_decimal, Event, numerals, number_holds, port_text, event_text}
+use Facade.{line_text, script_text, IsEvent, IsLine, AreLines, is_wire, NEWEST, ScriptLine, Read, or_form, number_in, is_wait, is_set_of, out_line, wire_line}
+use Facade.{set_spelled, save_line, is_name_byte, name_byte_high, is_shelf_name, Split, Reading, lines_of, with_line, lines_read, text_read, first_word}
+use Facade.{longer_word, byte_spelled, byte_text, port_spelled, level_spelled, ScriptReason, ℤ, negsuc, sym, subst, bytes_eq, eqb-true, bytes_eq-Decides}
+use Facade.{number_spelled, spelled_holds, ReadsExactly, or_range, in_line, byte_line, wait_line, name_spelled, restore_line, play_line, line_split, begun}
+use Facade.{tail_read, level_text}
+use Rattle.vms_script.proofs.NumberLemmas
+use NumberLemmas.{lacks, lacks-append, byte_lacks, port_lacks, digits_lack, byte_back, port_back, EndsEarly, waits_end, wires_end, sets_end, byte_is, port_is}
 use Rattle.dev_board.specs.declared.event.Event.TheVariants as events
 use Rattle.vms_script.specs.declared.line.ScriptReason.TheVariants as reasons
 

@@ -1,11 +1,11 @@
 -- Numbers as they are spelled, and their ranges.
 use Rattle.std.proofs.lemmas.Nat.{mul-add-lt}
-use Rattle.vms_script.proofs.Facade.{◌≡◌, ℕ, ◌+◌, ◌-◌, ◌*◌, ◌^◌, ◌<◌, ◌≤◌, Bool, true, false, nat_le, List, length, get_or}
-use Rattle.vms_script.proofs.Facade.{drop, Option, Some, None, Ok, Err, ℤ, if◌then◌else◌, refl, sym, ap, ◌∙◌, arith, and_right, nat_tests}
-use Rattle.vms_script.proofs.Facade.{drop_more, drop_all, natural_from, number_spelled, natural_up, is_wire, NEWEST, ScriptLine, Happens, or_form, or_range}
-use Rattle.vms_script.proofs.Facade.{number_in, is_wait, is_set_of, wire_line, level_spelled, number_read, below_2_64, ScriptReason, ◌/◌, ◌%◌, not}
-use Rattle.vms_script.proofs.Facade.{◌==◌, [], ◌∷◌, ◌++◌, list_all, div-mul-add, mod-mul-add, digit_char, is_digit, port_text, digit_spelled}
-use Rattle.vms_script.proofs.Facade.{joined, byte_spelled, port_spelled, byte_text}
+use Rattle.vms_script.proofs.Facade
+use Facade.{◌≡◌, ℕ, ◌+◌, ◌-◌, ◌*◌, ◌^◌, ◌<◌, ◌≤◌, Bool, true, false, nat_le, List, length, get_or, drop, Option, Some, None}
+use Facade.{Ok, Err, ℤ, if◌then◌else◌, refl, sym, ap, ◌∙◌, arith, and_right, nat_tests, drop_more, drop_all, natural_from, number_spelled}
+use Facade.{natural_up, is_wire, NEWEST, ScriptLine, Happens, or_form, or_range, number_in, is_wait, is_set_of, wire_line, level_spelled, number_read}
+use Facade.{below_2_64, ScriptReason, ◌/◌, ◌%◌, not, ◌==◌, [], ◌∷◌, ◌++◌, list_all, div-mul-add, mod-mul-add, digit_char, is_digit}
+use Facade.{port_text, digit_spelled, joined, byte_spelled, port_spelled, byte_text}
 use Rattle.dev_board.specs.declared.event.Event.TheVariants as events
 use Rattle.vms_script.specs.declared.line.ScriptReason.TheVariants as reasons
 

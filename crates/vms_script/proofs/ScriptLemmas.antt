@@ -1,11 +1,11 @@
 -- Scripts line by line, and the line that is refused.
 use Rattle.vms_script.proofs.GrammarLaws.{rejoined, word_split}
-use Rattle.vms_script.proofs.Facade.{nat_tests, unended_reason, ◌≡◌, ℕ, ◌+◌, ◌<◌, Bool, true, false, ◌==◌, List, [], ◌∷◌, ◌++◌}
-use Rattle.vms_script.proofs.Facade.{length, Option, Some, None, Ok, Err, if◌then◌else◌, refl, sym, ap, ◌∙◌, arith, append_assoc, eqb-true}
-use Rattle.vms_script.proofs.Facade.{append-nil, first_line, longer_line, ScriptLine, Read, line_read, Split, Reading, lines_of, begun, bad, also, with_line}
-use Rattle.vms_script.proofs.Facade.{unended, text_read, SaysLines, IsBadAt, IsPut, IsRefusal, ReadsLines, ScriptFault, ScriptReason, zero, suc, ◌≤◌}
-use Rattle.vms_script.proofs.Facade.{get_or, take, drop, codes, bytes_eq, ne_eqb, eq-eqb, none-some, first_word, longer_word, not, list_all, IsAscii}
-use Rattle.vms_script.proofs.Facade.{slice_index, and_parts, is_name_byte, name_byte_low, is_shelf_name}
+use Rattle.vms_script.proofs.Facade
+use Facade.{nat_tests, unended_reason, ◌≡◌, ℕ, ◌+◌, ◌<◌, Bool, true, false, ◌==◌, List, [], ◌∷◌, ◌++◌, length, Option, Some, None}
+use Facade.{Ok, Err, if◌then◌else◌, refl, sym, ap, ◌∙◌, arith, append_assoc, eqb-true, append-nil, first_line, longer_line, ScriptLine, Read}
+use Facade.{line_read, Split, Reading, lines_of, begun, bad, also, with_line, unended, text_read, SaysLines, IsBadAt, IsPut, IsRefusal, ReadsLines, ScriptFault}
+use Facade.{ScriptReason, zero, suc, ◌≤◌, get_or, take, drop, codes, bytes_eq, ne_eqb, eq-eqb, none-some, first_word, longer_word, not, list_all, IsAscii}
+use Facade.{slice_index, and_parts, is_name_byte, name_byte_low, is_shelf_name}
 use Rattle.vms_script.specs.declared.line.ScriptReason.TheVariants as reasons
 
 -- ---- the lines of a text by its first line

@@ -1,15 +1,14 @@
 -- The length and the number of the entries of fields, and what well-formed sets say of names, sizes
 -- and depths.
-use Rattle.vms_selfdesc.proofs.Facade.{AllByRecursion, all_both, all_more, cases_lt, inl, inr, ◌≡◌, ℕ, zero, suc, ◌+◌, ◌*◌, ◌<◌, ◌≤◌}
-use Rattle.vms_selfdesc.proofs.Facade.{List, ◌∷◌, ◌++◌, length, length-append, get_or, ℤ, Bool, true, append-nil, and-true, false, ◌&&◌, refl}
-use Rattle.vms_selfdesc.proofs.Facade.{arith, codes, [], get_or-eq_default, mul-le-mul_right, quoted, compact_text, number_text, of_integer, Item, Kind, Num}
-use Rattle.vms_selfdesc.proofs.Facade.{Equal, Unused, Struct, width, MOST_ITEMS, MOST_UNUSED, Count, One, Field, Desc, is_there, no_desc, no_parent, first}
-use Rattle.vms_selfdesc.proofs.Facade.{item_size, field_cells, capacity_of, elements_of, numbers_of, item_count, items_in, item_depth, deepest, elements_fit}
-use Rattle.vms_selfdesc.proofs.Facade.{first_at, first_long, width_small, kind_word, Shape, no_shape, shape, cells_in, field_elements, elements_from}
-use Rattle.vms_selfdesc.proofs.Facade.{desc_elements, Entry, cell_entry, listed_if, entries_of, item_entries, element_path, element_entries, array_entries}
-use Rattle.vms_selfdesc.proofs.Facade.{entry_tree, IsPlain, ◌^◌, pos, negsuc, nat_le, and_parts, leb-true, length-decimal-le, lowest, highest, Part, Set}
-use Rattle.vms_selfdesc.proofs.Facade.{no_field, int_le, in_range, defaults_well, is_small_item, field_rules, struct_depths, has_few, deepest_small}
-use Rattle.vms_selfdesc.proofs.Facade.{is_well_formed, HasPart, desc_at, AllTrue, reach, field_sound, struct_clean}
+use Rattle.vms_selfdesc.proofs.Facade
+use Facade.{AllByRecursion, all_both, all_more, cases_lt, inl, inr, ◌≡◌, ℕ, zero, suc, ◌+◌, ◌*◌, ◌<◌, ◌≤◌, List, ◌∷◌, ◌++◌}
+use Facade.{length, length-append, get_or, ℤ, Bool, true, append-nil, and-true, false, ◌&&◌, refl, arith, codes, [], get_or-eq_default, mul-le-mul_right}
+use Facade.{quoted, compact_text, number_text, of_integer, Item, Kind, Num, Equal, Unused, Struct, width, MOST_ITEMS, MOST_UNUSED, Count, One, Field, Desc}
+use Facade.{is_there, no_desc, no_parent, first, item_size, field_cells, capacity_of, elements_of, numbers_of, item_count, items_in, item_depth, deepest}
+use Facade.{elements_fit, first_at, first_long, width_small, kind_word, Shape, no_shape, shape, cells_in, field_elements, elements_from, desc_elements, Entry}
+use Facade.{cell_entry, listed_if, entries_of, item_entries, element_path, element_entries, array_entries, entry_tree, IsPlain, ◌^◌, pos, negsuc, nat_le}
+use Facade.{and_parts, leb-true, length-decimal-le, lowest, highest, Part, Set, no_field, int_le, in_range, defaults_well, is_small_item, field_rules}
+use Facade.{struct_depths, has_few, deepest_small, is_well_formed, HasPart, desc_at, AllTrue, reach, field_sound, struct_clean}
 use Rattle.vms_selfdesc.proofs.OfElements.{of_append, of_dotted, plain_is, of_field, of_desc}
 use Rattle.vms_selfdesc.proofs.Plain.{IsShort, plain_append, element_plain, element_long, dot_plain, key_long, sent_long, absent_long, word_short, name_short}
 use Rattle.vms_kinds.specs.declared.Kind.TheVariants as kinds

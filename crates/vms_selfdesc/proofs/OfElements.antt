@@ -1,16 +1,15 @@
 -- A structure has the same cells and elements in each table that reaches it, and by two lists of
 -- numbers that agree.
-use Rattle.vms_selfdesc.proofs.Facade.{decimal, ◌≡◌, ℕ, suc, ◌+◌, ◌<◌, List, [], ◌∷◌, ◌++◌, length, get_or, map, ℤ, pos, refl, ap}
-use Rattle.vms_selfdesc.proofs.Facade.{◌∙◌, arith, ◌*◌, ◌≤◌, Bool, true, zero, append_assoc, false, ◌&&◌, codes, ltb-true, and_parts}
-use Rattle.vms_selfdesc.proofs.Facade.{append-nil, and-true, and-false, and_assoc, outs, array_of, fun_ext, Item, Struct, Field, Desc, Set, no_desc, item_size}
-use Rattle.vms_selfdesc.proofs.Facade.{field_cells, desc_cells, struct_cells, capacity_of, counted, numbers_of, elements_of, no_parent, ItemBelow, FieldsBelow}
-use Rattle.vms_selfdesc.proofs.Facade.{item_cells_same, field_cells_same, desc_cells_same, own_same, row_same, first_same, all_below, first_at, Element, Shape}
-use Rattle.vms_selfdesc.proofs.Facade.{no_shape, shape, shapes, cells_in, dotted, item_elements, array_elements, field_elements, elements_from, desc_elements}
-use Rattle.vms_selfdesc.proofs.Facade.{What, index_text, behind, shapes_cells, MOST_ITEMS, Count, One, Fixed, Counted, Part, uses_below, defaults_well}
-use Rattle.vms_selfdesc.proofs.Facade.{counts_well, field_at, own_numbers, is_well_formed, desc_at, reach, field_clean, struct_clean, field_sound, Entry}
-use Rattle.vms_selfdesc.proofs.Facade.{entries_of, sent_entry, listed_if, entry_of, is_field_sent, array_entries, element_entries, item_entries, item_list}
-use Rattle.vms_selfdesc.proofs.Facade.{field_list, part_list, element_path, HasPlace, HasElements, item_rank, part_rank, reach_whole, uses_more, rank_below}
-use Rattle.vms_selfdesc.proofs.Facade.{room_for_less, one_fits, elements_fit, is_there, sub_tree, AllByRecursion, Option, part_entries, Sub, is_some}
+use Rattle.vms_selfdesc.proofs.Facade
+use Facade.{decimal, ◌≡◌, ℕ, suc, ◌+◌, ◌<◌, List, [], ◌∷◌, ◌++◌, length, get_or, map, ℤ, pos, refl, ap, ◌∙◌, arith, ◌*◌}
+use Facade.{◌≤◌, Bool, true, zero, append_assoc, false, ◌&&◌, codes, ltb-true, and_parts, append-nil, and-true, and-false, and_assoc, outs, array_of}
+use Facade.{fun_ext, Item, Struct, Field, Desc, Set, no_desc, item_size, field_cells, desc_cells, struct_cells, capacity_of, counted, numbers_of, elements_of}
+use Facade.{no_parent, ItemBelow, FieldsBelow, item_cells_same, field_cells_same, desc_cells_same, own_same, row_same, first_same, all_below, first_at, Element}
+use Facade.{Shape, no_shape, shape, shapes, cells_in, dotted, item_elements, array_elements, field_elements, elements_from, desc_elements, What, index_text}
+use Facade.{behind, shapes_cells, MOST_ITEMS, Count, One, Fixed, Counted, Part, uses_below, defaults_well, counts_well, field_at, own_numbers, is_well_formed}
+use Facade.{desc_at, reach, field_clean, struct_clean, field_sound, Entry, entries_of, sent_entry, listed_if, entry_of, is_field_sent, array_entries}
+use Facade.{element_entries, item_entries, item_list, field_list, part_list, element_path, HasPlace, HasElements, item_rank, part_rank, reach_whole, uses_more}
+use Facade.{rank_below, room_for_less, one_fits, elements_fit, is_there, sub_tree, AllByRecursion, Option, part_entries, Sub, is_some}
 use Rattle.vms_selfdesc.specs.Alike.{IsFieldAlike, is_plain}
 use Rattle.vms_spec.specs.declared.Part.TheVariants as parts
 

@@ -1,13 +1,12 @@
 -- Names, paths, members and entries as they are written, and how long they are.
-use Rattle.vms_selfdesc.proofs.Facade.{nat_tests, ◌≡◌, ℕ, ◌<◌, length, true, ◌≤◌, List, [], ◌++◌, length-append, string_bytes}
-use Rattle.vms_selfdesc.proofs.Facade.{append_assoc, subst, sym, ap, arith, ◌∷◌, codes, decimal, ◌+◌, drop, take, refl, ◌^◌, ◌%◌, list_all}
-use Rattle.vms_selfdesc.proofs.Facade.{and_parts, digits, decimal_by_steps, length-decimal-le, take-append-drop, bytes_eq-Decides, bytes_eq, Part, is_name}
-use Rattle.vms_selfdesc.proofs.Facade.{is_name_byte, is_sub_name, Set, field_at, device_at, is_well_formed, HasPart, desc_at, sub_at, device_clean, sub_clean}
-use Rattle.vms_selfdesc.proofs.Facade.{field_sound, IsPlain, Extends, IsEmpty, IsSound, Puts, Adds, Begins, member_text, cell_tail, absent_tail, Text}
-use Rattle.vms_selfdesc.proofs.Facade.{escape_byte, quoted, escape, Data, string, object, Members, no_members, member, compact_text, members_text, Kind, width}
-use Rattle.vms_selfdesc.proofs.Facade.{kind_word, natural, Draft, MOST_ITEMS, element_path, U8, ◌*◌, String, IsUtf8, IsUtf8-string_bytes, take-append_seam}
-use Rattle.vms_selfdesc.proofs.Facade.{Item, Struct, few_structs, item_rank, part_rank, item_levels, part_levels, suc, ℤ, Bool, false, number, of_integer}
-use Rattle.vms_selfdesc.proofs.Facade.{number_text, comma_if, MOST_UNUSED, sent_entry, absent_entry, entry_tree}
+use Rattle.vms_selfdesc.proofs.Facade
+use Facade.{nat_tests, ◌≡◌, ℕ, ◌<◌, length, true, ◌≤◌, List, [], ◌++◌, length-append, string_bytes, append_assoc, subst, sym, ap, arith}
+use Facade.{◌∷◌, codes, decimal, ◌+◌, drop, take, refl, ◌^◌, ◌%◌, list_all, and_parts, digits, decimal_by_steps, length-decimal-le}
+use Facade.{take-append-drop, bytes_eq-Decides, bytes_eq, Part, is_name, is_name_byte, is_sub_name, Set, field_at, device_at, is_well_formed, HasPart, desc_at}
+use Facade.{sub_at, device_clean, sub_clean, field_sound, IsPlain, Extends, IsEmpty, IsSound, Puts, Adds, Begins, member_text, cell_tail, absent_tail, Text}
+use Facade.{escape_byte, quoted, escape, Data, string, object, Members, no_members, member, compact_text, members_text, Kind, width, kind_word, natural, Draft}
+use Facade.{MOST_ITEMS, element_path, U8, ◌*◌, String, IsUtf8, IsUtf8-string_bytes, take-append_seam, Item, Struct, few_structs, item_rank, part_rank}
+use Facade.{item_levels, part_levels, suc, ℤ, Bool, false, number, of_integer, number_text, comma_if, MOST_UNUSED, sent_entry, absent_entry, entry_tree}
 use Rattle.std.proofs.Common.{append-nil}
 use Rattle.vms_spec.specs.declared.Part.TheVariants as parts
 use Rattle.vms_kinds.specs.declared.Kind.TheVariants as kinds

@@ -1,15 +1,14 @@
 -- A description is read back from its text: the bytes of a value's text, trees and whole
 -- descriptions.
-use Rattle.vms_selfdesc.proofs.Facade.{nat_tests, decimal_all, all_both, ◌≡◌, ℕ, suc, ◌<◌, ◌≤◌, ◌%◌, ◌/◌, ◌+◌, Bool, true, false}
-use Rattle.vms_selfdesc.proofs.Facade.{cond, ◌&&◌, nat_lt, nat_le, List, [], ◌∷◌, ◌++◌, map, Option, Some, None, ℤ, pos, negsuc, refl, arith}
-use Rattle.vms_selfdesc.proofs.Facade.{codes, AllByRecursion, list_all, and_parts, leb-true, ltb-true, ltb-false, digit_char, escape, escape_byte}
-use Rattle.vms_selfdesc.proofs.Facade.{escape_letter, quoted, Data, null, boolean, number, string, array, object, Items, no_items, item, Members, no_members}
-use Rattle.vms_selfdesc.proofs.Facade.{member, items_of, number_text, comma_if, compact_text, items_text, members_text, Kind, kind_word, Entry, entry_tree}
-use Rattle.vms_selfdesc.proofs.Facade.{sub_members, device_members, ◌^◌, int_lt, ap, signed_decimal, mag, option_map, ItemsHaveNumbers, IsNumber-decimal}
-use Rattle.vms_selfdesc.proofs.Facade.{IsNumber-signed_decimal, put, of_integer, of_items, items_outline, number_of-decimal, number_of-negative, IsSound}
-use Rattle.vms_selfdesc.proofs.Facade.{AreSound, sent_entry, absent_entry, natural, list_tree, max, sym, ap₂, ◌∙◌, option_and_then, Token, tokens}
-use Rattle.vms_selfdesc.proofs.Facade.{tokens-print, value-json_tokens, ArePrintable-json_tokens, depth, items_depth, members_depth, of_json, read, max_depth}
-use Rattle.vms_selfdesc.proofs.Facade.{outline, members_outline, print-outline}
+use Rattle.vms_selfdesc.proofs.Facade
+use Facade.{nat_tests, decimal_all, all_both, ◌≡◌, ℕ, suc, ◌<◌, ◌≤◌, ◌%◌, ◌/◌, ◌+◌, Bool, true, false, cond, ◌&&◌, nat_lt}
+use Facade.{nat_le, List, [], ◌∷◌, ◌++◌, map, Option, Some, None, ℤ, pos, negsuc, refl, arith, codes, AllByRecursion, list_all, and_parts, leb-true}
+use Facade.{ltb-true, ltb-false, digit_char, escape, escape_byte, escape_letter, quoted, Data, null, boolean, number, string, array, object, Items, no_items}
+use Facade.{item, Members, no_members, member, items_of, number_text, comma_if, compact_text, items_text, members_text, Kind, kind_word, Entry, entry_tree}
+use Facade.{sub_members, device_members, ◌^◌, int_lt, ap, signed_decimal, mag, option_map, ItemsHaveNumbers, IsNumber-decimal, IsNumber-signed_decimal, put}
+use Facade.{of_integer, of_items, items_outline, number_of-decimal, number_of-negative, IsSound, AreSound, sent_entry, absent_entry, natural, list_tree, max}
+use Facade.{sym, ap₂, ◌∙◌, option_and_then, Token, tokens, tokens-print, value-json_tokens, ArePrintable-json_tokens, depth, items_depth, members_depth}
+use Facade.{of_json, read, max_depth, outline, members_outline, print-outline}
 use Rattle.std.proofs.Common.{append-nil}
 use Rattle.std.specs.Fmt.{decimal}
 use Rattle.serde_json.specs.Data.{Num}

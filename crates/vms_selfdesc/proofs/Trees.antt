@@ -1,14 +1,13 @@
 -- Entries of elements and fields, written one after the other.
 use Rattle.vms_selfdesc.proofs.{Plain.member_more, Plain.further, Plain.same, Plain.unchanged, ReadBack.array_sound, ReadBack.whole_sound}
-use Rattle.vms_selfdesc.proofs.Facade.{add-one, map-id, ◌≡◌, ℕ, suc, ◌+◌, ◌*◌, ◌-◌, ◌<◌, ◌≤◌, List, ◌∷◌, ◌++◌, length}
-use Rattle.vms_selfdesc.proofs.Facade.{string_bytes, refl, append_assoc, get_or, map, drop, ℤ, ap, ◌∙◌, arith, Bool, true, [], false, codes, None}
-use Rattle.vms_selfdesc.proofs.Facade.{drop_more, drop_all, append-nil, map-append, Data, string, boolean, array, object, Members, no_members, member, put}
-use Rattle.vms_selfdesc.proofs.Facade.{compact_text, items_text, members_text, Part, Set, Sub, AtLeast, no_field, field_cells, item_size, struct_cells}
-use Rattle.vms_selfdesc.proofs.Facade.{capacity_of, no_desc, field_size, shapes, cells_in, elements_from, field_at, own_numbers, first_cell, desc_at, sub_at}
-use Rattle.vms_selfdesc.proofs.Facade.{Entry, entries_of, texts, after, AreSound, Adds, IsSound, Extends, Begins, Lays, member_text, element_path}
-use Rattle.vms_selfdesc.proofs.Facade.{element_entries, field_list, part_list, natural, sub_tree, sub_trees, device_tree, device_trees, Draft, Path}
-use Rattle.vms_selfdesc.proofs.Facade.{escape_byte, items_of, Image, own_cells, device_at, sub_next, sub_first, Text, HasPlace, field_start, place_after}
-use Rattle.vms_selfdesc.proofs.Facade.{place_is, place_within}
+use Rattle.vms_selfdesc.proofs.Facade
+use Facade.{add-one, map-id, ◌≡◌, ℕ, suc, ◌+◌, ◌*◌, ◌-◌, ◌<◌, ◌≤◌, List, ◌∷◌, ◌++◌, length, string_bytes, refl}
+use Facade.{append_assoc, get_or, map, drop, ℤ, ap, ◌∙◌, arith, Bool, true, [], false, codes, None, drop_more, drop_all, append-nil, map-append, Data}
+use Facade.{string, boolean, array, object, Members, no_members, member, put, compact_text, items_text, members_text, Part, Set, Sub, AtLeast, no_field}
+use Facade.{field_cells, item_size, struct_cells, capacity_of, no_desc, field_size, shapes, cells_in, elements_from, field_at, own_numbers, first_cell, desc_at}
+use Facade.{sub_at, Entry, entries_of, texts, after, AreSound, Adds, IsSound, Extends, Begins, Lays, member_text, element_path, element_entries, field_list}
+use Facade.{part_list, natural, sub_tree, sub_trees, device_tree, device_trees, Draft, Path, escape_byte, items_of, Image, own_cells, device_at, sub_next}
+use Facade.{sub_first, Text, HasPlace, field_start, place_after, place_is, place_within}
 use Rattle.vms_selfdesc.proofs.OfElements.{of_append, of_desc, cells_are}
 use Rattle.vms_spec.specs.declared.Part.TheVariants as parts
 

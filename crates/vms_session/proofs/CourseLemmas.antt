@@ -1,11 +1,11 @@
 -- Events, parts and lines of a session, one after the other.
-use Rattle.vms_session.proofs.Facade.{Appends, Appends-nil, Appends-trans, AreEvents, AreLines, Does, DoesSome, Err, Event, FailsToStore, Family, Goes, Happens}
-use Rattle.vms_session.proofs.Facade.{Held, HoldsBut, IsEvent, Line, LinesEnd, List, NoMemory, Ok, Option, Outlet, Part, PlayFault, Plays, Reaches, Read}
-use Rattle.vms_session.proofs.Facade.{Result, Rose, Saves, ScriptLine, Serves, Session, ShelfFault, Some, State, Stock, WriteFault, [], after_by, after_events}
-use Rattle.vms_session.proofs.Facade.{answers_by, ap, append-nil, append_assoc, arith, drop, drop_all, drop_more, event_lines, events_of, get_or, held_after}
-use Rattle.vms_session.proofs.Facade.{inl, inr, length, length-append, line_view, lines_view, part_of, reaches_both, refl, serves_both, session_of, stored_next}
-use Rattle.vms_session.proofs.Facade.{suc, sym, take, take_all, text_begun, text_of, trace_from, trace_line, zero, ℕ, ⊎_elim, ◌++◌, ◌+◌, ◌<◌}
-use Rattle.vms_session.proofs.Facade.{◌∙◌, ◌∷◌, ◌≡◌, ◌≤◌}
+use Rattle.vms_session.proofs.Facade
+use Facade.{Appends, Appends-nil, Appends-trans, AreEvents, AreLines, Does, DoesSome, Err, Event, FailsToStore, Family, Goes, Happens, Held, HoldsBut, IsEvent}
+use Facade.{Line, LinesEnd, List, NoMemory, Ok, Option, Outlet, Part, PlayFault, Plays, Reaches, Read, Result, Rose, Saves, ScriptLine, Serves, Session}
+use Facade.{ShelfFault, Some, State, Stock, WriteFault, [], after_by, after_events, answers_by, ap, append-nil, append_assoc, arith, drop, drop_all, drop_more}
+use Facade.{event_lines, events_of, get_or, held_after, inl, inr, length, length-append, line_view, lines_view, part_of, reaches_both, refl, serves_both}
+use Facade.{session_of, stored_next, suc, sym, take, take_all, text_begun, text_of, trace_from, trace_line, zero, ℕ, ⊎_elim, ◌++◌, ◌+◌, ◌<◌}
+use Facade.{◌∙◌, ◌∷◌, ◌≡◌, ◌≤◌}
 use Rattle.vms_session.proofs.SoundLaws.{comes, event_is, line_event}
 use Rattle.vms_script.specs.Lines.{Restores}
 use Rattle.vms_commands.specs.Outcomes.{ComesTo}

@@ -1,10 +1,10 @@
 -- Each session has a trace and an end, and a script leaves one of them.
-use Rattle.vms_session.proofs.Facade.{AreLines, Back, Bool, Does, Happens, HasAnEnd, Held, HoldsAll, HoldsBytes, IsLine, IsLoaded, IsOneCourse, IsSound}
-use Rattle.vms_session.proofs.Facade.{IsTooLarge, List, MaySaveIn, NEWEST, None, Option, Part, Plays, PutsUnder, ReadsBytes, Refused, Restore, Restores, Saves}
-use Rattle.vms_session.proofs.Facade.{ScriptLine, Session, SessionsAreOne, SessionsEnd, Some, State, [], arith, bytes_eq, bytes_eq-Decides, false}
-use Rattle.vms_session.proofs.Facade.{if◌then◌else◌, is_set_of, isa, isa_laws, length, longest_file, missing_line, nat_lt, nat_tests, part_of, puts_bytes}
-use Rattle.vms_session.proofs.Facade.{refl, refused_line, restored_line, saved_line, saved_stream, shipped_set, step, streams_are_bytes, subst, too_large_line}
-use Rattle.vms_session.proofs.Facade.{trace_line, true, ℕ, ◌∙◌, ◌∷◌, ◌≡◌, ◌≤◌}
+use Rattle.vms_session.proofs.Facade
+use Facade.{AreLines, Back, Bool, Does, Happens, HasAnEnd, Held, HoldsAll, HoldsBytes, IsLine, IsLoaded, IsOneCourse, IsSound, IsTooLarge, List, MaySaveIn}
+use Facade.{NEWEST, None, Option, Part, Plays, PutsUnder, ReadsBytes, Refused, Restore, Restores, Saves, ScriptLine, Session, SessionsAreOne, SessionsEnd, Some}
+use Facade.{State, [], arith, bytes_eq, bytes_eq-Decides, false, if◌then◌else◌, is_set_of, isa, isa_laws, length, longest_file, missing_line, nat_lt}
+use Facade.{nat_tests, part_of, puts_bytes, refl, refused_line, restored_line, saved_line, saved_stream, shipped_set, step, streams_are_bytes, subst}
+use Facade.{too_large_line, trace_line, true, ℕ, ◌∙◌, ◌∷◌, ◌≡◌, ◌≤◌}
 use Rattle.vms_session.proofs.SoundLaws.{comes, line_level, load_keeps, one_end, sessions_stay_sound}
 use Rattle.vms_script.specs.Lines.{Restores as Loads}
 use Rattle.dev_base.proofs.RuleLaws.{either}

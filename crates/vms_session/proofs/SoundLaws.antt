@@ -1,13 +1,12 @@
 -- What a line of a session does: one thing, which keeps the level and a sound board.
-use Rattle.vms_session.proofs.Facade.{AreBoardCells, AreLines, Back, Bool, BringsNone, ComesTo, Device, Does, EachOnce, Err, Event, GoesOnWithout, Happens}
-use Rattle.vms_session.proofs.Facade.{HasSection, Held, HoldsBytes, Image, IsBytes, IsEvent, IsLarge, IsLevel, IsLine, IsLoaded, IsMissing, IsNormal, IsOneEnd}
-use Rattle.vms_session.proofs.Facade.{IsRefused, IsSound, IsTooLarge, Leaves, LevelStays, LinesAreOne, LinesEnd, List, LoadsBytes, LoadsHeld, NEWEST, None, Ok}
-use Rattle.vms_session.proofs.Facade.{Option, Outlet, Part, PlayFault, Plays, PutsUnder, ReadsBytes, RefusalsLeave, Refused, Restore, Restores, Result, Saves}
-use Rattle.vms_session.proofs.Facade.{ScriptLine, SectionsSpell, Session, SessionsStaySound, Set, Some, State, Stock, TakesBoard, WriteFault, WritesText, []}
-use Rattle.vms_session.proofs.Facade.{ap, append-nil, arith, bytes_eq, bytes_eq-Decides, cells_in, clock_goes_on, false, inl, inr, isa, isa_laws, length}
-use Rattle.vms_session.proofs.Facade.{longest_file, map, none_left, normal_may_be_restored, part_of, refl, restored_is_sound, shipped_set, slice_get, slice_set}
-use Rattle.vms_session.proofs.Facade.{sound_stays_on, step, suc, sym, trace_line, true, zero, ℕ, ◌∙◌, ◌∷◌, ◌≡◌, ◌≢◌, ◌≤◌}
-use Rattle.vms_session.proofs.Facade.{◌⊎◌}
+use Rattle.vms_session.proofs.Facade
+use Facade.{AreBoardCells, AreLines, Back, Bool, BringsNone, ComesTo, Device, Does, EachOnce, Err, Event, GoesOnWithout, Happens, HasSection, Held, HoldsBytes}
+use Facade.{Image, IsBytes, IsEvent, IsLarge, IsLevel, IsLine, IsLoaded, IsMissing, IsNormal, IsOneEnd, IsRefused, IsSound, IsTooLarge, Leaves, LevelStays}
+use Facade.{LinesAreOne, LinesEnd, List, LoadsBytes, LoadsHeld, NEWEST, None, Ok, Option, Outlet, Part, PlayFault, Plays, PutsUnder, ReadsBytes, RefusalsLeave}
+use Facade.{Refused, Restore, Restores, Result, Saves, ScriptLine, SectionsSpell, Session, SessionsStaySound, Set, Some, State, Stock, TakesBoard, WriteFault}
+use Facade.{WritesText, [], ap, append-nil, arith, bytes_eq, bytes_eq-Decides, cells_in, clock_goes_on, false, inl, inr, isa, isa_laws, length, longest_file}
+use Facade.{map, none_left, normal_may_be_restored, part_of, refl, restored_is_sound, shipped_set, slice_get, slice_set, sound_stays_on, step, suc, sym}
+use Facade.{trace_line, true, zero, ℕ, ◌∙◌, ◌∷◌, ◌≡◌, ◌≢◌, ◌≤◌, ◌⊎◌}
 use Rattle.std.proofs.{Common.⊎_elim, lemmas.Bool.cases_Bool}
 use Rattle.vms_script.specs.{Grammar.IsEvent as IsSpelled, Lines.Restores as Loads}
 

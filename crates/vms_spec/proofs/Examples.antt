@@ -1,10 +1,10 @@
 -- Worked examples of the definitions: the sets that they speak of, places, images, values texts and
 -- first faults.
-use Rattle.vms_spec.proofs.Facade.{ℕ, List, [], ◌∷◌, Some, None, pos, negsuc, codes, Kind, U8, U16, U32, I8, Num, Equal, Unused, Struct, One, Counted}
-use Rattle.vms_spec.proofs.Facade.{Eq, Ne, Lt, Ge, Own, Parent, Set, Device, Desc, Field, Sub, Formula, AtLeast, Below, Cell, And, Or, ◌+◌, ◌-◌}
-use Rattle.vms_spec.proofs.Facade.{◌*◌, nat_lt, if◌then◌else◌, ◌++◌, ◌≡◌, Place, first, cell_at, cell_count, set_3, map, Bool, true, false}
-use Rattle.vms_spec.proofs.Facade.{Option, list_all, Image, default_image, is_normal, is_ready, shipped_sets, values_read, set_0, digits, values_text}
-use Rattle.vms_spec.proofs.Facade.{ValuesRead, Values, Bad, Fixed, SetFault, first_fault, here, in_field}
+use Rattle.vms_spec.proofs.Facade
+use Facade.{ℕ, List, [], ◌∷◌, Some, None, pos, negsuc, codes, Kind, U8, U16, U32, I8, Num, Equal, Unused, Struct, One, Counted, Eq, Ne, Lt, Ge, Own}
+use Facade.{Parent, Set, Device, Desc, Field, Sub, Formula, AtLeast, Below, Cell, And, Or, ◌+◌, ◌-◌, ◌*◌, nat_lt, if◌then◌else◌, ◌++◌}
+use Facade.{◌≡◌, Place, first, cell_at, cell_count, set_3, map, Bool, true, false, Option, list_all, Image, default_image, is_normal, is_ready}
+use Facade.{shipped_sets, values_read, set_0, digits, values_text, ValuesRead, Values, Bad, Fixed, SetFault, first_fault, here, in_field}
 use Rattle.vms_kinds.specs.declared.Kind.TheVariants.{Bool as Truth}
 use Rattle.vms_spec.specs.declared.ValuesReason.TheVariants as reasons
 use Rattle.vms_spec.specs.declared.Part.TheVariants as parts

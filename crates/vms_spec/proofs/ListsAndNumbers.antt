@@ -1,11 +1,11 @@
 -- Lists and numbers: tests of them, and their bytes.
-use Rattle.vms_spec.proofs.Facade.{◌≡◌, ℕ, suc, ◌+◌, ◌*◌, ◌-◌, ◌<◌, ◌≤◌, min, Bool, true, false, ◌&&◌, nat_le}
-use Rattle.vms_spec.proofs.Facade.{if◌then◌else◌, List, ◌∷◌, ◌++◌, length, get_or, drop, Option, Some, None, refl, sym, ap, ◌∙◌, arith}
-use Rattle.vms_spec.proofs.Facade.{◌||◌, [], AllByRecursion, slice_get, bytes_eq, or_assoc, or_comm, drop-append_seam, and_from, drop-drop, drop_more}
-use Rattle.vms_spec.proofs.Facade.{get_or_read, bytes_eq-Decides, or_else, position, Set, Sub, sub_place, AreVersionsOf, AllCame, is_one_of, natural_from, ℤ}
-use Rattle.vms_spec.proofs.Facade.{pos, negsuc, ◌≤ℤ◌, or_parts, ints, same_number, is_above, exceeds, ◌^◌, append-nil, mod_below, pow_pos}
-use Rattle.vms_spec.proofs.Facade.{big_number, big_bytes, big_number-reads_back, Kind, U8, width, residue, code, InRange, value_of, MOST_UNUSED, be32}
-use Rattle.vms_spec.proofs.Facade.{is_bad_bool, nat_tests, is_name_byte}
+use Rattle.vms_spec.proofs.Facade
+use Facade.{◌≡◌, ℕ, suc, ◌+◌, ◌*◌, ◌-◌, ◌<◌, ◌≤◌, min, Bool, true, false, ◌&&◌, nat_le, if◌then◌else◌, List, ◌∷◌}
+use Facade.{◌++◌, length, get_or, drop, Option, Some, None, refl, sym, ap, ◌∙◌, arith, ◌||◌, [], AllByRecursion, slice_get, bytes_eq, or_assoc}
+use Facade.{or_comm, drop-append_seam, and_from, drop-drop, drop_more, get_or_read, bytes_eq-Decides, or_else, position, Set, Sub, sub_place, AreVersionsOf}
+use Facade.{AllCame, is_one_of, natural_from, ℤ, pos, negsuc, ◌≤ℤ◌, or_parts, ints, same_number, is_above, exceeds, ◌^◌, append-nil, mod_below}
+use Facade.{pow_pos, big_number, big_bytes, big_number-reads_back, Kind, U8, width, residue, code, InRange, value_of, MOST_UNUSED, be32, is_bad_bool, nat_tests}
+use Facade.{is_name_byte}
 use Rattle.std.proofs.{lemmas.Result.err_from_is_err_and, Common.Err, Common.IsErrAnd, Common.Result}
 
 -- ---- tests

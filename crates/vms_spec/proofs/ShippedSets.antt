@@ -1,7 +1,7 @@
 -- Each shipped set is well formed and good. So the premises of the laws about sets can be met.
-use Rattle.vms_spec.proofs.Facade.{arith}
-use Rattle.vms_spec.proofs.Facade.{◌≡◌, ℕ, zero, suc, ◌<◌, ◌^◌, Bool, true, List, [], ◌∷◌, Option, Some, None, refl, is_none, AllByRecursion, list_all}
-use Rattle.vms_spec.proofs.Facade.{slice_get, and_parts, ltb-true, Device, Sub, Set, first, first_fault, shipped_sets, IsFit, ShippedLaw, FitsHeads}
+use Rattle.vms_spec.proofs.Facade
+use Facade.{arith, ◌≡◌, ℕ, zero, suc, ◌<◌, ◌^◌, Bool, true, List, [], ◌∷◌, Option, Some, None, refl, is_none, AllByRecursion, list_all}
+use Facade.{slice_get, and_parts, ltb-true, Device, Sub, Set, first, first_fault, shipped_sets, IsFit, ShippedLaw, FitsHeads}
 use Rattle.std.specs.Prelude.{◌&&◌, nat_lt}
 
 -- ---- the numbers that four bytes can hold, computed

@@ -1,10 +1,10 @@
 -- Structures by number: tables, the cells and room of a field, and tables that include a table.
-use Rattle.vms_spec.proofs.Facade.{◌≡◌, ℕ, zero, suc, ◌<◌, ◌≤◌, List, [], ◌∷◌, ◌++◌, length, length-append, get_or, take, refl, sym}
-use Rattle.vms_spec.proofs.Facade.{ap, ◌∙◌, arith, Bool, true, false, nat_lt, ltb-true, get_or_append_left, get_or_push, get_or-take, Desc, first}
-use Rattle.vms_spec.proofs.Facade.{no_desc, ◌+◌, ◌*◌, ℤ, mul-le-mul_right, Item, Count, Field, field_cells, item_cells, item_size, capacity_of, times}
-use Rattle.vms_spec.proofs.Facade.{elements_of, counted, map, pos, get_or-map, fun_ext, map-append, Struct, is_there, uses_below, Meaning, no_field, no_parent}
-use Rattle.vms_spec.proofs.Facade.{no_meaning, meaning, meanings, cells_from, desc_cells, item_slots, slots_from, desc_slots, numbers_of, place_of, Reader}
-use Rattle.vms_spec.proofs.Facade.{reader, cells_of}
+use Rattle.vms_spec.proofs.Facade
+use Facade.{◌≡◌, ℕ, zero, suc, ◌<◌, ◌≤◌, List, [], ◌∷◌, ◌++◌, length, length-append, get_or, take, refl, sym, ap, ◌∙◌, arith}
+use Facade.{Bool, true, false, nat_lt, ltb-true, get_or_append_left, get_or_push, get_or-take, Desc, first, no_desc, ◌+◌, ◌*◌, ℤ, mul-le-mul_right}
+use Facade.{Item, Count, Field, field_cells, item_cells, item_size, capacity_of, times, elements_of, counted, map, pos, get_or-map, fun_ext, map-append, Struct}
+use Facade.{is_there, uses_below, Meaning, no_field, no_parent, no_meaning, meaning, meanings, cells_from, desc_cells, item_slots, slots_from, desc_slots}
+use Facade.{numbers_of, place_of, Reader, reader, cells_of}
 use Rattle.vms_spec.specs.Layout.{Cell}
 
 -- ---- tables by number: each element is made from the earlier ones alone

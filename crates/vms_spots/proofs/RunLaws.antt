@@ -1,8 +1,8 @@
 -- Numbers of one kind in consecutive cells follow one another without a gap.
-use Rattle.vms_spots.proofs.Facade.{codes_of, AreOne, ◌≡◌, ℕ, zero, suc, ◌+◌, ◌-◌, ◌*◌, ◌<◌, ◌≤◌, List, [], ◌∷◌, ◌++◌}
-use Rattle.vms_spots.proofs.Facade.{length, get_or, take, drop, map, replicate, ℤ, refl, sym, ap, ◌∙◌, subst, arith, length-append, append_assoc}
-use Rattle.vms_spots.proofs.Facade.{length-replicate, length-map, length-take-le, get_or_read, Kind, U8, width, code, length-code, Spot, aligned, spots_from}
-use Rattle.vms_spots.proofs.Facade.{spots_of, no_spot, kinds_of, raw_from, number_at, Held, held, IsHeld}
+use Rattle.vms_spots.proofs.Facade
+use Facade.{codes_of, AreOne, ◌≡◌, ℕ, zero, suc, ◌+◌, ◌-◌, ◌*◌, ◌<◌, ◌≤◌, List, [], ◌∷◌, ◌++◌, length, get_or, take}
+use Facade.{drop, map, replicate, ℤ, refl, sym, ap, ◌∙◌, subst, arith, length-append, append_assoc, length-replicate, length-map, length-take-le}
+use Facade.{get_or_read, Kind, U8, width, code, length-code, Spot, aligned, spots_from, spots_of, no_spot, kinds_of, raw_from, number_at, Held, held, IsHeld}
 use Rattle.vms_spots.proofs.SpotLaws.{aligned_is, part_is}
 use Rattle.std.proofs.lemmas.List.{length-drop}
 

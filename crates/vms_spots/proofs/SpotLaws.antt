@@ -1,10 +1,10 @@
 -- The spots of kinds: each at a multiple of its width, inside of the buffer, apart from the others;
 -- and the bytes there.
-use Rattle.vms_spots.proofs.Facade.{◌≡◌, ◌⊎◌, inl, inr, ℕ, zero, suc, ◌+◌, ◌-◌, ◌*◌, ◌%◌, ◌<◌, ◌≤◌, List, [], ◌∷◌}
-use Rattle.vms_spots.proofs.Facade.{◌++◌, length, get_or, take, drop, map, replicate, set, ℤ, pos, refl, sym, ap, ◌∙◌, arith, append_assoc}
-use Rattle.vms_spots.proofs.Facade.{length-append, length-replicate, length-map, length-set, drop_at, take_at, get_or-map, set-get_or, ext_get_or}
-use Rattle.vms_spots.proofs.Facade.{get_or-set_same, get_or-set_other, cases_eq, Kind, U8, width, code, InRange, length-code, value_code, Spot, aligned}
-use Rattle.vms_spots.proofs.Facade.{spots_from, spots_of, end_from, no_spot, kinds_of, raw_from, raw_of, AreOf, number_at, AreApart}
+use Rattle.vms_spots.proofs.Facade
+use Facade.{◌≡◌, ◌⊎◌, inl, inr, ℕ, zero, suc, ◌+◌, ◌-◌, ◌*◌, ◌%◌, ◌<◌, ◌≤◌, List, [], ◌∷◌, ◌++◌, length}
+use Facade.{get_or, take, drop, map, replicate, set, ℤ, pos, refl, sym, ap, ◌∙◌, arith, append_assoc, length-append, length-replicate, length-map}
+use Facade.{length-set, drop_at, take_at, get_or-map, set-get_or, ext_get_or, get_or-set_same, get_or-set_other, cases_eq, Kind, U8, width, code, InRange}
+use Facade.{length-code, value_code, Spot, aligned, spots_from, spots_of, end_from, no_spot, kinds_of, raw_from, raw_of, AreOf, number_at, AreApart}
 
 -- ---- the least multiple
 

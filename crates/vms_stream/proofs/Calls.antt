@@ -1,12 +1,12 @@
 -- What a cursor's call sees, and what the judge says; a unit between sections after the fields.
 use Rattle.vms_stream.proofs.{Finding.next_at, Steps.Line, Steps.mark_never, Steps.start_never}
-use Rattle.vms_stream.proofs.Facade.{arith, JudgedLaw, NextLaw, SeenLaw, ◌≡◌, if_both, if_so, ℕ, ◌+◌, List, ◌∷◌, length, Option, Some, None}
-use Rattle.vms_stream.proofs.Facade.{refl, ap, Bool, true, false, nat_lt, ◌==◌, if◌then◌else◌, [], zero, suc, ◌++◌, Reason, Set, Image, bytes_at}
-use Rattle.vms_stream.proofs.Facade.{Verdict, Faulty, Over, Piece, Start, Mark, Number, Constant, if_true, Tail, Unknown, Footed, Bare, Known, Due, Between}
-use Rattle.vms_stream.proofs.Facade.{AfterFields, begins_next, rules_hold, AMagic, Field, is_foot, is_next, due_field, Found, Whole, Cut, needs, between_at}
-use Rattle.vms_stream.proofs.Facade.{unit_at, sub_at, behind_at, cut_in, first_of, is_between, wants_foot, Row, first_row, alone, asking, other_constant}
-use Rattle.vms_stream.proofs.Facade.{large_count, bad_foot, judge, judge_found, by_row, owes, State, Free, Inside, due_by, known_at, slots_at, after, by_state}
-use Rattle.vms_stream.proofs.Facade.{Spot, Before, Headed, Ended, open_at, Slot, Bad, seen_in, seen_by, judge_seen, ask, begins_section}
+use Rattle.vms_stream.proofs.Facade
+use Facade.{arith, JudgedLaw, NextLaw, SeenLaw, ◌≡◌, if_both, if_so, ℕ, ◌+◌, List, ◌∷◌, length, Option, Some, None, refl, ap, Bool, true}
+use Facade.{false, nat_lt, ◌==◌, if◌then◌else◌, [], zero, suc, ◌++◌, Reason, Set, Image, bytes_at, Verdict, Faulty, Over, Piece, Start, Mark}
+use Facade.{Number, Constant, if_true, Tail, Unknown, Footed, Bare, Known, Due, Between, AfterFields, begins_next, rules_hold, AMagic, Field, is_foot, is_next}
+use Facade.{due_field, Found, Whole, Cut, needs, between_at, unit_at, sub_at, behind_at, cut_in, first_of, is_between, wants_foot, Row, first_row, alone}
+use Facade.{asking, other_constant, large_count, bad_foot, judge, judge_found, by_row, owes, State, Free, Inside, due_by, known_at, slots_at, after, by_state}
+use Facade.{Spot, Before, Headed, Ended, open_at, Slot, Bad, seen_in, seen_by, judge_seen, ask, begins_section}
 use Rattle.vms_stream.specs.State.{Over as IsOver}
 use Rattle.std.proofs.Math.Bool.{and-false}
 use Rattle.vms_spec.specs.Layout.{Number as NumberSlot, Constant as ConstantSlot, Filler as FillerSlot, Rule as RuleSlot}

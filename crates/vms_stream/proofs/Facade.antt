@@ -1,6 +1,6 @@
 -- The names of other crates, and of this crate's `specs`, that the proofs use.
-pub use Rattle.vms_spec.proofs.Examples.{lines, smallest, bare_set, box, constant_set, counted_set, mixed_set, number, subsection_set, tested_set, box_end}
-pub use Rattle.vms_spec.proofs.Examples.{box_head, head, hex}
+use Rattle.vms_spec.proofs.Examples
+pub use Examples.{lines, smallest, bare_set, box, constant_set, counted_set, mixed_set, number, subsection_set, tested_set, box_end, box_head, head, hex}
 pub use Rattle.vms_spec.proofs.ListsAndNumbers.{sub_first, versions_long, name_byte_low, be32_read, length-code, value_code}
 pub use Rattle.vms_spec.proofs.WellFormedLaws.{every_one, set_clean, device_parts, sub_clean, well_good}
 pub use Rattle.vms_spec.specs.{declared.TheConstants.LONGEST_NAME, declared.Reason.Reason, WellFormed.WellFormed, Numbers.same_number, Values.values_text}

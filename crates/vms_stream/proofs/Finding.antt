@@ -1,18 +1,16 @@
 -- What is found at the front of an input is there and may come, and what is there and may come is
 -- found.
-use Rattle.vms_stream.proofs.Facade.{◌≡◌, ℕ, ◌+◌, ◌<◌, ◌≤◌, List, ◌∷◌, ◌++◌, length, get_or, take, drop, ℤ, refl, sym, ap}
-use Rattle.vms_stream.proofs.Facade.{◌∙◌, arith, append_assoc, length-append, true, false, ◌==◌, ◌&&◌, if◌then◌else◌, ◌||◌, drop-drop}
-use Rattle.vms_stream.proofs.Facade.{le-ltb, eqb-true, or_parts, not-true, Kind, U8, width, code, value_of, InRange, LONGEST_NAME, be32, longest_text}
-use Rattle.vms_stream.proofs.Facade.{number_at, bytes_at, Piece, Magic, Version, Configuration, Long, Head, Number, Constant, Filler, SubHead, Foot, End}
-use Rattle.vms_stream.proofs.Facade.{Description, Start, Mark, spell, Due, Between, May, AtMagic, AtVersion, AtConfiguration, AtLongName, AtStart, AtHead}
-use Rattle.vms_stream.proofs.Facade.{AtEnd, AtMark, AtNumber, AtConstant, AtFiller, AtSubHead, AtFoot, AtOther, AtNext, is_foot, is_next, first_byte}
-use Rattle.vms_stream.proofs.Facade.{AtDescription, AtLongText, AtTrailing, raw, length-code, value_code, be32_read, front_take, front_drop, Whole, needs}
-use Rattle.vms_stream.proofs.Facade.{text_at, between_at, behind_at, trailer_at, unit_at, Tail, if_both, zero, suc, [], Option, Some, None, Bool, nat_lt}
-use Rattle.vms_stream.proofs.Facade.{ltb-false, Reason, Set, Slot, Verdict, Goes, Over, opened, slots, AMagic, AVersion, Field, AfterFields, AfterEnd, due}
-use Rattle.vms_stream.proofs.Facade.{due_field, Advances, width_positive, Found, Cut, Grammar, judge, judge_found, by_row, owes, passed, tail, if_so}
-use Rattle.vms_stream.proofs.Facade.{length-drop, get_or-drop, not, ltb-true, or_from, and_parts, length-take-le, take-append-drop, bytes_first, IsBytes}
-use Rattle.vms_stream.proofs.Facade.{fits_four, is_bytes_drop, four_low, split_one, split_four, head_bytes, text_long, sub_bytes, raw_take, start_at, head_at}
-use Rattle.vms_stream.proofs.Facade.{sub_at, IsThere}
+use Rattle.vms_stream.proofs.Facade
+use Facade.{◌≡◌, ℕ, ◌+◌, ◌<◌, ◌≤◌, List, ◌∷◌, ◌++◌, length, get_or, take, drop, ℤ, refl, sym, ap, ◌∙◌, arith}
+use Facade.{append_assoc, length-append, true, false, ◌==◌, ◌&&◌, if◌then◌else◌, ◌||◌, drop-drop, le-ltb, eqb-true, or_parts, not-true, Kind}
+use Facade.{U8, width, code, value_of, InRange, LONGEST_NAME, be32, longest_text, number_at, bytes_at, Piece, Magic, Version, Configuration, Long, Head, Number}
+use Facade.{Constant, Filler, SubHead, Foot, End, Description, Start, Mark, spell, Due, Between, May, AtMagic, AtVersion, AtConfiguration, AtLongName, AtStart}
+use Facade.{AtHead, AtEnd, AtMark, AtNumber, AtConstant, AtFiller, AtSubHead, AtFoot, AtOther, AtNext, is_foot, is_next, first_byte, AtDescription, AtLongText}
+use Facade.{AtTrailing, raw, length-code, value_code, be32_read, front_take, front_drop, Whole, needs, text_at, between_at, behind_at, trailer_at, unit_at}
+use Facade.{Tail, if_both, zero, suc, [], Option, Some, None, Bool, nat_lt, ltb-false, Reason, Set, Slot, Verdict, Goes, Over, opened, slots, AMagic, AVersion}
+use Facade.{Field, AfterFields, AfterEnd, due, due_field, Advances, width_positive, Found, Cut, Grammar, judge, judge_found, by_row, owes, passed, tail, if_so}
+use Facade.{length-drop, get_or-drop, not, ltb-true, or_from, and_parts, length-take-le, take-append-drop, bytes_first, IsBytes, fits_four, is_bytes_drop}
+use Facade.{four_low, split_one, split_four, head_bytes, text_long, sub_bytes, raw_take, start_at, head_at, sub_at, IsThere}
 use Rattle.vms_kinds.specs.declared.Kind.TheVariants.{Bool as Truth}
 use Rattle.vms_spec.specs.Layout.{Number as NumberSlot, Constant as ConstantSlot, Filler as FillerSlot, Rule as RuleSlot}
 use Rattle.vms_bodies.proofs.Heads.{text_at as what_follows}

@@ -1,15 +1,14 @@
 -- The judge refuses exactly the inputs that have a fault, and likewise for those that it accepts.
-use Rattle.vms_stream.proofs.Facade.{◌≡◌, ℕ, zero, suc, ◌+◌, ◌<◌, ◌≤◌, List, ◌∷◌, ◌++◌, length, drop, length-drop, Option, Some}
-use Rattle.vms_stream.proofs.Facade.{None, refl, sym, ap, ◌∙◌, subst, arith, length-append, append_assoc, Bool, true, false, if◌then◌else◌, []}
-use Rattle.vms_stream.proofs.Facade.{IsBytes, bytes_rest, Reason, Set, Verdict, Goes, Faulty, Over, Reading, Accepted, Refused, reading_from, reading_after}
-use Rattle.vms_stream.proofs.Facade.{Piece, spell, spelled, opened, Due, May, AtMagic, due, holds, reason_of, Front, Why, Fails, Wrong, Fault, Owes, cut_in}
-use Rattle.vms_stream.proofs.Facade.{Advances, reading_on, is_bytes_drop, unit_read, Found, Whole, Cut, unit_at, Grammar, judge, judge_found, by_row, owes}
-use Rattle.vms_stream.proofs.Facade.{reading, by_units, Mirrored, Refuses, Ends, Accepts, IsThere, slice_set, slice_get, length-set, length-map}
-use Rattle.vms_stream.proofs.Facade.{slice_get_within, at_option, Image, default_image, Magic, Version, Configuration, Head, Number, Constant, Filler, SubHead}
-use Rattle.vms_stream.proofs.Facade.{Foot, End, put_version, id_of, device_named, come, part, image, fresh, slots, sub_named, at_set, found_is, Field}
-use Rattle.vms_stream.proofs.Facade.{AfterFields, due_field, rules_hold, first_of, Spot, Before, Headed, Free, Inside, Ended, State, at_start, or_none, open_at}
-use Rattle.vms_stream.proofs.Facade.{onward, inside, slots_at, next_spot, due_by, known_at, after, by_state, Known, beyond, images, known, machine, passed}
-use Rattle.vms_stream.proofs.Facade.{put_image, tail}
+use Rattle.vms_stream.proofs.Facade
+use Facade.{◌≡◌, ℕ, zero, suc, ◌+◌, ◌<◌, ◌≤◌, List, ◌∷◌, ◌++◌, length, drop, length-drop, Option, Some, None, refl, sym, ap}
+use Facade.{◌∙◌, subst, arith, length-append, append_assoc, Bool, true, false, if◌then◌else◌, [], IsBytes, bytes_rest, Reason, Set, Verdict, Goes}
+use Facade.{Faulty, Over, Reading, Accepted, Refused, reading_from, reading_after, Piece, spell, spelled, opened, Due, May, AtMagic, due, holds, reason_of}
+use Facade.{Front, Why, Fails, Wrong, Fault, Owes, cut_in, Advances, reading_on, is_bytes_drop, unit_read, Found, Whole, Cut, unit_at, Grammar, judge}
+use Facade.{judge_found, by_row, owes, reading, by_units, Mirrored, Refuses, Ends, Accepts, IsThere, slice_set, slice_get, length-set, length-map}
+use Facade.{slice_get_within, at_option, Image, default_image, Magic, Version, Configuration, Head, Number, Constant, Filler, SubHead, Foot, End, put_version}
+use Facade.{id_of, device_named, come, part, image, fresh, slots, sub_named, at_set, found_is, Field, AfterFields, due_field, rules_hold, first_of, Spot}
+use Facade.{Before, Headed, Free, Inside, Ended, State, at_start, or_none, open_at, onward, inside, slots_at, next_spot, due_by, known_at, after, by_state}
+use Facade.{Known, beyond, images, known, machine, passed, put_image, tail}
 use Rattle.vms_stream.proofs.Finding.{only, Shows, shows, IsSolid, advances, due_solid, field_solid}
 use Rattle.vms_stream.specs.Faults.{Cut as IsCut}
 use Rattle.vms_spec.specs.declared.Reason.TheVariants as reasons

@@ -1,14 +1,13 @@
 -- One unit that is read, and what it means that no row of the table takes it.
 use Rattle.vms_stream.proofs.{Judging.solid, Finding.only, Finding.Shows, Finding.shows, Finding.advances}
-use Rattle.vms_stream.proofs.Facade.{◌≡◌, ℕ, zero, suc, ◌<◌, List, ◌∷◌, length, Option, Some, None, refl, ap, arith, Bool, true, false, not}
-use Rattle.vms_stream.proofs.Facade.{[], slice_get, bytes_eq, le-ltb, eq-eqb, bytes_eq-Decides, Reason, at_option, position, Set, Device, Sub, IsVersionOf}
-use Rattle.vms_stream.proofs.Facade.{magic, is_one_of, Piece, Magic, Version, Configuration, Head, SubHead, Foot, End, Start, Mark, subs_of, device_named}
-use Rattle.vms_stream.proofs.Facade.{found_is, sub_is, find_sub, Known, Due, first_of, is_between, wants_foot, is_after_end, test_some, is_none, open_at}
-use Rattle.vms_stream.proofs.Facade.{known_at, after, by_state, ◌⊎◌, inl, inr, ◌+◌, ◌≤◌, ◌++◌, slice_set, sym, ◌∙◌}
-use Rattle.vms_stream.proofs.Facade.{if◌then◌else◌, slice_get_within, IsBytes, LONGEST_NAME, default_image, section_head, configuration, Verdict, Faulty}
-use Rattle.vms_stream.proofs.Facade.{Over, Accepted, reading_after, spell, reading_on, Advances, one_unit, unit_read, Footed, behind, Between, May}
-use Rattle.vms_stream.proofs.Facade.{AtConfiguration, AtLongName, AtStart, AtHead, AtEnd, AtMark, cut_in, Found, Whole, Cut, unit_at, Grammar, judge}
-use Rattle.vms_stream.proofs.Facade.{judge_found, by_row, owes, IsThere, State, Free, Inside, Ended}
+use Rattle.vms_stream.proofs.Facade
+use Facade.{◌≡◌, ℕ, zero, suc, ◌<◌, List, ◌∷◌, length, Option, Some, None, refl, ap, arith, Bool, true, false, not, [], slice_get, bytes_eq}
+use Facade.{le-ltb, eq-eqb, bytes_eq-Decides, Reason, at_option, position, Set, Device, Sub, IsVersionOf, magic, is_one_of, Piece, Magic, Version}
+use Facade.{Configuration, Head, SubHead, Foot, End, Start, Mark, subs_of, device_named, found_is, sub_is, find_sub, Known, Due, first_of, is_between}
+use Facade.{wants_foot, is_after_end, test_some, is_none, open_at, known_at, after, by_state, ◌⊎◌, inl, inr, ◌+◌, ◌≤◌, ◌++◌, slice_set, sym}
+use Facade.{◌∙◌, if◌then◌else◌, slice_get_within, IsBytes, LONGEST_NAME, default_image, section_head, configuration, Verdict, Faulty, Over}
+use Facade.{Accepted, reading_after, spell, reading_on, Advances, one_unit, unit_read, Footed, behind, Between, May, AtConfiguration, AtLongName, AtStart}
+use Facade.{AtHead, AtEnd, AtMark, cut_in, Found, Whole, Cut, unit_at, Grammar, judge, judge_found, by_row, owes, IsThere, State, Free, Inside, Ended}
 use Rattle.vms_spec.specs.Lookup.{find_device}
 use Rattle.vms_spec.specs.declared.Reason.TheVariants as reasons
 

@@ -1,15 +1,15 @@
 -- What is accepted is a stream at the front of the input: its sections, in any order and each once,
 -- and all of it.
-use Rattle.vms_stream.proofs.Facade.{◌≡◌, ℕ, zero, suc, ◌+◌, ◌<◌, List, ◌∷◌, ◌++◌, length, slice_set, Some, None, Ok, Err, refl, sym}
-use Rattle.vms_stream.proofs.Facade.{ap, ◌∙◌, subst, arith, append_assoc, length-append, Bool, true, false, [], inl, inr, map, Option, slice_get}
-use Rattle.vms_stream.proofs.Facade.{length-set, slice_get_within, add-zero, IsBytes, bytes_rest, Device, Set, device_cells, desc_cells, Image, default_image}
-use Rattle.vms_stream.proofs.Facade.{IsVersionOf, section_head, EachOnce, be32, magic, stream_head, configuration, end_mark, trailer, IsConfiguration}
-use Rattle.vms_stream.proofs.Facade.{IsTrailer, Taken, Progress, take_desc, takers, cells_of, IsGood, same_refl, at_set, body_found, own_are, defaults_at}
-use Rattle.vms_stream.proofs.Facade.{defaults_long, none_versions, all_came, falses, defaults_of, its_spelled, at_other, none_of, none_came, beside_start, Fine}
-use Rattle.vms_stream.proofs.Facade.{fine_normal, fine_valid, Tail, Unknown, Footed, Bare, State, Free, Ended, Headed, known_at, after, between, by_state}
-use Rattle.vms_stream.proofs.Facade.{at_start, IsSection, BeginsSection, SectionsSpell, Takes, Piece, spell, Accepted, AMagic, AVersion, AfterEnd, May, AtMagic}
+use Rattle.vms_stream.proofs.Facade
+use Facade.{◌≡◌, ℕ, zero, suc, ◌+◌, ◌<◌, List, ◌∷◌, ◌++◌, length, slice_set, Some, None, Ok, Err, refl, sym, ap, ◌∙◌, subst}
+use Facade.{arith, append_assoc, length-append, Bool, true, false, [], inl, inr, map, Option, slice_get, length-set, slice_get_within, add-zero, IsBytes}
+use Facade.{bytes_rest, Device, Set, device_cells, desc_cells, Image, default_image, IsVersionOf, section_head, EachOnce, be32, magic, stream_head}
+use Facade.{configuration, end_mark, trailer, IsConfiguration, IsTrailer, Taken, Progress, take_desc, takers, cells_of, IsGood, same_refl, at_set, body_found}
+use Facade.{own_are, defaults_at, defaults_long, none_versions, all_came, falses, defaults_of, its_spelled, at_other, none_of, none_came, beside_start, Fine}
+use Facade.{fine_normal, fine_valid, Tail, Unknown, Footed, Bare, State, Free, Ended, Headed, known_at, after, between, by_state, at_start, IsSection}
+use Facade.{BeginsSection, SectionsSpell, Takes, Piece, spell, Accepted, AMagic, AVersion, AfterEnd, May, AtMagic, AtVersion, AtDescription, AtLongText}
+use Facade.{AtTrailing, first_of, owes, reading}
 use Rattle.vms_stream.proofs.{Bodies.Reads, Bodies.body_read, Inside.Agrees, Inside.tail_of, Inside.closing, Inside.Section, Inside.image_so, Inside.subs_found}
-use Rattle.vms_stream.proofs.Facade.{AtVersion, AtDescription, AtLongText, AtTrailing, first_of, owes, reading}
 use Rattle.vms_stream.proofs.Steps.{Run, Goes, Opening, Closes, Opens, Names, opened, next, steps, free_opens, magic_is, version_is_3, trailing_never}
 use Rattle.vms_stream.specs.State.{Over}
 

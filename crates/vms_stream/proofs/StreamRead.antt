@@ -1,16 +1,15 @@
 -- What an input takes is accepted, so it takes at most one stream: its sections are read, and all
 -- of it.
 use Rattle.vms_stream.proofs.{Bodies.body_read, StreamFound.came_to}
-use Rattle.vms_stream.proofs.Facade.{at_start, IsSection, HasSection, SectionsSpell, IsStream, Takes, trailer_at, not, position, ◌≡◌, ℕ, ◌+◌}
-use Rattle.vms_stream.proofs.Facade.{◌^◌, ◌<◌, ◌≤◌, List, ◌∷◌, ◌++◌, length, drop, slice_set, Option, Some, None, refl, sym, ap}
-use Rattle.vms_stream.proofs.Facade.{◌∙◌, subst, arith, append_assoc, length-append, Bool, true, false, ◌==◌, [], map, slice_get, length-set}
-use Rattle.vms_stream.proofs.Facade.{slice_get_within, add-zero, Device, Set, Image, default_image, own_slots, Spells, IsNormal, IsValid, section_head}
-use Rattle.vms_stream.proofs.Facade.{sub_head, ComesOnce, SubsSpell, EachOnce, be32, magic, stream_head, configuration, end_mark, IsTrailer, part_slots, Head}
-use Rattle.vms_stream.proofs.Facade.{SubHead, Foot, End, Magic, Version, Configuration, Description, Progress, Reading, Accepted, reading_on, IsGood, at_set}
-use Rattle.vms_stream.proofs.Facade.{none_of, version_at, Beside, beside_first, beside_next, beside_end, part_place, so_far, so_at_last, own_taken, part_taken}
-use Rattle.vms_stream.proofs.Facade.{sub_so, none_missing, came_at, same_lists, agrees, falses, defaults_of, never_true, Tail, Unknown, Footed, Bare}
-use Rattle.vms_stream.proofs.Facade.{AfterFields, fits_four, is_foot, is_next, May, AtHead, AtEnd, AtSubHead, AtFoot, AtNext, AtMagic, AtVersion}
-use Rattle.vms_stream.proofs.Facade.{AtConfiguration, AtDescription, judge, reading, State, Free, Ended, known_at, after, by_state, Headed, between}
+use Rattle.vms_stream.proofs.Facade
+use Facade.{at_start, IsSection, HasSection, SectionsSpell, IsStream, Takes, trailer_at, not, position, ◌≡◌, ℕ, ◌+◌, ◌^◌, ◌<◌, ◌≤◌}
+use Facade.{List, ◌∷◌, ◌++◌, length, drop, slice_set, Option, Some, None, refl, sym, ap, ◌∙◌, subst, arith, append_assoc, length-append, Bool}
+use Facade.{true, false, ◌==◌, [], map, slice_get, length-set, slice_get_within, add-zero, Device, Set, Image, default_image, own_slots, Spells, IsNormal}
+use Facade.{IsValid, section_head, sub_head, ComesOnce, SubsSpell, EachOnce, be32, magic, stream_head, configuration, end_mark, IsTrailer, part_slots, Head}
+use Facade.{SubHead, Foot, End, Magic, Version, Configuration, Description, Progress, Reading, Accepted, reading_on, IsGood, at_set, none_of, version_at}
+use Facade.{Beside, beside_first, beside_next, beside_end, part_place, so_far, so_at_last, own_taken, part_taken, sub_so, none_missing, came_at, same_lists}
+use Facade.{agrees, falses, defaults_of, never_true, Tail, Unknown, Footed, Bare, AfterFields, fits_four, is_foot, is_next, May, AtHead, AtEnd, AtSubHead}
+use Facade.{AtFoot, AtNext, AtMagic, AtVersion, AtConfiguration, AtDescription, judge, reading, State, Free, Ended, known_at, after, by_state, Headed, between}
 use Rattle.vms_stream.proofs.Inside.{Agrees, closing, Section, stands, over, knows, known_is, due_is, held_is, subs_are, sub_after}
 use Rattle.vms_stream.proofs.Steps.{g, unit_on, opened, settled, head_after, head_passes, sub_passes, foot_passes, end_passes}
 use Rattle.vms_stream.specs.State.{Over}

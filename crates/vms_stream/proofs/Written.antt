@@ -1,12 +1,11 @@
 -- What the writer gives is a stream with footers, and what a well-formed set writes is bytes.
-use Rattle.vms_stream.proofs.Facade.{◌≡◌, ℕ, suc, List, [], ◌∷◌, Some, refl, zero, ◌+◌, ◌<◌, ◌≤◌, ◌&&◌, nat_le, ◌++◌}
-use Rattle.vms_stream.proofs.Facade.{length, length-append, take, set_clean, drop, ℤ, Bool, true, Option, None, IfSome, nat_lt, subst, arith, slice_get}
-use Rattle.vms_stream.proofs.Facade.{list_all, byte_at, bytes_high_first, replicate, bytes_eq, and_parts, ltb-true, leb-true, take-append-drop}
-use Rattle.vms_stream.proofs.Facade.{bytes_eq-Decides, Desc, Sub, Device, Set, code, Kind, IsBytes, is_name, is_name_byte, is_sub_name, Image, zeroed}
-use Rattle.vms_stream.proofs.Facade.{own_cells, own_slots, sub_slots, Slot, Rule, desc_cells, struct_cells, be32, optional, configuration, section_head}
-use Rattle.vms_stream.proofs.Facade.{sub_head, foot, trailer, is_one_of, written, written_section, written_sections, written_subs, WellFormed, every_one}
-use Rattle.vms_stream.proofs.Facade.{name_byte_low, device_parts, sub_clean, map, false, sym, append_assoc, append-nil, set-append_seam, drop-append_seam}
-use Rattle.vms_stream.proofs.Facade.{sub_place, AreVersionsOf, sub_front, drop_next, zeroed_spells, sub_first}
+use Rattle.vms_stream.proofs.Facade
+use Facade.{◌≡◌, ℕ, suc, List, [], ◌∷◌, Some, refl, zero, ◌+◌, ◌<◌, ◌≤◌, ◌&&◌, nat_le, ◌++◌, length, length-append, take}
+use Facade.{set_clean, drop, ℤ, Bool, true, Option, None, IfSome, nat_lt, subst, arith, slice_get, list_all, byte_at, bytes_high_first, replicate, bytes_eq}
+use Facade.{and_parts, ltb-true, leb-true, take-append-drop, bytes_eq-Decides, Desc, Sub, Device, Set, code, Kind, IsBytes, is_name, is_name_byte, is_sub_name}
+use Facade.{Image, zeroed, own_cells, own_slots, sub_slots, Slot, Rule, desc_cells, struct_cells, be32, optional, configuration, section_head, sub_head, foot}
+use Facade.{trailer, is_one_of, written, written_section, written_sections, written_subs, WellFormed, every_one, name_byte_low, device_parts, sub_clean, map}
+use Facade.{false, sym, append_assoc, append-nil, set-append_seam, drop-append_seam, sub_place, AreVersionsOf, sub_front, drop_next, zeroed_spells, sub_first}
 use Rattle.vms_spec.specs.Layout.{Number, Constant, Filler}
 use Rattle.vms_spec.specs.Streams
 use Rattle.vms_stream.specs.Streams as units

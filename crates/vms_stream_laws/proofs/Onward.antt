@@ -1,17 +1,16 @@
 -- Units with which a stream can go on. Units without a fault go on to an end, if every validation
 -- holds.
-use Rattle.vms_stream_laws.proofs.Facade.{BeginningLaw, Begins, HoldsBefore, ◌≡◌, ℕ, zero, suc, ◌+◌, ◌<◌, Bool, true, false, ◌&&◌, List, []}
-use Rattle.vms_stream_laws.proofs.Facade.{◌∷◌, length, drop, slice_set, ℤ, pos, Some, None, refl, ◌∙◌, arith, slice_get, le-ltb, InRange, Kind}
-use Rattle.vms_stream_laws.proofs.Facade.{U8, Slot, raw, exceeds, is_above, is_truth, Set, slots, AllCame, Number, Constant, is_below, not_above}
-use Rattle.vms_stream_laws.proofs.Facade.{same_number_itself, AreConstants, AfterFields, due_field, Known, Tail, skipped, first_of, ◌≤◌, ◌++◌}
-use Rattle.vms_stream_laws.proofs.Facade.{append_assoc, length-drop, length-set, Option, sym, ap, replicate, leb-true, length-map, length-replicate}
-use Rattle.vms_stream_laws.proofs.Facade.{slice_get_within, IsBytes, bytes_both, IsGood, FitsHeads, Image, own_cells, sub_place, at_option, Device, Sub, come}
-use Rattle.vms_stream_laws.proofs.Facade.{device, device_named, id_of, image, mark_come, opened, part, part_slots, slots_of_sub, magic, Piece, Magic, Version}
-use Rattle.vms_stream_laws.proofs.Facade.{Configuration, Head, Filler, Foot, End, spell, spelled, WellFormed, device_parts, well_good, none_missing}
-use Rattle.vms_stream_laws.proofs.Facade.{own_constants, part_constants, Due, AVersion, Between, May, AtMagic, AtVersion, AtHead, AtEnd, AtNumber, AtConstant}
-use Rattle.vms_stream_laws.proofs.Facade.{AtFiller, AtFoot, AtNext, due, fits_four, holds, is_foot, Front, owes, Bare, known, passed, tail, reason_of}
-use Rattle.vms_stream_laws.proofs.Facade.{end_passes, foot_passes, head_passes, AreBytes, be32_bytes, bytes_at, code_bytes, foot_bytes, head_bytes, parts_named}
-use Rattle.vms_stream_laws.proofs.Facade.{zeros_bytes, RefusedLaw, unruled, subst, append-nil, take-append_seam, bytes_first, Ends, units_hold}
+use Rattle.vms_stream_laws.proofs.Facade
+use Facade.{BeginningLaw, Begins, HoldsBefore, ◌≡◌, ℕ, zero, suc, ◌+◌, ◌<◌, Bool, true, false, ◌&&◌, List, [], ◌∷◌, length, drop}
+use Facade.{slice_set, ℤ, pos, Some, None, refl, ◌∙◌, arith, slice_get, le-ltb, InRange, Kind, U8, Slot, raw, exceeds, is_above, is_truth, Set, slots}
+use Facade.{AllCame, Number, Constant, is_below, not_above, same_number_itself, AreConstants, AfterFields, due_field, Known, Tail, skipped, first_of, ◌≤◌}
+use Facade.{◌++◌, append_assoc, length-drop, length-set, Option, sym, ap, replicate, leb-true, length-map, length-replicate, slice_get_within, IsBytes}
+use Facade.{bytes_both, IsGood, FitsHeads, Image, own_cells, sub_place, at_option, Device, Sub, come, device, device_named, id_of, image, mark_come, opened}
+use Facade.{part, part_slots, slots_of_sub, magic, Piece, Magic, Version, Configuration, Head, Filler, Foot, End, spell, spelled, WellFormed, device_parts}
+use Facade.{well_good, none_missing, own_constants, part_constants, Due, AVersion, Between, May, AtMagic, AtVersion, AtHead, AtEnd, AtNumber, AtConstant}
+use Facade.{AtFiller, AtFoot, AtNext, due, fits_four, holds, is_foot, Front, owes, Bare, known, passed, tail, reason_of, end_passes, foot_passes, head_passes}
+use Facade.{AreBytes, be32_bytes, bytes_at, code_bytes, foot_bytes, head_bytes, parts_named, zeros_bytes, RefusedLaw, unruled, subst, append-nil}
+use Facade.{take-append_seam, bytes_first, Ends, units_hold}
 use Rattle.vms_stream_laws.proofs.Parts.{every_holds as all_hold, from_bare, to_bare}
 use Rattle.vms_stream_laws.proofs.WellFormed.{bounded, still_fits, still_well}
 use Rattle.vms_kinds.specs.declared.Kind.TheVariants.{Bool as Truth}

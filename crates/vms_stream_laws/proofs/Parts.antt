@@ -1,14 +1,13 @@
 -- The slots of a set without its validations, and what the units so far say of it.
-use Rattle.vms_stream_laws.proofs.Facade.{arith, ◌≡◌, ℕ, zero, suc, Bool, List, [], ◌∷◌, map, Option, Some, None, refl, list_any, slice_get}
-use Rattle.vms_stream_laws.proofs.Facade.{option_map, slice_get-map, at_option, first_answer, position, or_else_none, both_none, test_some, unruled_device}
-use Rattle.vms_stream_laws.proofs.Facade.{unruled_sub, map-map, ◌+◌, true, false, if◌then◌else◌, length, get_or, drop, ℤ, sym, ap, ◌∙◌}
-use Rattle.vms_stream_laws.proofs.Facade.{flat_map, drop-map, length-map, map-append, fun_ext, Item, Struct, Image, default_image, own_cells, sub_place, Cell}
-use Rattle.vms_stream_laws.proofs.Facade.{Slot, Rule, Meaning, no_meaning, no_desc, all_hold, counted, desc_cells, desc_slots, device_cells, field_cells}
-use Rattle.vms_stream_laws.proofs.Facade.{field_slots, first, item_slots, meaning, meanings, no_parent, numbers_of, slots_from, struct_cells, times, Desc}
-use Rattle.vms_stream_laws.proofs.Facade.{Device, Field, Set, Sub, fresh, part_slots, slots_of_sub, subs_of, is_there, Tail, Footed, beyond, skipped, due_field}
-use Rattle.vms_stream_laws.proofs.Facade.{rules_hold, unruled, unruled_desc, bytes_eq, come, device, device_named, image, mark_come, opened, part, slots}
-use Rattle.vms_stream_laws.proofs.Facade.{sub_named, Piece, Head, Number, Constant, Filler, SubHead, End, due, holds, Front, Known, behind, known, passed, tail}
-use Rattle.vms_stream_laws.proofs.Facade.{asking, reason_of, HoldsBefore}
+use Rattle.vms_stream_laws.proofs.Facade
+use Facade.{arith, ◌≡◌, ℕ, zero, suc, Bool, List, [], ◌∷◌, map, Option, Some, None, refl, list_any, slice_get, option_map, slice_get-map}
+use Facade.{at_option, first_answer, position, or_else_none, both_none, test_some, unruled_device, unruled_sub, map-map, ◌+◌, true, false}
+use Facade.{if◌then◌else◌, length, get_or, drop, ℤ, sym, ap, ◌∙◌, flat_map, drop-map, length-map, map-append, fun_ext, Item, Struct, Image}
+use Facade.{default_image, own_cells, sub_place, Cell, Slot, Rule, Meaning, no_meaning, no_desc, all_hold, counted, desc_cells, desc_slots, device_cells}
+use Facade.{field_cells, field_slots, first, item_slots, meaning, meanings, no_parent, numbers_of, slots_from, struct_cells, times, Desc, Device, Field, Set}
+use Facade.{Sub, fresh, part_slots, slots_of_sub, subs_of, is_there, Tail, Footed, beyond, skipped, due_field, rules_hold, unruled, unruled_desc, bytes_eq}
+use Facade.{come, device, device_named, image, mark_come, opened, part, slots, sub_named, Piece, Head, Number, Constant, Filler, SubHead, End, due, holds}
+use Facade.{Front, Known, behind, known, passed, tail, asking, reason_of, HoldsBefore}
 use Rattle.vms_spec.specs.Layout as slots
 
 -- ---- lists whose elements are put to others: what is found in them is what was found before

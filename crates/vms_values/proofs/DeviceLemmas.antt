@@ -1,14 +1,14 @@
 -- Devices that are read one after the other: their images, their subsections, and what is judged of them.
 use Rattle.std.proofs.Common.{ap₂}
-use Rattle.vms_values.proofs.Facade.{AtLeast, no_desc, length-take-le, ◌≡◌, ℕ, ◌+◌, ◌<◌, true, zero, suc, List, [], ◌∷◌, ◌++◌, Some}
-use Rattle.vms_values.proofs.Facade.{length, ap, sym, ◌∙◌, subst, arith, length-append, Option, None, Result, Ok, Err, refl, map, take, drop}
-use Rattle.vms_values.proofs.Facade.{append_assoc, append-nil, slice_set, flat_map, slice_get, length-map, drop_more, drop_all, take_more, take_all, map-append}
-use Rattle.vms_values.proofs.Facade.{take_more_set, ForSome, Set, Device, Sub, Typed, state_of, default_at, IsOfDevice, IsImageOf, device_cells, desc_cells}
-use Rattle.vms_values.proofs.Facade.{struct_cells, device_at, is_well_formed, few_cells, sub_next, HasSpot, IsKept, place_of, IsAlike, said_read, sub_read}
-use Rattle.vms_values.proofs.Facade.{SubReached, SubsReached, first_line, BadLine, ReadDevice, ReadAll, ValuesRead, read_devices, ended, values_read}
-use Rattle.vms_values.proofs.Facade.{after_machine, machine_named, Standing, ReadSubs, read_subs, with_device, read_device, or_bad, judge_device, judge_devices}
-use Rattle.vms_values.proofs.Facade.{sub_said, also, read_sub, LineFault, StartsAt, Start, machine_of, Image, own_cells, Reading, bad_of, device_read, start_of}
-use Rattle.vms_values.proofs.Facade.{DeviceRead, AllRead, or_bad_assoc, first_cell, sub_at, Taken, ReadsBy}
+use Rattle.vms_values.proofs.Facade
+use Facade.{AtLeast, no_desc, length-take-le, ◌≡◌, ℕ, ◌+◌, ◌<◌, true, zero, suc, List, [], ◌∷◌, ◌++◌, Some, length, ap, sym}
+use Facade.{◌∙◌, subst, arith, length-append, Option, None, Result, Ok, Err, refl, map, take, drop, append_assoc, append-nil, slice_set, flat_map}
+use Facade.{slice_get, length-map, drop_more, drop_all, take_more, take_all, map-append, take_more_set, ForSome, Set, Device, Sub, Typed, state_of, default_at}
+use Facade.{IsOfDevice, IsImageOf, device_cells, desc_cells, struct_cells, device_at, is_well_formed, few_cells, sub_next, HasSpot, IsKept, place_of, IsAlike}
+use Facade.{said_read, sub_read, SubReached, SubsReached, first_line, BadLine, ReadDevice, ReadAll, ValuesRead, read_devices, ended, values_read, after_machine}
+use Facade.{machine_named, Standing, ReadSubs, read_subs, with_device, read_device, or_bad, judge_device, judge_devices, sub_said, also, read_sub, LineFault}
+use Facade.{StartsAt, Start, machine_of, Image, own_cells, Reading, bad_of, device_read, start_of, DeviceRead, AllRead, or_bad_assoc, first_cell, sub_at, Taken}
+use Facade.{ReadsBy}
 use Rattle.vms_values.specs.declared.fault.Values.{Values}
 use Rattle.vms_spec.specs.declared.Part.TheVariants as parts
 use Rattle.vms_values.specs.declared.fault.LineFault.TheVariants as faults

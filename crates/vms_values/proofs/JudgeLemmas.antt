@@ -1,16 +1,15 @@
 -- Validations along steps, also of a set that has none, and defaults of cells.
-use Rattle.vms_values.proofs.Facade.{AtLeast, get_or-drop, drop-drop, ◌≡◌, ℕ, suc, zero, ◌+◌, ◌<◌, ◌≤◌, Bool, true, false, not}
-use Rattle.vms_values.proofs.Facade.{if◌then◌else◌, Option, Some, None, ◌&&◌, List, [], ◌∷◌, ◌++◌, length, get_or, drop, map, ℤ, pos}
-use Rattle.vms_values.proofs.Facade.{refl, sym, ap, ◌∙◌, arith, append_assoc, length-append, ◌==◌, flat_map, list_all, drop_more, drop_all, drop-map}
-use Rattle.vms_values.proofs.Facade.{map-append, drop-append_seam, eqb-true, and_parts, and-true, Set, Sub, Field, Desc, ValuesReason, sub_first, sub_next}
-use Rattle.vms_values.proofs.Facade.{Image, sub_place, own_cells, own_slots, own_cell_count, first_cell, own_numbers, device_at, sub_at, desc_at, Cell, Slot}
-use Rattle.vms_values.proofs.Facade.{no_desc, desc_cells, struct_cells, device_cells, Rule, Meaning, no_meaning, item_slots, times, field_slots, slots_from}
-use Rattle.vms_values.proofs.Facade.{desc_slots, field_cells, numbers_of, all_hold, first, meaning, meanings, rules_are_true, BadLine, ReadDevice, are_defaults}
-use Rattle.vms_values.proofs.Facade.{or_bad, if_bad, sub_fails, is_said_well, judge_subs, judge_device, CellForm, form_of, desc_of, formula, steps_of}
-use Rattle.vms_values.proofs.Facade.{spot_slots, no_form, settle, steps_hold, sub_judged, sub_defaults, Item, cells_first, one_more, Test, PartAt, ◌*◌}
-use Rattle.vms_values.proofs.Facade.{◌^◌, sum_by, Ok, Err, Result, sum_by-cons, ForSome, FitsHeads, Device, values_read, ValuesRead, Values, Bad, ReadAll}
-use Rattle.vms_values.proofs.Facade.{ended, judged, answer_of, Refused, state_of, is_well_formed, few_cells, few_devices, fit_of, few_subs, line_holds}
-use Rattle.vms_values.proofs.Facade.{read_holds, ReadsBy, MeansAs, LineFault, Reading, machine_of, bad_of, AllRead, ToldAs}
+use Rattle.vms_values.proofs.Facade
+use Facade.{AtLeast, get_or-drop, drop-drop, ◌≡◌, ℕ, suc, zero, ◌+◌, ◌<◌, ◌≤◌, Bool, true, false, not, if◌then◌else◌, Option, Some}
+use Facade.{None, ◌&&◌, List, [], ◌∷◌, ◌++◌, length, get_or, drop, map, ℤ, pos, refl, sym, ap, ◌∙◌, arith, append_assoc, length-append}
+use Facade.{◌==◌, flat_map, list_all, drop_more, drop_all, drop-map, map-append, drop-append_seam, eqb-true, and_parts, and-true, Set, Sub, Field, Desc}
+use Facade.{ValuesReason, sub_first, sub_next, Image, sub_place, own_cells, own_slots, own_cell_count, first_cell, own_numbers, device_at, sub_at, desc_at}
+use Facade.{Cell, Slot, no_desc, desc_cells, struct_cells, device_cells, Rule, Meaning, no_meaning, item_slots, times, field_slots, slots_from, desc_slots}
+use Facade.{field_cells, numbers_of, all_hold, first, meaning, meanings, rules_are_true, BadLine, ReadDevice, are_defaults, or_bad, if_bad, sub_fails}
+use Facade.{is_said_well, judge_subs, judge_device, CellForm, form_of, desc_of, formula, steps_of, spot_slots, no_form, settle, steps_hold, sub_judged}
+use Facade.{sub_defaults, Item, cells_first, one_more, Test, PartAt, ◌*◌, ◌^◌, sum_by, Ok, Err, Result, sum_by-cons, ForSome, FitsHeads, Device}
+use Facade.{values_read, ValuesRead, Values, Bad, ReadAll, ended, judged, answer_of, Refused, state_of, is_well_formed, few_cells, few_devices, fit_of}
+use Facade.{few_subs, line_holds, read_holds, ReadsBy, MeansAs, LineFault, Reading, machine_of, bad_of, AllRead, ToldAs}
 use Rattle.vms_values.specs.{declared.fault.Values.Values as Given, declared.judge.BadLine.BadLine as Found}
 use Rattle.vms_parts.specs.declared.types.Desc.{Desc as Described}
 use Rattle.vms_values_laws.specs.Laws.{device_lines}

@@ -1,18 +1,16 @@
 -- Names from cells: a part's fields one after the other, one element, and the subsections of a device.
-use Rattle.vms_values.proofs.Facade.{lt_of_mul-lt-mul_right, ◌≡◌, ℕ, zero, suc, ◌+◌, ◌*◌, ◌<◌, List, [], ◌∷◌, ◌++◌, length}
-use Rattle.vms_values.proofs.Facade.{get_or, map, drop, ℤ, pos, refl, sym, ap, ◌∙◌, subst, arith, append_assoc, append-nil, true, ◌-◌, ◌≤◌}
-use Rattle.vms_values.proofs.Facade.{◌/◌, ◌%◌, length-append, codes, None, flat_map, length-map, get_or_append_left, get_or-map, drop_more, ltb-true}
-use Rattle.vms_values.proofs.Facade.{get_or-append_right, div-add-mod', mod-lt, Item, Num, Struct, Set, Field, Device, Sub, AtLeast, Desc, own_cells}
-use Rattle.vms_values.proofs.Facade.{default_image, Cell, no_desc, item_size, field_cells, desc_cells, struct_cells, capacity_of, counted, first, numbers_of}
-use Rattle.vms_values.proofs.Facade.{no_parent, device_cells, field_size, field_at, device_at, is_well_formed, sub_at, HasPart, desc_at, size_in, cells_table}
-use Rattle.vms_values.proofs.Facade.{struct_size, reach, field_clean, Part, uses_below, own_cell_count, item_rank, part_rank, reach_whole, uses_more}
-use Rattle.vms_values.proofs.Facade.{rank_below, fields_at, Shape, no_shape, shape, shapes, item_elements, stand_of, field_elements, elements_from}
-use Rattle.vms_values.proofs.Facade.{desc_elements, names_of, absent, elements_in, subs_elements, cell_name, first_at, shapes_cells, AreWalked, are_walked}
-use Rattle.vms_values.proofs.Facade.{is_dotted, names_append, names_long, names_map, item_walks, field_walks, fields_walk, desc_walks, desc_names_are, walks}
-use Rattle.vms_values.proofs.Facade.{array_name, names_absent, usable, element_text, part_names, item_names, field_name, IsInPart, sub_inside}
-use Rattle.vms_values.proofs.Facade.{own_inside_device, few_cells, map-append, slice_get-get_or, get_or-drop, Kind, U8, item_cells, cells_from, times}
-use Rattle.vms_values.proofs.Facade.{size_same, cells_of_sub, first_cell, kinds_at, table, cells_in as table_cells, all_below, struct_cells_at, struct_clean}
-use Rattle.vms_values.proofs.Facade.{AreKinds, ElementKinds, part_cells, drop_on}
+use Rattle.vms_values.proofs.Facade
+use Facade.{lt_of_mul-lt-mul_right, ◌≡◌, ℕ, zero, suc, ◌+◌, ◌*◌, ◌<◌, List, [], ◌∷◌, ◌++◌, length, get_or, map, drop, ℤ, pos}
+use Facade.{refl, sym, ap, ◌∙◌, subst, arith, append_assoc, append-nil, true, ◌-◌, ◌≤◌, ◌/◌, ◌%◌, length-append, codes, None, flat_map}
+use Facade.{length-map, get_or_append_left, get_or-map, drop_more, ltb-true, get_or-append_right, div-add-mod', mod-lt, Item, Num, Struct, Set, Field, Device}
+use Facade.{Sub, AtLeast, Desc, own_cells, default_image, Cell, no_desc, item_size, field_cells, desc_cells, struct_cells, capacity_of, counted, first}
+use Facade.{numbers_of, no_parent, device_cells, field_size, field_at, device_at, is_well_formed, sub_at, HasPart, desc_at, size_in, cells_table, struct_size}
+use Facade.{reach, field_clean, Part, uses_below, own_cell_count, item_rank, part_rank, reach_whole, uses_more, rank_below, fields_at, Shape, no_shape, shape}
+use Facade.{shapes, item_elements, stand_of, field_elements, elements_from, desc_elements, names_of, absent, elements_in, subs_elements, cell_name, first_at}
+use Facade.{shapes_cells, AreWalked, are_walked, is_dotted, names_append, names_long, names_map, item_walks, field_walks, fields_walk, desc_walks}
+use Facade.{desc_names_are, walks, array_name, names_absent, usable, element_text, part_names, item_names, field_name, IsInPart, sub_inside, own_inside_device}
+use Facade.{few_cells, map-append, slice_get-get_or, get_or-drop, Kind, U8, item_cells, cells_from, times, size_same, cells_of_sub, first_cell, kinds_at, table}
+use Facade.{cells_in as table_cells, all_below, struct_cells_at, struct_clean, AreKinds, ElementKinds, part_cells, drop_on}
 use Rattle.vms_elements.specs.Elements.{cells_in}
 use Rattle.vms_spec.specs.declared.Part.TheVariants as parts
 

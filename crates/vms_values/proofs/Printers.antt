@@ -1,17 +1,15 @@
 -- The lines of structures, arrays, parts, subsections and devices.
-use Rattle.vms_values.proofs.Facade.{◌≡◌, ℕ, zero, suc, ◌+◌, ◌<◌, List, [], ◌∷◌, ◌++◌, length, get_or, map, ℤ, pos, refl, ap}
-use Rattle.vms_values.proofs.Facade.{◌∙◌, arith, true, codes, ◌-◌, ◌*◌, ◌≤◌, drop, sym, Option, None, append_assoc, decimal, drop_all}
-use Rattle.vms_values.proofs.Facade.{drop_more, Item, Struct, Count, One, Field, Desc, Set, Device, Sub, Cell, no_desc, first, item_size, desc_cells}
-use Rattle.vms_values.proofs.Facade.{field_cells, numbers_of, elements_of, struct_cells, capacity_of, Printer, no_printer, printer, printers, item_lines}
-use Rattle.vms_values.proofs.Facade.{element_lines, array_lines, field_lines, desc_lines, line_end, version_text, sub_lines, device_lines, ItemBelow}
-use Rattle.vms_values.proofs.Facade.{FieldsBelow, all_below, item_cells_same, field_cells_same, own_same, row_same, first_cells, first_same, first_at}
-use Rattle.vms_values.proofs.Facade.{is_well_formed, struct_clean, reach, uses_below, field_size, elements_fit, one_fits, room_for_less, place_first, desc_of}
-use Rattle.vms_values.proofs.Facade.{field_of, field_at, own_numbers, first_cell, desc_at, sub_at, found_field, here_fields, sub_next, sub_inside}
-use Rattle.vms_values.proofs.Facade.{own_inside_device, few_cells, PartAt, HasSpot, size_in, table, cells_in, item_rank, part_rank, reach_whole, uses_more}
-use Rattle.vms_values.proofs.Facade.{rank_below, next_field, cells_table, start_after, cell_of, fields_at, IsRun, run_lines, IsOf, section_text, whole_sub}
-use Rattle.vms_values.proofs.Facade.{Image, own_cells, sub_place, device_at, take-take, Result, length-drop, take, length-take, Bor, is_ok, joined, Outlet}
-use Rattle.vms_values.proofs.Facade.{Wrote, devices_lines, AreOf, below, below_part, Stays, take-append-le, Part, HasPart, few_structs, field_clean}
-use Rattle.vms_values.proofs.Facade.{LONGEST_PATH, PART_ROOM}
+use Rattle.vms_values.proofs.Facade
+use Facade.{◌≡◌, ℕ, zero, suc, ◌+◌, ◌<◌, List, [], ◌∷◌, ◌++◌, length, get_or, map, ℤ, pos, refl, ap, ◌∙◌, arith, true, codes}
+use Facade.{◌-◌, ◌*◌, ◌≤◌, drop, sym, Option, None, append_assoc, decimal, drop_all, drop_more, Item, Struct, Count, One, Field, Desc, Set}
+use Facade.{Device, Sub, Cell, no_desc, first, item_size, desc_cells, field_cells, numbers_of, elements_of, struct_cells, capacity_of, Printer, no_printer}
+use Facade.{printer, printers, item_lines, element_lines, array_lines, field_lines, desc_lines, line_end, version_text, sub_lines, device_lines, ItemBelow}
+use Facade.{FieldsBelow, all_below, item_cells_same, field_cells_same, own_same, row_same, first_cells, first_same, first_at, is_well_formed, struct_clean}
+use Facade.{reach, uses_below, field_size, elements_fit, one_fits, room_for_less, place_first, desc_of, field_of, field_at, own_numbers, first_cell, desc_at}
+use Facade.{sub_at, found_field, here_fields, sub_next, sub_inside, own_inside_device, few_cells, PartAt, HasSpot, size_in, table, cells_in, item_rank}
+use Facade.{part_rank, reach_whole, uses_more, rank_below, next_field, cells_table, start_after, cell_of, fields_at, IsRun, run_lines, IsOf, section_text}
+use Facade.{whole_sub, Image, own_cells, sub_place, device_at, take-take, Result, length-drop, take, length-take, Bor, is_ok, joined, Outlet, Wrote}
+use Facade.{devices_lines, AreOf, below, below_part, Stays, take-append-le, Part, HasPart, few_structs, field_clean, LONGEST_PATH, PART_ROOM}
 use Rattle.vms_spec.specs.Sets.{AtLeast}
 use Rattle.vms_parts.specs.{declared.types.Desc.Desc as CodeDesc, declared.types.Field.Field as CodeField}
 use Rattle.std.proofs.Common.{take_all}

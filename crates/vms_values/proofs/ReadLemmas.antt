@@ -1,12 +1,12 @@
 -- A text that is read line by line: fronts, numbers as they are spelled, and the line of a cell.
 use Rattle.std.proofs.lemmas.Bool.Decides.{nat_tests}
-use Rattle.vms_values.proofs.Facade.{lt-ltb, ◌≡◌, ℕ, Bool, true, false, ◌&&◌, ◌==◌, List, [], ◌∷◌, ◌++◌, length, drop, refl, sym, ap}
-use Rattle.vms_values.proofs.Facade.{◌∙◌, ◌+◌, Option, Some, None, Ok, Err, arith, drop-drop, length-append, MatchOption, ◌-◌, ◌*◌, ◌^◌}
-use Rattle.vms_values.proofs.Facade.{◌<◌, ◌≤◌, not, ◌||◌, nat_le, nat_lt, zero, suc, take, get_or, if◌then◌else◌, length-drop, ℤ, pos}
-use Rattle.vms_values.proofs.Facade.{slice_set, Result, codes, bytes_eq, and_assoc, and-true, Bor, list_all, pow-suc, drop_more, drop_all, take_all}
-use Rattle.vms_values.proofs.Facade.{take-append-drop, option_and_then, begins_with, is_digit, natural_from, number_spelled, BadLine, Standing, Read, bad}
-use Rattle.vms_values.proofs.Facade.{put_line, put_number, LineFault, Strips, with_digit, natural_spelled, read_from, held, IsBad, Reaches, natural_up, Kind}
-use Rattle.vms_values.proofs.Facade.{InRange, ranges, ValuesReason, IsFirstLine, NextLine, number_judged}
+use Rattle.vms_values.proofs.Facade
+use Facade.{lt-ltb, ◌≡◌, ℕ, Bool, true, false, ◌&&◌, ◌==◌, List, [], ◌∷◌, ◌++◌, length, drop, refl, sym, ap, ◌∙◌, ◌+◌}
+use Facade.{Option, Some, None, Ok, Err, arith, drop-drop, length-append, MatchOption, ◌-◌, ◌*◌, ◌^◌, ◌<◌, ◌≤◌, not, ◌||◌, nat_le}
+use Facade.{nat_lt, zero, suc, take, get_or, if◌then◌else◌, length-drop, ℤ, pos, slice_set, Result, codes, bytes_eq, and_assoc, and-true, Bor, list_all}
+use Facade.{pow-suc, drop_more, drop_all, take_all, take-append-drop, option_and_then, begins_with, is_digit, natural_from, number_spelled, BadLine, Standing}
+use Facade.{Read, bad, put_line, put_number, LineFault, Strips, with_digit, natural_spelled, read_from, held, IsBad, Reaches, natural_up, Kind, InRange, ranges}
+use Facade.{ValuesReason, IsFirstLine, NextLine, number_judged}
 use Rattle.vms_values.specs.declared.fault.LineFault.TheVariants as faults
 use Rattle.vms_spec.specs.declared.ValuesReason.TheVariants as reasons
 

@@ -1,11 +1,11 @@
 -- What is read of structures, arrays and parts.
-use Rattle.vms_values.proofs.Facade.{refl, ◌∙◌, ◌≡◌, ℕ, zero, suc, ◌+◌, ◌<◌, Bool, true, ◌&&◌, List, [], ◌∷◌, ◌++◌, length}
-use Rattle.vms_values.proofs.Facade.{get_or, pos, arith, codes, ◌-◌, ◌*◌, drop, Option, sym, decimal, exceeds_least, Typed, IsKept, run_read, Item, Num}
-use Rattle.vms_values.proofs.Facade.{Struct, Count, One, Field, Desc, Set, is_there, no_desc, no_parent, first, item_size, field_cells, numbers_of, elements_of}
-use Rattle.vms_values.proofs.Facade.{counted, no_field, struct_cells, capacity_of, Reader, Standing, Read, ◌>>=◌, no_reader, reader, readers, cells_of}
-use Rattle.vms_values.proofs.Facade.{read_item, read_elements, read_array, read_field, read_fields, read_desc, ItemBelow, FieldsBelow, all_below}
-use Rattle.vms_values.proofs.Facade.{item_cells_same, field_cells_same, own_same, row_same, first_same, readers_cells, first_at, is_well_formed, struct_clean}
-use Rattle.vms_values.proofs.Facade.{field_size, least_of, size_in, capacities_of, cells_table, fields_at}
+use Rattle.vms_values.proofs.Facade
+use Facade.{refl, ◌∙◌, ◌≡◌, ℕ, zero, suc, ◌+◌, ◌<◌, Bool, true, ◌&&◌, List, [], ◌∷◌, ◌++◌, length, get_or, pos, arith}
+use Facade.{codes, ◌-◌, ◌*◌, drop, Option, sym, decimal, exceeds_least, Typed, IsKept, run_read, Item, Num, Struct, Count, One, Field, Desc, Set}
+use Facade.{is_there, no_desc, no_parent, first, item_size, field_cells, numbers_of, elements_of, counted, no_field, struct_cells, capacity_of, Reader}
+use Facade.{Standing, Read, ◌>>=◌, no_reader, reader, readers, cells_of, read_item, read_elements, read_array, read_field, read_fields, read_desc}
+use Facade.{ItemBelow, FieldsBelow, all_below, item_cells_same, field_cells_same, own_same, row_same, first_same, readers_cells, first_at, is_well_formed}
+use Facade.{struct_clean, field_size, least_of, size_in, capacities_of, cells_table, fields_at}
 
 pub kept_none : (a : Typed) → IsKept a a
 kept_none a = record { version = refl; came = refl; long = refl; kinds = refl }

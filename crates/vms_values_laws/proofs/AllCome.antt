@@ -1,13 +1,12 @@
 -- All devices, read as entries, and which devices reading requires.
-use Rattle.vms_values_laws.proofs.Facade.{all_from, ◌≡◌, ℕ, suc, ◌+◌, List, ◌∷◌, ◌++◌, length, map, true, false, Option, Some, None, ℤ}
-use Rattle.vms_values_laws.proofs.Facade.{Ok, Err, Result, refl, sym, ap, ◌∙◌, subst, arith, [], length-append, length-map, bytes_eq-Decides, zero}
-use Rattle.vms_values_laws.proofs.Facade.{◌<◌, get_or, slice_set, Bool, ⊎_elim, AllByRecursion, or_right, cases_eq, if◌then◌else◌, pos}
-use Rattle.vms_values_laws.proofs.Facade.{get_or-set_other, append-nil, list_all, and_parts, length-set, get_or-set_same, get_or-map, Device, Set, desc_cells}
-use Rattle.vms_values_laws.proofs.Facade.{struct_cells, device_cells, Image, default_image, own_cells, first_line, Standing, BadLine, ReadSubs, readers}
-use Rattle.vms_values_laws.proofs.Facade.{read_desc, read_subs, then_subs, next_line, rest_of, is_line, IsSound, AreSound, section_line, Entry, OfSection}
-use Rattle.vms_values_laws.proofs.Facade.{device_entries, Said, ForSection, reason_for, Taken, Follows, Along, Begins, Moved, either_of, no_cell, Cell}
-use Rattle.vms_values_laws.proofs.Facade.{ReadDevice, ReadAll, read_devices, device_read, with_device, IsShort, devices_entries, is_short, IsShaped, AreShaped}
-use Rattle.vms_values_laws.proofs.Facade.{AreUnsaid, AllUnsaid, put_all, Demand, IsGood, DefaultsFit, ranged, I64, U64, and_from}
+use Rattle.vms_values_laws.proofs.Facade
+use Facade.{all_from, ◌≡◌, ℕ, suc, ◌+◌, List, ◌∷◌, ◌++◌, length, map, true, false, Option, Some, None, ℤ, Ok, Err, Result, refl, sym}
+use Facade.{ap, ◌∙◌, subst, arith, [], length-append, length-map, bytes_eq-Decides, zero, ◌<◌, get_or, slice_set, Bool, ⊎_elim, AllByRecursion}
+use Facade.{or_right, cases_eq, if◌then◌else◌, pos, get_or-set_other, append-nil, list_all, and_parts, length-set, get_or-set_same, get_or-map, Device}
+use Facade.{Set, desc_cells, struct_cells, device_cells, Image, default_image, own_cells, first_line, Standing, BadLine, ReadSubs, readers, read_desc}
+use Facade.{read_subs, then_subs, next_line, rest_of, is_line, IsSound, AreSound, section_line, Entry, OfSection, device_entries, Said, ForSection, reason_for}
+use Facade.{Taken, Follows, Along, Begins, Moved, either_of, no_cell, Cell, ReadDevice, ReadAll, read_devices, device_read, with_device, IsShort}
+use Facade.{devices_entries, is_short, IsShaped, AreShaped, AreUnsaid, AllUnsaid, put_all, Demand, IsGood, DefaultsFit, ranged, I64, U64, and_from}
 use Rattle.vms_values_laws.proofs.SaidLaws.{moved_none, moved_one, moved_then, unsaid_kept, AreShortSaid, short}
 use Rattle.vms_values_laws.proofs.SecondPass.{AreShort, numbers_come, follows_then, along_then, short_within, AreLined}
 use Rattle.vms_values_laws.proofs.SubsCome.{line_taken, AreSoundSubs, cells_long, none_at, subs_come, Went, Come, stopped_first, behind_numbers, numbers_first}

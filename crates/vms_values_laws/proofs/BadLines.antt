@@ -1,12 +1,12 @@
 -- The first bad line of a text.
 use Rattle.vms_values_laws.proofs.{SubsCome.line_taken, Meeting.Ends, SaidLaws.some_if, SaidLaws.moved_then, SaidLaws.moved_none, SaidLaws.moved_one}
 use Rattle.vms_values_laws.proofs.AllCome.{images_of, AllRead, AreGoodDevices, AllCome, devices_come, AllWent}
-use Rattle.vms_values_laws.proofs.Facade.{Taken, lines_of, AreFineTaken, Follows, Along, Moved, is_one_of, AreSound, begun, ◌≡◌, ℕ, suc, ◌+◌, List}
-use Rattle.vms_values_laws.proofs.Facade.{[], ◌∷◌, ◌++◌, length, map, Option, Some, None, refl, sym, ap, ◌∙◌, arith, append-nil, codes}
-use Rattle.vms_values_laws.proofs.Facade.{and_parts, ◌⊎◌, inl, inr, ◌&&◌, drop, Ok, Err, Result, bytes_eq-Decides, ValuesReason, Set, Image}
-use Rattle.vms_values_laws.proofs.Facade.{first_line, begins_with, BadLine, ReadAll, machine_named, judge_devices, rest_of, after_machine, ended, judged}
-use Rattle.vms_values_laws.proofs.Facade.{answer_of, ValuesRead, Bad, values_read, text_of, Entry, entries, devices_entries, entry_line, front_reason}
-use Rattle.vms_values_laws.proofs.Facade.{AreShaped, AllUnsaid, AreFine, IsBadLine, ForMachine, reason_for}
+use Rattle.vms_values_laws.proofs.Facade
+use Facade.{Taken, lines_of, AreFineTaken, Follows, Along, Moved, is_one_of, AreSound, begun, ◌≡◌, ℕ, suc, ◌+◌, List, [], ◌∷◌, ◌++◌}
+use Facade.{length, map, Option, Some, None, refl, sym, ap, ◌∙◌, arith, append-nil, codes, and_parts, ◌⊎◌, inl, inr, ◌&&◌, drop, Ok, Err}
+use Facade.{Result, bytes_eq-Decides, ValuesReason, Set, Image, first_line, begins_with, BadLine, ReadAll, machine_named, judge_devices, rest_of, after_machine}
+use Facade.{ended, judged, answer_of, ValuesRead, Bad, values_read, text_of, Entry, entries, devices_entries, entry_line, front_reason, AreShaped, AllUnsaid}
+use Facade.{AreFine, IsBadLine, ForMachine, reason_for}
 use Rattle.vms_values_laws.proofs.SecondPass.{follows_then, along_then, reason_same, parts_from, devices_judged}
 
 -- ---- What the first pass finds in a whole text.

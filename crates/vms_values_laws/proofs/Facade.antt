@@ -1,9 +1,9 @@
 -- The names of other crates, and of this crate's `specs`, that the proofs use.
 pub use Rattle.std.proofs.{Math.ListN.get_or-eq_default, Math.Seq.drop-append_seam, Math.Seq.drop-cons, lemmas.Slice.Eq.bytes_eq-Decides}
-pub use Rattle.std.proofs.Common.{Bool, Err, List, None, Ok, Option, Result, Some, [], ap, append-nil, append_assoc, arith, codes, drop, false, get_or}
-pub use Rattle.std.proofs.Common.{get_or-set_other, if◌then◌else◌, inl, inr, length, map, nat_le, not, pos, refl, slice_set, subst, suc, sum_by, sym}
-pub use Rattle.std.proofs.Common.{take, true, zero, ℕ, ℤ, ⊎_elim, ◌&&◌, ◌*◌, ◌++◌, ◌+◌, ◌-◌, ◌<◌, ◌==◌, ◌||◌, ◌∙◌}
-pub use Rattle.std.proofs.Common.{◌∷◌, ◌≡◌, ◌≤◌, ◌⊎◌}
+use Rattle.std.proofs.Common
+pub use Common.{Bool, Err, List, None, Ok, Option, Result, Some, [], ap, append-nil, append_assoc, arith, codes, drop, false, get_or, get_or-set_other}
+pub use Common.{if◌then◌else◌, inl, inr, length, map, nat_le, not, pos, refl, slice_set, subst, suc, sum_by, sym, take, true, zero, ℕ, ℤ, ⊎_elim}
+pub use Common.{◌&&◌, ◌*◌, ◌++◌, ◌+◌, ◌-◌, ◌<◌, ◌==◌, ◌||◌, ◌∙◌, ◌∷◌, ◌≡◌, ◌≤◌, ◌⊎◌}
 pub use Rattle.std.proofs.Math.Bool.{and-false, and-true, and_assoc, or_assoc}
 pub use Rattle.std.proofs.lemmas.Bool.{and_from, and_parts, cases_eq, cases_lt, eq-eqb, leb-true, ne_eqb, not-true, or_from, or_parts, or_right}
 pub use Rattle.std.proofs.lemmas.List.{append_cancel_left, ext_get_or, get_or-append-add, get_or-map, get_or-set_same, get_or_append_left, length-append}

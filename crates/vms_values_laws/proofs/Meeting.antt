@@ -1,16 +1,15 @@
 -- Lines without a line feed: a text leads along one list of lines, and the entries of a fit set have no other.
 use Rattle.vms_values_laws.proofs.{SecondPass.reason_same, SaidLaws.if_none, SaidLaws.some_if, SaidLaws.short}
-use Rattle.vms_values_laws.proofs.Facade.{name_byte_high, IsMachineOf, decimal_all, if_both, elements_each, all_both, all_from, ◌≡◌, ℕ, suc, ◌+◌}
-use Rattle.vms_values_laws.proofs.Facade.{Bool, true, false, ◌==◌, if◌then◌else◌, List, ◌∷◌, ◌++◌, length, drop, Option, Some, None, ℤ}
-use Rattle.vms_values_laws.proofs.Facade.{refl, sym, ap, ◌∙◌, arith, codes, [], map, append_assoc, ne_eqb, decimal, signed_decimal, bytes_eq}
-use Rattle.vms_values_laws.proofs.Facade.{bytes_eq-Decides, some_pair_parts, AllByRecursion, ◌&&◌, get_or, nat_le, take, slice_get, list_all, and_parts}
-use Rattle.vms_values_laws.proofs.Facade.{get_or_from_slice_get, take-append-drop, or_else_none, either_of, Cell, first_line, begins_with, number_spelled}
-use Rattle.vms_values_laws.proofs.Facade.{spelled_holds, begun, What, Number, Element, text_of, if_not, element_reason, spelled_reason, Entry, entry_line}
-use Rattle.vms_values_laws.proofs.Facade.{line_reason, front_reason, Demand, ForMachine, ForSection, ForSub, ForNumber, reason_for, demand_of, Taken, lines_of}
-use Rattle.vms_values_laws.proofs.Facade.{AreFineTaken, Follows, ValuesReason, AreFine, Count, Field, Desc, Sub, Device, Set, no_desc, counted, desc_cells}
-use Rattle.vms_values_laws.proofs.Facade.{struct_cells, Image, index_text, is_number, printed, OfNumber, number_entries, subs_entries, device_entries}
-use Rattle.vms_values_laws.proofs.Facade.{devices_entries, entries, is_name_byte, is_name, is_sub_name, is_one_of, machine_named, WellFormed, first_fault}
-use Rattle.vms_values_laws.proofs.Facade.{Clean, struct_clean, device_parts, sub_clean, get_none}
+use Rattle.vms_values_laws.proofs.Facade
+use Facade.{name_byte_high, IsMachineOf, decimal_all, if_both, elements_each, all_both, all_from, ◌≡◌, ℕ, suc, ◌+◌, Bool, true, false, ◌==◌}
+use Facade.{if◌then◌else◌, List, ◌∷◌, ◌++◌, length, drop, Option, Some, None, ℤ, refl, sym, ap, ◌∙◌, arith, codes, [], map}
+use Facade.{append_assoc, ne_eqb, decimal, signed_decimal, bytes_eq, bytes_eq-Decides, some_pair_parts, AllByRecursion, ◌&&◌, get_or, nat_le, take}
+use Facade.{slice_get, list_all, and_parts, get_or_from_slice_get, take-append-drop, or_else_none, either_of, Cell, first_line, begins_with, number_spelled}
+use Facade.{spelled_holds, begun, What, Number, Element, text_of, if_not, element_reason, spelled_reason, Entry, entry_line, line_reason, front_reason, Demand}
+use Facade.{ForMachine, ForSection, ForSub, ForNumber, reason_for, demand_of, Taken, lines_of, AreFineTaken, Follows, ValuesReason, AreFine, Count, Field, Desc}
+use Facade.{Sub, Device, Set, no_desc, counted, desc_cells, struct_cells, Image, index_text, is_number, printed, OfNumber, number_entries, subs_entries}
+use Facade.{device_entries, devices_entries, entries, is_name_byte, is_name, is_sub_name, is_one_of, machine_named, WellFormed, first_fault, Clean}
+use Facade.{struct_clean, device_parts, sub_clean, get_none}
 use Rattle.vms_spec.specs.declared.ValuesReason.TheVariants as reasons
 use Rattle.vms_spec.specs.declared.Part.TheVariants as parts
 

@@ -1,14 +1,13 @@
 -- Which numbers have fine lines, and which entries.
 use Rattle.vms_values_laws.proofs.{SaidLaws.if_none, SaidLaws.lines_both, SecondPass.AreShort, SecondPass.of_numbers}
-use Rattle.vms_values_laws.proofs.Facade.{has_default, if_both, all_both, all_parts, ◌≡◌, ℕ, Bool, true, false, List, ◌∷◌, ◌++◌, length}
-use Rattle.vms_values_laws.proofs.Facade.{get_or, drop, Some, None, ℤ, pos, refl, sym, ap, ◌∙◌, codes, or_from, and_from, and-true, and-false, not-true}
-use Rattle.vms_values_laws.proofs.Facade.{append_assoc, if◌then◌else◌, [], suc, ◌+◌, ◌-◌, ◌<◌, ◌≤◌, ◌&&◌, subst, arith, ⊎_elim}
-use Rattle.vms_values_laws.proofs.Facade.{signed_decimal, ne_eqb, and_parts, or_parts, drop-append_seam, get_or_append_left, get_or-append-add, length-append}
-use Rattle.vms_values_laws.proofs.Facade.{cases_lt, Entry, AreCounted, or_else_none, same_number, Cell, no_cell, Slot, FitsCell, has_cell, begins_with, is_same}
-use Rattle.vms_values_laws.proofs.Facade.{ranged, ranges, or_second, same_number_is, within_all, not_exceeds, IsShort, number_holds, Number, Element, What}
-use Rattle.vms_values_laws.proofs.Facade.{number_line, printed, OfNumber, number_reason, element_reason, line_reason, have_defaults, DefaultsFit, names_append}
-use Rattle.vms_values_laws.proofs.Facade.{cells_of, slots_of, numbers_in, CountsUp, AreFine, has_line, Set, AllByRecursion, part_reason, none_joined, is_number}
-use Rattle.vms_values_laws.proofs.Facade.{cells_with, slot_of}
+use Rattle.vms_values_laws.proofs.Facade
+use Facade.{has_default, if_both, all_both, all_parts, ◌≡◌, ℕ, Bool, true, false, List, ◌∷◌, ◌++◌, length, get_or, drop, Some, None, ℤ, pos}
+use Facade.{refl, sym, ap, ◌∙◌, codes, or_from, and_from, and-true, and-false, not-true, append_assoc, if◌then◌else◌, [], suc, ◌+◌, ◌-◌}
+use Facade.{◌<◌, ◌≤◌, ◌&&◌, subst, arith, ⊎_elim, signed_decimal, ne_eqb, and_parts, or_parts, drop-append_seam, get_or_append_left}
+use Facade.{get_or-append-add, length-append, cases_lt, Entry, AreCounted, or_else_none, same_number, Cell, no_cell, Slot, FitsCell, has_cell, begins_with}
+use Facade.{is_same, ranged, ranges, or_second, same_number_is, within_all, not_exceeds, IsShort, number_holds, Number, Element, What, number_line, printed}
+use Facade.{OfNumber, number_reason, element_reason, line_reason, have_defaults, DefaultsFit, names_append, cells_of, slots_of, numbers_in, CountsUp, AreFine}
+use Facade.{has_line, Set, AllByRecursion, part_reason, none_joined, is_number, cells_with, slot_of}
 use Rattle.vms_spec.specs.declared.ValuesReason.TheVariants as reasons
 use Rattle.vms_spec.specs.Layout as slots
 

@@ -1,12 +1,12 @@
 -- What is known of a state that agrees with what lines said, and what was said in two parts.
-use Rattle.vms_values_laws.proofs.Facade.{◌≡◌, ℕ, ◌≤◌, List, [], ◌∷◌, ◌++◌, get_or, map, slice_set, ℤ, pos, refl, sym, ◌∙◌}
-use Rattle.vms_values_laws.proofs.Facade.{arith, append_assoc, true, false, if◌then◌else◌, Some, None, suc, get_or-set_other, Bool, ◌==◌, ◌||◌}
-use Rattle.vms_values_laws.proofs.Facade.{length, map-append, all_both, all_more, all_parts, length-append, eq-eqb, or_parts, or_assoc, AllByRecursion}
-use Rattle.vms_values_laws.proofs.Facade.{ValuesReason, if_not, Standing, Element, text_of, ranges, text_append, Said, said_line, Agrees, Meets, AreBelow}
-use Rattle.vms_values_laws.proofs.Facade.{AreFrom, put_all, Entry, OfNumber, has_line, IsShort, ◌<◌, drop, Option, Ok, Err, codes, ◌+◌, get_or-set_same}
-use Rattle.vms_values_laws.proofs.Facade.{length-set, signed_decimal, Read, BadLine, CellLine, put_number, put_line, ◌>>=◌, Number, number_reason}
-use Rattle.vms_values_laws.proofs.Facade.{spelled_reason, line_reason, wanted_reason, Kind, same_number, exceeds, in_range, Cell, first_line, begins_with}
-use Rattle.vms_values_laws.proofs.Facade.{number_spelled, spelled_holds, line_splits, begun, ForNumber, Moved, Taken, lines_of, reason_for}
+use Rattle.vms_values_laws.proofs.Facade
+use Facade.{◌≡◌, ℕ, ◌≤◌, List, [], ◌∷◌, ◌++◌, get_or, map, slice_set, ℤ, pos, refl, sym, ◌∙◌, arith, append_assoc, true, false}
+use Facade.{if◌then◌else◌, Some, None, suc, get_or-set_other, Bool, ◌==◌, ◌||◌, length, map-append, all_both, all_more, all_parts, length-append}
+use Facade.{eq-eqb, or_parts, or_assoc, AllByRecursion, ValuesReason, if_not, Standing, Element, text_of, ranges, text_append, Said, said_line, Agrees, Meets}
+use Facade.{AreBelow, AreFrom, put_all, Entry, OfNumber, has_line, IsShort, ◌<◌, drop, Option, Ok, Err, codes, ◌+◌, get_or-set_same, length-set}
+use Facade.{signed_decimal, Read, BadLine, CellLine, put_number, put_line, ◌>>=◌, Number, number_reason, spelled_reason, line_reason, wanted_reason, Kind}
+use Facade.{same_number, exceeds, in_range, Cell, first_line, begins_with, number_spelled, spelled_holds, line_splits, begun, ForNumber, Moved, Taken, lines_of}
+use Facade.{reason_for}
 use Rattle.vms_spec.specs.declared.ValuesReason.TheVariants as reasons
 
 pub some_if : {A : Type 0} (b : Bool) (x y : A) → (if b then Some x else None) ≡ Some y → (b ≡ true) × (x ≡ y)

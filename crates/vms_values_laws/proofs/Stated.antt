@@ -2,15 +2,15 @@
 use Rattle.vms_values_laws.proofs.{Meeting.clean_devices, SecondPass.parts_from, AllCome.images_of, AllCome.good_devices}
 use Rattle.vms_values_laws.proofs.Accepted.{Match, matched, devices_same, answer_by, none_answers, none_says, none_good, says_ready, named_machine}
 use Rattle.vms_values_laws.proofs.BadLines.{FirstPass, NoneBad, first_pass, TakenOf}
-use Rattle.vms_values_laws.proofs.Facade.{◌≡◌, inl, inr, ℕ, List, ◌++◌, Option, Some, None, sym, ap, ◌∙◌, subst, arith, ◌∷◌, map, refl}
-use Rattle.vms_values_laws.proofs.Facade.{append-nil, [], ◌+◌, length, suc, ◌≤◌, sum_by, ℤ, length-append, length-map, sum_by-cons, ValuesReason}
-use Rattle.vms_values_laws.proofs.Facade.{Set, Device, Desc, Sub, ValuesRead, Bad, machine_named, BadLine, Values, values_read, Entry, entries, devices_entries}
-use Rattle.vms_values_laws.proofs.Facade.{entry_line, OfNumber, number_entries, subs_entries, device_entries, IsBadLine, IsMachineOf, Says, IsText, Refused}
-use Rattle.vms_values_laws.proofs.Facade.{Reads, Taken, Image, own_cells, first_line, IsConfiguration, IsTrailer, optional, configuration, trailer, written}
-use Rattle.vms_values_laws.proofs.Facade.{AreReady, WellFormed, text_of, printed, values_text, IsFit, well_good, entry_law, text_is, ReadLaw, OnlyLaw}
-use Rattle.vms_values_laws.proofs.Facade.{AcceptedLaw, PrintedLaw, device_lines, most_lines, LineLaw, machine_short, few_devices, Takes, one_stream_holds}
-use Rattle.vms_values_laws.proofs.Facade.{written_holds, FitsText, WrittenLaw, PackedLaw, ShownLaw, desc_cells, struct_cells, Element, cells_of, elements_in}
-use Rattle.vms_values_laws.proofs.Facade.{walks, AreShaped, AreFine, is_number, cells_with, Number, What, and-true, and-false, if◌then◌else◌, ◌&&◌}
+use Rattle.vms_values_laws.proofs.Facade
+use Facade.{◌≡◌, inl, inr, ℕ, List, ◌++◌, Option, Some, None, sym, ap, ◌∙◌, subst, arith, ◌∷◌, map, refl, append-nil, [], ◌+◌}
+use Facade.{length, suc, ◌≤◌, sum_by, ℤ, length-append, length-map, sum_by-cons, ValuesReason, Set, Device, Desc, Sub, ValuesRead, Bad, machine_named}
+use Facade.{BadLine, Values, values_read, Entry, entries, devices_entries, entry_line, OfNumber, number_entries, subs_entries, device_entries, IsBadLine}
+use Facade.{IsMachineOf, Says, IsText, Refused, Reads, Taken, Image, own_cells, first_line, IsConfiguration, IsTrailer, optional, configuration, trailer}
+use Facade.{written, AreReady, WellFormed, text_of, printed, values_text, IsFit, well_good, entry_law, text_is, ReadLaw, OnlyLaw, AcceptedLaw, PrintedLaw}
+use Facade.{device_lines, most_lines, LineLaw, machine_short, few_devices, Takes, one_stream_holds, written_holds, FitsText, WrittenLaw, PackedLaw, ShownLaw}
+use Facade.{desc_cells, struct_cells, Element, cells_of, elements_in, walks, AreShaped, AreFine, is_number, cells_with, Number, What, and-true, and-false}
+use Facade.{if◌then◌else◌, ◌&&◌}
 use Rattle.vms_values_laws.proofs.Meeting.{clean_named, AreClean, Ends, Same, meet, NoFeed, line_first, AreCleanDevices, clean_entries}
 use Rattle.vms_values_laws.proofs.ReadyParts.{sub_cells, first_part, bad_part_found, good_none, text_says}
 

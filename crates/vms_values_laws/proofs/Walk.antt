@@ -1,14 +1,13 @@
 -- Reading the fields of a description, beside its elements.
-use Rattle.vms_values_laws.proofs.Facade.{◌≡◌, ℕ, List, ◌∷◌, ◌++◌, map, refl, sym, ap, ◌∙◌, Bool, true, false, ◌&&◌}
-use Rattle.vms_values_laws.proofs.Facade.{if◌then◌else◌, append_assoc, codes, [], zero, suc, ◌+◌, ◌*◌, ◌≤◌, length, get_or, drop, ℤ}
-use Rattle.vms_values_laws.proofs.Facade.{arith, append-nil, map-append, length-append, and_assoc, and-true, decimal, Element, dotted, behind, Shape, no_shape}
-use Rattle.vms_values_laws.proofs.Facade.{shape, shapes, cells_in, single, Rule, item_elements, Stand, stand_of, array_elements, field_elements, elements_from}
-use Rattle.vms_values_laws.proofs.Facade.{desc_elements, index_text, is_number, printed, printed_append, Item, Num, Struct, Count, One, Fixed, Counted, Field}
-use Rattle.vms_values_laws.proofs.Facade.{Desc, Set, Cell, no_desc, no_field, first, counted, capacity_of, elements_of, item_size, field_cells, cells_from}
-use Rattle.vms_values_laws.proofs.Facade.{desc_cells, struct_cells, numbers_of, place_of, all_hold, Standing, Read, Reader, no_reader, reader, readers}
-use Rattle.vms_values_laws.proofs.Facade.{read_item, read_elements, read_array, read_field, read_fields, read_desc, elements_fit, field_size, IsNumber, IsOne}
-use Rattle.vms_values_laws.proofs.Facade.{IsEarlier, IsSoundField, AreSoundFields, IsSound, AreSound, there_same, elements_same, place_next, drop_next}
-use Rattle.vms_values_laws.proofs.Facade.{zero_plus, place_first, first_long, readers_cells, two_more, shapes_cells, Said, Agrees}
+use Rattle.vms_values_laws.proofs.Facade
+use Facade.{◌≡◌, ℕ, List, ◌∷◌, ◌++◌, map, refl, sym, ap, ◌∙◌, Bool, true, false, ◌&&◌, if◌then◌else◌, append_assoc, codes, []}
+use Facade.{zero, suc, ◌+◌, ◌*◌, ◌≤◌, length, get_or, drop, ℤ, arith, append-nil, map-append, length-append, and_assoc, and-true, decimal}
+use Facade.{Element, dotted, behind, Shape, no_shape, shape, shapes, cells_in, single, Rule, item_elements, Stand, stand_of, array_elements, field_elements}
+use Facade.{elements_from, desc_elements, index_text, is_number, printed, printed_append, Item, Num, Struct, Count, One, Fixed, Counted, Field, Desc, Set, Cell}
+use Facade.{no_desc, no_field, first, counted, capacity_of, elements_of, item_size, field_cells, cells_from, desc_cells, struct_cells, numbers_of, place_of}
+use Facade.{all_hold, Standing, Read, Reader, no_reader, reader, readers, read_item, read_elements, read_array, read_field, read_fields, read_desc}
+use Facade.{elements_fit, field_size, IsNumber, IsOne, IsEarlier, IsSoundField, AreSoundFields, IsSound, AreSound, there_same, elements_same, place_next}
+use Facade.{drop_next, zero_plus, place_first, first_long, readers_cells, two_more, shapes_cells, Said, Agrees}
 use Rattle.vms_values_laws.proofs.SaidLaws.{Knows, AllKnown, At, Comes, at_left, stay, then_comes, one_line, by_read}
 use Rattle.vms_spec.specs.ValuesReading.{cells_of}
 

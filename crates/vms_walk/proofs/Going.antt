@@ -1,10 +1,10 @@
 -- A walk over parts: what is done at each of them is done at the whole.
 use Rattle.vms_walk.proofs.{Walking.fields_local, Walking.present_local, Walking.part_sound, Walking.set_settled, Spots.field_needs}
-use Rattle.vms_walk.proofs.Facade.{◌≡◌, ℕ, ◌+◌, ◌*◌, ◌<◌, ◌≤◌, List, [], ◌∷◌, ◌++◌, length, take, ℤ, refl, sym, ap}
-use Rattle.vms_walk.proofs.Facade.{◌∙◌, arith, append_assoc, pos, Option, Bool, true, take_all, Item, Field, Set, Slot, Rule, item_slots, slots_from}
-use Rattle.vms_walk.proofs.Facade.{field_slots, all_hold, capacity_of, counted, IsGood, SameBelow, item_above, field_above, meanings_above, least_of, field_at}
-use Rattle.vms_walk.proofs.Facade.{is_well_formed, HasPart, desc_at, WalkStep, PartAt, Keeps, steps_of, table, spot_numbers, spot_slots, slots_at, size_in}
-use Rattle.vms_walk.proofs.Facade.{capacities_of, elements_slots, present_of, cell_of, HasSpot, MayCome, Result, Ok, Does, IsWalk}
+use Rattle.vms_walk.proofs.Facade
+use Facade.{◌≡◌, ℕ, ◌+◌, ◌*◌, ◌<◌, ◌≤◌, List, [], ◌∷◌, ◌++◌, length, take, ℤ, refl, sym, ap, ◌∙◌, arith}
+use Facade.{append_assoc, pos, Option, Bool, true, take_all, Item, Field, Set, Slot, Rule, item_slots, slots_from, field_slots, all_hold, capacity_of, counted}
+use Facade.{IsGood, SameBelow, item_above, field_above, meanings_above, least_of, field_at, is_well_formed, HasPart, desc_at, WalkStep, PartAt, Keeps, steps_of}
+use Facade.{table, spot_numbers, spot_slots, slots_at, size_in, capacities_of, elements_slots, present_of, cell_of, HasSpot, MayCome, Result, Ok, Does, IsWalk}
 use Rattle.vms_walk.proofs.Walking.{Among, steps_append, steps_parts, times_more, times_split, fields_split, fields_more, keeps_first, items_local}
 use Rattle.vms_walk.specs.declared.step.WalkStep.TheVariants as steps
 use Rattle.std.proofs.lemmas.List.{ext_get_or}

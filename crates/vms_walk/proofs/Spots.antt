@@ -1,14 +1,14 @@
 -- The spots of a walk, in ascending order; and runs of numbers of one kind.
-use Rattle.vms_walk.proofs.Facade.{◌≡◌, ℕ, ◌+◌, ◌*◌, ◌<◌, ◌≤◌, List, ◌++◌, length, get_or, drop, ℤ, refl, sym, ap, ◌∙◌}
-use Rattle.vms_walk.proofs.Facade.{arith, Bool, true, Option, Item, Struct, MOST_ITEMS, Set, Field, is_there, uses_below, least_of, no_desc, no_parent}
-use Rattle.vms_walk.proofs.Facade.{item_slots, item_size, slots_from, desc_slots, desc_cells, struct_cells, elements_of, capacity_of, counted, times}
-use Rattle.vms_walk.proofs.Facade.{FieldsBelow, all_below, struct_slots, struct_cells_at, room_for_less, one_fits, cells_first, in_u32, field_at, own_numbers}
-use Rattle.vms_walk.proofs.Facade.{is_well_formed, desc_at, reach, field_clean, struct_clean, PartAt, table, cells_in, HasSpot, spot_numbers, spot_slots}
-use Rattle.vms_walk.proofs.Facade.{slots_at, present_of, size_in, elements_slots, steps_of, item_rank, part_rank, reach_whole, uses_more, rank_below}
-use Rattle.vms_walk.proofs.Facade.{place_after, place_within, field_start, cell_of, all_hold, holds_at, zero, suc, ◌-◌, [], ◌∷◌, None, append_assoc}
-use Rattle.vms_walk.proofs.Facade.{append-nil, Kind, Num, WalkStep, Number, run_of, capacities_of, length-append, if_there, false, get_or-map, Desc, has_cell}
-use Rattle.vms_walk.proofs.Facade.{Slot, Meaning, no_meaning, field_slots, cells_from, field_cells, first, meanings, field_size, elements_fit, one_more}
-use Rattle.vms_walk.proofs.Facade.{meaning, Rule, min, nat_lt, ◌||◌, or-false, or_assoc, exceeds, is_above, same_tests, lesser, least_from, Ok, Does}
+use Rattle.vms_walk.proofs.Facade
+use Facade.{◌≡◌, ℕ, ◌+◌, ◌*◌, ◌<◌, ◌≤◌, List, ◌++◌, length, get_or, drop, ℤ, refl, sym, ap, ◌∙◌, arith, Bool, true}
+use Facade.{Option, Item, Struct, MOST_ITEMS, Set, Field, is_there, uses_below, least_of, no_desc, no_parent, item_slots, item_size, slots_from, desc_slots}
+use Facade.{desc_cells, struct_cells, elements_of, capacity_of, counted, times, FieldsBelow, all_below, struct_slots, struct_cells_at, room_for_less, one_fits}
+use Facade.{cells_first, in_u32, field_at, own_numbers, is_well_formed, desc_at, reach, field_clean, struct_clean, PartAt, table, cells_in, HasSpot}
+use Facade.{spot_numbers, spot_slots, slots_at, present_of, size_in, elements_slots, steps_of, item_rank, part_rank, reach_whole, uses_more, rank_below}
+use Facade.{place_after, place_within, field_start, cell_of, all_hold, holds_at, zero, suc, ◌-◌, [], ◌∷◌, None, append_assoc, append-nil, Kind, Num}
+use Facade.{WalkStep, Number, run_of, capacities_of, length-append, if_there, false, get_or-map, Desc, has_cell, Slot, Meaning, no_meaning, field_slots}
+use Facade.{cells_from, field_cells, first, meanings, field_size, elements_fit, one_more, meaning, Rule, min, nat_lt, ◌||◌, or-false, or_assoc, exceeds}
+use Facade.{is_above, same_tests, lesser, least_from, Ok, Does}
 use Rattle.vms_walk.proofs.Walking.{slots_next, fields_at, present_slots, present_fits, steps_bare, times_split, Among}
 use Rattle.vms_spec.specs.declared.Part.TheVariants as parts
 use Rattle.vms_spec.specs.Layout as slots

@@ -1,13 +1,13 @@
 -- The slots of a walk: taken apart at one of them, what steps keep of the numbers, and on which
 -- cells slots depend.
-use Rattle.vms_walk.proofs.Facade.{◌≡◌, ℕ, zero, suc, ◌+◌, ◌*◌, ◌<◌, List, [], ◌∷◌, ◌++◌, length, get_or, take, ℤ, sym, ap}
-use Rattle.vms_walk.proofs.Facade.{◌∙◌, arith, append_assoc, append-nil, ◌≤◌, drop, refl, false, Option, drop_more, Field, Slot, Meaning, times}
-use Rattle.vms_walk.proofs.Facade.{field_slots, slots_from, field_cells, place_of, no_field, item_slots, item_size, capacity_of, counted, cells_in, steps_of}
-use Rattle.vms_walk.proofs.Facade.{present_of, capacities_of, Item, Num, field_size, elements_fit, room_for_less, least_of, WalkStep, IsErrAnd, Result, Ok, Err}
-use Rattle.vms_walk.proofs.Facade.{Does, IsWalk, length-set, slice_set, pos, ◌==◌, ◌||◌, get_or-set_other, eq-eqb, or_parts, Kind, Number, has_step}
-use Rattle.vms_walk.proofs.Facade.{Keeps, table, slice_get-get_or, Part, Desc, Set, has_cell, numbers_of, IsSound, IsSoundField, AreSoundFields, IsGood}
-use Rattle.vms_walk.proofs.Facade.{SameBelow, same_less, place_next, own_same, there_same, elements_same, IsAbove, SameIn, MeanSettled, item_settled}
-use Rattle.vms_walk.proofs.Facade.{field_settled, meanings_settled, device_at, HasPart, desc_at, sub_at, if_both}
+use Rattle.vms_walk.proofs.Facade
+use Facade.{◌≡◌, ℕ, zero, suc, ◌+◌, ◌*◌, ◌<◌, List, [], ◌∷◌, ◌++◌, length, get_or, take, ℤ, sym, ap, ◌∙◌, arith}
+use Facade.{append_assoc, append-nil, ◌≤◌, drop, refl, false, Option, drop_more, Field, Slot, Meaning, times, field_slots, slots_from, field_cells}
+use Facade.{place_of, no_field, item_slots, item_size, capacity_of, counted, cells_in, steps_of, present_of, capacities_of, Item, Num, field_size, elements_fit}
+use Facade.{room_for_less, least_of, WalkStep, IsErrAnd, Result, Ok, Err, Does, IsWalk, length-set, slice_set, pos, ◌==◌, ◌||◌, get_or-set_other}
+use Facade.{eq-eqb, or_parts, Kind, Number, has_step, Keeps, table, slice_get-get_or, Part, Desc, Set, has_cell, numbers_of, IsSound, IsSoundField}
+use Facade.{AreSoundFields, IsGood, SameBelow, same_less, place_next, own_same, there_same, elements_same, IsAbove, SameIn, MeanSettled, item_settled}
+use Facade.{field_settled, meanings_settled, device_at, HasPart, desc_at, sub_at, if_both}
 use Rattle.vms_walk.specs.Inside.{is_for}
 use Rattle.std.proofs.lemmas.List.Folds.{list_any-append}
 use Rattle.vms_spec.specs.Layout as slots

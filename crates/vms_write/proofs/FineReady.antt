@@ -3,19 +3,18 @@ use Rattle.std.proofs.{Math.Bool.or-false, lemmas.Bool.cases_Bool, Math.ListN.ge
 use Rattle.std.proofs.lemmas.Bool.Decides.{Decides-and, Decides-eqb, Decides-like}
 use Rattle.std.specs.Bool.{Decides}
 use Rattle.vms_bodies.proofs.{PartLaws.sub_place_up, SettledLaws.its_above}
-use Rattle.vms_write.proofs.Facade.{◌≡◌, ℕ, zero, suc, ◌+◌, ◌<◌, ◌≤◌, List, [], ◌∷◌, ◌++◌, length, length-append, get_or, ℤ}
-use Rattle.vms_write.proofs.Facade.{pos, refl, sym, ap, ◌∙◌, subst, arith, Bool, true, false, ◌&&◌, ◌-◌, Option, Some, None, ne_eqb, eq-eqb}
-use Rattle.vms_write.proofs.Facade.{and-true, and_assoc, same_number, in_range, counts_well, int_le, Desc, Set, Cell, no_cell, Slot, Number, Rule, desc_slots}
-use Rattle.vms_write.proofs.Facade.{desc_cells, has_cell, IsAbove, cells_first, names_append, and_swap, both_below, CellForm, no_form, are_fit, settle, is_fine}
-use Rattle.vms_write.proofs.Facade.{is_within, steps_of, table, spot_slots, Kind, own_cell_count, lesser, least_from, least_of, desc_at, PartAt, Ascends}
-use Rattle.vms_write.proofs.Facade.{below_from, from_end, desc_ascends, meanings_ascend, is_number_fine, behind, are_steps_fine, subs_fine, ⊎_elim}
-use Rattle.vms_write.proofs.Facade.{OnTrue_from, OnFalse_from, get_or_from_slice_get, slice_get_within, map, ◌==◌, OnTrue, OnFalse, flat_map, slice_get}
-use Rattle.vms_write.proofs.Facade.{leb-true, slice_get-get_or, Device, Sub, AtLeast, no_desc, Constant, meanings, struct_cells, device_cells, Image, own_cells}
-use Rattle.vms_write.proofs.Facade.{own_slots, sub_slots, came_slots, image_slots, AreVersionsOf, RulesHold, IsReady, come_as_needed, IsGood, above_none}
-use Rattle.vms_write.proofs.Facade.{above_append, above_less, desc_above, meanings_above, constants_append, own_constants, part_constants, image_are}
-use Rattle.vms_write.proofs.Facade.{named_fits, parts_together, same_number_is, ranged, counted_well, is_same, needed_are, are_needed, AreConstants, fit_slots}
-use Rattle.vms_write.proofs.Facade.{FitSlots, ranges, within, or_second, form_of, device_at, is_well_formed, sub_at, device_clean, sub_clean, sub_size}
-use Rattle.vms_write.proofs.Facade.{sub_place}
+use Rattle.vms_write.proofs.Facade
+use Facade.{◌≡◌, ℕ, zero, suc, ◌+◌, ◌<◌, ◌≤◌, List, [], ◌∷◌, ◌++◌, length, length-append, get_or, ℤ, pos, refl, sym, ap}
+use Facade.{◌∙◌, subst, arith, Bool, true, false, ◌&&◌, ◌-◌, Option, Some, None, ne_eqb, eq-eqb, and-true, and_assoc, same_number, in_range}
+use Facade.{counts_well, int_le, Desc, Set, Cell, no_cell, Slot, Number, Rule, desc_slots, desc_cells, has_cell, IsAbove, cells_first, names_append, and_swap}
+use Facade.{both_below, CellForm, no_form, are_fit, settle, is_fine, is_within, steps_of, table, spot_slots, Kind, own_cell_count, lesser, least_from, least_of}
+use Facade.{desc_at, PartAt, Ascends, below_from, from_end, desc_ascends, meanings_ascend, is_number_fine, behind, are_steps_fine, subs_fine, ⊎_elim}
+use Facade.{OnTrue_from, OnFalse_from, get_or_from_slice_get, slice_get_within, map, ◌==◌, OnTrue, OnFalse, flat_map, slice_get, leb-true, slice_get-get_or}
+use Facade.{Device, Sub, AtLeast, no_desc, Constant, meanings, struct_cells, device_cells, Image, own_cells, own_slots, sub_slots, came_slots, image_slots}
+use Facade.{AreVersionsOf, RulesHold, IsReady, come_as_needed, IsGood, above_none, above_append, above_less, desc_above, meanings_above, constants_append}
+use Facade.{own_constants, part_constants, image_are, named_fits, parts_together, same_number_is, ranged, counted_well, is_same, needed_are, are_needed}
+use Facade.{AreConstants, fit_slots, FitSlots, ranges, within, or_second, form_of, device_at, is_well_formed, sub_at, device_clean, sub_clean, sub_size}
+use Facade.{sub_place}
 use Rattle.vms_spec.specs.Streams.{ComeAsNeeded}
 
 -- ---- parts

@@ -1,15 +1,14 @@
 -- What is written of ready images: the forms of cells, and the bytes of subsections and sections,
 -- one after the other.
-use Rattle.vms_write.proofs.Facade.{wrote_fault, err_from_is_err_and, AllPass-from_list_all, ◌≡◌, ℕ, zero, suc, ◌+◌, ◌<◌, ◌≤◌, List, []}
-use Rattle.vms_write.proofs.Facade.{◌∷◌, length, length-drop, get_or, drop, sym, arith, true, map, ℤ, pos, refl, ap, ◌∙◌, and_parts, length-map}
-use Rattle.vms_write.proofs.Facade.{Set, is_name, first_fault, is_well_formed, device_at, sub_at, none_is, device_clean, sub_clean, Kind, Cell, device_cells}
-use Rattle.vms_write.proofs.Facade.{form_of, Held, defaults_at, no_form, formed_of, formed, forms_of, cases_lt, ⊎_elim, Some, get_or-map, slice_get-get_or}
-use Rattle.vms_write.proofs.Facade.{slice_get_within, get_or_from_slice_get, slice_get, MOST_ITEMS, Device, Slot, Number, Constant, no_desc, Image, own_cells}
-use Rattle.vms_write.proofs.Facade.{own_slots, sub_place, sub_slots, IsReady, AreReady, AreCells, FitsHeads, own_constants, part_constants, sub_are, own_are}
-use Rattle.vms_write.proofs.Facade.{versions_long, kinds_at, few_cells, good_of, CanWrite, Typed, IsImageOf, AreImagesOf, Rule, ◌++◌, take, Option, None}
-use Rattle.vms_write.proofs.Facade.{◌&&◌, drop_more, desc_cells, struct_cells, zeroed, steps_of, WalkStep, CanSteps, CanStep, bytes_of, codes_of, run_of}
-use Rattle.vms_write.proofs.Facade.{Sub, AtLeast, written_subs, written_section, written_sections, first_cell, sub_next, CellForm, sub_fine, subs_fine}
-use Rattle.vms_write.proofs.Facade.{written_sub, AreConstants}
+use Rattle.vms_write.proofs.Facade
+use Facade.{wrote_fault, err_from_is_err_and, AllPass-from_list_all, ◌≡◌, ℕ, zero, suc, ◌+◌, ◌<◌, ◌≤◌, List, [], ◌∷◌, length}
+use Facade.{length-drop, get_or, drop, sym, arith, true, map, ℤ, pos, refl, ap, ◌∙◌, and_parts, length-map, Set, is_name, first_fault, is_well_formed}
+use Facade.{device_at, sub_at, none_is, device_clean, sub_clean, Kind, Cell, device_cells, form_of, Held, defaults_at, no_form, formed_of, formed, forms_of}
+use Facade.{cases_lt, ⊎_elim, Some, get_or-map, slice_get-get_or, slice_get_within, get_or_from_slice_get, slice_get, MOST_ITEMS, Device, Slot, Number}
+use Facade.{Constant, no_desc, Image, own_cells, own_slots, sub_place, sub_slots, IsReady, AreReady, AreCells, FitsHeads, own_constants, part_constants}
+use Facade.{sub_are, own_are, versions_long, kinds_at, few_cells, good_of, CanWrite, Typed, IsImageOf, AreImagesOf, Rule, ◌++◌, take, Option, None}
+use Facade.{◌&&◌, drop_more, desc_cells, struct_cells, zeroed, steps_of, WalkStep, CanSteps, CanStep, bytes_of, codes_of, run_of, Sub, AtLeast}
+use Facade.{written_subs, written_section, written_sections, first_cell, sub_next, CellForm, sub_fine, subs_fine, written_sub, AreConstants}
 use Rattle.std.proofs.Common.{Result, IsErrAnd}
 use Rattle.vms_io.specs.{Told.Outlet, Writing.Stops, Writing.Wrote}
 use Rattle.vms_spec.proofs.WellFormedLaws.{name_short, set_clean}

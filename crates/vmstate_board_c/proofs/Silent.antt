@@ -1,8 +1,8 @@
 -- By an access no byte leaves a board.
-use Rattle.vmstate_board_c.proofs.Facade.{ℕ, ◌-◌, ◌≤◌, ◌==◌, Bool, true, false, Option, ap, ◌∙◌, append-nil, arith, inl, inr, nat_tests, nat_lt, is_some}
-use Rattle.vmstate_board_c.proofs.Facade.{IfSome, MatchOption, either, State, acted, after_act, step, Answer, Event, Read, Write, Byte, Wait, Wire, Ack}
-use Rattle.vmstate_board_c.proofs.Facade.{ClockState, saying, follows_line, IsAccess, Reaches, acts, acts_after, event_at, said, time_to, now_of, step_of}
-use Rattle.vmstate_board_c.proofs.Facade.{CAnswer, AnyBoard, Isa, Clock}
+use Rattle.vmstate_board_c.proofs.Facade
+use Facade.{ℕ, ◌-◌, ◌≤◌, ◌==◌, Bool, true, false, Option, ap, ◌∙◌, append-nil, arith, inl, inr, nat_tests, nat_lt, is_some, IfSome}
+use Facade.{MatchOption, either, State, acted, after_act, step, Answer, Event, Read, Write, Byte, Wait, Wire, Ack, ClockState, saying, follows_line, IsAccess}
+use Facade.{Reaches, acts, acts_after, event_at, said, time_to, now_of, step_of, CAnswer, AnyBoard, Isa, Clock}
 use Rattle.std.proofs.Common.{◌≡◌, List, [], ◌++◌, None, Some, refl, sym}
 use Rattle.dev_clock.specs.Step.{acted as clock_acted, saying as clock_saying, step as clock_step}
 

@@ -1,5 +1,4 @@
-use Rattle.dev_due.proofs.Facade.{rules}
-use Rattle.dev_due.proofs.Facade.{arith}
+use Rattle.dev_due.proofs.Facade.{rules, arith}
 use Rattle.dev_due.proofs.DueLaws.{finds_on, finds_same, next_sends}
 use Rattle.dev_due.proofs.search.tried_sends.Goals as goal
 

@@ -1,5 +1,5 @@
-use Rattle.vms_convert.proofs.Facade.{w128, rules, ◌∙◌, ap, length, get_or, pos, arith, to_z-of_z, length-map, no_cell, device_cells, Held, described}
-use Rattle.vms_convert.proofs.Facade.{device_at}
+use Rattle.vms_convert.proofs.Facade
+use Facade.{w128, rules, ◌∙◌, ap, length, get_or, pos, arith, to_z-of_z, length-map, no_cell, device_cells, Held, described, device_at}
 use Rattle.std.proofs.lemmas.List.{get_or-map}
 use Rattle.vms_convert.proofs.back.default_of.Goals as goal
 

@@ -1,5 +1,5 @@
-use Rattle.vms_counter.proofs.Facade.{List, ℕ, rules, Err, ap, subst, Fault, well_of, Supply, bytes_left, IsBytes, never_both_holds, content, loads, kept}
-use Rattle.vms_counter.proofs.Facade.{taken_by}
+use Rattle.vms_counter.proofs.Facade
+use Facade.{List, ℕ, rules, Err, ap, subst, Fault, well_of, Supply, bytes_left, IsBytes, never_both_holds, content, loads, kept, taken_by}
 use Rattle.vms_counter.proofs.trying.refusal_in.Goals as goal
 
 pub returns-in-Err-Refused : goal.returns-in-Err-Refused

@@ -1,9 +1,9 @@
 use Rattle.vms_load.proofs.{ReadLemmas.goes_refused, ReadLemmas.same_course}
 use Rattle.vms_load.proofs.AfterReads.{after_fault, after_settled, after_next, sub_settled, sub_refused, sub_new, subs_taken}
-use Rattle.vms_load.proofs.Facade.{rules, refl, ◌≡◌, ℕ, ◌+◌, List, Option, Some, None, Result, Ok, Err, length, slice_set, sym, subst, ap}
-use Rattle.vms_load.proofs.Facade.{◌∙◌, arith, Reason, Device, AtLeast, no_desc, described, at_set, device_at, held_long, SubHead, Foot, opened_at}
-use Rattle.vms_load.proofs.Facade.{sub_opened, intake, reads_as, GoesOn, subs_due, after_fields, after_part, state_in, spot_in, LoadFault, Open, Typed}
-use Rattle.vms_load.proofs.Facade.{LONGEST_SUB_HEAD, few_subs}
+use Rattle.vms_load.proofs.Facade
+use Facade.{rules, refl, ◌≡◌, ℕ, ◌+◌, List, Option, Some, None, Result, Ok, Err, length, slice_set, sym, subst, ap, ◌∙◌, arith, Reason}
+use Facade.{Device, AtLeast, no_desc, described, at_set, device_at, held_long, SubHead, Foot, opened_at, sub_opened, intake, reads_as, GoesOn, subs_due}
+use Facade.{after_fields, after_part, state_in, spot_in, LoadFault, Open, Typed, LONGEST_SUB_HEAD, few_subs}
 use Rattle.vms_load.specs.{Heads.in_section, declared.fault.LoadFault.TheVariants.Refused}
 use Rattle.vms_image.specs.Typed.{state_of as untyped}
 use Rattle.vms_frames.specs.declared.units.Tail.TheVariants as tails

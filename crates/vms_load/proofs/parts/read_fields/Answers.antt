@@ -1,7 +1,6 @@
-use Rattle.vms_load.proofs.Facade.{rules}
+use Rattle.vms_load.proofs.Facade.{rules, ◌≡◌, Some, Ok, Err, ap, ◌∙◌, arith, described, desc_at, first_cell, good_of, IsGood, device_at, PartAt}
+use Rattle.vms_load.proofs.Facade.{HasSpot, part_sound, held_long, bytes_of, part_base, part_desc, Told, told, intake, reads_as}
 use Rattle.vms_load.proofs.{ReadLemmas.same_course, parts.read_fields.Given.Over, PartReads.open_in, PartReads.fields_answer, PartReads.part_read}
-use Rattle.vms_load.proofs.Facade.{◌≡◌, Some, Ok, Err, ap, ◌∙◌, arith, described, desc_at, first_cell, good_of, IsGood, device_at, PartAt, HasSpot}
-use Rattle.vms_load.proofs.Facade.{part_sound, held_long, bytes_of, part_base, part_desc, Told, told, intake, reads_as}
 use Rattle.vms_load.proofs.StreamLengths.{part_bound, part_kinds, desc_is, base_is, part_spot}
 use Rattle.vms_load.proofs.parts.read_fields.Goals.{Start, After-first_cell-base, After-read_part}
 use Rattle.vms_image.specs.Typed.{state_of as untyped}

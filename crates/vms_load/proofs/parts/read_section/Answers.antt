@@ -1,8 +1,8 @@
 use Rattle.vms_load.proofs.{parts.read_section.Given.Over, parts.read_section.Goals.After-read_fields, parts.read_section.Goals.After-read_after_fields}
-use Rattle.vms_load.proofs.Facade.{rules, ◌≡◌, ℕ, List, ◌+◌, ◌<◌, ◌≤◌, Option, Some, None, length, ap, ◌∙◌, arith, Result, Set}
-use Rattle.vms_load.proofs.Facade.{State, Device, GoesOn, Intake, LoadFault, Section, Typed, intake, Stand, described, device_at, Open, Onward, reach, IsMoved}
-use Rattle.vms_load.proofs.Facade.{part_due, subs_due, bytes_of_part, in_fields, after_fields, after_part, section_due, FOOT_LENGTH, LONGEST_SUB_HEAD}
-use Rattle.vms_load.proofs.Facade.{LONGEST_HEAD}
+use Rattle.vms_load.proofs.Facade
+use Facade.{rules, ◌≡◌, ℕ, List, ◌+◌, ◌<◌, ◌≤◌, Option, Some, None, length, ap, ◌∙◌, arith, Result, Set, State, Device, GoesOn}
+use Facade.{Intake, LoadFault, Section, Typed, intake, Stand, described, device_at, Open, Onward, reach, IsMoved, part_due, subs_due, bytes_of_part, in_fields}
+use Facade.{after_fields, after_part, section_due, FOOT_LENGTH, LONGEST_SUB_HEAD, LONGEST_HEAD}
 use Rattle.vms_load.proofs.ReadLemmas.{err_is, goes_here, goes_on, goes_still}
 use Rattle.vms_desc.specs.declared.set.DescSet.{DescSet}
 use Rattle.vms_image.specs.Typed.{state_of as untyped}

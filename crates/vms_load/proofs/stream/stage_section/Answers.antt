@@ -1,9 +1,9 @@
 use Rattle.vms_load.proofs.{ReadLemmas.err_is, ReadLemmas.behind_here, ReadLemmas.goes_behind, stream.stage_section.Given.Over}
 use Rattle.vms_load.proofs.AfterReads.{head_unit, head_long, begun, section_refused, section_reads, ended_in, ends_later}
-use Rattle.vms_load.proofs.Facade.{rules, ◌≡◌, ◌+◌, ℕ, List, Bool, map, [], Some, None, false, refl, slice_set, sym, ap, ◌∙◌, subst, arith}
-use Rattle.vms_load.proofs.Facade.{length-map, no_desc, judge, ask, Free, by_state, reading_on, described, device_at, due_in, opened_at, section_due}
-use Rattle.vms_load.proofs.Facade.{section_opened, subs_due, AreShaped, GoesBehind, IsOf, LONGEST_HEAD, Staged, after_part, begun_at, in_fields, name_of}
-use Rattle.vms_load.proofs.Facade.{state_of, sections_due, tail_of, intake, Onward}
+use Rattle.vms_load.proofs.Facade
+use Facade.{rules, ◌≡◌, ◌+◌, ℕ, List, Bool, map, [], Some, None, false, refl, slice_set, sym, ap, ◌∙◌, subst, arith, length-map, no_desc}
+use Facade.{judge, ask, Free, by_state, reading_on, described, device_at, due_in, opened_at, section_due, section_opened, subs_due, AreShaped, GoesBehind, IsOf}
+use Facade.{LONGEST_HEAD, Staged, after_part, begun_at, in_fields, name_of, state_of, sections_due, tail_of, intake, Onward}
 use Rattle.vms_load.proofs.HeadLemmas.{image_begun, begun_here, shaped_put, still_fresh, default_shaped, sections_taken}
 use Rattle.vms_load.proofs.stream.stage_section.Goals.{After-index_mut-image, After-read_section}
 use Rattle.vms_image.specs.Typed.{state_of as untyped}

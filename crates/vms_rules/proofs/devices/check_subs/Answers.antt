@@ -1,7 +1,7 @@
 use Rattle.std.proofs.Common.{rules}
 use Rattle.vms_rules.proofs.{NameLaws.names_so_far, devices.check_subs.Goals.After-sub-item, WalkLaws.stops_by, WalkLaws.goes_on, WalkLaws.stops_here}
-use Rattle.vms_rules.proofs.Facade.{device_of, get_map_at, has_name, sub_at, Within, ◌≡◌, ◌<◌, ℕ, None, length, get_or, ap, sub_fault, Sub, sub_of}
-use Rattle.vms_rules.proofs.Facade.{map, drop_is}
+use Rattle.vms_rules.proofs.Facade
+use Facade.{device_of, get_map_at, has_name, sub_at, Within, ◌≡◌, ◌<◌, ℕ, None, length, get_or, ap, sub_fault, Sub, sub_of, map, drop_is}
 use Rattle.vms_rules.proofs.devices.check_subs.Goals as goal
 
 -- the subsection of this number

@@ -1,6 +1,5 @@
 use Rattle.vms_script.proofs.Facade.{rules, sym, ◌∙◌, map, first_line, line_read, script_read, first_is, first_none}
-use Rattle.vms_script.proofs.ScriptLemmas.{line_put, line_stops, text_ends, tail_stops, reads_lines, reads_bad, put_unended, refused}
-use Rattle.vms_script.proofs.ScriptLemmas.{is_some}
+use Rattle.vms_script.proofs.ScriptLemmas.{line_put, line_stops, text_ends, tail_stops, reads_lines, reads_bad, put_unended, refused, is_some}
 use Rattle.vms_script.proofs.script.read_lines.Goals as goal
 
 pub returns-in-Err : goal.returns-in-Err

@@ -1,6 +1,6 @@
 use Rattle.std.proofs.Common.{rules}
-use Rattle.vms_session.proofs.Facade.{◌+◌, drop, ◌∙◌, arith, drop_all, outlet, stock, reaches_both, reaches_none, serves_both, serves_none, line_view}
-use Rattle.vms_session.proofs.Facade.{lines_view}
+use Rattle.vms_session.proofs.Facade
+use Facade.{◌+◌, drop, ◌∙◌, arith, drop_all, outlet, stock, reaches_both, reaches_none, serves_both, serves_none, line_view, lines_view}
 use Rattle.vms_session.proofs.CourseLemmas.{lines_next, in_course, course_goes, course_stops, course_ends, goes_since}
 use Rattle.vms_session.proofs.lines.play.Goals as goal
 

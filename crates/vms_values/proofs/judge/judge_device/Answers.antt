@@ -1,5 +1,5 @@
-use Rattle.vms_values.proofs.Facade.{◌≡◌, ◌<◌, true, length, refl, sym, ◌∙◌, arith, own_slots, rules_are_true, described, device_at, state_of}
-use Rattle.vms_values.proofs.Facade.{read_of}
+use Rattle.vms_values.proofs.Facade
+use Facade.{◌≡◌, ◌<◌, true, length, refl, sym, ◌∙◌, arith, own_slots, rules_are_true, described, device_at, state_of, read_of}
 use Rattle.vms_values.proofs.JudgeLemmas.{judged_next, judged_end, own_holds}
 use Rattle.vms_values.proofs.judge.judge_device.Goals.{After-sub_count-sub-end, In-loop-sub}
 use Rattle.vms_values.proofs.judge.judge_device.Goals as goal

@@ -1,5 +1,5 @@
-use Rattle.vms_values.proofs.Facade.{rules, ◌≡◌, ℕ, ◌-◌, true, List, length, take, drop, None, sym, ap, ◌∙◌, arith, option_and_then}
-use Rattle.vms_values.proofs.Facade.{read_from}
+use Rattle.vms_values.proofs.Facade
+use Facade.{rules, ◌≡◌, ℕ, ◌-◌, true, List, length, take, drop, None, sym, ap, ◌∙◌, arith, option_and_then, read_from}
 use Rattle.vms_values.proofs.ReadLemmas.{read_natural, read_rest, digit_next, digits_end}
 use Rattle.vms_values.proofs.numbers.read_natural.Goals as goal
 

@@ -1,6 +1,6 @@
-use Rattle.vms_values.proofs.Facade.{◌≡◌, ◌<◌, [], length, drop, ap, arith, ◌∙◌, puts_as, puts_both, stops_as, stops_front, stops_behind}
-use Rattle.vms_values.proofs.Facade.{own_cells, printers, desc_lines, sub_lines, described, device_at, device_of, first_cell, state_of, section_text}
-use Rattle.vms_values.proofs.Facade.{leaves_all, leaves_none, leaves_rest, leaves_stop}
+use Rattle.vms_values.proofs.Facade
+use Facade.{◌≡◌, ◌<◌, [], length, drop, ap, arith, ◌∙◌, puts_as, puts_both, stops_as, stops_front, stops_behind, own_cells, printers}
+use Facade.{desc_lines, sub_lines, described, device_at, device_of, first_cell, state_of, section_text, leaves_all, leaves_none, leaves_rest, leaves_stop}
 use Rattle.vms_spec.specs.declared.Part.TheVariants as parts
 use Rattle.vms_values.proofs.Printers.{own_spot, device_is, first_sub, no_subs, subs_left, err_is}
 use Rattle.vms_values.proofs.print.print_device.{Given.Over, Goals.After-device, Goals.In-loop-sub}

@@ -1,8 +1,8 @@
-use Rattle.vms_values.proofs.Facade.{rules, ◌≡◌, ℕ, ◌+◌, ◌*◌, ◌<◌, ◌≤◌, ◌++◌, List, length, length-append, get_or, drop, codes, sym, ap, ◌∙◌, arith, ltb-true, Err, Ok}
-use Rattle.vms_values.proofs.Facade.{decimal, Item, elements_fit, Field, Desc, no_desc, cells_from, capacity_of, place_first, readers}
-use Rattle.vms_values.proofs.Facade.{read_item, read_elements, read_fields, read_desc, field_of, field_at, own_numbers, described, desc_at, HasSpot, size_in}
-use Rattle.vms_values.proofs.Facade.{table, cell_of, cells_in, capacities_of, size_code, start_after, start_code, struct_size, room_at, fields_at, below}
-use Rattle.vms_values.proofs.Facade.{AreKinds, element_cells, place_of, LONGEST_PATH, INDEX_ROOM, PART_ROOM}
+use Rattle.vms_values.proofs.Facade
+use Facade.{rules, ◌≡◌, ℕ, ◌+◌, ◌*◌, ◌<◌, ◌≤◌, ◌++◌, List, length, length-append, get_or, drop, codes, sym, ap, ◌∙◌, arith}
+use Facade.{ltb-true, Err, Ok, decimal, Item, elements_fit, Field, Desc, no_desc, cells_from, capacity_of, place_first, readers, read_item, read_elements}
+use Facade.{read_fields, read_desc, field_of, field_at, own_numbers, described, desc_at, HasSpot, size_in, table, cell_of, cells_in, capacities_of, size_code}
+use Facade.{start_after, start_code, struct_size, room_at, fields_at, below, AreKinds, element_cells, place_of, LONGEST_PATH, INDEX_ROOM, PART_ROOM}
 use Rattle.vms_spec.specs.declared.Part.TheVariants as parts
 use Rattle.vms_values.proofs.Printers.{stays, stays_is, stays_then, stays_element, cut_is, field_short, FoundRun, found_run, err_is}
 use Rattle.vms_values.proofs.Naming.{FieldKinds, field_kinds, number_kind, struct_kinds}

@@ -1,7 +1,7 @@
-use Rattle.vms_walk.proofs.Facade.{HasSpot, MayCome, rules, arith, refl, sym, ap, subst, ◌∙◌, ◌≡◌, ℕ, ℤ, ◌+◌, ◌*◌, ◌<◌, List, []}
-use Rattle.vms_walk.proofs.Facade.{◌∷◌, ◌++◌, length, ltb-true, Ok, Struct, item_slots, SameBelow, IsAbove, items_above, meanings_above, field_at}
-use Rattle.vms_walk.proofs.Facade.{described, desc_at, found_field, good_of, steps_of, table, cell_of, spot_slots, slots_at, size_in, elements_slots}
-use Rattle.vms_walk.proofs.Facade.{present_of, spot_numbers}
+use Rattle.vms_walk.proofs.Facade
+use Facade.{HasSpot, MayCome, rules, arith, refl, sym, ap, subst, ◌∙◌, ◌≡◌, ℕ, ℤ, ◌+◌, ◌*◌, ◌<◌, List, [], ◌∷◌, ◌++◌}
+use Facade.{length, ltb-true, Ok, Struct, item_slots, SameBelow, IsAbove, items_above, meanings_above, field_at, described, desc_at, found_field, good_of}
+use Facade.{steps_of, table, cell_of, spot_slots, slots_at, size_in, elements_slots, present_of, spot_numbers}
 use Rattle.vms_walk.proofs.Going.{Walked, Past, element_among, field_among, field_slots_are, rule_done, rule_may, same_rule}
 use Rattle.vms_walk.proofs.Spots.{run_steps, steps_at, Next, next_field, field_needs, size_code, start_code, struct_spot, struct_size, holds_is}
 use Rattle.vms_walk.proofs.Walking.{went_on, stopped_at, may_come, room_at, least_again, keeps_below, keeps_first}

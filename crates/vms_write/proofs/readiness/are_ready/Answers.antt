@@ -1,5 +1,5 @@
-use Rattle.vms_write.proofs.Facade.{OnTrue_at, OnFalse_at, ◌<◌, length, map, sym, ap, ◌∙◌, arith, length-map, device_of, described, state_of}
-use Rattle.vms_write.proofs.Facade.{states_long, state_at, image_at}
+use Rattle.vms_write.proofs.Facade
+use Facade.{OnTrue_at, OnFalse_at, ◌<◌, length, map, sym, ap, ◌∙◌, arith, length-map, device_of, described, state_of, states_long, state_at, image_at}
 use Rattle.vms_write.proofs.Sections.{none_so_far, one_more, not_all, all_ready, all_of}
 use Rattle.vms_write.proofs.readiness.are_ready.Goals as goal
 

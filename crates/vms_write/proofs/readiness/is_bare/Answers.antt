@@ -1,5 +1,4 @@
-use Rattle.vms_write.proofs.Facade.{rules}
-use Rattle.vms_write.proofs.Facade.{forms_of, ◌≡◌, arith, ◌+◌, ◌-◌, own_cell_count, described, device_at, sub_at, sub_inside}
+use Rattle.vms_write.proofs.Facade.{rules, forms_of, ◌≡◌, arith, ◌+◌, ◌-◌, own_cell_count, described, device_at, sub_at, sub_inside}
 use Rattle.vms_write.proofs.Sections.{formed_defaults, formed_long}
 use Rattle.vms_write.proofs.readiness.is_bare.Goals as goal
 

@@ -1,7 +1,7 @@
 use Rattle.std.proofs.Common.{rules}
 use Rattle.vms_board.proofs.{board.MachineBoard.save_bare_by.Given.Over, board.MachineBoard.save_bare_by.Goals.After-deref}
-use Rattle.vms_board.proofs.Facade.{stream_with, ◌≡◌, map, ◌-◌, ◌∙◌, None, ap, err_from_is_err_and, slice_get, described, state_of, puts_as}
-use Rattle.vms_board.proofs.Facade.{written, images_saved}
+use Rattle.vms_board.proofs.Facade
+use Facade.{stream_with, ◌≡◌, map, ◌-◌, ◌∙◌, None, ap, err_from_is_err_and, slice_get, described, state_of, puts_as, written, images_saved}
 use Rattle.vms_board.proofs.Imaging.{machine_named, machine_below, bare_bytes, saves_some}
 use Rattle.vms_board.proofs.board.MachineBoard.save_bare_by.Goals as goal
 

@@ -1,6 +1,6 @@
-use Rattle.vms_cli.proofs.Facade.{◌≡◌, List, ℕ, Option, Ok, Err, Result, refl, err_from_is_err_and, Vec, Global, Held, described, set_asked, SetText}
-use Rattle.vms_cli.proofs.Facade.{fetched, fetched_set, longest_file, set_in, SetWord, StepAs, text_of, Step, Gives, next, Ending, first_err, then_as, Parts}
-use Rattle.vms_cli.proofs.Facade.{named_parts, parts_of, with_values, PackParts}
+use Rattle.vms_cli.proofs.Facade
+use Facade.{◌≡◌, List, ℕ, Option, Ok, Err, Result, refl, err_from_is_err_and, Vec, Global, Held, described, set_asked, SetText, fetched, fetched_set}
+use Facade.{longest_file, set_in, SetWord, StepAs, text_of, Step, Gives, next, Ending, first_err, then_as, Parts, named_parts, parts_of, with_values, PackParts}
 use Rattle.vms_commands.specs.declared.fetching.SetText.{SetText as Fetched}
 use Rattle.vms_cli.proofs.commands.pack.pack_parts.Goals as goal
 
