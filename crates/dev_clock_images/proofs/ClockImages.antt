@@ -6,8 +6,8 @@ use Facade.{SavedIsCarried, Set, SetsAreCompatible, Some, Sub, [], ap, arith, ba
 use Facade.{device_cells, false, first, first_mismatch, get_or, image_of, images_of, kinds, length, mc146818_at_1, mc146818_at_2, mc146818_rows, needed_from}
 use Facade.{needs, newest_set, of-kinds, place_under, pos, ready-of, refl, restored, saved, saved_are_cells, saved_cells, saved_comes_back, saved_goes_on}
 use Facade.{slice_get, suc, sym, true, unneeded, zero, ℕ, ℤ, ◌∙◌, ◌∷◌, ◌≡◌, ◌≤◌}
-use Rattle.dev_images.proofs
-use proofs.{NormalCells.normal_may_be_restored as board-may-be, BoardReady.saved_are_ready as board-ready, Carried.saved_is_carried as board-is-carried}
+use Rattle.dev_images.proofs.{NormalCells.normal_may_be_restored as board-may-be, BoardReady.saved_are_ready as board-ready}
+use Rattle.dev_images.proofs.{Carried.saved_is_carried as board-is-carried}
 use Rattle.dev_images.specs.Images.{lists_of as board_lists, cells_in as board_cells_in}
 use Rattle.dev_board.specs.Saved.{saved as board_saved, carried as board_carried}
 use Rattle.dev_clock.specs.Saved.{carried as clock_carried}

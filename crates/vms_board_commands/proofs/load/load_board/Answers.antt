@@ -1,6 +1,5 @@
-use Rattle.vms_board_commands.proofs
-use proofs.{ScriptCommands.event_view, ScriptCommands.gives_none, ScriptCommands.gives_some, ScriptCommands.loads_under, Facade.ending_passed, Facade.had_by}
-use Rattle.vms_board_commands.proofs.Facade.{wrong, stream_course, Loads, scripted, true, None, refl, intake}
+use Rattle.vms_board_commands.proofs.Facade.{wrong, stream_course, Loads, scripted, true, None, refl, intake, ending_passed, had_by}
+use Rattle.vms_board_commands.proofs.ScriptCommands.{event_view, gives_none, gives_some, loads_under}
 use Rattle.vms_board_commands.proofs.RunLemmas.{stream_asks, behind_runs, lacks_runs, seen_given}
 use Rattle.vms_board_commands.proofs.load.load_board.Goals as goal
 
